@@ -1,0 +1,80 @@
+ghost use Rattle.std.specs.Prelude.{◌≡◌, IfOk};
+
+use std::alloc::Global;
+
+use crate::OutOfMemory;
+use crate::list::List;
+use crate::numbers::{Cpu, FileNo, Page, Proc};
+
+/// The most processors of a machine.
+pub const MAX_CPUS: u8 = 8;
+/// The most frames of a machine.
+pub const MAX_FRAMES: u16 = 256;
+/// The most files of a script.
+pub const MAX_FILES: u8 = 16;
+/// The most processes of a script.
+pub const MAX_PROCS: u8 = 16;
+/// The most threads of a script.
+pub const MAX_THREADS: u8 = 32;
+/// The most pages of a script.
+pub const MAX_PAGES: u16 = 256;
+/// The most translations of a script.
+pub const MAX_TRANS: u16 = 512;
+
+/// What stands behind a page: nothing (anonymous memory), or a file whose words are all `fill` at opening.
+#[derive(Clone, Copy, Debug, PartialEq, Eq)]
+pub enum PageKind {
+    Anon,
+    File { file: FileNo, fill: u64 },
+}
+
+/// A thread: its process, the processor that runs it, and whether it has a SIGBUS handler (sigaction(2)).
+#[derive(Clone, Copy, Debug, PartialEq, Eq)]
+pub struct ThreadDecl {
+    pub process: Proc,
+    pub cpu: Cpu,
+    pub handler: bool,
+}
+
+/// A translation: its process, and the page that it leads to.
+#[derive(Clone, Copy, Debug, PartialEq, Eq)]
+pub struct TransDecl {
+    pub process: Proc,
+    pub page: Page,
+}
+
+/// What a script declares of the machine. `kernel` has a value for each frame; `recovery` and `early` are the
+/// settings `vm.memory_failure_recovery` and `vm.memory_failure_early_kill` (Linux hwpoison.rst).
+#[derive(Drop)]
+pub struct Layout {
+    pub cpus: u8,
+    pub frames: u16,
+    pub kernel: List<bool>,
+    pub recovery: bool,
+    pub early: bool,
+    pub files: u8,
+    pub procs: u8,
+    pub threads: List<ThreadDecl>,
+    pub pages: List<PageKind>,
+    pub trans: List<TransDecl>,
+}
+
+impl Layout {
+    /// An equal layout.
+    pub fn copy(&self, alloc: Global) -> Result<Layout, OutOfMemory>
+        ensures { IfOk result (λ layout. layout ≡ self.now) }
+    {
+        Ok(Layout {
+            cpus: self.cpus,
+            frames: self.frames,
+            kernel: self.kernel.copy(alloc)?,
+            recovery: self.recovery,
+            early: self.early,
+            files: self.files,
+            procs: self.procs,
+            threads: self.threads.copy(alloc)?,
+            pages: self.pages.copy(alloc)?,
+            trans: self.trans.copy(alloc)?,
+        })
+    }
+}

@@ -1,0 +1,20 @@
+//! Numbers and layout of the simulated machine, and the small types that all crates share.
+#![tactic(auto)]
+
+mod layout;
+mod line;
+mod lines;
+mod list;
+mod numbers;
+mod text;
+
+pub use layout::{Layout, PageKind, ThreadDecl, TransDecl};
+pub use layout::{MAX_CPUS, MAX_FILES, MAX_FRAMES, MAX_PAGES, MAX_PROCS, MAX_THREADS, MAX_TRANS};
+pub use line::{LINES, Line};
+pub use lines::Lines;
+pub use list::List;
+pub use numbers::{Cpu, Damage, FileNo, Frame, Mask, Mode, Page, Proc, Thread, VSlot, Who};
+pub use text::Text;
+
+/// Want of memory: the one answer that no clause ties to a cause.
+pub type OutOfMemory = std::alloc::AllocError;

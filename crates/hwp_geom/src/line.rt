@@ -1,0 +1,39 @@
+ghost use Rattle.std.specs.Prelude.{◌≡◌, ℕ, ◌<◌, ◌↔◌, IsSome, IfSome};
+ghost use Rattle.hwp_geom.specs.declared.line.TheConstants.{LINES};
+
+use std::marker::Model;
+
+/// How many lines a frame and a page have.
+pub const LINES: usize = 64;
+
+/// A line of a frame or a page, 0 to 63.
+#[derive(Clone, Copy, Debug, PartialEq, Eq)]
+pub struct Line(u8);
+
+impl Model for Line {
+    ghost Value = { ℕ };
+
+    ghost view = { λ l. l.0 };
+
+    ghost invariant = { λ l. l.0 < 64 };
+
+    ghost inverse = { λ n. record { 0 = n } };
+}
+
+impl Line {
+    /// The line of this number. It is `None` exactly where the number is 64 or more.
+    pub fn new(n: u8) -> Option<Line>
+        ensures range { IsSome result ↔ (n < LINES) }
+        ensures value { IfSome result (λ line. line ≡ n) }
+    {
+        if n < 64 { Some(Line(n)) } else { None }
+    }
+
+    /// The number of the line.
+    pub fn get(self) -> u8
+        ensures value { result ≡ self }
+        ensures below { result < LINES }
+    {
+        self.0
+    }
+}
