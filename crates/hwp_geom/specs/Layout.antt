@@ -5,7 +5,7 @@ use Rattle.hwp_geom.specs.declared.layout.ThreadDecl.{ThreadDecl}
 use Rattle.hwp_geom.specs.declared.layout.TransDecl.{TransDecl}
 use Rattle.hwp_geom.specs.declared.layout.PageKind.{PageKind}
 use Rattle.hwp_geom.specs.declared.layout.PageKind.TheVariants.{Anon, File}
-use Rattle.hwp_geom.specs.declared.layout.TheConstants.{MAX_CPUS, MAX_FRAMES, MAX_FILES, MAX_PROCS, MAX_THREADS, MAX_PAGES, MAX_TRANS}
+use Rattle.hwp_geom.specs.Limits.{cpu_limit, frame_limit, file_limit, process_limit, thread_limit, page_limit, translation_limit}
 
 -- the file behind a page, if there is one, is declared
 abbrev pub IsBacked : Layout → PageKind → Type 0
@@ -15,15 +15,15 @@ IsBacked layout (File file fill) = file.0 < layout.files
 -- the numbers are within the limits, and what a declaration names is declared
 pub record IsSound (layout : Layout) : Type 0 where
   pub some_cpu : 1 ≤ layout.cpus
-  pub cpus : layout.cpus ≤ MAX_CPUS
+  pub cpus : layout.cpus ≤ cpu_limit
   pub some_frame : 1 ≤ layout.frames
-  pub frames : layout.frames ≤ MAX_FRAMES
+  pub frames : layout.frames ≤ frame_limit
   pub kernel : length layout.kernel ≡ layout.frames
-  pub files : layout.files ≤ MAX_FILES
-  pub procs : layout.procs ≤ MAX_PROCS
-  pub threads : length layout.threads ≤ MAX_THREADS
-  pub pages : length layout.pages ≤ MAX_PAGES
-  pub trans : length layout.trans ≤ MAX_TRANS
+  pub files : layout.files ≤ file_limit
+  pub procs : layout.procs ≤ process_limit
+  pub threads : length layout.threads ≤ thread_limit
+  pub pages : length layout.pages ≤ page_limit
+  pub trans : length layout.trans ≤ translation_limit
   pub thread_names : All (λ (t : ThreadDecl). (t.process.0 < layout.procs) × (t.cpu.0 < layout.cpus)) layout.threads
   pub page_names : All (IsBacked layout) layout.pages
   pub trans_names : All (λ (t : TransDecl). (t.process.0 < layout.procs) × (t.page.0 < length layout.pages)) layout.trans

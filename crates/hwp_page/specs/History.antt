@@ -1,0 +1,27 @@
+-- Histories of a page, and what clauses see of a body.
+use Rattle.std.specs.Prelude.{◌≡◌, ℕ, List, [], ◌∷◌, Some, slice_get}
+use Rattle.hwp_geom.specs.declared.Layout.{Layout}
+use Rattle.hwp_geom.specs.declared.Page.{Page}
+use Rattle.hwp_geom.specs.declared.PageKind.{PageKind}
+use Rattle.hwp_page.specs.declared.state.PageState.{PageState}
+use Rattle.hwp_page.specs.declared.entry.Entry.{Entry}
+use Rattle.hwp_page.specs.Step.{Allowed, after, opening_of}
+
+-- from the first state the entries lead, step by step, to the last
+abbrev pub Leads : Layout → Page → PageState → List Entry → PageState → Type 0
+Leads layout page s [] t = s ≡ t
+Leads layout page s (e ∷ es) t = Allowed layout page s e.what × Leads layout page (after s e.what) es t
+
+-- the state is the replay of the history from the page's opening
+pub record IsReplay (layout : Layout) (page : Page) (log : List Entry) (state : PageState) : Type 0 where
+  pub kind : PageKind
+  pub declared : slice_get layout.pages page.0 ≡ Some kind
+  pub leads : Leads layout page (opening_of kind) log state
+
+-- what clauses see of a body: `spare` is the number of entries that it can take without memory
+pub record Held : Type 0 where
+  pub page : Page
+  pub layout : Layout
+  pub state : PageState
+  pub log : List Entry
+  pub spare : ℕ

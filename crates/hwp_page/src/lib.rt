@@ -1,0 +1,10 @@
+//! The page machine: a page's state, the entries of its history, and a body that keeps both together.
+#![tactic(auto)]
+
+mod body;
+mod entry;
+mod state;
+
+pub use body::Body;
+pub use entry::{At, Entry, Met, What};
+pub use state::PageState;
