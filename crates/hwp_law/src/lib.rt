@@ -1,13 +1,3 @@
-// A library with one function.
+//! The report law: what must hold between a fault script and a report of its run. This crate has definitions
+//! alone, and lemmas on how a report grows; the crates above cite them in their contracts.
 #![tactic(auto)]
-
-ghost use Rattle.std.specs.Prelude.{◌≡◌};
-ghost use Rattle.hwp_law.specs.Echo.{echo_of};
-
-// The `ensures` clause is the contract: what `echo` returns is `echo_of` of its argument, a definition
-// in `specs/Echo.antt`, which a caller's clause can cite too.
-pub fn echo(x: usize) -> usize
-    ensures { result ≡ echo_of x }
-{
-    x
-}

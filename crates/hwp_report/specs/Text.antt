@@ -12,7 +12,7 @@ use Rattle.hwp_page.specs.declared.What.{What}
 use Rattle.hwp_page.specs.declared.What.TheVariants.{Load, Store, FaultIn, Map}
 use Rattle.hwp_report.specs.declared.report.Report.{Report}
 use Rattle.hwp_report.specs.declared.report.Place.{Place}
-use Rattle.hwp_report.specs.declared.report.Place.TheVariants.{Free, Of}
+use Rattle.hwp_report.specs.declared.report.Place.TheVariants.{Free, Kernel, Of}
 use Rattle.hwp_report.specs.declared.report.FrameLine.{FrameLine}
 use Rattle.hwp_report.specs.declared.report.Answer.{Answer}
 use Rattle.hwp_report.specs.declared.report.Answer.TheVariants.{Value, Stored, NoFrame}
@@ -27,6 +27,7 @@ numbered words n (x ∷ xs) = words n x ++ numbered words (n + 1) xs
 -- the words of a frame's state
 abbrev pub place_words : Place → List (List ℕ) → List (List ℕ)
 place_words Free rest = codes "free" ∷ rest
+place_words Kernel rest = codes "kernel" ∷ rest
 place_words (Of page) rest = codes "page" ∷ decimal page.0 ∷ rest
 
 -- `frame F STATE bad M weak M`

@@ -6,6 +6,8 @@ use hwp_page::{At, Entry};
 pub enum Place {
     /// On the free list.
     Free,
+    /// The kernel's own.
+    Kernel,
     /// It holds a page.
     Of(Page),
 }

@@ -1,0 +1,56 @@
+-- When the histories of a report are legal.
+use Rattle.std.specs.Prelude.{◌≡◌, ℕ, ◌<◌, ◌≤◌, List, Some, slice_get, IsSomeAnd}
+use Rattle.hwp_geom.specs.declared.Layout.{Layout}
+use Rattle.hwp_geom.specs.declared.Page.{Page}
+use Rattle.hwp_geom.specs.declared.Thread.{Thread}
+use Rattle.hwp_page.specs.declared.At.{At}
+use Rattle.hwp_page.specs.declared.Entry.{Entry}
+use Rattle.hwp_page.specs.declared.What.{What}
+use Rattle.hwp_page.specs.declared.What.TheVariants as entries
+use Rattle.hwp_page.specs.declared.Met.{Met}
+use Rattle.hwp_page.specs.declared.Met.TheVariants.{Word, Sigbus}
+use Rattle.hwp_page.specs.Step.{IsOf}
+use Rattle.hwp_script.specs.declared.Command.{Command}
+use Rattle.hwp_script.specs.declared.Command.TheVariants as commands
+use Rattle.hwp_script.specs.declared.Script.{Script}
+use Rattle.hwp_law.specs.Places.{command_at, entry_at}
+
+-- a SIGBUS went to the command's thread
+abbrev pub IsMetBy : Thread → Met → Type 0
+IsMetBy thread (Word mask word) = Unit {0}
+IsMetBy thread (Sigbus other) = other ≡ thread
+
+-- the word that a store met is the word of its command
+abbrev pub IsStoredBy : ℕ → Met → Type 0
+IsStoredBy word (Word mask stored) = stored ≡ word
+IsStoredBy word (Sigbus thread) = Unit {0}
+
+-- the entry is of a kind that the command makes, with the command's numbers
+abbrev pub Fits : Command → What → Type 0
+Fits (commands.Load thread slot line) (entries.Load slot' line' met) = (slot' ≡ slot) × (line' ≡ line) × IsMetBy thread met
+Fits (commands.Load thread slot line) entries.FaultIn = Unit {0}
+Fits (commands.Load thread slot line) (entries.Map slot') = slot' ≡ slot
+Fits (commands.Store thread slot line word) (entries.Store slot' line' met) =
+    (slot' ≡ slot) × (line' ≡ line) × IsMetBy thread met × IsStoredBy word met
+Fits (commands.Store thread slot line word) entries.FaultIn = Unit {0}
+Fits (commands.Store thread slot line word) (entries.Map slot') = slot' ≡ slot
+Fits _ _ = ⊥
+
+-- the page is the one that the command names
+abbrev pub Names : Layout → Command → Page → Type 0
+Names layout (commands.Load thread slot line) page = IsOf layout page slot
+Names layout (commands.Store thread slot line word) page = IsOf layout page slot
+
+-- the entry is one that its command makes, in the page that the command names
+abbrev pub IsMade : Script → Page → Entry → Type 0
+IsMade script page e = IsSomeAnd (command_at script e.who) (λ (command : Command). Fits command e.what × Names script.layout command page)
+
+-- each entry is one that its command makes
+abbrev pub AreMade : Script → List (List Entry) → Type 0
+AreMade script pages = (at : At) (e : Entry) → entry_at pages at ≡ Some e → IsMade script at.page e
+
+-- in each history the entries of one processor have command numbers that do not fall
+abbrev pub AreOrdered : List (List Entry) → Type 0
+AreOrdered pages =
+    (at later : At) (e f : Entry) → entry_at pages at ≡ Some e → entry_at pages later ≡ Some f
+    → at.page ≡ later.page → at.entry < later.entry → e.who.cpu ≡ f.who.cpu → e.who.seq ≤ f.who.seq

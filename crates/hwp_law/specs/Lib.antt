@@ -1,0 +1,4 @@
+pub mod Places
+pub mod History
+pub mod Answers
+pub mod Report

@@ -1,0 +1,141 @@
+-- The bench: how far a run of one processor has come, command by command.
+use Rattle.std.specs.Prelude.{◌≡◌, ℕ, ◌+◌, ◌<◌, Bool, true, false, cond, List, [], ◌∷◌, ◌++◌, Some, length, map, slice_get, slice_set, count_by, IsSomeAnd, IsTrue}
+use Rattle.std.specs.FinSet as set
+use Rattle.hwp_geom.specs.Pairs.{Pairs}
+use Rattle.hwp_geom.specs.declared.Layout.{Layout}
+use Rattle.hwp_geom.specs.declared.Cpu.{Cpu}
+use Rattle.hwp_geom.specs.declared.Mask.{Mask}
+use Rattle.hwp_geom.specs.declared.Page.{Page}
+use Rattle.hwp_geom.specs.declared.PageKind.{PageKind}
+use Rattle.hwp_geom.specs.declared.VSlot.{VSlot}
+use Rattle.hwp_geom.specs.declared.Who.{Who}
+use Rattle.hwp_page.specs.declared.At.{At}
+use Rattle.hwp_page.specs.declared.Entry.{Entry}
+use Rattle.hwp_page.specs.declared.What.{What}
+use Rattle.hwp_page.specs.Step.{Allowed, after, opening_of}
+use Rattle.hwp_page.specs.History.{Held, IsReplay}
+use Rattle.hwp_script.specs.declared.Command.{Command}
+use Rattle.hwp_script.specs.declared.Script.{Script}
+use Rattle.hwp_report.specs.declared.Answer.{Answer}
+use Rattle.hwp_report.specs.declared.CpuLine.{CpuLine}
+use Rattle.hwp_report.specs.declared.CpuLine.TheVariants as lines
+use Rattle.hwp_report.specs.declared.FrameLine.{FrameLine}
+use Rattle.hwp_report.specs.declared.Place.{Place}
+use Rattle.hwp_report.specs.declared.Place.TheVariants as places
+use Rattle.hwp_report.specs.declared.Report.{Report}
+use Rattle.hwp_law.specs.Places.{entry_at, command_at}
+use Rattle.hwp_law.specs.History.{AreMade, AreOrdered}
+use Rattle.hwp_law.specs.Answers.{AreAnswers, AreNamed}
+use Rattle.hwp_law.specs.Report.{is_of, IsPlace}
+
+-- the first processor
+abbrev pub first_cpu : Cpu
+first_cpu = record { 0 = 0 }
+
+-- the first processor at its command number n
+abbrev pub at_command : ℕ → Who
+at_command n = record { cpu = first_cpu; seq = n }
+
+-- the histories of the bodies
+abbrev pub logs : List Held → List (List Entry)
+logs bodies = map (λ (h : Held). h.log) bodies
+
+-- the entry is of a command of the first processor below this number
+abbrev pub IsBefore : ℕ → Entry → Type 0
+IsBefore bound e = (e.who.cpu.0 ≡ 0) × (e.who.seq < bound)
+
+-- the histories and the lines so far are those of these commands, and no entry is of command `bound` or a later one
+pub record Follows (script : Script) (commands : List Command) (bound : ℕ) (pages : List (List Entry)) (rows : List CpuLine) : Type 0 where
+  pub made : AreMade script pages
+  pub ordered : AreOrdered pages
+  pub before : (at : At) (e : Entry) → entry_at pages at ≡ Some e → IsBefore bound e
+  pub answers : AreAnswers script pages first_cpu 0 commands rows
+  pub named : AreNamed pages (rows ∷ [])
+
+-- whatever was followed up to command n is still followed
+abbrev pub Keeps : Script → ℕ → List (List Entry) → List (List Entry) → Type 0
+Keeps script n old new =
+    (commands : List Command) (rows : List CpuLine) → Follows script commands (n + 1) old rows → Follows script commands (n + 1) new rows
+
+-- with the answer to command n one command more is followed
+abbrev pub Answers : Script → ℕ → Command → Answer → List (List Entry) → List (List Entry) → Type 0
+Answers script n command answer old new =
+    (commands : List Command) (rows : List CpuLine) → length commands ≡ n → Follows script commands (n + 1) old rows
+    → Follows script (commands ++ command ∷ []) (n + 1) new (rows ++ lines.Answer n answer ∷ [])
+
+-- the frame holds a page
+abbrev pub is_used : Place → Bool
+is_used places.Free = false
+is_used places.Kernel = false
+is_used (places.Of page) = true
+
+-- the frame is on the free list
+abbrev pub is_free : Place → Bool
+is_free places.Free = true
+is_free places.Kernel = false
+is_free (places.Of page) = false
+
+-- the body is the page's, and one frame says the page exactly where it is cached
+pub record IsBodyOf (layout : Layout) (frames : List Place) (page : Page) (body : Held) : Type 0 where
+  pub page_is : body.page ≡ page
+  pub layout_is : body.layout ≡ layout
+  pub replay : IsReplay layout page body.log body.state
+  pub unbarred : body.state.bar ≡ set.empty
+  pub kept : body.state.lost ≡ false
+  pub held : count_by (is_of page) frames ≡ cond body.state.cached 1 0
+
+-- the bodies and the frames fit the layout and one another
+pub record Machine (layout : Layout) (bodies : List Held) (frames : List Place) : Type 0 where
+  pub fit : length bodies ≡ length layout.pages
+  pub each : (page : Page) (body : Held) → slice_get bodies page.0 ≡ Some body → IsBodyOf layout frames page body
+  pub places : Pairs (IsPlace layout) layout.kernel frames
+  pub counted : count_by is_used frames ≡ count_by (λ (h : Held). h.state.cached) bodies
+
+-- the new bodies are the old ones with one entry more, at this place
+pub record Appended (old new : List Held) (at : At) (e : Entry) : Type 0 where
+  pub held : Held
+  pub now : Held
+  pub was : slice_get old at.page.0 ≡ Some held
+  pub last : at.entry ≡ length held.log
+  pub allowed : Allowed held.layout held.page held.state e.what
+  pub page_is : now.page ≡ held.page
+  pub layout_is : now.layout ≡ held.layout
+  pub state_is : now.state ≡ after held.state e.what
+  pub log_is : now.log ≡ held.log ++ e ∷ []
+  pub new_is : new ≡ slice_set old at.page.0 now
+
+-- the page is in a frame
+abbrev pub IsCached : List Held → Page → Type 0
+IsCached bodies page = IsSomeAnd (slice_get bodies page.0) (λ (h : Held). h.state.cached ≡ true)
+
+-- the translation to the page is in use
+abbrev pub IsMapped : List Held → Page → VSlot → Type 0
+IsMapped bodies page slot = IsSomeAnd (slice_get bodies page.0) (λ (h : Held). IsTrue (set.contains h.state.maps slot.0))
+
+-- the body is the page's at its opening
+pub record IsFresh (layout : Layout) (page : Page) (body : Held) : Type 0 where
+  pub page_is : body.page ≡ page
+  pub layout_is : body.layout ≡ layout
+  pub empty : body.log ≡ []
+  pub kind : PageKind
+  pub declared : slice_get layout.pages page.0 ≡ Some kind
+  pub opening : body.state ≡ opening_of kind
+
+-- the bodies are those of the first pages, at their opening
+abbrev pub AreFresh : Layout → List Held → Type 0
+AreFresh layout bodies = (page : Page) (body : Held) → slice_get bodies page.0 ≡ Some body → IsFresh layout page body
+
+-- where a frame is at opening
+abbrev pub opening_place : Bool → Place
+opening_place kernel = cond kernel places.Kernel places.Free
+
+-- the line of a frame without a bad or weak line
+abbrev pub frame_line : Place → FrameLine
+frame_line place = record { place = place; bad = record { 0 = 0 }; weak = record { 0 = 0 } }
+
+-- what a report holds of the bodies, the frames and the lines
+pub record Reports (report : Report) (bodies : List Held) (frames : List Place) (rows : List CpuLine) : Type 0 where
+  pub count : report.count ≡ 0
+  pub frames_are : report.frames ≡ map frame_line frames
+  pub pages_are : report.pages ≡ logs bodies
+  pub cpus_are : report.cpus ≡ rows ∷ []

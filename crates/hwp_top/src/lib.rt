@@ -1,0 +1,2 @@
+//! The top calls: a command's words and input to its output and status.
+#![tactic(auto)]
