@@ -1,0 +1,8 @@
+use Rattle.std.proofs.Common.{arith}
+use Rattle.hwp_kill.proofs.Membership.{members-marked}
+use Rattle.hwp_kill.proofs.slots.Slots.insert.Goals as goal
+
+pub returns : goal.returns
+returns c =
+    let more = members-marked c.self.inside.words c.from-at.result (omega arith) in
+    cc (more, c.self.view_is, c.from-at.ensures)
