@@ -3,6 +3,7 @@ use Rattle.std.specs.Prelude.{◌≡◌, ℕ, List, [], ◌∷◌, Some, slice_g
 use Rattle.hwp_geom.specs.declared.Layout.{Layout}
 use Rattle.hwp_geom.specs.declared.Page.{Page}
 use Rattle.hwp_geom.specs.declared.PageKind.{PageKind}
+use Rattle.hwp_geom.specs.Layout.{IsSound}
 use Rattle.hwp_page.specs.declared.state.PageState.{PageState}
 use Rattle.hwp_page.specs.declared.entry.Entry.{Entry}
 use Rattle.hwp_page.specs.Step.{Allowed, after, opening_of}
@@ -18,6 +19,11 @@ pub record IsReplay (layout : Layout) (page : Page) (log : List Entry) (state : 
   pub declared : slice_get layout.pages page.0 ≡ Some kind
   pub leads : Leads layout page (opening_of kind) log state
 
+-- what every body keeps: a sound layout, and a state that is the replay of its history
+pub record IsKept (layout : Layout) (page : Page) (log : List Entry) (state : PageState) : Type 0 where
+  pub sound : IsSound layout
+  pub replay : IsReplay layout page log state
+
 -- what clauses see of a body: `spare` is the number of entries that it can take without memory
 pub record Held : Type 0 where
   pub page : Page
@@ -25,3 +31,10 @@ pub record Held : Type 0 where
   pub state : PageState
   pub log : List Entry
   pub spare : ℕ
+
+-- a body at opening: no entry, and the opening state of what is declared behind its page
+pub record IsFresh (layout : Layout) (page : Page) (body : Held) : Type 0 where
+  pub page_is : body.page ≡ page
+  pub layout_is : body.layout ≡ layout
+  pub no_entry : body.log ≡ []
+  pub opening : (kind : PageKind) → slice_get layout.pages page.0 ≡ Some kind → body.state ≡ opening_of kind

@@ -10,6 +10,7 @@ use Rattle.hwp_geom.specs.declared.TransDecl.{TransDecl}
 use Rattle.hwp_geom.specs.declared.PageKind.{PageKind}
 use Rattle.hwp_geom.specs.declared.PageKind.TheVariants.{Anon, File}
 use Rattle.hwp_geom.specs.Limits.{line_limit}
+use Rattle.hwp_kill.specs.Limits.{slot_limit}
 use Rattle.hwp_page.specs.declared.state.PageState.{PageState}
 use Rattle.hwp_page.specs.declared.entry.What.{What}
 use Rattle.hwp_page.specs.declared.entry.What.TheVariants.{Load, Store, FaultIn, Map}
@@ -39,6 +40,11 @@ Allowed layout page s (Store slot line (Sigbus thread)) = IsRefused layout page 
 Allowed layout page s FaultIn = (s.cached ≡ false) × (s.lost ≡ false)
 Allowed layout page s (Map slot) =
     (s.cached ≡ true) × IsOf layout page slot × IsFalse (set.contains s.maps slot.0) × IsFalse (set.contains s.bar slot.0)
+
+-- a set of translations has room for the one that the entry maps
+abbrev pub MapsWithin : What → Type 0
+MapsWithin (Map slot) = slot.0 < slot_limit
+MapsWithin _ = Unit {0}
 
 -- the state after an entry
 abbrev pub after : PageState → What → PageState

@@ -1,8 +1,16 @@
+ghost use Rattle.std.specs.Prelude.{◌≡◌, ◌+◌, ◌-◌, ◌<◌, ◌≤◌, ◌↔◌, ◌∷◌, [], ◌++◌, length, slice_get, IsTrue, IfOk, OnOk, OnErr};
+ghost use Rattle.std.specs.Arc.{arc_value};
+ghost use Rattle.std.specs.Option.{option_copied};
+ghost use Rattle.std.specs.Slice.{IsItemAt};
+ghost use Rattle.hwp_geom.specs.Layout.{IsSound};
+ghost use Rattle.hwp_page.specs.Step.{Allowed, after};
+ghost use Rattle.hwp_page.specs.History.{IsFresh, IsReplay};
+
 use std::alloc::Global;
 use std::marker::Model;
 use std::sync::Arc;
 
-use hwp_geom::{Layout, Page};
+use hwp_geom::{Layout, OutOfMemory, Page};
 
 use crate::entry::Entry;
 use crate::state::PageState;
@@ -19,7 +27,7 @@ pub struct Body {
 impl Model for Body {
     ghost use Rattle.std.specs.Prelude.{◌-◌, vec_len, vec_capacity};
     ghost use Rattle.std.specs.Arc.{arc_value};
-    ghost use Rattle.hwp_page.specs.History.{Held, IsReplay};
+    ghost use Rattle.hwp_page.specs.History.{Held, IsKept};
     ghost use Rattle.hwp_kill.specs.contracts.Slots as slots;
     ghost use Rattle.std.specs.Coded.{codes};
 
@@ -35,5 +43,86 @@ impl Model for Body {
         spare = vec_capacity b.log - vec_len b.log
     } };
 
-    ghost invariant = { λ b. IsReplay (arc_value b.layout) b.page b.log.items b.state };
+    ghost invariant = { λ b. IsKept (arc_value b.layout) b.page b.log.items b.state };
+}
+
+impl Body {
+    /// A body at opening. The layout is sound, and the page is one of it.
+    pub fn new(alloc: Global, layout: &Arc<Layout, Global>, page: Page) -> Result<Body, OutOfMemory>
+        requires sound { IsSound (arc_value layout.now) }
+        requires inside { page.0 < length (arc_value layout.now).pages }
+        ensures { IfOk result (λ body. IsFresh (arc_value layout.now) page body) }
+    {
+        let declared: &Layout = layout;
+        let kind = declared.pages.as_slice()[usize::from(page.0)];
+        Ok(Body {
+            page,
+            layout: layout.clone()?,
+            state: PageState::opening(kind),
+            log: Vec::new(alloc),
+        })
+    }
+
+    /// Makes room for one entry more. A refusal changes nothing.
+    pub fn room(&mut self) -> Result<(), OutOfMemory>
+        ensures ok { OnOk result ((self.new ≡ record self.old { spare = self.new.spare }) × (1 ≤ self.new.spare)) }
+        ensures err { OnErr result (self.new ≡ self.old) }
+    {
+        self.log.reserve(1)
+    }
+
+    /// Adds an entry that the state allows, and goes on to the state after it. It takes no memory.
+    pub fn append(&mut self, entry: Entry)
+        requires allowed { Allowed self.old.layout self.old.page self.old.state entry.what }
+        requires room { 0 < self.old.spare }
+        ensures { self.new ≡ record self.old { state = after self.old.state entry.what; log = self.old.log ++ entry ∷ []; spare = self.old.spare - 1 } }
+    {
+        self.state.step(&entry.what);
+        self.log.push_reserved(entry);
+    }
+
+    /// Whether the state allows the entry.
+    pub fn allowed(&self, entry: &Entry) -> bool
+        ensures { IsTrue result ↔ Allowed self.now.layout self.now.page self.now.state entry.now.what }
+    {
+        self.state.allows(&self.layout, self.page, &entry.what)
+    }
+
+    /// How many entries the history has.
+    pub fn len(&self) -> u64
+        ensures { result ≡ length self.now.log }
+    {
+        self.log.len() as u64
+    }
+
+    /// The state now: the replay of the history from the page's opening.
+    pub fn state(&self) -> &PageState
+        ensures value { result.now ≡ self.now.state }
+        ensures replay { IsReplay self.now.layout self.now.page self.now.log self.now.state }
+        ensures sound { IsSound self.now.layout }
+    {
+        &self.state
+    }
+
+    /// The page.
+    pub fn page(&self) -> Page
+        ensures { result ≡ self.now.page }
+    {
+        self.page
+    }
+
+    /// The entries, the oldest first.
+    pub fn entries(&self) -> &[Entry]
+        ensures { result.now ≡ self.now.log }
+    {
+        self.log.as_slice()
+    }
+
+    /// The entry of this number. It is `None` exactly where the history ends before it.
+    pub fn entry(&self, number: u64) -> Option<&Entry>
+        ensures value { option_copied result ≡ slice_get self.now.log number }
+        ensures item { IsItemAt self.now.log number result }
+    {
+        self.log.get(number as usize)
+    }
 }

@@ -1,4 +1,8 @@
-use hwp_geom::{Line, Mask, Page, Thread, VSlot, Who};
+ghost use Rattle.std.specs.Prelude.{◌≡◌, IfOk};
+
+use std::alloc::Global;
+
+use hwp_geom::{Line, Mask, OutOfMemory, Page, Thread, VSlot, Who};
 
 /// A place in a history: the entry's number in its page, from 0.
 #[derive(Clone, Copy, Debug, PartialEq, Eq)]
@@ -33,4 +37,30 @@ pub enum What {
 pub struct Entry {
     pub who: Who,
     pub what: What,
+}
+
+impl Entry {
+    /// An equal entry.
+    pub fn copy(&self, alloc: Global) -> Result<Entry, OutOfMemory>
+        ensures { IfOk result (λ entry. entry ≡ self.now) }
+    {
+        Ok(Entry {
+            who: self.who,
+            what: self.what.copy(alloc)?,
+        })
+    }
+}
+
+impl What {
+    /// An equal happening.
+    pub fn copy(&self, alloc: Global) -> Result<What, OutOfMemory>
+        ensures { IfOk result (λ what. what ≡ self.now) }
+    {
+        match self {
+            What::Load { slot, line, met } => Ok(What::Load { slot: *slot, line: *line, met: *met }),
+            What::Store { slot, line, met } => Ok(What::Store { slot: *slot, line: *line, met: *met }),
+            What::FaultIn => Ok(What::FaultIn),
+            What::Map { slot } => Ok(What::Map { slot: *slot }),
+        }
+    }
 }

@@ -3,6 +3,7 @@
 
 mod body;
 mod entry;
+mod names;
 mod state;
 
 pub use body::Body;

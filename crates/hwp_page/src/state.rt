@@ -1,5 +1,10 @@
-use hwp_geom::{Lines, PageKind};
+ghost use Rattle.std.specs.Prelude.{◌≡◌, ◌↔◌, IsTrue};
+
+use hwp_geom::{Layout, Lines, Page, PageKind, Thread, VSlot};
 use hwp_kill::Slots;
+
+use crate::entry::{Met, What};
+use crate::names::{is_of, is_thread_of};
 
 /// The state of a page (Linux hwpoison.rst for what it stands for; its exact form is this project's rule).
 #[derive(Drop)]
@@ -19,4 +24,69 @@ pub struct PageState {
     pub bar: Slots,
     /// Whether the content is gone for good.
     pub lost: bool,
+}
+
+impl PageState {
+    ghost use Rattle.hwp_page.specs.Step.{Allowed, MapsWithin, IsRefused, after, opening_of};
+
+    /// The state at opening: nothing is cached, mapped or lost, and every word is the kind's own.
+    pub fn opening(kind: PageKind) -> PageState
+        ensures { result ≡ opening_of kind }
+    {
+        let (word, back) = match kind {
+            PageKind::Anon => (0, None),
+            PageKind::File { fill, .. } => (fill, Some(Lines::filled(fill))),
+        };
+        PageState {
+            kind,
+            val: Lines::filled(word),
+            back,
+            dirty: false,
+            cached: false,
+            maps: Slots::new(),
+            bar: Slots::new(),
+            lost: false,
+        }
+    }
+
+    /// Whether the state allows the entry.
+    pub fn allows(&self, layout: &Layout, page: Page, what: &What) -> bool
+        ensures { IsTrue result ↔ Allowed layout.now page self.now what.now }
+    {
+        match what {
+            What::Load { slot, line, met: Met::Word { mask, word } } => {
+                self.maps.has(*slot) && !mask.has(*line) && self.val.get(*line) == *word
+            }
+            What::Load { slot, met: Met::Sigbus { thread }, .. } => self.refuses(layout, page, *thread, *slot),
+            What::Store { slot, line, met: Met::Word { mask, .. } } => self.maps.has(*slot) && !mask.has(*line),
+            What::Store { slot, met: Met::Sigbus { thread }, .. } => self.refuses(layout, page, *thread, *slot),
+            What::FaultIn => !self.cached && !self.lost,
+            What::Map { slot } => {
+                self.cached && is_of(layout, page, *slot) && !self.maps.has(*slot) && !self.bar.has(*slot)
+            }
+        }
+    }
+
+    /// Whether an access through the translation is answered by SIGBUS to the thread.
+    fn refuses(&self, layout: &Layout, page: Page, thread: Thread, slot: VSlot) -> bool
+        ensures { IsTrue result ↔ IsRefused layout.now page self.now thread slot }
+    {
+        is_of(layout, page, slot) && is_thread_of(layout, thread, slot) && (self.bar.has(slot) || self.lost)
+    }
+
+    /// Goes on to the state after the entry.
+    pub fn step(&mut self, what: &What)
+        requires { MapsWithin what.now }
+        ensures { self.new ≡ after self.old what.now }
+    {
+        match what {
+            What::Load { .. } | What::Store { met: Met::Sigbus { .. }, .. } => {}
+            What::Store { line, met: Met::Word { word, .. }, .. } => {
+                self.val.set(*line, *word);
+                self.dirty = true;
+            }
+            What::FaultIn => self.cached = true,
+            What::Map { slot } => self.maps.insert(*slot),
+        }
+    }
 }
