@@ -170,7 +170,7 @@ entry_at-is pages at log is = ap (λ (o : Option (List Entry)). option_and_then 
 entry_at-same : (old new : List (List Entry)) (at : At) → slice_get new at.page.0 ≡ slice_get old at.page.0 → entry_at new at ≡ entry_at old at
 entry_at-same old new at same = ap (λ (o : Option (List Entry)). option_and_then (λ (entries : List Entry). slice_get entries at.entry) o) same
 
-same_place : (a b : At) → a.page.0 ≡ b.page.0 → a.entry ≡ b.entry → a ≡ b
+pub same_place : (a b : At) → a.page.0 ≡ b.page.0 → a.entry ≡ b.entry → a ≡ b
 same_place a b page entry =
     ap (λ (n : ℕ). let q : Page = record { 0 = n } in let x : At = record { page = q; entry = a.entry } in x) page
     ∙ ap (λ (n : ℕ). let x : At = record { page = b.page; entry = n } in x) entry

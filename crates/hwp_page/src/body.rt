@@ -10,7 +10,7 @@ use std::alloc::Global;
 use std::marker::Model;
 use std::sync::Arc;
 
-use hwp_geom::{Layout, OutOfMemory, Page};
+use hwp_geom::{Layout, List, OutOfMemory, Page};
 
 use crate::entry::Entry;
 use crate::state::PageState;
@@ -116,6 +116,13 @@ impl Body {
         ensures { result.now ≡ self.now.log }
     {
         self.log.as_slice()
+    }
+
+    /// The entries, the oldest first, when the body is done with. It takes no memory.
+    pub fn into_entries(self) -> List<Entry>
+        ensures { result ≡ self.log }
+    {
+        List::from_vec(self.log)
     }
 
     /// The entry of this number. It is `None` exactly where the history ends before it.

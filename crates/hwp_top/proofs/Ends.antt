@@ -2,16 +2,18 @@
 use Rattle.std.proofs.Common.{◌≡◌, ℕ, suc, zero, ◌+◌, ◌*◌, ◌<◌, ◌≤◌, Bool, true, false, cond, List, [], ◌∷◌, ◌++◌, Some, None, Option, length, map, refl, sym, ap, ◌∙◌, subst, arith, slice_get, count_by, sum_by, All, get_or, option_map, option_and_then}
 use Rattle.std.proofs.lemmas.List.Sums.{sum_by-cons, sum_by-le}
 use Rattle.std.proofs.lemmas.List.{length-map}
-use Rattle.std.proofs.lemmas.Option.{slice_get-get_or, slice_get-map, same_Some, none-some}
+use Rattle.std.proofs.lemmas.Option.{slice_get-get_or, slice_get-map, slice_get_within, same_Some, none-some}
 use Rattle.hwp_geom.specs.Pairs.{Pairs}
 use Rattle.hwp_geom.specs.declared.Cpu.{Cpu}
 use Rattle.hwp_geom.specs.declared.Layout.{Layout}
 use Rattle.hwp_geom.specs.declared.Page.{Page}
+use Rattle.hwp_geom.specs.declared.PageKind.{PageKind}
+use Rattle.hwp_geom.specs.declared.PageKind.TheVariants.{Anon}
 use Rattle.hwp_page.specs.declared.At.{At}
 use Rattle.hwp_page.specs.declared.Entry.{Entry}
 use Rattle.hwp_page.specs.declared.PageState.{PageState}
 use Rattle.hwp_page.specs.Step.{opening_of}
-use Rattle.hwp_page.specs.History.{Held, IsReplay, Leads}
+use Rattle.hwp_page.specs.History.{Held, IsFresh, IsReplay, Leads}
 use Rattle.hwp_script.specs.declared.Command.{Command}
 use Rattle.hwp_script.specs.declared.Script.{Script}
 use Rattle.hwp_report.specs.declared.CpuLine.{CpuLine}
@@ -23,7 +25,7 @@ use Rattle.hwp_law.specs.Places.{entry_at}
 use Rattle.hwp_law.specs.History.{AreMade, AreOrdered}
 use Rattle.hwp_law.specs.Answers.{AreAnswers, AreNamed}
 use Rattle.hwp_law.specs.Report.{is_of, IsPlace, IsFrame, IsHistory, IsReport}
-use Rattle.hwp_top.specs.Bench.{Reports, Machine, IsBodyOf, Follows, IsFresh, AreFresh, logs, opening_place, frame_line, is_used, first_cpu}
+use Rattle.hwp_top.specs.Bench.{Reports, Machine, IsBodyOf, Follows, AreFresh, logs, opening_place, frame_line, is_used, first_cpu}
 
 -- 1 where the test passes
 abbrev flag : Bool → ℕ
@@ -42,14 +44,23 @@ opened_places layout [] = tt
 opened_places layout (true ∷ kernel) = (refl, opened_places layout kernel)
 opened_places layout (false ∷ kernel) = (refl, opened_places layout kernel)
 
+-- a fresh body's state is the opening of its page's kind
+opened_state : (layout : Layout) (bodies : List Held) → AreFresh layout bodies → length bodies ≡ length layout.pages → (page : Page) (body : Held) → slice_get bodies page.0 ≡ Some body
+    → (kind : PageKind) × (slice_get layout.pages page.0 ≡ Some kind) × (body.state ≡ opening_of kind)
+opened_state layout bodies fresh fit page body there =
+    let within : page.0 < length bodies = slice_get_within bodies page.0 body there in
+    let declared : slice_get layout.pages page.0 ≡ Some (get_or layout.pages page.0 Anon) = slice_get-get_or layout.pages page.0 Anon (omega arith) in
+    (get_or layout.pages page.0 Anon, declared, (fresh page body there).opening (get_or layout.pages page.0 Anon) declared)
+
 -- at opening the bodies and the frames fit
 pub Machine-opened : (layout : Layout) (bodies : List Held) → AreFresh layout bodies → length bodies ≡ length layout.pages → Machine layout bodies (map opening_place layout.kernel)
 Machine-opened layout bodies fresh fit =
     let cached : (i : ℕ) (d : Held) → i < length bodies → flag (get_or bodies i d).state.cached ≤ 0 =
         λ (i : ℕ) (d : Held) (within : i < length bodies).
           let q : Page = record { 0 = i } in
-          let is : IsFresh layout q (get_or bodies i d) = fresh q (get_or bodies i d) (slice_get-get_or bodies i d within) in
-          let none : flag (get_or bodies i d).state.cached ≡ 0 = ap (λ (s : PageState). flag s.cached) is.opening in
+          let there = slice_get-get_or bodies i d within in
+          let opened = opened_state layout bodies fresh fit q (get_or bodies i d) there in
+          let none : flag (get_or bodies i d).state.cached ≡ 0 = ap (λ (s : PageState). flag s.cached) opened.2 in
           omega (arith, none) in
     let few = sum_by-le (λ (h : Held). flag h.state.cached) 0 bodies (λ i d within. cached i d within) in
     let frames = none_opened is_used refl refl layout.kernel in
@@ -57,13 +68,14 @@ Machine-opened layout bodies fresh fit =
       fit = fit;
       each = λ page body there.
         let is : IsFresh layout page body = fresh page body there in
-        let cached_is : body.state.cached ≡ false = ap (λ (s : PageState). s.cached) is.opening in
+        let opened = opened_state layout bodies fresh fit page body there in
+        let cached_is : body.state.cached ≡ false = ap (λ (s : PageState). s.cached) opened.2 in
         record {
           page_is = is.page_is;
           layout_is = is.layout_is;
-          replay = record { kind = is.kind; declared = is.declared; leads = subst (λ (l : List Entry). Leads layout page (opening_of is.kind) l body.state) (sym is.empty) (sym is.opening) };
-          unbarred = ap (λ (s : PageState). s.bar) is.opening;
-          kept = ap (λ (s : PageState). s.lost) is.opening;
+          replay = record { kind = opened.0; declared = opened.1; leads = subst (λ (l : List Entry). Leads layout page (opening_of opened.0) l body.state) (sym is.no_entry) (sym opened.2) };
+          unbarred = ap (λ (s : PageState). s.bar) opened.2;
+          kept = ap (λ (s : PageState). s.lost) opened.2;
           held = none_opened (is_of page) refl refl layout.kernel ∙ ap flag (sym cached_is)
         };
       places = opened_places layout layout.kernel;
@@ -72,7 +84,7 @@ Machine-opened layout bodies fresh fit =
 
 no_entries : (layout : Layout) (bodies : List Held) → AreFresh layout bodies → (at : At) (e : Entry) → entry_at (logs bodies) at ≡ Some e → ⊥
 no_entries layout bodies fresh at e there =
-    nothing (slice_get bodies at.page.0) (λ body is. (fresh at.page body is).empty)
+    nothing (slice_get bodies at.page.0) (λ body is. (fresh at.page body is).no_entry)
       (sym (ap (λ (o : Option (List Entry)). option_and_then (λ (entries : List Entry). slice_get entries at.entry) o) (slice_get-map (λ (h : Held). h.log) bodies at.page.0)) ∙ there)
   where
     nothing : (o : Option Held) → ((body : Held) → o ≡ Some body → body.log ≡ []) → option_and_then (λ (entries : List Entry). slice_get entries at.entry) (option_map (λ (h : Held). h.log) o) ≡ Some e → ⊥

@@ -6,17 +6,20 @@ use Rattle.hwp_geom.specs.declared.Layout.{Layout}
 use Rattle.hwp_geom.specs.declared.Cpu.{Cpu}
 use Rattle.hwp_geom.specs.declared.Mask.{Mask}
 use Rattle.hwp_geom.specs.declared.Page.{Page}
-use Rattle.hwp_geom.specs.declared.PageKind.{PageKind}
 use Rattle.hwp_geom.specs.declared.VSlot.{VSlot}
 use Rattle.hwp_geom.specs.declared.Who.{Who}
 use Rattle.hwp_page.specs.declared.At.{At}
 use Rattle.hwp_page.specs.declared.Entry.{Entry}
+use Rattle.hwp_page.specs.declared.Met.TheVariants.{Word}
 use Rattle.hwp_page.specs.declared.What.{What}
-use Rattle.hwp_page.specs.Step.{Allowed, after, opening_of}
-use Rattle.hwp_page.specs.History.{Held, IsReplay}
+use Rattle.hwp_page.specs.declared.What.TheVariants as entries
+use Rattle.hwp_page.specs.Step.{Allowed, IsOf, after}
+use Rattle.hwp_page.specs.History.{Held, IsFresh, IsReplay}
 use Rattle.hwp_script.specs.declared.Command.{Command}
+use Rattle.hwp_script.specs.declared.Command.TheVariants as commands
 use Rattle.hwp_script.specs.declared.Script.{Script}
 use Rattle.hwp_report.specs.declared.Answer.{Answer}
+use Rattle.hwp_report.specs.declared.Answer.TheVariants.{Value, Stored}
 use Rattle.hwp_report.specs.declared.CpuLine.{CpuLine}
 use Rattle.hwp_report.specs.declared.CpuLine.TheVariants as lines
 use Rattle.hwp_report.specs.declared.FrameLine.{FrameLine}
@@ -24,7 +27,7 @@ use Rattle.hwp_report.specs.declared.Place.{Place}
 use Rattle.hwp_report.specs.declared.Place.TheVariants as places
 use Rattle.hwp_report.specs.declared.Report.{Report}
 use Rattle.hwp_law.specs.Places.{entry_at, command_at}
-use Rattle.hwp_law.specs.History.{AreMade, AreOrdered}
+use Rattle.hwp_law.specs.History.{AreMade, AreOrdered, Names}
 use Rattle.hwp_law.specs.Answers.{AreAnswers, AreNamed}
 use Rattle.hwp_law.specs.Report.{is_of, IsPlace}
 
@@ -112,15 +115,6 @@ IsCached bodies page = IsSomeAnd (slice_get bodies page.0) (λ (h : Held). h.sta
 abbrev pub IsMapped : List Held → Page → VSlot → Type 0
 IsMapped bodies page slot = IsSomeAnd (slice_get bodies page.0) (λ (h : Held). IsTrue (set.contains h.state.maps slot.0))
 
--- the body is the page's at its opening
-pub record IsFresh (layout : Layout) (page : Page) (body : Held) : Type 0 where
-  pub page_is : body.page ≡ page
-  pub layout_is : body.layout ≡ layout
-  pub empty : body.log ≡ []
-  pub kind : PageKind
-  pub declared : slice_get layout.pages page.0 ≡ Some kind
-  pub opening : body.state ≡ opening_of kind
-
 -- the bodies are those of the first pages, at their opening
 abbrev pub AreFresh : Layout → List Held → Type 0
 AreFresh layout bodies = (page : Page) (body : Held) → slice_get bodies page.0 ≡ Some body → IsFresh layout page body
@@ -139,3 +133,20 @@ pub record Reports (report : Report) (bodies : List Held) (frames : List Place) 
   pub frames_are : report.frames ≡ map frame_line frames
   pub pages_are : report.pages ≡ logs bodies
   pub cpus_are : report.cpus ≡ rows ∷ []
+
+-- the translation of a command
+abbrev pub command_slot : Command → VSlot
+command_slot (commands.Load thread slot line) = slot
+command_slot (commands.Store thread slot line word) = slot
+
+-- command number `seq` of the first processor, and the page that it names
+pub record Serves (script : Script) (seq : ℕ) (command : Command) (page : Page) : Type 0 where
+  pub at : command_at script (at_command seq) ≡ Some command
+  pub names : Names script.layout command page
+
+-- an access of the command that answers it, with its answer, at this place
+abbrev pub Gives : Command → At → What → Answer → Type 0
+Gives (commands.Load thread slot line) at what answer =
+    (mask : Mask) × (word : ℕ) × (what ≡ entries.Load slot line (Word mask word)) × (answer ≡ Value word at)
+Gives (commands.Store thread slot line word) at what answer =
+    (mask : Mask) × (what ≡ entries.Store slot line (Word mask word)) × (answer ≡ Stored at)

@@ -1,2 +1,4 @@
 //! The top calls: a command's words and input to its output and status.
 #![tactic(auto)]
+
+mod bench;

@@ -1,0 +1,127 @@
+-- What each step of serving a command needs and gives.
+use Rattle.std.proofs.Common.{◌≡◌, ℕ, ◌+◌, ◌*◌, ◌<◌, ◌≤◌, Bool, true, false, not, cond, List, [], ◌∷◌, Some, None, Option, length, get_or, slice_get, position, count_by, nat_lt, All, IsSomeAnd, IsTrue, refl, sym, ap, ◌∙◌, subst, arith, inl, inr}
+use Rattle.std.proofs.lemmas.Bool.{cases_Bool, ltb-false, le-ltb}
+use Rattle.std.proofs.lemmas.List.Quantifiers.{position-Some}
+use Rattle.std.proofs.lemmas.List.Sums.{fails_before_first}
+use Rattle.std.proofs.lemmas.Option.{slice_get_read, slice_get-get_or, slice_get_within, same_Some}
+use Rattle.std.specs.List.{position_or_len}
+use Rattle.std.specs.Ordering.{nat_cmp}
+use Rattle.std.specs.FinSet as set
+use Rattle.std.proofs.Common.{rules}
+use Rattle.hwp_geom.specs.declared.Layout.{Layout}
+use Rattle.hwp_geom.specs.declared.Page.{Page}
+use Rattle.hwp_geom.specs.declared.VSlot.{VSlot}
+use Rattle.hwp_page.specs.declared.At.{At}
+use Rattle.hwp_page.specs.declared.Entry.{Entry}
+use Rattle.hwp_page.specs.declared.PageState.{PageState}
+use Rattle.hwp_page.specs.declared.What.{What}
+use Rattle.hwp_page.specs.declared.What.TheVariants as entries
+use Rattle.hwp_page.specs.Step.{Allowed, IsOf, after}
+use Rattle.hwp_page.specs.History.{Held}
+use Rattle.hwp_script.specs.declared.Command.{Command}
+use Rattle.hwp_script.specs.declared.Command.TheVariants as commands
+use Rattle.hwp_script.specs.declared.Script.{Script}
+use Rattle.hwp_report.specs.declared.Place.{Place}
+use Rattle.hwp_report.specs.declared.Place.TheVariants as places
+use Rattle.hwp_law.specs.Places.{command_at}
+use Rattle.hwp_law.specs.History.{IsMade, Fits, Names}
+use Rattle.hwp_law.specs.Answers.{is_ample, usable_frames}
+use Rattle.hwp_law.proofs.Growth.{slice_get-set_at}
+use Rattle.hwp_top.specs.Bench.{Machine, Appended, Serves, IsCached, IsMapped, at_command, command_slot, is_free}
+use Rattle.hwp_top.proofs.Machines.{IsStill, full-few}
+
+-- where the search for a free frame finds none, none is free
+none_free : (frames : List Place) → position is_free frames ≡ None → All (λ (p : Place). is_free p ≡ false) frames
+none_free frames none i d within =
+    fails_before_first is_free frames i d (elim (cases_Bool (nat_lt (position_or_len is_free frames) (length frames))) [
+      | inl found ↦
+          let some : cond (nat_lt (position_or_len is_free frames) (length frames)) (Some (position_or_len is_free frames)) None ≡ Some (position_or_len is_free frames) =
+              ap (λ (b : Bool). cond b (Some (position_or_len is_free frames)) None) found in
+          absurd (cc)
+      | inr past ↦
+          let beyond = ltb-false (position_or_len is_free frames) (length frames) past in
+          omega arith
+    ])
+
+pub unample-full : (script : Script) (bodies : List Held) (frames : List Place) → Machine script.layout bodies frames → position is_free frames ≡ None → is_ample script ≡ false
+unample-full script bodies frames machine none =
+    let few : usable_frames script ≤ length script.layout.pages = full-few script.layout bodies frames machine (none_free frames none) in
+    ltb_not (length script.layout.pages + 2 * script.layout.cpus) (usable_frames script) (omega arith)
+  where
+    ltb_not : (a b : ℕ) → b ≤ a → nat_lt a b ≡ false
+    ltb_not a b le = le-ltb a b le
+
+-- the frame that the search finds is free
+pub found_free : (frames : List Place) (f : ℕ) → Some f ≡ position is_free frames → slice_get frames f ≡ Some places.Free
+found_free frames f found =
+    let at = position-Some is_free frames f places.Free (sym found) in
+    slice_get-get_or frames f places.Free at.0 ∙ ap (λ (p : Place). Some p) (only_free (get_or frames f places.Free) at.1)
+  where
+    only_free : (p : Place) → is_free p ≡ true → p ≡ places.Free
+    only_free places.Free passes = refl
+    only_free places.Kernel passes = cc
+    only_free (places.Of page) passes = cc
+
+-- what was read of a body is so of the body at that place
+pub read-at : (old : List Held) (page : Page) (i : ℕ) (held : Held) → i ≡ page.0 → page.0 < length old → held ≡ get_or old i held → slice_get old page.0 ≡ Some (get_or old i held)
+read-at old page i held at within read =
+    slice_get_read old (length old) page.0 held refl within (subst (λ (n : ℕ). held ≡ get_or old n held) at read) ∙ ap (λ (h : Held). Some h) read
+
+-- an entry of a command is made where the command makes it
+pub made-by : (script : Script) (seq : ℕ) (command : Command) (page : Page) (e : Entry) → Serves script seq command page → e.who ≡ at_command seq → Fits command e.what → IsMade script page e
+made-by script seq command page e serves who fits =
+    let there : command_at script e.who ≡ Some command = ap (command_at script) who ∙ serves.at in
+    subst (λ (o : Option Command). IsSomeAnd o (λ (c : Command). Fits c e.what × Names script.layout c page)) (sym there) (fits, serves.names)
+
+pub fits-FaultIn : (command : Command) → Fits command entries.FaultIn
+fits-FaultIn (commands.Load thread slot line) = tt
+fits-FaultIn (commands.Store thread slot line word) = tt
+
+-- after a fault-in the page is cached
+pub cached-after : {old new : List Held} {at : At} {e : Entry} → Appended old new at e → e.what ≡ entries.FaultIn → IsCached new at.page
+cached-after {old} {new} {at} {e} added brings =
+    let within : at.page.0 < length old = slice_get_within old at.page.0 added.held added.was in
+    let there : slice_get new at.page.0 ≡ Some added.now = ap (λ (l : List Held). slice_get l at.page.0) added.new_is ∙ slice_get-set_at old at.page.0 added.now within in
+    let cached : added.now.state.cached ≡ true = ap (λ (s : PageState). s.cached) (added.state_is ∙ ap (after added.held.state) brings) in
+    subst (λ (o : Option Held). IsSomeAnd o (λ (h : Held). h.state.cached ≡ true)) (sym there) cached
+
+-- the page that the command names is that of its translation
+names_slot : (layout : Layout) (command : Command) (page : Page) → Names layout command page → IsOf layout page (command_slot command)
+names_slot layout (commands.Load thread slot line) page names = names
+names_slot layout (commands.Store thread slot line word) page names = names
+
+pub fits-Map : (command : Command) (slot : VSlot) → slot ≡ command_slot command → Fits command (entries.Map slot)
+fits-Map (commands.Load thread own line) slot is = is
+fits-Map (commands.Store thread own line word) slot is = is
+
+-- a body whose page is cached, and which has the command's translation neither in use nor poisoned, allows it to be mapped
+pub allowed-Map : (script : Script) (bodies : List Held) (frames : List Place) (command : Command) (page : Page) (slot : VSlot) (seq : ℕ) → Machine script.layout bodies frames
+    → Serves script seq command page → IsCached bodies page → slot ≡ command_slot command → (h : Held) → slice_get bodies page.0 ≡ Some h
+    → set.contains h.state.maps slot.0 ≡ false → Allowed h.layout h.page h.state (entries.Map slot)
+allowed-Map script bodies frames command page slot seq machine serves cached is h there unmapped =
+    let body = machine.each page h there in
+    let here : h.state.cached ≡ true = subst (λ (o : Option Held). IsSomeAnd o (λ (b : Held). b.state.cached ≡ true)) there cached in
+    let of_script : IsOf script.layout page slot = subst (IsOf script.layout page) (sym is) (names_slot script.layout command page serves.names) in
+    let of_body : IsOf h.layout h.page slot = subst (λ (l : Layout). IsOf l h.page slot) (sym body.layout_is) (subst (λ (q : Page). IsOf script.layout q slot) (sym body.page_is) of_script) in
+    let unbarred : set.contains h.state.bar slot.0 ≡ false = ap (λ (s : set.FinSet nat_cmp). set.contains s slot.0) body.unbarred ∙ set.contains-empty nat_cmp slot.0 in
+    (here, of_body, unmapped, unbarred)
+
+-- a new translation changes neither whether the page is cached nor its poison entries
+pub still-Map : {old new : List Held} {at : At} {e : Entry} (slot : VSlot) (added : Appended old new at e) → e.what ≡ entries.Map slot → IsStill added.held.state added.now.state
+still-Map slot added maps =
+    let state_is = added.state_is ∙ ap (after added.held.state) maps in
+    record { cached = ap (λ (s : PageState). s.cached) state_is; bar = ap (λ (s : PageState). s.bar) state_is; lost = ap (λ (s : PageState). s.lost) state_is }
+
+-- after a mapping the translation is in use
+pub mapped-after : {old new : List Held} {at : At} {e : Entry} (slot : VSlot) → Appended old new at e → e.what ≡ entries.Map slot → IsMapped new at.page slot
+mapped-after {old} {new} {at} {e} slot added maps =
+    let within : at.page.0 < length old = slice_get_within old at.page.0 added.held added.was in
+    let there : slice_get new at.page.0 ≡ Some added.now = ap (λ (l : List Held). slice_get l at.page.0) added.new_is ∙ slice_get-set_at old at.page.0 added.now within in
+    let maps_are : added.now.state.maps ≡ set.insert added.held.state.maps slot.0 = ap (λ (s : PageState). s.maps) (added.state_is ∙ ap (after added.held.state) maps) in
+    let in_it : set.contains (set.insert added.held.state.maps slot.0) slot.0 ≡ true = grind (set.members, rules) in
+    let mapped : set.contains added.now.state.maps slot.0 ≡ true = ap (λ (s : set.FinSet nat_cmp). set.contains s slot.0) maps_are ∙ in_it in
+    subst (λ (o : Option Held). IsSomeAnd o (λ (h : Held). IsTrue (set.contains h.state.maps slot.0))) (sym there) mapped
+
+-- what was read of the translations is so of the body at that place
+pub mapped-read : (bodies : List Held) (page : Page) (slot : VSlot) (h : Held) → slice_get bodies page.0 ≡ Some h → set.contains h.state.maps slot.0 ≡ true → IsMapped bodies page slot
+mapped-read bodies page slot h there is = subst (λ (o : Option Held). IsSomeAnd o (λ (b : Held). IsTrue (set.contains b.state.maps slot.0))) (sym there) is
