@@ -1,0 +1,11 @@
+-- What is gone from `rest` was appended, and each write takes some of it.
+use Rattle.std.proofs.Common.{◌≡◌, ℕ, List, ◌++◌, length}
+use Rattle.std.specs.Io.KnownBytes.{Appends}
+use Rattle.hwp_io.proofs.writing.write_all.Given as goal
+
+abbrev pub invariant-loop-rest : goal.invariant-loop-rest
+invariant-loop-rest g l = (done : List ℕ) × (l.text ≡ done ++ l.rest) × Appends (g.K.Sink.taken l.initial.out) (g.K.Sink.taken l.out) done
+    × (g.K.Sink.faults l.out ≡ g.K.Sink.faults l.initial.out)
+
+abbrev pub decreases-loop-rest : goal.decreases-loop-rest
+decreases-loop-rest g l = length l.rest

@@ -1,0 +1,74 @@
+ghost use Rattle.std.specs.Prelude.{◌≡◌};
+
+use super::{Failed, Sink, Source};
+use std::io::{Read, Write};
+
+/// A source over a reader of std. It tells what the reader tells: of a file or a pipe, nothing.
+#[derive(Drop)]
+pub struct StdSource<R> {
+    reader: R,
+    faults: u64,
+}
+
+impl<R: Read> StdSource<R> {
+    /// A source that reads from `reader` and has had no fault.
+    pub fn new(reader: R) -> StdSource<R>
+        ensures left { ⟦<StdSource<R> as Source>⟧.left result ≡ R.remaining reader }
+        ensures faults { ⟦<StdSource<R> as Source>⟧.faults result ≡ 0 }
+    {
+        StdSource { reader, faults: 0 }
+    }
+}
+
+impl<R: Read> Source for StdSource<R> {
+    ghost left = { λ s. R.remaining s.reader };
+
+    ghost faults = { λ s. s.faults };
+
+    /// Fails where the reader answers an error, of whatever kind.
+    fn read(&mut self, buf: &mut [u8]) -> Result<usize, Failed> {
+        match self.reader.read(buf) {
+            Ok(count) => Ok(count),
+            Err(_) => {
+                self.faults = self.faults.saturating_add(1);
+                Err(Failed)
+            }
+        }
+    }
+}
+
+/// A sink over a writer of std. It tells what the writer tells: of a file or a pipe, nothing.
+///
+/// It does not flush, so give it a writer that holds nothing back, as std's output does not.
+#[derive(Drop)]
+pub struct StdSink<W> {
+    writer: W,
+    faults: u64,
+}
+
+impl<W: Write> StdSink<W> {
+    /// A sink that writes to `writer` and has had no fault.
+    pub fn new(writer: W) -> StdSink<W>
+        ensures taken { ⟦<StdSink<W> as Sink>⟧.taken result ≡ W.contents writer }
+        ensures faults { ⟦<StdSink<W> as Sink>⟧.faults result ≡ 0 }
+    {
+        StdSink { writer, faults: 0 }
+    }
+}
+
+impl<W: Write> Sink for StdSink<W> {
+    ghost taken = { λ s. W.contents s.writer };
+
+    ghost faults = { λ s. s.faults };
+
+    /// Fails where the writer answers an error, of whatever kind, or takes nothing of some bytes.
+    fn write(&mut self, buf: &[u8]) -> Result<usize, Failed> {
+        match self.writer.write(buf) {
+            Ok(count) if count > 0 || buf.is_empty() => Ok(count),
+            _ => {
+                self.faults = self.faults.saturating_add(1);
+                Err(Failed)
+            }
+        }
+    }
+}
