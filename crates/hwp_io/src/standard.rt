@@ -1,4 +1,5 @@
 ghost use Rattle.std.specs.Prelude.{◌≡◌};
+ghost use Rattle.hwp_io.specs.Standard.{source_reader, source_faults, sink_writer, sink_faults};
 
 use super::{Failed, Sink, Source};
 use std::io::{Read, Write};
@@ -13,17 +14,17 @@ pub struct StdSource<R> {
 impl<R: Read> StdSource<R> {
     /// A source that reads from `reader` and has had no fault.
     pub fn new(reader: R) -> StdSource<R>
-        ensures left { ⟦<StdSource<R> as Source>⟧.left result ≡ R.remaining reader }
-        ensures faults { ⟦<StdSource<R> as Source>⟧.faults result ≡ 0 }
+        ensures reader { source_reader result ≡ reader }
+        ensures faults { source_faults result ≡ 0 }
     {
         StdSource { reader, faults: 0 }
     }
 }
 
 impl<R: Read> Source for StdSource<R> {
-    ghost left = { λ s. R.remaining s.reader };
+    ghost left = { λ s. R.remaining (source_reader s) };
 
-    ghost faults = { λ s. s.faults };
+    ghost faults = { λ s. source_faults s };
 
     /// Fails where the reader answers an error, of whatever kind.
     fn read(&mut self, buf: &mut [u8]) -> Result<usize, Failed> {
@@ -49,17 +50,17 @@ pub struct StdSink<W> {
 impl<W: Write> StdSink<W> {
     /// A sink that writes to `writer` and has had no fault.
     pub fn new(writer: W) -> StdSink<W>
-        ensures taken { ⟦<StdSink<W> as Sink>⟧.taken result ≡ W.contents writer }
-        ensures faults { ⟦<StdSink<W> as Sink>⟧.faults result ≡ 0 }
+        ensures writer { sink_writer result ≡ writer }
+        ensures faults { sink_faults result ≡ 0 }
     {
         StdSink { writer, faults: 0 }
     }
 }
 
 impl<W: Write> Sink for StdSink<W> {
-    ghost taken = { λ s. W.contents s.writer };
+    ghost taken = { λ s. W.contents (sink_writer s) };
 
-    ghost faults = { λ s. s.faults };
+    ghost faults = { λ s. sink_faults s };
 
     /// Fails where the writer answers an error, of whatever kind, or takes nothing of some bytes.
     fn write(&mut self, buf: &[u8]) -> Result<usize, Failed> {
