@@ -1,5 +1,5 @@
 -- When a layout is sound.
-use Rattle.std.specs.Prelude.{◌≡◌, ℕ, ◌<◌, ◌≤◌, length, All, Bool}
+use Rattle.std.specs.Prelude.{◌≡◌, ◌<◌, ◌≤◌, length, All}
 use Rattle.hwp_geom.specs.declared.layout.Layout.{Layout}
 use Rattle.hwp_geom.specs.declared.layout.ThreadDecl.{ThreadDecl}
 use Rattle.hwp_geom.specs.declared.layout.TransDecl.{TransDecl}

@@ -1,5 +1,5 @@
 -- Lines of words: the shape of scripts and reports alike.
-use Rattle.std.specs.Prelude.{ℕ, Bool, false, List, [], ◌∷◌, ◌++◌, ◌==◌, ◌≢◌, All, map}
+use Rattle.std.specs.Prelude.{ℕ, false, List, [], ◌∷◌, ◌++◌, ◌==◌, ◌≢◌, All}
 use Rattle.std.specs.List.{slice_split}
 use Rattle.std.specs.Fmt.{digits}
 
@@ -8,6 +8,15 @@ pub record IsWord (word : List ℕ) : Type 0 where
   pub some : word ≢ []
   pub no_space : All (λ b. b ≢ 32) word
   pub no_feed : All (λ b. b ≢ 10) word
+
+-- the words of a line: at least one, and each is a word
+pub record IsLine (words : List (List ℕ)) : Type 0 where
+  pub some : words ≢ []
+  pub each : All IsWord words
+
+-- each of them is the words of a line
+pub record AreLines (lines : List (List (List ℕ))) : Type 0 where
+  pub each : All IsLine lines
 
 -- the bytes of a line: its words with one space between two, and a line feed
 abbrev pub line : List (List ℕ) → List ℕ

@@ -1,10 +1,9 @@
 ghost use Rattle.std.specs.Prelude.{◌≡◌, IfOk};
 
-use std::alloc::Global;
-
 use crate::OutOfMemory;
 use crate::list::List;
 use crate::numbers::{Cpu, FileNo, Page, Proc};
+use std::alloc::Global;
 
 /// The most processors of a machine.
 pub const MAX_CPUS: u8 = 8;

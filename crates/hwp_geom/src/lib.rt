@@ -8,8 +8,10 @@ mod list;
 mod numbers;
 mod text;
 
-pub use layout::{Layout, PageKind, ThreadDecl, TransDecl};
-pub use layout::{MAX_CPUS, MAX_FILES, MAX_FRAMES, MAX_PAGES, MAX_PROCS, MAX_THREADS, MAX_TRANS};
+pub use layout::{
+    Layout, MAX_CPUS, MAX_FILES, MAX_FRAMES, MAX_PAGES, MAX_PROCS, MAX_THREADS, MAX_TRANS,
+    PageKind, ThreadDecl, TransDecl,
+};
 pub use line::{LINES, Line};
 pub use lines::Lines;
 pub use list::List;

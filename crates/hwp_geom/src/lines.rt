@@ -1,9 +1,8 @@
 ghost use Rattle.std.specs.Prelude.{◌≡◌, ℕ, List, length, slice_index, slice_set, replicate};
 ghost use Rattle.hwp_geom.specs.declared.line.TheConstants.{LINES};
 
-use std::marker::Model;
-
 use crate::line::Line;
+use std::marker::Model;
 
 /// The content of a page: one 64-bit word for each of its 64 lines. Clauses see it as the list of them.
 #[derive(Drop)]

@@ -1,11 +1,11 @@
 -- The set that a row of words stands for: which numbers it has, and what setting or clearing a bit does to it.
-use Rattle.std.proofs.Common.{◌≡◌, ◌≢◌, ℕ, zero, suc, ◌+◌, ◌-◌, ◌*◌, ◌/◌, ◌%◌, ◌^◌, ◌<◌, ◌≤◌, Bool, true, false, not, cond, ◌&&◌, ◌||◌, List, [], ◌∷◌, ◌++◌, length, slice_index, slice_set, filter, nat_eq, nat_lt, bit_and, bit_or, refl, sym, ap, ◌∙◌, inl, inr, arith, rules}
-use Rattle.std.specs.Ordering.{nat_cmp, eq_by_cmp}
+use Rattle.std.proofs.Common.{◌≡◌, ◌≢◌, ℕ, zero, suc, ◌*◌, ◌/◌, ◌%◌, ◌^◌, ◌<◌, ◌≤◌, Bool, true, false, not, cond, ◌&&◌, ◌||◌, List, [], ◌∷◌, length, slice_index, slice_set, filter, nat_eq, nat_lt, bit_and, bit_or, refl, sym, ap, ◌∙◌, inl, inr, arith}
+use Rattle.std.specs.Ordering.{nat_cmp}
 use Rattle.std.specs.List.{list_any}
 use Rattle.std.specs.Cmp.{nat_cmp_total, unsigned_tied}
 use Rattle.std.specs.FinSet as set
 use Rattle.std.specs.FinSet.{nat_cmp-IsAntisymmetric}
-use Rattle.std.specs.Int.{bit_at, Width, w64, bit_not}
+use Rattle.std.specs.Int.{bit_at, w64, bit_not}
 use Rattle.std.proofs.lemmas.Bool.{cases_eq, lt-ltb, le-ltb}
 use Rattle.std.proofs.lemmas.Bool.Decides.{nat_tests}
 use Rattle.std.proofs.lemmas.Grind.{get_or-set_at}
@@ -20,7 +20,7 @@ or_false : (b : Bool) → (b || false) ≡ b
 or_false true = refl
 or_false false = refl
 
-and_false : (b : Bool) → (b && false) ≡ false
+pub and_false : (b : Bool) → (b && false) ≡ false
 and_false true = refl
 and_false false = refl
 
@@ -48,12 +48,12 @@ scaled (suc zero) p small some = grind (arith, nat_tests)
 scaled (suc (suc b)) p small some = absurd (omega arith)
 
 -- how the code tests a bit
-pub bit_test : (w k : ℕ) → k < 64 → not (nat_eq (bit_and w (1 * 2 ^ k % 18446744073709551616)) 0) ≡ nat_eq (bit_at w k) 1
+pub bit_test : (w k : ℕ) → k < 64 → not (nat_eq (bit_and w (1 * 2 ^ k % 2 ^ 64)) 0) ≡ nat_eq (bit_at w k) 1
 bit_test w k within = rw (one_shl k 64 within, and_pow) (scaled (bit_at w k) (2 ^ k) (bit_at-lt w k) (pow_pos k))
 
 -- the code's test of a number within the words
 pub has-members : (words : List ℕ) (k : ℕ) → k < 64 * length words
-    → not (nat_eq (bit_and (slice_index words (k / 64)) (1 * 2 ^ (k % 64) % 18446744073709551616)) 0) ≡ set.contains (set.from_list {R = nat_cmp} (members words)) k
+    → not (nat_eq (bit_and (slice_index words (k / 64)) (1 * 2 ^ (k % 64) % 2 ^ 64)) 0) ≡ set.contains (set.from_list {R = nat_cmp} (members words)) k
 has-members words k within =
     bit_test (slice_index words (k / 64)) (k % 64) (omega arith)
     ∙ sym (contains-members words k ∙ ap (λ b. b && bit_of words k) (lt-ltb k (64 * length words) within))
@@ -64,11 +64,11 @@ has-past words k past = contains-members words k ∙ ap (λ b. b && bit_of words
 
 -- a word with the bit of a number set, as the code computes it
 abbrev pub marked : List ℕ → ℕ → ℕ
-marked words k = bit_or (slice_index words (k / 64)) (1 * 2 ^ (k % 64) % 18446744073709551616)
+marked words k = bit_or (slice_index words (k / 64)) (1 * 2 ^ (k % 64) % 2 ^ 64)
 
 -- the same with the bit cleared
 abbrev pub cleared : List ℕ → ℕ → ℕ
-cleared words k = bit_and (slice_index words (k / 64)) (18446744073709551615 - 1 * 2 ^ (k % 64) % 18446744073709551616)
+cleared words k = bit_and (slice_index words (k / 64)) (bit_not w64 (1 * 2 ^ (k % 64) % 2 ^ 64))
 
 bit_of-set_here : (words : List ℕ) (i w v : ℕ) → i < length words → v / 64 ≡ i → bit_of (slice_set words i w) v ≡ nat_eq (bit_at w (v % 64)) 1
 bit_of-set_here words i w v within here = ap (λ x. nat_eq (bit_at x (v % 64)) 1) (get_or-set_at words i (v / 64) w 0 here within)
@@ -102,7 +102,7 @@ both_false words k w v within same none =
 
 marked-set : (words : List ℕ) (k v : ℕ) → k < 64 * length words
     → (nat_lt v (64 * length (slice_set words (k / 64) (marked words k))) && bit_of (slice_set words (k / 64) (marked words k)) v)
-      ≡ (nat_eq v k || (nat_lt v (64 * length words) && bit_of words v))
+    ≡ (nat_eq v k || (nat_lt v (64 * length words) && bit_of words v))
 marked-set words k v within =
     rw length-set (elim (cases_eq v k) [
       | inl e ↦ rw (both_true words k (marked words k) v (omega arith) e (bit_at_set_same w64 _ (k % 64) (omega arith))) (grind (arith, nat_tests))
@@ -111,7 +111,7 @@ marked-set words k v within =
 
 cleared-set : (words : List ℕ) (k v : ℕ) → k < 64 * length words
     → (nat_lt v (64 * length (slice_set words (k / 64) (cleared words k))) && bit_of (slice_set words (k / 64) (cleared words k)) v)
-      ≡ (not (nat_eq v k) && (nat_lt v (64 * length words) && bit_of words v))
+    ≡ (not (nat_eq v k) && (nat_lt v (64 * length words) && bit_of words v))
 cleared-set words k v within =
     rw length-set (elim (cases_eq v k) [
       | inl e ↦ rw (both_false words k (cleared words k) v (omega arith) e (bit_at_clear_same w64 _ (k % 64) (omega arith)), and_false) (grind (arith, nat_tests))
@@ -123,22 +123,22 @@ pub members-marked : (words : List ℕ) (k : ℕ) → k < 64 * length words
     → set.from_list {R = nat_cmp} (members (slice_set words (k / 64) (marked words k))) ≡ set.insert (set.from_list (members words)) k
 members-marked words k within =
     set.same_set nat_cmp_total nat_cmp-IsAntisymmetric _ _ (λ v.
-      contains-members (slice_set words (k / 64) (marked words k)) v
-      ∙ marked-set words k v within
-      ∙ ap (λ b. nat_eq v k || b) (sym (contains-members words v))
-      ∙ ap (λ b. b || set.contains (set.from_list {R = nat_cmp} (members words)) v) (sym (unsigned_tied v k))
-      ∙ sym (set.contains-insert nat_cmp_total _ k v))
+    contains-members (slice_set words (k / 64) (marked words k)) v
+    ∙ marked-set words k v within
+    ∙ ap (λ b. nat_eq v k || b) (sym (contains-members words v))
+    ∙ ap (λ b. b || set.contains (set.from_list {R = nat_cmp} (members words)) v) (sym (unsigned_tied v k))
+    ∙ sym (set.contains-insert nat_cmp_total _ k v))
 
 -- the set after the bit of a number is cleared
 pub members-cleared : (words : List ℕ) (k : ℕ) → k < 64 * length words
     → set.from_list {R = nat_cmp} (members (slice_set words (k / 64) (cleared words k))) ≡ set.remove (set.from_list (members words)) k
 members-cleared words k within =
     set.same_set nat_cmp_total nat_cmp-IsAntisymmetric _ _ (λ v.
-      contains-members (slice_set words (k / 64) (cleared words k)) v
-      ∙ cleared-set words k v within
-      ∙ ap (λ b. not (nat_eq v k) && b) (sym (contains-members words v))
-      ∙ ap (λ b. not b && set.contains (set.from_list {R = nat_cmp} (members words)) v) (sym (unsigned_tied v k))
-      ∙ sym (set.contains-remove nat_cmp_total _ k v))
+    contains-members (slice_set words (k / 64) (cleared words k)) v
+    ∙ cleared-set words k v within
+    ∙ ap (λ b. not (nat_eq v k) && b) (sym (contains-members words v))
+    ∙ ap (λ b. not b && set.contains (set.from_list {R = nat_cmp} (members words)) v) (sym (unsigned_tied v k))
+    ∙ sym (set.contains-remove nat_cmp_total _ k v))
 
 past_end : (words : List ℕ) (k v : ℕ) → 64 * length words ≤ k
     → (nat_lt v (64 * length words) && bit_of words v) ≡ (not (nat_eq v k) && (nat_lt v (64 * length words) && bit_of words v))
@@ -149,8 +149,8 @@ pub members-past : (words : List ℕ) (k : ℕ) → 64 * length words ≤ k
     → set.from_list {R = nat_cmp} (members words) ≡ set.remove (set.from_list (members words)) k
 members-past words k past =
     set.same_set nat_cmp_total nat_cmp-IsAntisymmetric _ _ (λ v.
-      contains-members words v
-      ∙ past_end words k v past
-      ∙ ap (λ b. not (nat_eq v k) && b) (sym (contains-members words v))
-      ∙ ap (λ b. not b && set.contains (set.from_list {R = nat_cmp} (members words)) v) (sym (unsigned_tied v k))
-      ∙ sym (set.contains-remove nat_cmp_total _ k v))
+    contains-members words v
+    ∙ past_end words k v past
+    ∙ ap (λ b. not (nat_eq v k) && b) (sym (contains-members words v))
+    ∙ ap (λ b. not b && set.contains (set.from_list {R = nat_cmp} (members words)) v) (sym (unsigned_tied v k))
+    ∙ sym (set.contains-remove nat_cmp_total _ k v))

@@ -1,2 +1,3 @@
 pub mod Limits
+pub mod Lowest
 pub mod Members

@@ -1,5 +1,5 @@
 -- The numbers that a row of machine words lists: bit k of word i stands for 64 * i + k.
-use Rattle.std.specs.Prelude.{ℕ, suc, zero, ◌+◌, ◌*◌, ◌/◌, ◌%◌, ◌++◌, ◌==◌, Bool, List, [], ◌∷◌, length, slice_index, filter}
+use Rattle.std.specs.Prelude.{ℕ, suc, zero, ◌*◌, ◌/◌, ◌%◌, ◌++◌, ◌==◌, Bool, List, [], ◌∷◌, length, slice_index, filter}
 use Rattle.std.specs.Int.{bit_at}
 
 -- the numbers below n, rising

@@ -1,8 +1,9 @@
-ghost use Rattle.std.specs.Prelude.{◌≡◌, ◌<◌};
+ghost use Rattle.std.specs.Prelude.{◌≡◌, ◌<◌, IfSome, MatchOption};
 ghost use Rattle.std.specs.Ordering.{nat_cmp};
 ghost use Rattle.std.specs.FinSet as set;
 ghost use Rattle.std.specs.Coded.{coded_ℕ};
 ghost use Rattle.hwp_kill.specs.Members.{members};
+ghost use Rattle.hwp_kill.specs.Lowest.{HasNoneFrom, HasNoBitFrom, IsLowestBit, IsLowestFrom};
 ghost use Rattle.hwp_kill.specs.declared.slots.TheConstants.{SLOTS};
 
 use hwp_geom::VSlot;
@@ -30,7 +31,9 @@ impl Slots {
     pub fn new() -> Slots
         ensures { result ≡ set.empty }
     {
-        Slots { words: [0; SLOTS / 64] }
+        Slots {
+            words: [0; SLOTS / 64],
+        }
     }
 
     /// Whether a translation is in the set.
@@ -60,10 +63,77 @@ impl Slots {
         }
     }
 
+    /// The lowest member that is not below a translation. It is `None` exactly where there is no such member.
+    pub fn lowest_from(&self, slot: VSlot) -> Option<VSlot>
+        ensures lowest { MatchOption result (HasNoneFrom self.now slot.0) (λ found. IsLowestFrom self.now slot.0 found.0) }
+        ensures below { IfSome result (λ found. found.0 < SLOTS) }
+    {
+        let mut at = usize::from(slot.0);
+        while at < SLOTS {
+            if let Some(bit) = lowest_bit(self.words[at / 64], (at % 64) as u32) {
+                return Some(VSlot((at / 64 * 64) as u16 + bit as u16));
+            }
+            at = (at / 64 + 1) * 64;
+        }
+        None
+    }
+
     /// The same set once more.
     pub fn copy(&self) -> Slots
         ensures { result ≡ self.now }
     {
         Slots { words: self.words }
+    }
+}
+
+/// The lowest bit of the word that is set, from bit `from` on.
+fn lowest_bit(word: u64, from: u32) -> Option<u32>
+    requires { from < 64 }
+    ensures { MatchOption result (HasNoBitFrom word from) (IsLowestBit word from) }
+{
+    let rest = word >> from;
+    if rest == 0 {
+        None
+    } else {
+        Some(from + rest.trailing_zeros())
+    }
+}
+
+#[cfg(test)]
+mod tests {
+    use super::*;
+
+    #[test]
+    fn members_across_words(rt: HostRuntime) {
+        let mut set = Slots::new();
+        for number in [511, 64, 63, 130] {
+            set.insert(VSlot(number));
+        }
+        set.remove(VSlot(63));
+        set.remove(VSlot(600));
+        for (number, want) in [
+            (0, false),
+            (63, false),
+            (64, true),
+            (65, false),
+            (130, true),
+            (511, true),
+            (512, false),
+        ] {
+            assert_eq!(rt; set.copy().has(VSlot(number)), want, "member {number}");
+        }
+        for (from, want) in [
+            (0, Some(64)),
+            (64, Some(64)),
+            (65, Some(130)),
+            (131, Some(511)),
+            (512, None),
+        ] {
+            assert_eq!(rt;
+                set.lowest_from(VSlot(from)),
+                want.map(VSlot),
+                "from {from}"
+            );
+        }
     }
 }

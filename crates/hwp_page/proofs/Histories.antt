@@ -1,5 +1,5 @@
--- How a history grows by an entry, and what a sound layout says of the entries that a state allows.
-use Rattle.std.proofs.Common.{◌≡◌, ℕ, ◌<◌, ◌≤◌, length, List, [], ◌∷◌, ◌++◌, Some, None, slice_get, slice_index_or, refl, sym, ap, ◌∙◌, subst, arith, rules}
+-- How a history begins at a page's opening, and grows by an entry.
+use Rattle.std.proofs.Common.{◌≡◌, ℕ, ◌<◌, length, List, [], ◌∷◌, ◌++◌, Some, slice_get, slice_index_or, refl, sym, ap, ◌∙◌, subst}
 use Rattle.std.proofs.lemmas.Option.{slice_get-get_or, same_Some}
 use Rattle.hwp_geom.specs.declared.Layout.{Layout}
 use Rattle.hwp_geom.specs.declared.Page.{Page}
@@ -7,10 +7,8 @@ use Rattle.hwp_geom.specs.declared.PageKind.{PageKind}
 use Rattle.hwp_geom.specs.Layout.{IsSound}
 use Rattle.hwp_page.specs.declared.state.PageState.{PageState}
 use Rattle.hwp_page.specs.declared.entry.Entry.{Entry}
-use Rattle.hwp_page.specs.declared.entry.What.{What}
-use Rattle.hwp_page.specs.declared.entry.What.TheVariants.{Load, Store, FaultIn, Map}
-use Rattle.hwp_page.specs.Step.{Allowed, MapsWithin, after, opening_of}
-use Rattle.hwp_page.specs.History.{Leads, IsReplay, IsKept, IsFresh, Held}
+use Rattle.hwp_page.specs.Step.{Allowed, after, opening_of}
+use Rattle.hwp_page.specs.History.{Leads, IsReplay, IsKept}
 
 Leads-more : (layout : Layout) (page : Page) (s : PageState) (es : List Entry) (t : PageState) (e : Entry)
     → Leads layout page s es t → Allowed layout page t e.what → Leads layout page s (es ++ e ∷ []) (after t e.what)
@@ -25,7 +23,7 @@ pub IsReplay-more : {layout : Layout} {page : Page} {log : List Entry} {state : 
 IsReplay-more {layout = layout} {page = page} {log = log} {state = state} e replay allowed = record {
   kind = replay.kind;
   declared = replay.declared;
-  leads = Leads-more layout page (opening_of replay.kind) log state e replay.leads allowed
+  leads = Leads-more layout page (opening_of replay.kind) log state e replay.leads allowed;
 }
 
 pub IsKept-more : {layout : Layout} {page : Page} {log : List Entry} {state : PageState} (e : Entry)
@@ -47,8 +45,8 @@ IsKept-opened {layout = layout} {page = page} {log = log} {state = state} pages 
       replay = record {
         kind = slice_index_or pages at d;
         declared = declared_at layout page pages at d inside same number;
-        leads = sym opening
-      }
+        leads = sym opening;
+      };
     })
 
 pub opening_is : (layout : Layout) (page : Page) {state : PageState} (pages : List PageKind) (at : ℕ) (d : PageKind)

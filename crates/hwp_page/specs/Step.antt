@@ -1,6 +1,6 @@
 -- The step of a page: which entry a state allows, and the state after it. A pair of a state and an entry that no case
 -- lists has no step.
-use Rattle.std.specs.Prelude.{◌≡◌, ℕ, ◌+◌, ◌<◌, ◌≢◌, Bool, true, false, Option, Some, None, List, ◌⊎◌, slice_get, slice_index, slice_set, replicate, option_map, IsSomeAnd, IsBitSet, IsTrue, IsFalse}
+use Rattle.std.specs.Prelude.{◌≡◌, ℕ, ◌<◌, true, false, Option, Some, None, List, ◌⊎◌, slice_get, slice_index, slice_set, replicate, IsSomeAnd, IsBitSet, IsTrue, IsFalse}
 use Rattle.std.specs.FinSet as set
 use Rattle.hwp_geom.specs.declared.Layout.{Layout}
 use Rattle.hwp_geom.specs.declared.Page.{Page}
@@ -79,5 +79,5 @@ opening_of kind = record {
   cached = false;
   maps = set.empty;
   bar = set.empty;
-  lost = false
+  lost = false;
 }

@@ -6,14 +6,12 @@ ghost use Rattle.hwp_geom.specs.Layout.{IsSound};
 ghost use Rattle.hwp_page.specs.Step.{Allowed, after};
 ghost use Rattle.hwp_page.specs.History.{IsFresh, IsReplay};
 
+use crate::entry::Entry;
+use crate::state::PageState;
+use hwp_geom::{Layout, List, OutOfMemory, Page};
 use std::alloc::Global;
 use std::marker::Model;
 use std::sync::Arc;
-
-use hwp_geom::{Layout, List, OutOfMemory, Page};
-
-use crate::entry::Entry;
-use crate::state::PageState;
 
 /// A page's state and history together: the state is always the replay of the history from the page's opening.
 #[derive(Drop)]
@@ -36,11 +34,11 @@ impl Model for Body {
     ghost coded = { Prim.hlevel (codes, slots.the_row.coded) };
 
     ghost view = { λ b. record {
-        page = b.page;
-        layout = arc_value b.layout;
-        state = b.state;
-        log = b.log.items;
-        spare = vec_capacity b.log - vec_len b.log
+      page = b.page;
+      layout = arc_value b.layout;
+      state = b.state;
+      log = b.log.items;
+      spare = vec_capacity b.log - vec_len b.log;
     } };
 
     ghost invariant = { λ b. IsKept (arc_value b.layout) b.page b.log.items b.state };
@@ -133,3 +131,6 @@ impl Body {
         self.log.get(number as usize)
     }
 }
+
+#[cfg(test)]
+mod tests;

@@ -1,8 +1,7 @@
 ghost use Rattle.std.specs.Prelude.{◌≡◌, IfOk};
 
-use std::alloc::Global;
-
 use hwp_geom::{Line, Mask, OutOfMemory, Page, Thread, VSlot, Who};
+use std::alloc::Global;
 
 /// A place in a history: the entry's number in its page, from 0.
 #[derive(Clone, Copy, Debug, PartialEq, Eq)]
@@ -57,8 +56,16 @@ impl What {
         ensures { IfOk result (λ what. what ≡ self.now) }
     {
         match self {
-            What::Load { slot, line, met } => Ok(What::Load { slot: *slot, line: *line, met: *met }),
-            What::Store { slot, line, met } => Ok(What::Store { slot: *slot, line: *line, met: *met }),
+            What::Load { slot, line, met } => Ok(What::Load {
+                slot: *slot,
+                line: *line,
+                met: *met,
+            }),
+            What::Store { slot, line, met } => Ok(What::Store {
+                slot: *slot,
+                line: *line,
+                met: *met,
+            }),
             What::FaultIn => Ok(What::FaultIn),
             What::Map { slot } => Ok(What::Map { slot: *slot }),
         }

@@ -1,9 +1,9 @@
 //! The page machine: a page's state, the entries of its history, and a body that keeps both together.
 #![tactic(auto)]
 
+mod belonging;
 mod body;
 mod entry;
-mod names;
 mod state;
 
 pub use body::Body;

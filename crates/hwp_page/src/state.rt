@@ -1,10 +1,9 @@
 ghost use Rattle.std.specs.Prelude.{◌≡◌, ◌↔◌, IsTrue};
 
+use crate::belonging::{is_of, is_thread_of};
+use crate::entry::{Met, What};
 use hwp_geom::{Layout, Lines, Page, PageKind, Thread, VSlot};
 use hwp_kill::Slots;
-
-use crate::entry::{Met, What};
-use crate::names::{is_of, is_thread_of};
 
 /// The state of a page (Linux hwpoison.rst for what it stands for; its exact form is this project's rule).
 #[derive(Drop)]
@@ -54,15 +53,32 @@ impl PageState {
         ensures { IsTrue result ↔ Allowed layout.now page self.now what.now }
     {
         match what {
-            What::Load { slot, line, met: Met::Word { mask, word } } => {
-                self.maps.has(*slot) && !mask.has(*line) && self.val.get(*line) == *word
+            What::Load {
+                slot,
+                line,
+                met: Met::Word { mask, word },
+            } => { self.maps.has(*slot) && !mask.has(*line) && self.val.get(*line) == *word }
+            What::Store {
+                slot,
+                line,
+                met: Met::Word { mask, .. },
+            } => self.maps.has(*slot) && !mask.has(*line),
+            What::Load {
+                slot,
+                met: Met::Sigbus { thread },
+                ..
             }
-            What::Load { slot, met: Met::Sigbus { thread }, .. } => self.refuses(layout, page, *thread, *slot),
-            What::Store { slot, line, met: Met::Word { mask, .. } } => self.maps.has(*slot) && !mask.has(*line),
-            What::Store { slot, met: Met::Sigbus { thread }, .. } => self.refuses(layout, page, *thread, *slot),
+            | What::Store {
+                slot,
+                met: Met::Sigbus { thread },
+                ..
+            } => self.refuses(layout, page, *thread, *slot),
             What::FaultIn => !self.cached && !self.lost,
             What::Map { slot } => {
-                self.cached && is_of(layout, page, *slot) && !self.maps.has(*slot) && !self.bar.has(*slot)
+                self.cached
+                    && is_of(layout, page, *slot)
+                    && !self.maps.has(*slot)
+                    && !self.bar.has(*slot)
             }
         }
     }
@@ -71,7 +87,9 @@ impl PageState {
     fn refuses(&self, layout: &Layout, page: Page, thread: Thread, slot: VSlot) -> bool
         ensures { IsTrue result ↔ IsRefused layout.now page self.now thread slot }
     {
-        is_of(layout, page, slot) && is_thread_of(layout, thread, slot) && (self.bar.has(slot) || self.lost)
+        is_of(layout, page, slot)
+            && is_thread_of(layout, thread, slot)
+            && (self.bar.has(slot) || self.lost)
     }
 
     /// Goes on to the state after the entry.
@@ -80,8 +98,16 @@ impl PageState {
         ensures { self.new ≡ after self.old what.now }
     {
         match what {
-            What::Load { .. } | What::Store { met: Met::Sigbus { .. }, .. } => {}
-            What::Store { line, met: Met::Word { word, .. }, .. } => {
+            What::Load { .. }
+            | What::Store {
+                met: Met::Sigbus { .. },
+                ..
+            } => {}
+            What::Store {
+                line,
+                met: Met::Word { word, .. },
+                ..
+            } => {
                 self.val.set(*line, *word);
                 self.dirty = true;
             }

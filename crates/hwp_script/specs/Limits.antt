@@ -1,7 +1,11 @@
 -- The limits of a script, under names that crates above can cite.
 use Rattle.std.specs.Prelude.{ℕ}
-use Rattle.hwp_script.specs.declared.script.TheConstants.{MAX_COMMANDS}
+use Rattle.hwp_script.specs.declared.script.TheConstants.{MAX_COMMANDS, MAX_SCRIPT}
 
 -- the commands of a script, over all processors
 abbrev pub command_limit : ℕ
 command_limit = MAX_COMMANDS
+
+-- the bytes of a script
+abbrev pub script_limit : ℕ
+script_limit = MAX_SCRIPT

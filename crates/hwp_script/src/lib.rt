@@ -1,6 +1,16 @@
 //! The fault script: its type, its reading from bytes, and its text.
 #![tactic(auto)]
 
+mod collecting;
+mod context;
+mod faults;
+mod forms;
+mod reading;
 mod script;
+mod texts;
+mod why;
 
-pub use script::{Command, MAX_COMMANDS, Script};
+pub use forms::{Form, Keyword};
+pub use reading::{ReadScript, read};
+pub use script::{Command, MAX_COMMANDS, MAX_SCRIPT, Script};
+pub use why::{Refused, Why};

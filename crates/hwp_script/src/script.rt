@@ -3,6 +3,9 @@ use hwp_geom::{Layout, Line, List, Thread, VSlot};
 /// The most commands of a script, over all processors.
 pub const MAX_COMMANDS: u32 = 4096;
 
+/// The most bytes of a script: 1 MiB.
+pub const MAX_SCRIPT: usize = 1_048_576;
+
 /// A command of a processor.
 #[derive(Clone, Copy, Debug, PartialEq, Eq)]
 pub enum Command {

@@ -61,7 +61,7 @@ Answers-given script seq command page answer {old} {new} {at} e at0 added same o
     let e_is : e ≡ record { who = at_command seq; what = e.what } = ap (λ (w : Who). let x : Entry = record { who = w; what = e.what } in x) who in
     let stands : StandsAt (logs new) (at_command seq) at e.what = (OneMore-appended added).placed ∙ ap (λ (x : Entry). Some x) e_is in
     Answers-entry script seq command answer added who (subst (λ (q : Page). IsMade script q e) (sym of_page) made)
-      (answer-given script (logs new) (at_command seq) command at e.what answer stands gives) (place-given command at e.what answer gives)
+    (answer-given script (logs new) (at_command seq) command at e.what answer stands gives) (place-given command at e.what answer gives)
 
 -- the place that was counted before the append is where the entry stands
 pub counted-place : (old new : List Held) (at : At) (e : Entry) (page : Page) (n : ℕ) (h : Held) → Appended old new at e → at.page ≡ page → slice_get old page.0 ≡ Some h → n ≡ length h.log

@@ -33,5 +33,5 @@ Appended-added old page i held roomy now entry e at within read made last append
       layout_is = ap (λ (h : Held). h.layout) append ∙ ap (λ (h : Held). h.layout) room;
       state_is = ap (λ (h : Held). h.state) append ∙ ap (λ (h : Held). after h.state e.what) room;
       log_is = ap (λ (h : Held). h.log) append ∙ ap (λ (h : Held). h.log ++ e ∷ []) room;
-      new_is = ap (λ (n : ℕ). set old n now) at
+      new_is = ap (λ (n : ℕ). set old n now) at;
     }

@@ -56,36 +56,36 @@ opened_state layout bodies fresh fit page body there =
 pub Machine-opened : (layout : Layout) (bodies : List Held) → AreFresh layout bodies → length bodies ≡ length layout.pages → Machine layout bodies (map opening_place layout.kernel)
 Machine-opened layout bodies fresh fit =
     let cached : (i : ℕ) (d : Held) → i < length bodies → flag (get_or bodies i d).state.cached ≤ 0 =
-        λ (i : ℕ) (d : Held) (within : i < length bodies).
-          let q : Page = record { 0 = i } in
-          let there = slice_get-get_or bodies i d within in
-          let opened = opened_state layout bodies fresh fit q (get_or bodies i d) there in
-          let none : flag (get_or bodies i d).state.cached ≡ 0 = ap (λ (s : PageState). flag s.cached) opened.2 in
-          omega (arith, none) in
+    λ (i : ℕ) (d : Held) (within : i < length bodies).
+    let q : Page = record { 0 = i } in
+    let there = slice_get-get_or bodies i d within in
+    let opened = opened_state layout bodies fresh fit q (get_or bodies i d) there in
+    let none : flag (get_or bodies i d).state.cached ≡ 0 = ap (λ (s : PageState). flag s.cached) opened.2 in
+    omega (arith, none) in
     let few = sum_by-le (λ (h : Held). flag h.state.cached) 0 bodies (λ i d within. cached i d within) in
     let frames = none_opened is_used refl refl layout.kernel in
     record {
       fit = fit;
       each = λ page body there.
-        let is : IsFresh layout page body = fresh page body there in
-        let opened = opened_state layout bodies fresh fit page body there in
-        let cached_is : body.state.cached ≡ false = ap (λ (s : PageState). s.cached) opened.2 in
-        record {
-          page_is = is.page_is;
-          layout_is = is.layout_is;
-          replay = record { kind = opened.0; declared = opened.1; leads = subst (λ (l : List Entry). Leads layout page (opening_of opened.0) l body.state) (sym is.no_entry) (sym opened.2) };
-          unbarred = ap (λ (s : PageState). s.bar) opened.2;
-          kept = ap (λ (s : PageState). s.lost) opened.2;
-          held = none_opened (is_of page) refl refl layout.kernel ∙ ap flag (sym cached_is)
-        };
+          let is : IsFresh layout page body = fresh page body there in
+          let opened = opened_state layout bodies fresh fit page body there in
+          let cached_is : body.state.cached ≡ false = ap (λ (s : PageState). s.cached) opened.2 in
+          record {
+            page_is = is.page_is;
+            layout_is = is.layout_is;
+            replay = record { kind = opened.0; declared = opened.1; leads = subst (λ (l : List Entry). Leads layout page (opening_of opened.0) l body.state) (sym is.no_entry) (sym opened.2) };
+            unbarred = ap (λ (s : PageState). s.bar) opened.2;
+            kept = ap (λ (s : PageState). s.lost) opened.2;
+            held = none_opened (is_of page) refl refl layout.kernel ∙ ap flag (sym cached_is);
+          };
       places = opened_places layout layout.kernel;
-      counted = omega (arith, few, frames)
+      counted = omega (arith, few, frames);
     }
 
 no_entries : (layout : Layout) (bodies : List Held) → AreFresh layout bodies → (at : At) (e : Entry) → entry_at (logs bodies) at ≡ Some e → ⊥
 no_entries layout bodies fresh at e there =
     nothing (slice_get bodies at.page.0) (λ body is. (fresh at.page body is).no_entry)
-      (sym (ap (λ (o : Option (List Entry)). option_and_then (λ (entries : List Entry). slice_get entries at.entry) o) (slice_get-map (λ (h : Held). h.log) bodies at.page.0)) ∙ there)
+    (sym (ap (λ (o : Option (List Entry)). option_and_then (λ (entries : List Entry). slice_get entries at.entry) o) (slice_get-map (λ (h : Held). h.log) bodies at.page.0)) ∙ there)
   where
     nothing : (o : Option Held) → ((body : Held) → o ≡ Some body → body.log ≡ []) → option_and_then (λ (entries : List Entry). slice_get entries at.entry) (option_map (λ (h : Held). h.log) o) ≡ Some e → ⊥
     nothing None empty is = cc
@@ -96,12 +96,12 @@ no_entries layout bodies fresh at e there =
 -- at opening nothing is followed yet
 pub Follows-none : (script : Script) (layout : Layout) (bodies : List Held) → AreFresh layout bodies → Follows script [] 0 (logs bodies) []
 Follows-none script layout bodies fresh = record {
-    made = λ at e there. absurd (no_entries layout bodies fresh at e there);
-    ordered = λ at later e f there. absurd (no_entries layout bodies fresh at e there);
-    before = λ at e there. absurd (no_entries layout bodies fresh at e there);
-    answers = tt;
-    named = λ at e there. absurd (no_entries layout bodies fresh at e there)
-  }
+  made = λ at e there. absurd (no_entries layout bodies fresh at e there);
+  ordered = λ at later e f there. absurd (no_entries layout bodies fresh at e there);
+  before = λ at e there. absurd (no_entries layout bodies fresh at e there);
+  answers = tt;
+  named = λ at e there. absurd (no_entries layout bodies fresh at e there);
+}
 
 count-lines : (page : Page) (frames : List Place) → count_by (λ (f : FrameLine). is_of page f.place) (map frame_line frames) ≡ count_by (is_of page) frames
 count-lines page [] = refl
@@ -116,7 +116,6 @@ frame_lines layout [] [] pairs = tt
 frame_lines layout [] (p ∷ frames) pairs = pairs
 frame_lines layout (k ∷ kernel) [] pairs = pairs
 frame_lines layout (k ∷ kernel) (p ∷ frames) pairs = (record { place = pairs.0; bad = refl; weak = refl }, frame_lines layout kernel frames pairs.1)
-
 
 -- the only list of one processor's script is the first
 only_first : {A : Type 0} (x y : A) (cpu : Cpu) → slice_get (x ∷ []) cpu.0 ≡ Some y → (cpu ≡ first_cpu) × (y ≡ x)
@@ -133,11 +132,11 @@ pub IsReport-whole : (script : Script) (report : Report) (bodies : List Held) (f
 IsReport-whole script report bodies frames rows list n one lists machine follows reports =
     let layout : Layout = script.layout in
     let held : (page : Page) → count_by (λ (f : FrameLine). is_of page f.place) report.frames ≡ count_by (is_of page) frames =
-        λ (page : Page). ap (count_by (λ (f : FrameLine). is_of page f.place)) reports.frames_are ∙ count-lines page frames in
+    λ (page : Page). ap (count_by (λ (f : FrameLine). is_of page f.place)) reports.frames_are ∙ count-lines page frames in
     let history : (page : Page) (entries : List Entry) → slice_get (logs bodies) page.0 ≡ Some entries → IsHistory layout report.frames page entries =
-        λ (page : Page) (entries : List Entry) (there : slice_get (logs bodies) page.0 ≡ Some entries).
-          of_body layout report.frames frames page entries held (slice_get bodies page.0) (machine.each page)
-            (sym (slice_get-map (λ (h : Held). h.log) bodies page.0) ∙ there) in
+    λ (page : Page) (entries : List Entry) (there : slice_get (logs bodies) page.0 ≡ Some entries).
+    of_body layout report.frames frames page entries held (slice_get bodies page.0) (machine.each page)
+    (sym (slice_get-map (λ (h : Held). h.log) bodies page.0) ∙ there) in
     record {
       pages_fit = ap length reports.pages_are ∙ length-map bodies (λ (h : Held). h.log) ∙ machine.fit;
       cpus_fit = ap length reports.cpus_are ∙ sym one;
@@ -145,15 +144,15 @@ IsReport-whole script report bodies frames rows list n one lists machine follows
       made = subst (AreMade script) (sym reports.pages_are) follows.made;
       ordered = subst AreOrdered (sym reports.pages_are) follows.ordered;
       answers = λ cpu commands lines theirs mine.
-        let c = only_first list commands cpu (ap (λ (l : List (List Command)). slice_get l cpu.0) (sym lists) ∙ theirs) in
-        let r = only_first rows lines cpu (ap (λ (l : List (List CpuLine)). slice_get l cpu.0) (sym reports.cpus_are) ∙ mine) in
-        subst (λ (x : Cpu). AreAnswers script report.pages x 0 commands lines) (sym c.0)
+          let c = only_first list commands cpu (ap (λ (l : List (List Command)). slice_get l cpu.0) (sym lists) ∙ theirs) in
+          let r = only_first rows lines cpu (ap (λ (l : List (List CpuLine)). slice_get l cpu.0) (sym reports.cpus_are) ∙ mine) in
+          subst (λ (x : Cpu). AreAnswers script report.pages x 0 commands lines) (sym c.0)
           (subst (λ (l : List Command). AreAnswers script report.pages first_cpu 0 l lines) (sym c.1)
-            (subst (λ (l : List CpuLine). AreAnswers script report.pages first_cpu 0 list l) (sym r.1)
-              (subst (λ (l : List (List Entry)). AreAnswers script l first_cpu 0 list rows) (sym reports.pages_are) follows.answers)));
+          (subst (λ (l : List CpuLine). AreAnswers script report.pages first_cpu 0 list l) (sym r.1)
+          (subst (λ (l : List (List Entry)). AreAnswers script l first_cpu 0 list rows) (sym reports.pages_are) follows.answers)));
       named = subst (λ (l : List (List CpuLine)). AreNamed report.pages l) (sym reports.cpus_are) (subst (λ (l : List (List Entry)). AreNamed l (rows ∷ [])) (sym reports.pages_are) follows.named);
       unpoisoned = reports.count;
-      frames = subst (Pairs (IsFrame layout) layout.kernel) (sym reports.frames_are) (frame_lines layout layout.kernel frames machine.places)
+      frames = subst (Pairs (IsFrame layout) layout.kernel) (sym reports.frames_are) (frame_lines layout layout.kernel frames machine.places);
     }
   where
     of_body : (layout : Layout) (lines : List FrameLine) (frames : List Place) (page : Page) (entries : List Entry)
@@ -165,5 +164,5 @@ IsReport-whole script report bodies frames rows list n one lists machine follows
         record {
           state = body.state;
           replay = subst (λ (l : List Entry). IsReplay layout page l body.state) (same_Some body.log entries is) mine.replay;
-          held = held page ∙ mine.held
+          held = held page ∙ mine.held;
         }

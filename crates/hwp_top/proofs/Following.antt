@@ -22,9 +22,9 @@ use Rattle.hwp_top.specs.Bench.{Follows, Appended, Keeps, Answers, IsBefore, log
 pub OneMore-appended : {old new : List Held} {at : At} {e : Entry} → Appended old new at e → OneMore (logs old) (logs new) at e
 OneMore-appended {old} {new} {at} {e} added =
     let there : slice_get (logs old) at.page.0 ≡ Some added.held.log =
-        slice_get-map (λ (h : Held). h.log) old at.page.0 ∙ ap (option_map (λ (h : Held). h.log)) added.was in
+    slice_get-map (λ (h : Held). h.log) old at.page.0 ∙ ap (option_map (λ (h : Held). h.log)) added.was in
     let longer : logs new ≡ set (logs old) at.page.0 (added.held.log ++ e ∷ []) =
-        ap logs added.new_is ∙ map-set (λ (h : Held). h.log) old at.page.0 added.now ∙ ap (set (logs old) at.page.0) added.log_is in
+    ap logs added.new_is ∙ map-set (λ (h : Held). h.log) old at.page.0 added.now ∙ ap (set (logs old) at.page.0) added.log_is in
     subst (λ (pages : List (List Entry)). OneMore (logs old) pages at e) (sym longer) (OneMore-set (logs old) at added.held.log e there added.last)
 
 -- no entry is of a command later than n
@@ -55,7 +55,7 @@ Keeps-quiet script n {old} {new} {at} {e} added who made quiet list rows follows
       ordered = AreOrdered-more more (latest script list n (logs old) rows e follows who) follows.ordered;
       before = before-more n more who follows.before;
       answers = AreAnswers-more script first_cpu 0 list rows more follows.answers;
-      named = AreNamed-quiet (rows ∷ []) more quiet follows.named
+      named = AreNamed-quiet (rows ∷ []) more quiet follows.named;
     }
 
 -- an entry, and the answer that names it
@@ -70,7 +70,7 @@ Answers-entry script n command answer {old} {new} {at} {e} added who made is pla
       ordered = AreOrdered-more more (latest script list n (logs old) rows e follows who) follows.ordered;
       before = before-more n more who follows.before;
       answers = AreAnswers-push script (logs new) first_cpu 0 list rows command answer n (omega arith) (AreAnswers-more script first_cpu 0 list rows more follows.answers) is;
-      named = subst (λ (k : ℕ). AreNamed (logs new) ((rows ++ lines.Answer k answer ∷ []) ∷ [])) seq (AreNamed-answered rows answer more (ap (λ w. w.cpu.0) who) place follows.named)
+      named = subst (λ (k : ℕ). AreNamed (logs new) ((rows ++ lines.Answer k answer ∷ []) ∷ [])) seq (AreNamed-answered rows answer more (ap (λ w. w.cpu.0) who) place follows.named);
     }
 
 -- an answer without an entry
@@ -81,7 +81,7 @@ Answers-refused script n command answer pages is list rows count follows =
       ordered = follows.ordered;
       before = follows.before;
       answers = AreAnswers-push script pages first_cpu 0 list rows command answer n (omega arith) follows.answers is;
-      named = AreNamed-rows pages rows (lines.Answer n answer ∷ []) follows.named
+      named = AreNamed-rows pages rows (lines.Answer n answer ∷ []) follows.named;
     }
 
 -- the next command begins
@@ -92,7 +92,7 @@ Follows-next {script} {list} {n} {pages} {rows} follows =
       ordered = follows.ordered;
       before = λ at e there. ((follows.before at e there).0, later e.who.seq (follows.before at e there).1);
       answers = follows.answers;
-      named = follows.named
+      named = follows.named;
     }
   where
     later : (k : ℕ) → k < n → k < n + 1

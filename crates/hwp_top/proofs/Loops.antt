@@ -31,14 +31,14 @@ none_opened layout = record { fresh = λ page body there. absurd (cc); counted =
 
 pub one_opened : (layout : Layout) (bodies : List Held) (count : ℕ) (page : Page) (body : Held) → IsOpened layout bodies count → page.0 ≡ count → IsFresh layout page body → IsOpened layout (bodies ++ body ∷ []) (count + 1)
 one_opened layout bodies count page body opened at fresh = record {
-    fresh = λ q b there. elim (slice_get-push_cases bodies body q.0 b there) [
-      | inl was ↦ opened.fresh q b was
-      | inr last ↦
-          let same : q ≡ page = ap (λ (n : ℕ). let x : Page = record { 0 = n } in x) (last.0 ∙ opened.counted ∙ sym at) in
-          subst (λ (x : Page). IsFresh layout x b) (sym same) (subst (λ (h : Held). IsFresh layout page h) (sym last.1) fresh)
-    ];
-    counted = length-append bodies (body ∷ []) ∙ ap (λ (n : ℕ). n + 1) opened.counted
-  }
+  fresh = λ q b there. elim (slice_get-push_cases bodies body q.0 b there) [
+    | inl was ↦ opened.fresh q b was
+    | inr last ↦
+        let same : q ≡ page = ap (λ (n : ℕ). let x : Page = record { 0 = n } in x) (last.0 ∙ opened.counted ∙ sym at) in
+        subst (λ (x : Page). IsFresh layout x b) (sym same) (subst (λ (h : Held). IsFresh layout page h) (sym last.1) fresh)
+  ];
+  counted = length-append bodies (body ∷ []) ∙ ap (λ (n : ℕ). n + 1) opened.counted;
+}
 
 -- the first `count` commands are served
 pub record IsServed (script : Script) (list : List Command) (count : ℕ) (bodies : List Held) (frames : List Place) (rows : List CpuLine) : Type 0 where

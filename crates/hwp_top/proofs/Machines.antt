@@ -48,18 +48,18 @@ IsBodyOf-more : (layout : Layout) (frames frames' : List Place) {old new : List 
     → count_by (is_of at.page) frames' ≡ flag added.now.state.cached → IsBodyOf layout frames' at.page added.now
 IsBodyOf-more layout frames frames' {old} {new} {at} {e} added was bar lost held =
     let allowed : Allowed layout at.page added.held.state e.what =
-        subst (λ (l : Layout). Allowed l at.page added.held.state e.what) was.layout_is
-          (subst (λ (q : Page). Allowed added.held.layout q added.held.state e.what) was.page_is added.allowed) in
+    subst (λ (l : Layout). Allowed l at.page added.held.state e.what) was.layout_is
+    (subst (λ (q : Page). Allowed added.held.layout q added.held.state e.what) was.page_is added.allowed) in
     let replay : IsReplay layout at.page added.now.log added.now.state =
-        subst (λ (l : List Entry). IsReplay layout at.page l added.now.state) (sym added.log_is)
-          (subst (λ (s : PageState). IsReplay layout at.page (added.held.log ++ e ∷ []) s) (sym added.state_is) (IsReplay-more e was.replay allowed)) in
+    subst (λ (l : List Entry). IsReplay layout at.page l added.now.state) (sym added.log_is)
+    (subst (λ (s : PageState). IsReplay layout at.page (added.held.log ++ e ∷ []) s) (sym added.state_is) (IsReplay-more e was.replay allowed)) in
     record {
       page_is = added.page_is ∙ was.page_is;
       layout_is = added.layout_is ∙ was.layout_is;
       replay = replay;
       unbarred = bar ∙ was.unbarred;
       kept = lost ∙ was.kept;
-      held = held
+      held = held;
     }
 
 -- an entry that brings no page in and takes none out
@@ -69,26 +69,26 @@ Machine-still layout frames {old} {new} {at} {e} added still machine =
     let within : at.page.0 < length old = slice_get_within old at.page.0 added.held added.was in
     let was : IsBodyOf layout frames at.page added.held = machine.each at.page added.held added.was in
     let mine : IsBodyOf layout frames at.page added.now =
-        IsBodyOf-more layout frames frames added was still.bar still.lost (was.held ∙ ap flag (sym still.cached)) in
+    IsBodyOf-more layout frames frames added was still.bar still.lost (was.held ∙ ap flag (sym still.cached)) in
     let counts : count_by (λ (h : Held). h.state.cached) (set old at.page.0 added.now) ≡ count_by (λ (h : Held). h.state.cached) old =
-        let moved = sum_by-set (λ (h : Held). flag h.state.cached) old at.page.0 added.now added.held within in
-        let there : flag (get_or old at.page.0 added.held).state.cached ≡ flag added.held.state.cached =
-            ap (λ (h : Held). flag h.state.cached) (get_or_from_slice_get old at.page.0 added.held added.held added.was) in
-        let same : flag added.now.state.cached ≡ flag added.held.state.cached = ap flag still.cached in
-        omega (arith, moved, there, same) in
+    let moved = sum_by-set (λ (h : Held). flag h.state.cached) old at.page.0 added.now added.held within in
+    let there : flag (get_or old at.page.0 added.held).state.cached ≡ flag added.held.state.cached =
+    ap (λ (h : Held). flag h.state.cached) (get_or_from_slice_get old at.page.0 added.held added.held added.was) in
+    let same : flag added.now.state.cached ≡ flag added.held.state.cached = ap flag still.cached in
+    omega (arith, moved, there, same) in
     record {
       fit = ap length added.new_is ∙ length-set old at.page.0 added.now ∙ machine.fit;
       each = λ page body there.
-        let there' : slice_get (set old at.page.0 added.now) page.0 ≡ Some body = subst (λ (l : List Held). slice_get l page.0 ≡ Some body) added.new_is there in
-        elim (cases_eq page.0 at.page.0) [
-          | inl same ↦
-              let body_is : body ≡ added.now = same_Some body added.now (sym there' ∙ ap (slice_get (set old at.page.0 added.now)) same ∙ slice_get-set_at old at.page.0 added.now within) in
-              subst (λ (h : Held). IsBodyOf layout frames page h) (sym body_is)
+          let there' : slice_get (set old at.page.0 added.now) page.0 ≡ Some body = subst (λ (l : List Held). slice_get l page.0 ≡ Some body) added.new_is there in
+          elim (cases_eq page.0 at.page.0) [
+            | inl same ↦
+                let body_is : body ≡ added.now = same_Some body added.now (sym there' ∙ ap (slice_get (set old at.page.0 added.now)) same ∙ slice_get-set_at old at.page.0 added.now within) in
+                subst (λ (h : Held). IsBodyOf layout frames page h) (sym body_is)
                 (subst (λ (n : ℕ). let q : Page = record { 0 = n } in IsBodyOf layout frames q added.now) (sym same) mine)
-          | inr other ↦ machine.each page body (sym (slice_get-set_other old at.page.0 page.0 added.now other) ∙ there')
-        ];
+            | inr other ↦ machine.each page body (sym (slice_get-set_other old at.page.0 page.0 added.now other) ∙ there')
+          ];
       places = machine.places;
-      counted = machine.counted ∙ sym counts ∙ ap (count_by (λ (h : Held). h.state.cached)) (sym added.new_is)
+      counted = machine.counted ∙ sym counts ∙ ap (count_by (λ (h : Held). h.state.cached)) (sym added.new_is);
     }
 
 -- member by member, after a write at one place
@@ -124,38 +124,38 @@ Machine-brought layout frames f {old} {new} {at} {e} added free brings machine =
     let cached : added.now.state.cached ≡ true = ap (λ (s : PageState). s.cached) state_is in
     let none : count_by (is_of at.page) frames ≡ 0 = was.held ∙ ap flag out in
     let one : count_by (is_of at.page) (set frames f (places.Of at.page)) ≡ 1 =
-        let moved = count-set (is_of at.page) frames f places.Free (places.Of at.page) free in
-        let mine : flag (is_of at.page (places.Of at.page)) ≡ 1 = ap flag (eqb-same at.page.0) in
-        omega (arith, moved, mine, none) in
+    let moved = count-set (is_of at.page) frames f places.Free (places.Of at.page) free in
+    let mine : flag (is_of at.page (places.Of at.page)) ≡ 1 = ap flag (eqb-same at.page.0) in
+    omega (arith, moved, mine, none) in
     let mine : IsBodyOf layout (set frames f (places.Of at.page)) at.page added.now =
-        IsBodyOf-more layout frames (set frames f (places.Of at.page)) added was (ap (λ (s : PageState). s.bar) state_is) (ap (λ (s : PageState). s.lost) state_is) (one ∙ ap flag (sym cached)) in
+    IsBodyOf-more layout frames (set frames f (places.Of at.page)) added was (ap (λ (s : PageState). s.bar) state_is) (ap (λ (s : PageState). s.lost) state_is) (one ∙ ap flag (sym cached)) in
     let others : (page : Page) (body : Held) → (page.0 ≡ at.page.0 → ⊥) → IsBodyOf layout frames page body → IsBodyOf layout (set frames f (places.Of at.page)) page body =
-        λ (page : Page) (body : Held) (other : page.0 ≡ at.page.0 → ⊥) (is : IsBodyOf layout frames page body).
-          let moved = count-set (is_of page) frames f places.Free (places.Of at.page) free in
-          let no_more : flag (is_of page (places.Of at.page)) ≡ 0 = ap flag (eqb-other at.page.0 page.0 (λ same. other (sym same))) in
-          let held : count_by (is_of page) (set frames f (places.Of at.page)) ≡ flag body.state.cached = omega (arith, moved, no_more, is.held) in
-          record { page_is = is.page_is; layout_is = is.layout_is; replay = is.replay; unbarred = is.unbarred; kept = is.kept; held = held } in
+    λ (page : Page) (body : Held) (other : page.0 ≡ at.page.0 → ⊥) (is : IsBodyOf layout frames page body).
+    let moved = count-set (is_of page) frames f places.Free (places.Of at.page) free in
+    let no_more : flag (is_of page (places.Of at.page)) ≡ 0 = ap flag (eqb-other at.page.0 page.0 (λ same. other (sym same))) in
+    let held : count_by (is_of page) (set frames f (places.Of at.page)) ≡ flag body.state.cached = omega (arith, moved, no_more, is.held) in
+    record { page_is = is.page_is; layout_is = is.layout_is; replay = is.replay; unbarred = is.unbarred; kept = is.kept; held = held } in
     let used : count_by is_used (set frames f (places.Of at.page)) ≡ count_by is_used frames + 1 =
-        let moved = count-set is_used frames f places.Free (places.Of at.page) free in
-        omega (arith, moved) in
+    let moved = count-set is_used frames f places.Free (places.Of at.page) free in
+    omega (arith, moved) in
     let counts : count_by (λ (h : Held). h.state.cached) (set old at.page.0 added.now) ≡ count_by (λ (h : Held). h.state.cached) old + 1 =
-        let moved = count-set (λ (h : Held). h.state.cached) old at.page.0 added.held added.now added.was in
-        let here : flag added.now.state.cached ≡ 1 = ap flag cached in
-        let there : flag added.held.state.cached ≡ 0 = ap flag out in
-        omega (arith, moved, here, there) in
+    let moved = count-set (λ (h : Held). h.state.cached) old at.page.0 added.held added.now added.was in
+    let here : flag added.now.state.cached ≡ 1 = ap flag cached in
+    let there : flag added.held.state.cached ≡ 0 = ap flag out in
+    omega (arith, moved, here, there) in
     record {
       fit = ap length added.new_is ∙ length-set old at.page.0 added.now ∙ machine.fit;
       each = λ page body there.
-        let there' : slice_get (set old at.page.0 added.now) page.0 ≡ Some body = subst (λ (l : List Held). slice_get l page.0 ≡ Some body) added.new_is there in
-        elim (cases_eq page.0 at.page.0) [
-          | inl same ↦
-              let body_is : body ≡ added.now = same_Some body added.now (sym there' ∙ ap (slice_get (set old at.page.0 added.now)) same ∙ slice_get-set_at old at.page.0 added.now within) in
-              subst (λ (h : Held). IsBodyOf layout (set frames f (places.Of at.page)) page h) (sym body_is)
+          let there' : slice_get (set old at.page.0 added.now) page.0 ≡ Some body = subst (λ (l : List Held). slice_get l page.0 ≡ Some body) added.new_is there in
+          elim (cases_eq page.0 at.page.0) [
+            | inl same ↦
+                let body_is : body ≡ added.now = same_Some body added.now (sym there' ∙ ap (slice_get (set old at.page.0 added.now)) same ∙ slice_get-set_at old at.page.0 added.now within) in
+                subst (λ (h : Held). IsBodyOf layout (set frames f (places.Of at.page)) page h) (sym body_is)
                 (subst (λ (n : ℕ). let q : Page = record { 0 = n } in IsBodyOf layout (set frames f (places.Of at.page)) q added.now) (sym same) mine)
-          | inr other ↦ others page body other (machine.each page body (sym (slice_get-set_other old at.page.0 page.0 added.now other) ∙ there'))
-        ];
+            | inr other ↦ others page body other (machine.each page body (sym (slice_get-set_other old at.page.0 page.0 added.now other) ∙ there'))
+          ];
       places = Pairs-set (IsPlace layout) layout.kernel frames f places.Free (places.Of at.page) free (λ kernel no_kernel. (no_kernel, inside)) machine.places;
-      counted = used ∙ ap (λ (n : ℕ). n + 1) machine.counted ∙ sym counts ∙ ap (count_by (λ (h : Held). h.state.cached)) (sym added.new_is)
+      counted = used ∙ ap (λ (n : ℕ). n + 1) machine.counted ∙ sym counts ∙ ap (count_by (λ (h : Held). h.state.cached)) (sym added.new_is);
     }
 
 -- where no frame is free, each frame that is not the kernel's holds a page

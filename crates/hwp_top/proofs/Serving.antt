@@ -36,7 +36,7 @@ none_free frames none i d within =
     fails_before_first is_free frames i d (elim (cases_Bool (nat_lt (position_or_len is_free frames) (length frames))) [
       | inl found ↦
           let some : cond (nat_lt (position_or_len is_free frames) (length frames)) (Some (position_or_len is_free frames)) None ≡ Some (position_or_len is_free frames) =
-              ap (λ (b : Bool). cond b (Some (position_or_len is_free frames)) None) found in
+          ap (λ (b : Bool). cond b (Some (position_or_len is_free frames)) None) found in
           absurd (cc)
       | inr past ↦
           let beyond = ltb-false (position_or_len is_free frames) (length frames) past in

@@ -14,7 +14,7 @@ use Rattle.hwp_top.proofs.Ends.{Machine-opened, Follows-none}
 pub begins : (script : Script) (layout : Layout) (bodies : List Held) (frames : List Place) → layout ≡ script.layout → AreFresh layout bodies → length bodies ≡ length layout.pages → frames ≡ map opening_place script.layout.kernel → Machine script.layout bodies frames
 begins script layout bodies frames same fresh all opened =
     subst (Machine script.layout bodies) (sym opened)
-      (Machine-opened script.layout bodies (subst (λ (l : Layout). AreFresh l bodies) same fresh) (all ∙ ap (λ (l : Layout). length l.pages) same))
+    (Machine-opened script.layout bodies (subst (λ (l : Layout). AreFresh l bodies) same fresh) (all ∙ ap (λ (l : Layout). length l.pages) same))
 
 pub begins-none : (script : Script) (layout : Layout) (bodies : List Held) → AreFresh layout bodies → Follows script [] 0 (logs bodies) []
 begins-none script layout bodies fresh = Follows-none script layout bodies fresh

@@ -13,13 +13,12 @@ ghost use Rattle.hwp_law.specs.Places.{command_at};
 ghost use Rattle.hwp_law.specs.Report.{IsReport};
 ghost use Rattle.hwp_top.specs.Bench.{Answers, Appended, AreFresh, Follows, Gives, IsCached, IsMapped, Keeps, Machine, Reports, Serves, at_command, command_slot, frame_line, is_free, logs, opening_place};
 
-use std::alloc::Global;
-use std::sync::Arc;
-
 use hwp_geom::{Cpu, Layout, Line, List, Mask, OutOfMemory, Page, Thread, VSlot, Who};
 use hwp_page::{At, Body, Entry, Met, What};
 use hwp_report::{Answer, CpuLine, FrameLine, Place, Report};
 use hwp_script::{Command, Script};
+use std::alloc::Global;
+use std::sync::Arc;
 
 /// A command of the first processor.
 fn who_at(seq: u32) -> Who
@@ -153,7 +152,10 @@ fn access_of(body: &Body, command: Command, at: At) -> (What, Answer)
             (What::Load { slot, line, met }, Answer::Value { word, at })
         }
         Command::Store {
-            slot, line, word, ..
+            slot,
+            line,
+            word,
+            ..
         } => {
             let met = Met::Word { mask, word };
             (What::Store { slot, line, met }, Answer::Stored(at))

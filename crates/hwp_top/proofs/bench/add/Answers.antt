@@ -14,4 +14,4 @@ use Rattle.hwp_top.proofs.bench.add.Goals as goal
 pub returns-clause-added : goal.returns-clause-added
 returns-clause-added c =
     Appended-added _ c.args.page c.from.result c.index-bodies-from.result c.room.new.self c.append.new.self c.len.result c.args.entry
-      c.from.ensures c.requires.inside c.index-bodies-from.is c.in_ok-room.ensures.ok.0 c.len.ensures c.append.ensures c.requires.allowed
+    c.from.ensures c.requires.inside c.index-bodies-from.is c.in_ok-room.ensures.ok.0 c.len.ensures c.append.ensures c.requires.allowed

@@ -36,14 +36,14 @@ add-requires-clause-allowed c h there =
 pub returns-clause-machine : goal.returns-clause-machine
 returns-clause-machine c =
     subst (λ (q : Page). Machine c.args.script.now.layout c.add.new.bodies (slice_set c.args.frames.now c.in-Some.frame (places.Of q))) c.in_ok-add.ensures.place
-      (Machine-brought c.args.script.now.layout c.args.frames.now c.in-Some.frame c.in_ok-add.ensures.added (found_free c.args.frames.now c.in-Some.frame c.in-Some.ensures) refl c.requires.machine)
+    (Machine-brought c.args.script.now.layout c.args.frames.now c.in-Some.frame c.in_ok-add.ensures.added (found_free c.args.frames.now c.in-Some.frame c.in-Some.ensures) refl c.requires.machine)
 
 pub returns-clause-keeps : goal.returns-clause-keeps
 returns-clause-keeps c =
     let e : Entry = record { who = c.who_at.result; what = entries.FaultIn } in
     let made : IsMade c.args.script.now c.args.page e = made-by c.args.script.now c.args.seq c.args.command c.args.page e c.requires.serves c.who_at.ensures (fits-FaultIn c.args.command) in
     Keeps-quiet c.args.script.now c.args.seq c.in_ok-add.ensures.added c.who_at.ensures
-      (subst (λ (q : Page). IsMade c.args.script.now q e) (sym c.in_ok-add.ensures.place) made) refl
+    (subst (λ (q : Page). IsMade c.args.script.now q e) (sym c.in_ok-add.ensures.place) made) refl
 
 pub returns-clause-there : goal.returns-clause-there
 returns-clause-there c _ =

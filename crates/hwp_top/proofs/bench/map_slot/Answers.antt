@@ -27,10 +27,10 @@ add-requires-clause-allowed c h there =
     let read = read-at c.args.bodies.now c.args.page c.from.result c.index-bodies-from.result c.from.ensures (omega (arith, c.requires.machine.fit)) c.index-bodies-from.is in
     let mine : h ≡ slice_index_or c.args.bodies.now c.from.result c.index-bodies-from.result = same_Some _ _ (sym there ∙ read) in
     let unmapped : set.contains h.state.maps c.slot_of-slot.result.0 ≡ false =
-        ap (λ (b : Held). set.contains b.state.maps c.slot_of-slot.result.0) mine
-        ∙ ap (λ (s : PageState). set.contains s.maps c.slot_of-slot.result.0) (sym c.state.ensures.value) ∙ sym c.if-has.ensures in
+    ap (λ (b : Held). set.contains b.state.maps c.slot_of-slot.result.0) mine
+    ∙ ap (λ (s : PageState). set.contains s.maps c.slot_of-slot.result.0) (sym c.state.ensures.value) ∙ sym c.if-has.ensures in
     allowed-Map c.args.script.now c.args.bodies.now c.args.frames.now c.args.command c.args.page c.slot_of-slot.result c.args.seq c.requires.machine c.requires.serves c.requires.cached
-      c.slot_of-slot.ensures h there unmapped
+    c.slot_of-slot.ensures h there unmapped
 
 pub returns-clause-machine : goal.returns-clause-machine
 returns-clause-machine c =
@@ -41,9 +41,9 @@ returns-clause-keeps c =
     let e : Entry = record { who = c.who_at.result; what = entries.Map c.slot_of-slot.result } in
     let made : IsMade c.args.script.now c.args.page e = made-by c.args.script.now c.args.seq c.args.command c.args.page e c.requires.serves c.who_at.ensures (fits-Map c.args.command c.slot_of-slot.result c.slot_of-slot.ensures) in
     Keeps-quiet c.args.script.now c.args.seq c.in_ok-add.ensures.added c.who_at.ensures
-      (subst (λ (q : Page). IsMade c.args.script.now q e) (sym c.in_ok-add.ensures.place) made) refl
+    (subst (λ (q : Page). IsMade c.args.script.now q e) (sym c.in_ok-add.ensures.place) made) refl
 
 pub returns-clause-mapped : goal.returns-clause-mapped
 returns-clause-mapped c =
     subst (λ (q : Page). IsMapped c.add.new.bodies q (command_slot c.args.command)) c.in_ok-add.ensures.place
-      (subst (λ (v : VSlot). IsMapped c.add.new.bodies c.in_ok-add.field-0.page v) c.slot_of-slot.ensures (mapped-after c.slot_of-slot.result c.in_ok-add.ensures.added refl))
+    (subst (λ (v : VSlot). IsMapped c.add.new.bodies c.in_ok-add.field-0.page v) c.slot_of-slot.ensures (mapped-after c.slot_of-slot.result c.in_ok-add.ensures.added refl))

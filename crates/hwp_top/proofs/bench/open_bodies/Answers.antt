@@ -19,4 +19,4 @@ pub loop-page-preserved : goal.loop-page-preserved
 loop-page-preserved c =
     let page : Page = record { 0 = c.loop-page.page } in
     subst (λ (l : List Held). IsOpened (arc_value c.args.layout.now) l (c.loop-page.page + 1)) (sym c.in_ok-push.ensures.items)
-      (one_opened (arc_value c.args.layout.now) c.loop-page.bodies.items c.loop-page.page page c.in_ok-new.field-0 c.loop-page.invariant refl c.in_ok-new.ensures)
+    (one_opened (arc_value c.args.layout.now) c.loop-page.bodies.items c.loop-page.page page c.in_ok-new.field-0 c.loop-page.invariant refl c.in_ok-new.ensures)

@@ -23,27 +23,27 @@ use Rattle.hwp_top.proofs.bench.run.Goals as goal
 pub serve_all-requires-clause-machine : goal.serve_all-requires-clause-machine
 serve_all-requires-clause-machine c =
     begins c.args.script.now (arc_value c.in_ok-layout.layout) c.deref_mut.result.now c.deref_mut-2.result.now (c.in_ok-layout.ensures.ok ∙ c.in_ok-copy.ensures)
-      (subst (AreFresh (arc_value c.in_ok-layout.layout)) (sym c.deref_mut.ensures.value) c.in_ok-bodies.ensures.fresh)
-      (ap length c.deref_mut.ensures.value ∙ c.in_ok-bodies.ensures.all)
-      (c.deref_mut-2.ensures.value ∙ c.in_ok-frames.ensures)
+    (subst (AreFresh (arc_value c.in_ok-layout.layout)) (sym c.deref_mut.ensures.value) c.in_ok-bodies.ensures.fresh)
+    (ap length c.deref_mut.ensures.value ∙ c.in_ok-bodies.ensures.all)
+    (c.deref_mut-2.ensures.value ∙ c.in_ok-frames.ensures)
 
 pub serve_all-requires-clause-begins : goal.serve_all-requires-clause-begins
 serve_all-requires-clause-begins c =
     begins-none c.args.script.now (arc_value c.in_ok-layout.layout) c.deref_mut.result.now
-      (subst (AreFresh (arc_value c.in_ok-layout.layout)) (sym c.deref_mut.ensures.value) c.in_ok-bodies.ensures.fresh)
+    (subst (AreFresh (arc_value c.in_ok-layout.layout)) (sym c.deref_mut.ensures.value) c.in_ok-bodies.ensures.fresh)
 
 pub returns : goal.returns
 returns c =
     let only : c.args.script.now.lists ≡ c.as_slice-list.result.now ∷ [] =
-        only_one c.args.script.now.lists c.index-as_slice-0.result (c.requires.valid.one_each ∙ c.requires.single)
-        ∙ ap (λ (l : List Command). l ∷ []) (ap (λ (l : List (List Command)). slice_index_or l 0 c.index-as_slice-0.result) (sym c.as_slice.ensures) ∙ sym c.index-as_slice-0.is ∙ sym c.as_slice-list.ensures) in
+    only_one c.args.script.now.lists c.index-as_slice-0.result (c.requires.valid.one_each ∙ c.requires.single)
+    ∙ ap (λ (l : List Command). l ∷ []) (ap (λ (l : List (List Command)). slice_index_or l 0 c.index-as_slice-0.result) (sym c.as_slice.ensures) ∙ sym c.index-as_slice-0.is ∙ sym c.as_slice-list.ensures) in
     let bodies_back : List Held = take c.in_ok-bodies.bodies.len (c.serve_all.new.bodies ++ drop (length c.serve_all.new.bodies) c.in_ok-bodies.bodies.items) in
     let bodies_are : bodies_back ≡ c.serve_all.new.bodies = written_back c.in_ok-bodies.bodies.len c.serve_all.new.bodies c.in_ok-bodies.bodies.items (omega (arith, c.serve_all.auto.bodies, c.deref_mut.ensures.len)) in
     let frames_are : c.deref.result.now ≡ c.serve_all.new.frames =
-        c.deref.ensures.value ∙ written_back c.in_ok-frames.frames.len c.serve_all.new.frames c.in_ok-frames.frames.items (omega (arith, c.serve_all.auto.frames, c.deref_mut-2.ensures.len)) in
+    c.deref.ensures.value ∙ written_back c.in_ok-frames.frames.len c.serve_all.new.frames c.in_ok-frames.frames.items (omega (arith, c.serve_all.auto.frames, c.deref_mut-2.ensures.len)) in
     IfOk-weaker c.report_of.result (λ report. Reports report bodies_back c.deref.result.now c.in_ok-rows.rows.items) (IsReport c.args.script.now)
-      (λ report is. IsReport-whole c.args.script.now report c.serve_all.new.bodies c.serve_all.new.frames c.in_ok-rows.rows.items c.as_slice-list.result.now
-        (length c.as_slice-list.result.now) c.requires.single only c.in_ok-rows.ensures.machine c.in_ok-rows.ensures.follows
-        (subst (λ (b : List Held). Reports report b c.serve_all.new.frames c.in_ok-rows.rows.items) bodies_are
-          (subst (λ (f : List Place). Reports report bodies_back f c.in_ok-rows.rows.items) frames_are is)))
-      c.report_of.ensures
+    (λ report is. IsReport-whole c.args.script.now report c.serve_all.new.bodies c.serve_all.new.frames c.in_ok-rows.rows.items c.as_slice-list.result.now
+    (length c.as_slice-list.result.now) c.requires.single only c.in_ok-rows.ensures.machine c.in_ok-rows.ensures.follows
+    (subst (λ (b : List Held). Reports report b c.serve_all.new.frames c.in_ok-rows.rows.items) bodies_are
+    (subst (λ (f : List Place). Reports report bodies_back f c.in_ok-rows.rows.items) frames_are is)))
+    c.report_of.ensures

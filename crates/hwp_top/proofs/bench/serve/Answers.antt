@@ -16,4 +16,4 @@ use Rattle.hwp_top.proofs.bench.serve.Goals as goal
 pub returns-then-not-branch-clause-answers : goal.returns-then-not-branch-clause-answers
 returns-then-not-branch-clause-answers c =
     Answers-noframe c.args.script.now c.args.seq c.args.command (logs c.args.bodies.now) (logs c.bring_in.new.bodies) c.in_ok-bring_in.ensures.keeps
-      (c.in_ok-bring_in.ensures.full c.if-not-branch.true)
+    (c.in_ok-bring_in.ensures.full c.if-not-branch.true)

@@ -18,6 +18,6 @@ use Rattle.hwp_top.proofs.bench.serve_all.Goals as goal
 pub loop-number-preserved : goal.loop-number-preserved
 loop-number-preserved c =
     subst (λ (l : List CpuLine). IsServed c.args.script.now c.args.list.now (c.loop-number.number + 1) c.serve.new.bodies c.serve.new.frames l) (sym c.in_ok-push.ensures.items)
-      (one_served c.args.script.now c.args.list.now c.loop-number.number c.index-list-number.result c.in_ok-answer.answer c.loop-number.bodies c.serve.new.bodies c.loop-number.frames c.serve.new.frames
-        c.loop-number.rows.items c.loop-number-test.true c.loop-number.invariant c.in_ok-answer.ensures.machine
-        (subst (λ x. Answers c.args.script.now c.loop-number.number x c.in_ok-answer.answer (logs c.loop-number.bodies) (logs c.serve.new.bodies)) c.index-list-number.is c.in_ok-answer.ensures.answers))
+    (one_served c.args.script.now c.args.list.now c.loop-number.number c.index-list-number.result c.in_ok-answer.answer c.loop-number.bodies c.serve.new.bodies c.loop-number.frames c.serve.new.frames
+    c.loop-number.rows.items c.loop-number-test.true c.loop-number.invariant c.in_ok-answer.ensures.machine
+    (subst (λ x. Answers c.args.script.now c.loop-number.number x c.in_ok-answer.answer (logs c.loop-number.bodies) (logs c.serve.new.bodies)) c.index-list-number.is c.in_ok-answer.ensures.answers))

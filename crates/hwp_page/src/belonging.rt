@@ -19,7 +19,10 @@ pub fn is_thread_of(layout: &Layout, thread: Thread, slot: VSlot) -> bool
 {
     let threads = layout.threads.as_slice();
     let translations = layout.trans.as_slice();
-    match (threads.get(usize::from(thread.0)), translations.get(usize::from(slot.0))) {
+    match (
+        threads.get(usize::from(thread.0)),
+        translations.get(usize::from(slot.0)),
+    ) {
         (Some(declared), Some(translation)) => declared.process == translation.process,
         _ => false,
     }

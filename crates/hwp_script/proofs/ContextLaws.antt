@@ -1,0 +1,69 @@
+-- What one more line adds to what the lines declare.
+use Rattle.std.proofs.Common.{ℕ, ◌≡◌, ◌<◌, ◌≤◌, ◌+◌, ◌++◌, max, List, [], ◌∷◌, length, Option, Some, None, ap, ◌∙◌, sym, refl, inl, inr, arith}
+use Rattle.std.specs.Prelude.{sum, fold, filter_map, ◌⊎◌}
+use Rattle.std.proofs.lemmas.List.{append-nil, length_push}
+use Rattle.std.proofs.lemmas.List.Elements.{filter_map-append}
+use Rattle.std.proofs.lemmas.List.Sums.{fold-append}
+use Rattle.hwp_script.specs.Context.{cpus_of, frames_of, proc_of, thread_of, page_of, trans_of, cpu_of, command_of, cpus_in, frames_in, procs_in, threads_in, pages_in, trans_in, lists_in, commands_in, place_in, place_after, group, highest, IsClean}
+use Rattle.hwp_script.specs.declared.forms.Form.{Form}
+use Rattle.hwp_script.specs.declared.forms.Form.TheVariants as forms
+use Rattle.hwp_script.specs.declared.why.Why.TheVariants as whys
+
+-- the list with the item behind it, if there is one
+abbrev pub onto : {A : Type 0} → Option A → List A → List A
+onto None xs = xs
+onto (Some x) xs = xs ++ x ∷ []
+
+-- the number and the other, if there is one
+abbrev pub plus : Option ℕ → ℕ → ℕ
+plus None n = n
+plus (Some m) n = n + m
+
+-- one more, if there is something
+abbrev pub more : {A : Type 0} → Option A → ℕ → ℕ
+more None n = n
+more (Some x) n = n + 1
+
+filter_map-push : {A B : Type 0} (h : A → Option B) (xs : List A) (x : A) (o : Option B) → h x ≡ o
+    → filter_map h (xs ++ x ∷ []) ≡ onto o (filter_map h xs)
+filter_map-push h xs x None e = filter_map-append h xs (x ∷ []) ∙ rw e (append-nil (filter_map h xs))
+filter_map-push h xs x (Some y) e = filter_map-append h xs (x ∷ []) ∙ rw e refl
+
+sum-onto : (o : Option ℕ) (xs : List ℕ) → sum (onto o xs) ≡ plus o (sum xs)
+sum-onto None xs = refl
+sum-onto (Some x) xs = fold-append (λ a b. a + b) 0 xs (x ∷ [])
+
+length-onto : {A : Type 0} (o : Option A) (xs : List A) → length (onto o xs) ≡ more o (length xs)
+length-onto None xs = refl
+length-onto (Some x) xs = length_push xs x
+
+highest-push : (above : List Form) (f : Form) → highest (above ++ f ∷ []) ≡ max (highest above) (group f)
+highest-push [] f = omega arith
+highest-push (g ∷ above) f = let e = highest-push above f in omega arith
+
+-- what the lines declare with one more
+pub record IsPushed (above : List Form) (f : Form) : Type 0 where
+  pub group : highest (above ++ f ∷ []) ≡ max (highest above) (group f)
+  pub cpus : cpus_in (above ++ f ∷ []) ≡ plus (cpus_of f) (cpus_in above)
+  pub frames : frames_in (above ++ f ∷ []) ≡ plus (frames_of f) (frames_in above)
+  pub procs : procs_in (above ++ f ∷ []) ≡ more (proc_of f) (procs_in above)
+  pub threads : threads_in (above ++ f ∷ []) ≡ onto (thread_of f) (threads_in above)
+  pub pages : pages_in (above ++ f ∷ []) ≡ onto (page_of f) (pages_in above)
+  pub trans : trans_in (above ++ f ∷ []) ≡ onto (trans_of f) (trans_in above)
+  pub lists : lists_in (above ++ f ∷ []) ≡ onto (cpu_of f) (lists_in above)
+  pub place : place_in (above ++ f ∷ []) ≡ place_after (place_in above) f
+  pub commands : commands_in (above ++ f ∷ []) ≡ more (command_of f) (commands_in above)
+
+pub pushed : (above : List Form) (f : Form) → IsPushed above f
+pushed above f = record {
+  group = highest-push above f;
+  cpus = ap sum (filter_map-push cpus_of above f _ refl) ∙ sum-onto (cpus_of f) (filter_map cpus_of above);
+  frames = ap sum (filter_map-push frames_of above f _ refl) ∙ sum-onto (frames_of f) (filter_map frames_of above);
+  procs = ap length (filter_map-push proc_of above f _ refl) ∙ length-onto (proc_of f) (filter_map proc_of above);
+  threads = filter_map-push thread_of above f _ refl;
+  pages = filter_map-push page_of above f _ refl;
+  trans = filter_map-push trans_of above f _ refl;
+  lists = filter_map-push cpu_of above f _ refl;
+  place = fold-append place_after None above (f ∷ []);
+  commands = ap length (filter_map-push command_of above f _ refl) ∙ length-onto (command_of f) (filter_map command_of above);
+}

@@ -1,0 +1,9 @@
+use Rattle.std.proofs.Common.{refl, arith}
+use Rattle.hwp_script.specs.declared.forms.Form.TheVariants as forms
+use Rattle.hwp_script.proofs.CleanLaws.{clean_page}
+use Rattle.hwp_script.proofs.SumLaws.{next_sums}
+use Rattle.hwp_script.proofs.context.Summary.add_page.Goals as goal
+
+pub returns : goal.returns
+returns c =
+    next_sums _ (forms.Page c.args.page) _ _ c.requires.sums (clean_page c.requires.clean).placed.late refl refl refl refl refl c.in_ok-push.ensures refl refl refl refl

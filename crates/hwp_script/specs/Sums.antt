@@ -1,0 +1,18 @@
+-- What is kept of the lines above while a script is read.
+use Rattle.std.specs.Prelude.{◌≡◌, length, List}
+use Rattle.hwp_script.specs.declared.forms.Form.{Form}
+use Rattle.hwp_script.specs.declared.context.Summary.{Summary}
+use Rattle.hwp_script.specs.Context.{cpus_in, frames_in, procs_in, threads_in, pages_in, trans_in, lists_in, commands_in, place_in, highest}
+
+-- the summary is that of these lines
+pub record Sums (above : List Form) (s : Summary) : Type 0 where
+  pub group : s.group ≡ highest above
+  pub cpus : s.cpus ≡ cpus_in above
+  pub frames : s.frames ≡ frames_in above
+  pub procs : s.procs ≡ procs_in above
+  pub threads : s.threads ≡ threads_in above
+  pub pages : s.pages ≡ pages_in above
+  pub trans : s.trans ≡ trans_in above
+  pub lists : s.lists ≡ lists_in above
+  pub place : s.place ≡ place_in above
+  pub commands : s.commands ≡ commands_in above

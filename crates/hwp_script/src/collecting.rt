@@ -1,0 +1,139 @@
+ghost use Rattle.std.specs.Prelude.{◌≡◌, ◌++◌, IfOk, OnOk, map, option_to_list};
+ghost use Rattle.std.specs.List.{range_with_len};
+ghost use Rattle.hwp_script.specs.Context.{IsClean, AreClean, command_of, place_after};
+ghost use Rattle.hwp_script.specs.Collects.{command_at, commands_of, Collects};
+ghost use Rattle.hwp_script.specs.Sums.{Sums};
+
+use std::alloc::Global;
+
+use hwp_geom::{Layout, Line, List, OutOfMemory, Thread, VSlot};
+
+use crate::context::Summary;
+use crate::forms::Form;
+use crate::script::{Command, Script};
+
+/// The command that a line is.
+#[tactic(auto, using(crate::proofs::CleanLaws::clean_load, crate::proofs::CleanLaws::clean_store))]
+fn command(above: &[Form], form: &Form) -> Option<Command>
+    requires { IsClean above.now form.now }
+    ensures { result ≡ command_of form.now }
+{
+    match *form {
+        Form::Load { thread, slot, line } => load(above, thread, slot, line),
+        Form::Store {
+            thread,
+            slot,
+            line,
+            word,
+        } => store(above, thread, slot, line, word),
+        _ => None,
+    }
+}
+
+#[tactic(auto, using(crate::proofs::CleanLaws::clean_load))]
+fn load(above: &[Form], thread: u64, slot: u64, line: u64) -> Option<Command>
+    requires { IsClean above.now (Form.Load thread slot line) }
+    ensures { result ≡ command_of (Form.Load thread slot line) }
+{
+    Some(Command::Load {
+        thread: Thread(thread as u8),
+        slot: VSlot(slot as u16),
+        line: Line::new(line as u8)?,
+    })
+}
+
+#[tactic(auto, using(crate::proofs::CleanLaws::clean_store))]
+fn store(above: &[Form], thread: u64, slot: u64, line: u64, word: u64) -> Option<Command>
+    requires { IsClean above.now (Form.Store thread slot line word) }
+    ensures { result ≡ command_of (Form.Store thread slot line word) }
+{
+    Some(Command::Store {
+        thread: Thread(thread as u8),
+        slot: VSlot(slot as u16),
+        line: Line::new(line as u8)?,
+        word,
+    })
+}
+
+/// The command that a line is, if it stands in the list of processor `cpu`.
+fn command_in(place: Option<u64>, cpu: u64, above: &[Form], form: &Form) -> Option<Command>
+    requires { IsClean above.now form.now }
+    ensures { result ≡ command_at place cpu form.now }
+{
+    match place {
+        Some(place) if place == cpu => command(above, form),
+        _ => None,
+    }
+}
+
+/// The processor in whose list the lines after a line stand.
+fn next_place(place: Option<u64>, form: &Form) -> Option<u64>
+    ensures { result ≡ place_after place form.now }
+{
+    match *form {
+        Form::Cpu(cpu) => Some(cpu),
+        Form::End => None,
+        _ => place,
+    }
+}
+
+/// Adds a command to a list, if there is one.
+fn push_some(list: &mut List<Command>, command: Option<Command>) -> Result<(), OutOfMemory>
+    ensures { OnOk result (list.new ≡ list.old ++ option_to_list command) }
+{
+    if let Some(command) = command {
+        list.push(command)?;
+    }
+    Ok(())
+}
+
+/// The commands of a processor.
+fn list_of(alloc: Global, forms: &[Form], cpu: u64) -> Result<List<Command>, OutOfMemory>
+    requires { AreClean forms.now }
+    ensures { IfOk result (λ list. list ≡ commands_of forms.now cpu) }
+{
+    let mut list = List::new(alloc);
+    let mut place = None;
+    for (at, form) in forms.iter().enumerate() {
+        push_some(&mut list, command_in(place, cpu, &forms[..at], form))?;
+        place = next_place(place, form);
+    }
+    Ok(list)
+}
+
+/// The lists of the first `cpus` processors.
+fn lists_of(alloc: Global, forms: &[Form], cpus: u8) -> Result<List<List<Command>>, OutOfMemory>
+    requires { AreClean forms.now }
+    ensures { IfOk result (λ lists. lists ≡ map (commands_of forms.now) (range_with_len 0 cpus)) }
+{
+    let mut lists = List::new(alloc);
+    for cpu in 0..cpus {
+        lists.push(list_of(alloc, forms, u64::from(cpu))?)?;
+    }
+    Ok(lists)
+}
+
+/// The script that clean lines give, of which this is the summary.
+pub(crate) fn collect(alloc: Global, forms: &[Form], summary: Summary) -> Result<Script, OutOfMemory>
+    requires clean { AreClean forms.now }
+    requires sums { Sums forms.now summary }
+    ensures { IfOk result (λ script. Collects forms.now script) }
+{
+    let lists = lists_of(alloc, forms, summary.cpus)?;
+    let kernel = List::from_vec(vec![in alloc; false; usize::from(summary.frames)]?);
+    Ok(Script {
+        layout: Layout {
+            cpus: summary.cpus,
+            frames: summary.frames,
+            kernel,
+            recovery: true,
+            early: false,
+            files: 0,
+            procs: summary.procs,
+            threads: summary.threads,
+            pages: summary.pages,
+            trans: summary.trans,
+        },
+        lists,
+    })
+}
