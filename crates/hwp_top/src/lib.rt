@@ -2,3 +2,8 @@
 #![tactic(auto)]
 
 mod bench;
+mod inputs;
+mod messages;
+mod top;
+
+pub use top::Done;

@@ -1,0 +1,66 @@
+-- What the top call promises: of what was read, of what was written, and of each status.
+use Rattle.std.specs.Prelude.{◌≡◌, ◌≢◌, ℕ, ◌++◌, List, [], ◌∷◌, Option, Some, length, map, codes, decimal, ◌⊎◌, String, string_bytes}
+use Rattle.std.specs.Io.KnownBytes.{Appends, Consumes, IsAtEnd}
+use Rattle.hwp_io.specs.Causes.{Rose}
+use Rattle.hwp_script.specs.declared.Script.{Script}
+use Rattle.hwp_script.specs.declared.Refused.{Refused}
+use Rattle.hwp_script.specs.declared.Why.{Why}
+use Rattle.hwp_script.specs.declared.Why.TheVariants as whys
+use Rattle.hwp_script.specs.Reads.{Reads, IsRefused}
+use Rattle.hwp_report.specs.declared.Report.{Report}
+use Rattle.hwp_report.specs.Text.{report_text}
+use Rattle.hwp_law.specs.Report.{IsReport}
+
+-- the words are those of the command that runs a script step by step
+abbrev pub IsStep : List (List ℕ) → Type 0
+IsStep words = words ≡ codes "step" ∷ []
+
+-- the script has only what is built: one processor
+abbrev pub IsBuilt : Script → Type 0
+IsBuilt script = script.layout.cpus ≡ 1
+
+-- the bytes are refused: they are the text of no script, or of one that is not built
+abbrev pub IsRefusal : List ℕ → Refused → Type 0
+IsRefusal bytes refused = IsRefused bytes refused ⊎ ((script : Script) × Reads bytes script × (¬ IsBuilt script) × (refused ≡ record { line = 0; why = whys.NotBuilt }))
+
+-- a source gave these bytes and the refusal holds of them; all reasons but the length need the whole input
+pub record Refuses (left left' : Option (List ℕ)) (refused : Refused) : Type 0 where
+  pub bytes : List ℕ
+  pub consumed : Consumes left left' bytes
+  pub whole : refused.why ≢ whys.TooLong → IsAtEnd left'
+  pub refusal : IsRefusal bytes refused
+
+-- a source gave these bytes to its end, they are the text of the script, and it is built
+pub record Takes (left left' : Option (List ℕ)) (script : Script) : Type 0 where
+  pub bytes : List ℕ
+  pub consumed : Consumes left left' bytes
+  pub at_end : IsAtEnd left'
+  pub reads : Reads bytes script
+  pub built : IsBuilt script
+
+-- the report is one of the script that a source gave
+pub record Reports (left left' : Option (List ℕ)) (report : Report) : Type 0 where
+  pub script : Script
+  pub takes : Takes left left' script
+  pub law : IsReport script report
+
+-- the name of a reason
+abbrev pub why_text : Why → List ℕ
+why_text whys.BadHeader = codes "BadHeader"
+why_text whys.UnknownWord = codes "UnknownWord"
+why_text whys.BadNumber = codes "BadNumber"
+why_text whys.OverLimit = codes "OverLimit"
+why_text whys.Undeclared = codes "Undeclared"
+why_text whys.Twice = codes "Twice"
+why_text whys.WrongPlace = codes "WrongPlace"
+why_text whys.NoEnd = codes "NoEnd"
+why_text whys.TooLong = codes "TooLong"
+why_text whys.NotBuilt = codes "NotBuilt"
+
+-- `script line L: WHY`, and a line feed
+abbrev pub refusal_text : Refused → List ℕ
+refusal_text refused = codes "script line " ++ (decimal refused.line ++ (codes ": " ++ (why_text refused.why ++ 10 ∷ [])))
+
+-- a sink took the text, or its count of faults rose
+abbrev pub Told : Option (List ℕ) → Option (List ℕ) → ℕ → ℕ → List ℕ → Type 0
+Told taken taken' faults faults' text = Appends taken taken' text ⊎ Rose faults faults'
