@@ -1,5 +1,5 @@
 -- What the top call promises: of what was read, of what was written, and of each status.
-use Rattle.std.specs.Prelude.{◌≡◌, ◌≢◌, ℕ, ◌++◌, List, [], ◌∷◌, Option, Some, length, map, codes, decimal, ◌⊎◌, String, string_bytes}
+use Rattle.std.specs.Prelude.{◌≡◌, ◌≢◌, ℕ, ◌++◌, ◌==◌, if◌then◌else◌, List, [], ◌∷◌, Option, Some, None, length, map, codes, decimal, ◌⊎◌, String, string_bytes}
 use Rattle.std.specs.Io.KnownBytes.{Appends, Consumes, IsAtEnd}
 use Rattle.hwp_io.specs.Causes.{Rose}
 use Rattle.hwp_script.specs.declared.Script.{Script}
@@ -64,3 +64,25 @@ refusal_text refused = codes "script line " ++ (decimal refused.line ++ (codes "
 -- a sink took the text, or its count of faults rose
 abbrev pub Told : Option (List ℕ) → Option (List ℕ) → ℕ → ℕ → List ℕ → Type 0
 Told taken taken' faults faults' text = Appends taken taken' text ⊎ Rose faults faults'
+
+-- the texts of the statuses that have one text each
+abbrev pub usage_text : List ℕ
+usage_text = codes "usage: hwp step|run|check|gen N|sum N" ++ 10 ∷ []
+
+abbrev pub read_fault_text : List ℕ
+read_fault_text = codes "read fault" ++ 10 ∷ []
+
+abbrev pub write_fault_text : List ℕ
+write_fault_text = codes "write fault" ++ 10 ∷ []
+
+abbrev pub memory_text : List ℕ
+memory_text = codes "out of memory" ++ 10 ∷ []
+
+-- the text that a status tells on the error sink, but for status 3, whose text names the line and the reason
+abbrev pub told_text : ℕ → Option (List ℕ)
+told_text status =
+    if status == 2 then Some usage_text
+    else if status == 4 then Some read_fault_text
+    else if status == 5 then Some write_fault_text
+    else if status == 6 then Some memory_text
+    else None

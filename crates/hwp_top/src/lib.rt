@@ -2,8 +2,8 @@
 #![tactic(auto)]
 
 mod bench;
+mod calls;
 mod inputs;
 mod messages;
-mod top;
 
-pub use top::Done;
+pub use calls::{Done, top};
