@@ -1,6 +1,7 @@
 //! Numbers and layout of the simulated machine, and the small types that all crates share.
 #![tactic(auto)]
 
+mod kind;
 mod layout;
 mod line;
 mod lines;
@@ -8,6 +9,7 @@ mod list;
 mod numbers;
 mod text;
 
+pub use kind::Kind;
 pub use layout::{
     Layout, MAX_CPUS, MAX_FILES, MAX_FRAMES, MAX_PAGES, MAX_PROCS, MAX_THREADS, MAX_TRANS,
     PageKind, ThreadDecl, TransDecl,
@@ -20,3 +22,6 @@ pub use text::Text;
 
 /// Want of memory: the one answer that no clause ties to a cause.
 pub type OutOfMemory = std::alloc::AllocError;
+
+#[cfg(test)]
+mod tests;

@@ -43,21 +43,21 @@ pub AreOrdered-more : {old new : List (List Entry)} {at : At} {e : Entry} → On
 AreOrdered-more {old} {new} {at} {e} more latest ordered bt later f g first second same before cpus =
     elim (more.only bt f first) [
       | inl f_was ↦ elim (more.only later g second) [
-          | inl g_was ↦ ordered bt later f g f_was g_was same before cpus
-          | inr g_is ↦
-              let bound : f.who.seq ≤ e.who.seq = latest bt f f_was (cpus ∙ ap (λ (x : Entry). x.who.cpu) g_is.1) in
-              subst (λ (x : Entry). f.who.seq ≤ x.who.seq) (sym g_is.1) bound
-        ]
+        | inl g_was ↦ ordered bt later f g f_was g_was same before cpus
+        | inr g_is ↦
+            let bound : f.who.seq ≤ e.who.seq = latest bt f f_was (cpus ∙ ap (λ (x : Entry). x.who.cpu) g_is.1) in
+            subst (λ (x : Entry). f.who.seq ≤ x.who.seq) (sym g_is.1) bound
+      ]
       | inr f_is ↦ elim (more.only later g second) [
-          | inl g_was ↦
-              let below : later.entry < at.entry = more.last later g g_was (sym same ∙ ap (λ (b : At). b.page) f_is.0) in
-              let above : at.entry < later.entry = subst (λ (b : At). b.entry < later.entry) f_is.0 before in
-              absurd (omega arith)
-          | inr g_is ↦
-              let above : at.entry < later.entry = subst (λ (b : At). b.entry < later.entry) f_is.0 before in
-              let equal : later.entry ≡ at.entry = ap (λ (b : At). b.entry) g_is.0 in
-              absurd (omega arith)
-        ]
+        | inl g_was ↦
+            let below : later.entry < at.entry = more.last later g g_was (sym same ∙ ap (λ (b : At). b.page) f_is.0) in
+            let above : at.entry < later.entry = subst (λ (b : At). b.entry < later.entry) f_is.0 before in
+            absurd (omega arith)
+        | inr g_is ↦
+            let above : at.entry < later.entry = subst (λ (b : At). b.entry < later.entry) f_is.0 before in
+            let equal : later.entry ≡ at.entry = ap (λ (b : At). b.entry) g_is.0 in
+            absurd (omega arith)
+      ]
     ]
 
 pub StandsAt-more : {old new : List (List Entry)} {at : At} {e : Entry} (who : Who) (bt : At) (what : What) → OneMore old new at e → StandsAt old who bt what → StandsAt new who bt what
@@ -107,8 +107,8 @@ slice_get-pushed (y ∷ xs) x = slice_get-pushed xs x
 IsNamed-rows : (rows more : List CpuLine) (at : At) (e : Entry) → IsNamed (rows ∷ []) at e → IsNamed ((rows ++ more) ∷ []) at e
 IsNamed-rows rows more at e named =
     let kept : (cpu : ℕ) → IsSomeAnd (slice_get (rows ∷ []) cpu) (λ (r : List CpuLine). slice_get r named.1 ≡ Some (lines.Answer e.who.seq named.0))
-            → IsSomeAnd (slice_get ((rows ++ more) ∷ []) cpu) (λ (r : List CpuLine). slice_get r named.1 ≡ Some (lines.Answer e.who.seq named.0)) =
-        kept_at rows more named.1 (lines.Answer e.who.seq named.0) in
+    → IsSomeAnd (slice_get ((rows ++ more) ∷ []) cpu) (λ (r : List CpuLine). slice_get r named.1 ≡ Some (lines.Answer e.who.seq named.0)) =
+    kept_at rows more named.1 (lines.Answer e.who.seq named.0) in
     (named.0, named.1, kept e.who.cpu.0 named.2, named.3)
   where
     kept_at : (rows more : List CpuLine) (i : ℕ) (row : CpuLine) (cpu : ℕ) → IsSomeAnd (slice_get (rows ∷ []) cpu) (λ (r : List CpuLine). slice_get r i ≡ Some row)
@@ -137,8 +137,8 @@ AreNamed-answered {old} {new} {at} {e} rows answer more first place named bt f t
       | inr same ↦
           let cpus : List (List CpuLine) = (rows ++ lines.Answer e.who.seq answer ∷ []) ∷ [] in
           let row : IsSomeAnd (slice_get cpus e.who.cpu.0) (λ (r : List CpuLine). slice_get r (length rows) ≡ Some (lines.Answer e.who.seq answer)) =
-              subst (λ (c : ℕ). IsSomeAnd (slice_get cpus c) (λ (r : List CpuLine). slice_get r (length rows) ≡ Some (lines.Answer e.who.seq answer))) (sym first)
-                (slice_get-pushed rows (lines.Answer e.who.seq answer)) in
+          subst (λ (c : ℕ). IsSomeAnd (slice_get cpus c) (λ (r : List CpuLine). slice_get r (length rows) ≡ Some (lines.Answer e.who.seq answer))) (sym first)
+          (slice_get-pushed rows (lines.Answer e.who.seq answer)) in
           let mine : IsNamed cpus at e = (answer, length rows, row, place) in
           subst (λ (b : At). IsNamed cpus b f) (sym same.0) (subst (λ (g : Entry). IsNamed cpus at g) (sym same.1) mine)
     ]
@@ -182,11 +182,11 @@ OneMore-set pages at log e there last =
     let within : at.page.0 < length pages = slice_get_within pages at.page.0 log there in
     let new : List (List Entry) = set pages at.page.0 (log ++ e ∷ []) in
     let here : (bt : At) → bt.page.0 ≡ at.page.0 → slice_get new bt.page.0 ≡ Some (log ++ e ∷ []) =
-        λ (bt : At) (same : bt.page.0 ≡ at.page.0). subst (λ (n : ℕ). slice_get new n ≡ Some (log ++ e ∷ [])) (sym same) (slice_get-set_at pages at.page.0 (log ++ e ∷ []) within) in
+    λ (bt : At) (same : bt.page.0 ≡ at.page.0). subst (λ (n : ℕ). slice_get new n ≡ Some (log ++ e ∷ [])) (sym same) (slice_get-set_at pages at.page.0 (log ++ e ∷ []) within) in
     let was : (bt : At) → bt.page.0 ≡ at.page.0 → slice_get pages bt.page.0 ≡ Some log =
-        λ (bt : At) (same : bt.page.0 ≡ at.page.0). subst (λ (n : ℕ). slice_get pages n ≡ Some log) (sym same) there in
+    λ (bt : At) (same : bt.page.0 ≡ at.page.0). subst (λ (n : ℕ). slice_get pages n ≡ Some log) (sym same) there in
     let away : (bt : At) → (bt.page.0 ≡ at.page.0 → ⊥) → entry_at new bt ≡ entry_at pages bt =
-        λ (bt : At) (other : bt.page.0 ≡ at.page.0 → ⊥). entry_at-same pages new bt (slice_get-set_other pages at.page.0 bt.page.0 (log ++ e ∷ []) other) in
+    λ (bt : At) (other : bt.page.0 ≡ at.page.0 → ⊥). entry_at-same pages new bt (slice_get-set_other pages at.page.0 bt.page.0 (log ++ e ∷ []) other) in
     record {
       kept = λ bt f is. elim (cases_eq bt.page.0 at.page.0) [
         | inl same ↦ entry_at-is new bt (log ++ e ∷ []) (here bt same) ∙ slice_get-kept log (e ∷ []) bt.entry f (sym (entry_at-is pages bt log (was bt same)) ∙ is)
@@ -195,13 +195,13 @@ OneMore-set pages at log e there last =
       placed = entry_at-is new at (log ++ e ∷ []) (here at refl) ∙ ap (λ (n : ℕ). slice_get (log ++ e ∷ []) n) last ∙ slice_get-pushed log e;
       only = λ bt f is. elim (cases_eq bt.page.0 at.page.0) [
         | inl same ↦ elim (slice_get-push_cases log e bt.entry f (sym (entry_at-is new bt (log ++ e ∷ []) (here bt same)) ∙ is)) [
-            | inl old ↦ inl (entry_at-is pages bt log (was bt same) ∙ old)
-            | inr end ↦ inr (same_place bt at same (end.0 ∙ sym last), end.1)
-          ]
+          | inl old ↦ inl (entry_at-is pages bt log (was bt same) ∙ old)
+          | inr end ↦ inr (same_place bt at same (end.0 ∙ sym last), end.1)
+        ]
         | inr other ↦ inl (sym (away bt other) ∙ is)
       ];
       last = λ bt f is same.
-        let inside : bt.entry < length log = slice_get_within log bt.entry f (sym (entry_at-is pages bt log (was bt (ap (λ (p : Page). p.0) same))) ∙ is) in
-        omega arith;
-      same_pages = length-set pages at.page.0 (log ++ e ∷ [])
+          let inside : bt.entry < length log = slice_get_within log bt.entry f (sym (entry_at-is pages bt log (was bt (ap (λ (p : Page). p.0) same))) ∙ is) in
+          omega arith;
+      same_pages = length-set pages at.page.0 (log ++ e ∷ []);
     }

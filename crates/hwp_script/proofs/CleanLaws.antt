@@ -1,7 +1,7 @@
 -- What it says of a line that no reason applies to it, kind by kind.
 use Rattle.std.proofs.Common.{ℕ, ◌≡◌, ◌<◌, ◌≤◌, List, [], ◌∷◌, length, inl, inr, refl, arith}
-use Rattle.std.specs.Prelude.{◌⊎◌, Contains, slice_get}
-use Rattle.hwp_script.specs.Context.{cpus_in, frames_in, procs_in, threads_in, pages_in, trans_in, lists_in, commands_in, place_in, highest, IsMisplaced, IsForeign, IsElsewhere, IsAccessOver, IsClean}
+use Rattle.std.specs.Prelude.{◌⊎◌, slice_get}
+use Rattle.hwp_script.specs.Context.{cpus_in, frames_in, procs_in, threads_in, pages_in, trans_in, commands_in, place_in, highest, IsMisplaced, IsForeign, IsElsewhere, IsAccessOver, IsClean}
 use Rattle.hwp_script.specs.declared.forms.Form.{Form}
 use Rattle.hwp_script.specs.declared.forms.Form.TheVariants as forms
 use Rattle.hwp_script.specs.declared.why.Why.TheVariants as whys

@@ -1,8 +1,8 @@
 -- Clean lines, one more at a time.
-use Rattle.std.proofs.Common.{ℕ, ◌≡◌, ◌<◌, ◌≤◌, ◌+◌, ◌++◌, List, [], ◌∷◌, length, get_or, take, Option, Some, zero, suc, ap, ◌∙◌, sym, refl, inl, inr, arith, ⊎_elim}
+use Rattle.std.proofs.Common.{ℕ, ◌≡◌, ◌<◌, ◌≤◌, ◌+◌, ◌++◌, List, [], ◌∷◌, length, get_or, take, Some, zero, suc, ◌∙◌, sym, refl, arith, ⊎_elim}
 use Rattle.std.specs.Prelude.{slice_get}
 use Rattle.std.proofs.lemmas.List.{take_more, take-append-le, take_at, length_push}
-use Rattle.std.proofs.lemmas.Option.{slice_get_within, slice_get-get_or, same_Some}
+use Rattle.std.proofs.lemmas.Option.{slice_get_within, same_Some}
 use Rattle.std.proofs.lemmas.Bool.{cases_lt}
 use Rattle.hwp_script.specs.Context.{IsClean, AreClean}
 use Rattle.hwp_script.specs.declared.forms.Form.{Form}
@@ -20,14 +20,16 @@ pub AreClean-none : AreClean []
 AreClean-none = record { each = λ n f e. absurd (grind arith) }
 
 pub AreClean-push : (xs : List Form) (f : Form) → AreClean xs → IsClean xs f → AreClean (xs ++ f ∷ [])
-AreClean-push xs f h k = record { each = λ n g e. ⊎_elim
-  (λ (l : n < length xs). rw (take-append-le n xs (f ∷ []) (omega arith)) (h.each n g (sym (slice_get-append_left xs (f ∷ []) n l) ∙ e)))
-  (λ (l : length xs ≤ n).
-    let within : n < length (xs ++ f ∷ []) = slice_get_within (xs ++ f ∷ []) n g e in
-    let at : n ≡ length xs = omega (arith, length_push xs f) in
-    let same : f ≡ g = same_Some f g (sym (slice_get-append_at xs f) ∙ rw at at e) in
-    rw (at, take_at xs (f ∷ []) (length xs) refl, ← same) k)
-  (cases_lt n (length xs)) }
+AreClean-push xs f h k = record {
+  each = λ n g e. ⊎_elim
+      (λ (l : n < length xs). rw (take-append-le n xs (f ∷ []) (omega arith)) (h.each n g (sym (slice_get-append_left xs (f ∷ []) n l) ∙ e)))
+      (λ (l : length xs ≤ n).
+      let within : n < length (xs ++ f ∷ []) = slice_get_within (xs ++ f ∷ []) n g e in
+      let at : n ≡ length xs = omega (arith, length_push xs f) in
+      let same : f ≡ g = same_Some f g (sym (slice_get-append_at xs f) ∙ rw at at e) in
+      rw (at, take_at xs (f ∷ []) (length xs) refl, ← same) k)
+      (cases_lt n (length xs));
+}
 
 pub AreClean-more : (fs : List Form) (i : ℕ) (d : Form) → i < length fs → AreClean (take i fs) → IsClean (take i fs) (get_or fs i d)
     → AreClean (take (i + 1) fs)

@@ -16,7 +16,7 @@ commands_from-push place c [] f = append-nil (option_to_list (command_at place c
 commands_from-push place c (x ∷ xs) f =
     ap (λ t. option_to_list (command_at place c x) ++ t) (commands_from-push (place_after place x) c xs f)
     ∙ sym (append_assoc (option_to_list (command_at place c x)) (commands_from (place_after place x) c xs)
-        (option_to_list (command_at (fold place_after (place_after place x) xs) c f)))
+    (option_to_list (command_at (fold place_after (place_after place x) xs) c f)))
 
 pub commands_of-push : (xs : List Form) (f : Form) (c : ℕ) → commands_of (xs ++ f ∷ []) c ≡ commands_of xs c ++ option_to_list (command_at (place_in xs) c f)
 commands_of-push xs f c = commands_from-push None c xs f

@@ -1,13 +1,11 @@
 -- What one more line adds to what the lines declare.
-use Rattle.std.proofs.Common.{ℕ, ◌≡◌, ◌<◌, ◌≤◌, ◌+◌, ◌++◌, max, List, [], ◌∷◌, length, Option, Some, None, ap, ◌∙◌, sym, refl, inl, inr, arith}
-use Rattle.std.specs.Prelude.{sum, fold, filter_map, ◌⊎◌}
+use Rattle.std.proofs.Common.{ℕ, ◌≡◌, ◌+◌, ◌++◌, max, List, [], ◌∷◌, length, Option, Some, None, ap, ◌∙◌, refl, arith}
+use Rattle.std.specs.Prelude.{sum, filter_map}
 use Rattle.std.proofs.lemmas.List.{append-nil, length_push}
 use Rattle.std.proofs.lemmas.List.Elements.{filter_map-append}
 use Rattle.std.proofs.lemmas.List.Sums.{fold-append}
-use Rattle.hwp_script.specs.Context.{cpus_of, frames_of, proc_of, thread_of, page_of, trans_of, cpu_of, command_of, cpus_in, frames_in, procs_in, threads_in, pages_in, trans_in, lists_in, commands_in, place_in, place_after, group, highest, IsClean}
+use Rattle.hwp_script.specs.Context.{cpus_of, frames_of, proc_of, thread_of, page_of, trans_of, cpu_of, command_of, cpus_in, frames_in, procs_in, threads_in, pages_in, trans_in, lists_in, commands_in, place_in, place_after, group, highest}
 use Rattle.hwp_script.specs.declared.forms.Form.{Form}
-use Rattle.hwp_script.specs.declared.forms.Form.TheVariants as forms
-use Rattle.hwp_script.specs.declared.why.Why.TheVariants as whys
 
 -- the list with the item behind it, if there is one
 abbrev pub onto : {A : Type 0} → Option A → List A → List A

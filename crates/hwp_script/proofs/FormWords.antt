@@ -1,5 +1,5 @@
 -- Laws of the words of lines.
-use Rattle.std.proofs.Common.{ℕ, ◌≡◌, ◌<◌, List, [], ◌∷◌, length, get_or, map, Bor, ap, ◌∙◌, sym, refl}
+use Rattle.std.proofs.Common.{ℕ, ◌≡◌, ◌<◌, List, [], length, get_or, map, Bor, ap, ◌∙◌, sym, refl}
 use Rattle.std.proofs.lemmas.List.{get_or-map}
 use Rattle.hwp_script.specs.Forms.{keyword_text, form_words, IsForm}
 use Rattle.hwp_script.specs.declared.forms.Form.{Form}

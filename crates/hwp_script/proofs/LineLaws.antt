@@ -45,7 +45,7 @@ pub AreLinesOf-more : (ps : List (Bor (List ℕ))) (fs : List Form) (i : ℕ) (d
 AreLinesOf-more ps fs i d f h l is =
     let within : i < length (map (λ p. p.now) ps) = rw length-map l in
     let e : take (i + 1) (map (λ p. p.now) ps) ≡ take i (map (λ p. p.now) ps) ++ (get_or ps i d).now ∷ [] =
-        take_more (map (λ p. p.now) ps) i [] within ∙ ap (λ x. take i (map (λ p. p.now) ps) ++ x ∷ []) (get_or-map (λ p. p.now) ps i d [] l) in
+    take_more (map (λ p. p.now) ps) i [] within ∙ ap (λ x. take i (map (λ p. p.now) ps) ++ x ∷ []) (get_or-map (λ p. p.now) ps i d [] l) in
     rw e (record { pairs = Pairs-push (λ q g. IsForm (cut q) g) (take i (map (λ p. p.now) ps)) fs (get_or ps i d).now f h.pairs is })
 
 line-join : (ws : List (List ℕ)) → line ws ≡ join_with_byte 32 ws ++ 10 ∷ []
@@ -99,7 +99,7 @@ pub pieces-text : {bytes : List ℕ} {ps : List (List ℕ)} {last : List ℕ} {f
     → (last ≡ []) × AreLinesOf ps fs
 pieces-text {bytes} {ps} {last} {fs} e h =
     let all : map cut (pieces bytes) ≡ words_of fs ++ ([] ∷ []) ∷ [] =
-        ap (λ t. map cut (pieces t)) (h.same ∙ text_of-words fs) ∙ cut-lines (words_of fs) (AreLines-words fs h.fits) in
+    ap (λ t. map cut (pieces t)) (h.same ∙ text_of-words fs) ∙ cut-lines (words_of fs) (AreLines-words fs h.fits) in
     let both = same_from_push (map cut ps) (words_of fs) (cut last) ([] ∷ []) (sym (map_push cut ps last) ∙ sym (ap (map cut) e) ∙ all) in
     (cut-nil last both.1, record { pairs = lines-words ps fs h.fits both.0 })
 
@@ -111,6 +111,6 @@ no_push (x ∷ xs) y e = cc
 pub no_pieces : (bytes : List ℕ) → pieces bytes ≡ [] → (fs : List Form) → IsText bytes fs → ⊥
 no_pieces bytes e fs h =
     let all : map cut (pieces bytes) ≡ words_of fs ++ ([] ∷ []) ∷ [] =
-        ap (λ t. map cut (pieces t)) (h.same ∙ text_of-words fs) ∙ cut-lines (words_of fs) (AreLines-words fs h.fits) in
+    ap (λ t. map cut (pieces t)) (h.same ∙ text_of-words fs) ∙ cut-lines (words_of fs) (AreLines-words fs h.fits) in
     let none : [] ≡ words_of fs ++ ([] ∷ []) ∷ [] = sym (ap (map cut) e) ∙ all in
     no_push (words_of fs) ([] ∷ []) none

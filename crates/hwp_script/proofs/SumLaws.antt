@@ -1,13 +1,10 @@
 -- What one more clean line does to a summary.
 use Rattle.std.proofs.lemmas.List.{take_more}
-use Rattle.std.proofs.Common.{ℕ, ◌≡◌, ◌<◌, ◌≤◌, ◌+◌, ◌++◌, max, List, [], ◌∷◌, length, take, get_or, Option, Some, None, ap, ◌∙◌, sym, refl, inl, inr, arith}
-use Rattle.std.specs.Prelude.{sum, fold, filter_map, ◌⊎◌}
-use Rattle.hwp_script.specs.Context.{cpus_of, frames_of, proc_of, thread_of, page_of, trans_of, cpu_of, command_of, cpus_in, frames_in, procs_in, threads_in, pages_in, trans_in, lists_in, commands_in, place_in, place_after, group as group_of, highest, IsClean}
+use Rattle.std.proofs.Common.{ℕ, ◌≡◌, ◌<◌, ◌≤◌, ◌+◌, ◌++◌, List, [], ◌∷◌, length, take, get_or, ap, ◌∙◌, sym, arith}
+use Rattle.hwp_script.specs.Context.{cpus_of, frames_of, proc_of, thread_of, page_of, trans_of, cpu_of, command_of, place_after, group as group_of, highest}
 use Rattle.hwp_script.specs.Sums.{Sums}
 use Rattle.hwp_script.specs.declared.context.Summary.{Summary}
 use Rattle.hwp_script.specs.declared.forms.Form.{Form}
-use Rattle.hwp_script.specs.declared.forms.Form.TheVariants as forms
-use Rattle.hwp_script.specs.declared.why.Why.TheVariants as whys
 use Rattle.hwp_script.proofs.ContextLaws.{onto, plus, more, pushed}
 
 -- the summary after a line
@@ -29,7 +26,6 @@ next_sums above f s t h late group cpus frames procs threads pages trans lists p
       place = place ∙ ap (λ at. place_after at f) h.place ∙ sym p.place;
       commands = commands ∙ ap (more (command_of f)) h.commands ∙ sym p.commands;
     }
-
 
 pub Sums-more : (fs : List Form) (i : ℕ) (d : Form) (s : Summary) → i < length fs → Sums (take i fs ++ get_or fs i d ∷ []) s → Sums (take (i + 1) fs) s
 Sums-more fs i d s l h = rw (take_more fs i d l) h

@@ -1,9 +1,9 @@
 -- A text has one list of lines.
-use Rattle.std.proofs.Common.{ℕ, ◌≡◌, ◌<◌, ◌^◌, ◌+◌, ◌*◌, ◌++◌, List, [], ◌∷◌, length, get_or, map, codes, decimal, ap, ◌∙◌, sym, refl, arith}
+use Rattle.std.proofs.Common.{ℕ, ◌≡◌, ◌<◌, ◌^◌, ◌+◌, ◌*◌, ◌++◌, List, [], ◌∷◌, get_or, map, decimal, ap, ◌∙◌, sym, refl, arith}
 use Rattle.std.specs.Prelude.{All, flat_map}
 use Rattle.std.proofs.lemmas.Fmt.{decimal_injective}
-use Rattle.std.proofs.lemmas.List.Elements.{All-nil, All-cons, All-head, All-tail}
-use Rattle.hwp_geom.specs.Words.{IsWord, IsLine, AreLines, line}
+use Rattle.std.proofs.lemmas.List.Elements.{All-head, All-tail}
+use Rattle.hwp_geom.specs.Words.{IsLine, AreLines, line}
 use Rattle.hwp_geom.proofs.Cuts.{IsLine-one, IsLine-cons, AreLines-nil, AreLines-cons, lines_injective}
 use Rattle.hwp_geom.proofs.WordLaws.{IsWord-decimal, IsWord-plain}
 use Rattle.hwp_script.specs.Forms.{form_words, Fits, IsText, text_of}

@@ -1,30 +1,28 @@
 -- Why the script of clean lines is valid.
 use Rattle.std.proofs.Common.{ℕ, ◌≡◌, ◌≢◌, ◌<◌, ◌≤◌, ◌+◌, ◌-◌, ◌++◌, ◌==◌, Bool, true, false, if◌then◌else◌, List, [], ◌∷◌, length, get_or, map, take, Option, Some, None, zero, suc, ap, subst, ◌∙◌, sym, refl, arith, add-one, ⊎_elim}
-use Rattle.std.specs.Prelude.{All, sum_by, filter_map, slice_get, option_to_list, IsSomeAnd, replicate}
+use Rattle.std.specs.Prelude.{All, sum_by, filter_map, slice_get, option_to_list, IsSomeAnd}
 use Rattle.std.specs.List.{range_with_len, cons_option}
 use Rattle.std.proofs.lemmas.List.{take_more, take_all, length-replicate, length-append, length_push}
-use Rattle.std.proofs.lemmas.List.Elements.{All-nil, All-cons, All-append, All-push, All-weaker, filter_map-append}
+use Rattle.std.proofs.lemmas.List.Elements.{All-nil, All-cons, All-append, All-push, All-weaker}
 use Rattle.std.proofs.lemmas.List.Sums.{sum_by-cons}
 use Rattle.std.proofs.lemmas.List.FromFn.{length-map-range_with_len}
 use Rattle.std.proofs.lemmas.Option.{slice_get-get_or, slice_get_within, get_or_from_slice_get}
-use Rattle.std.proofs.lemmas.Bool.{cases_lt, cases_eq}
+use Rattle.std.proofs.lemmas.Bool.{cases_eq}
 use Rattle.std.proofs.lemmas.Bool.Decides.{nat_tests}
-use Rattle.hwp_geom.specs.Layout.{IsSound, IsBacked}
+use Rattle.hwp_geom.specs.Layout.{IsBacked}
 use Rattle.hwp_geom.specs.declared.Layout.{Layout}
 use Rattle.hwp_geom.specs.declared.Proc.{Proc}
 use Rattle.hwp_geom.specs.declared.ThreadDecl.{ThreadDecl}
 use Rattle.hwp_geom.specs.declared.TransDecl.{TransDecl}
-use Rattle.hwp_geom.specs.declared.PageKind.{PageKind}
-use Rattle.hwp_geom.specs.declared.PageKind.TheVariants.{Anon}
-use Rattle.hwp_script.specs.Context.{cpus_of, frames_of, proc_of, thread_of, page_of, trans_of, cpu_of, command_of, cpus_in, frames_in, procs_in, threads_in, pages_in, trans_in, lists_in, commands_in, place_in, place_after, IsForeign, IsElsewhere, IsClean, AreClean}
+use Rattle.hwp_script.specs.Context.{cpus_of, frames_of, proc_of, thread_of, page_of, trans_of, command_of, cpus_in, frames_in, procs_in, threads_in, pages_in, trans_in, commands_in, place_in, place_after, IsForeign, IsElsewhere, IsClean, AreClean}
 use Rattle.hwp_script.specs.Collects.{command_at, commands_from, commands_of, IsEnded, Collects}
-use Rattle.hwp_script.specs.Valid.{IsAccess, IsCommandOf, AreLists, IsValid}
+use Rattle.hwp_script.specs.Valid.{IsCommandOf, AreLists, IsValid}
 use Rattle.hwp_script.specs.declared.script.Script.{Script}
 use Rattle.hwp_script.specs.declared.script.Command.{Command}
 use Rattle.hwp_script.specs.declared.script.Command.TheVariants as commands
 use Rattle.hwp_script.specs.declared.forms.Form.{Form}
 use Rattle.hwp_script.specs.declared.forms.Form.TheVariants as forms
-use Rattle.hwp_script.proofs.ContextLaws.{onto, plus, more, pushed, IsPushed}
+use Rattle.hwp_script.proofs.ContextLaws.{onto, plus, more, pushed}
 use Rattle.hwp_script.proofs.CleanLaws.{clean_cpus, clean_frames, clean_proc, clean_thread, clean_page, clean_trans, clean_load, clean_store, clean_end, IsAccessClean}
 use Rattle.hwp_script.proofs.CollectLaws.{commands_of-push}
 
@@ -200,17 +198,17 @@ declared_step above f h k =
       trans = rw p.trans (trans_step above f h.trans k);
       commands = rw p.commands (commands_step above f h.commands k);
       thread_names = rw (p.procs, p.cpus, p.threads) (thread_names_step above f _ _ procs cpus
-        (All-weaker (IsNamedThread (procs_in above) (cpus_in above)) (IsNamedThread (more (proc_of f) (procs_in above)) (plus (cpus_of f) (cpus_in above)))
+          (All-weaker (IsNamedThread (procs_in above) (cpus_in above)) (IsNamedThread (more (proc_of f) (procs_in above)) (plus (cpus_of f) (cpus_in above)))
           (λ t n. (omega (arith, n.0), omega (arith, n.1))) (threads_in above) h.thread_names) k);
       trans_names = rw (p.procs, p.pages, p.trans) (trans_names_step above f _ _ procs pages
-        (All-weaker (IsNamedTrans (procs_in above) (length (pages_in above))) (IsNamedTrans (more (proc_of f) (procs_in above)) (length (onto (page_of f) (pages_in above))))
+          (All-weaker (IsNamedTrans (procs_in above) (length (pages_in above))) (IsNamedTrans (more (proc_of f) (procs_in above)) (length (onto (page_of f) (pages_in above))))
           (λ v n. (omega (arith, n.0), omega (arith, n.1))) (trans_in above) h.trans_names) k);
       page_names = λ layout. rw p.pages (page_names_step layout above f (h.page_names layout));
       own = λ c. rw (p.threads, p.trans, commands_of-push above f c)
-        (All-weaker (IsOwnCommand (threads_in above) (trans_in above) c) (IsOwnCommand (onto (thread_of f) (threads_in above)) (onto (trans_of f) (trans_in above)) c)
+          (All-weaker (IsOwnCommand (threads_in above) (trans_in above) c) (IsOwnCommand (onto (thread_of f) (threads_in above)) (onto (trans_of f) (trans_in above)) c)
           (own_command_kept (threads_in above) (thread_of f) (trans_in above) (trans_of f) c) (commands_of above c ++ option_to_list (command_at (place_in above) c f))
           (All-append (IsOwnCommand (threads_in above) (trans_in above) c) (commands_of above c) (option_to_list (command_at (place_in above) c f))
-            (h.own c) (added_command above f c (place_in above) refl k)));
+          (h.own c) (added_command above f c (place_in above) refl k)));
     }
 
 declared_upto : (fs : List Form) → AreClean fs → (n : ℕ) → n ≤ length fs → IsDeclared (take n fs)
@@ -268,9 +266,9 @@ kept_once : (place : ℕ) (o : Option Command) (a n : ℕ) → total (map (kept_
 unfolding total kept_at
 kept_once place o a zero = omega arith
 kept_once place o a (suc n) = ⊎_elim
-  (λ (e : place ≡ a). omega (arith, length-kept (place == a) o (test_same place a e), kept_past place o (a + 1) n (omega arith)))
-  (λ (ne : place ≢ a). omega (arith, length-left (place == a) o (test_other place a ne), kept_once place o (a + 1) n))
-  (cases_eq place a)
+    (λ (e : place ≡ a). omega (arith, length-kept (place == a) o (test_same place a e), kept_past place o (a + 1) n (omega arith)))
+    (λ (ne : place ≢ a). omega (arith, length-left (place == a) o (test_other place a ne), kept_once place o (a + 1) n))
+    (cases_eq place a)
 
 none_total : (a n : ℕ) → total (map (λ (c : ℕ). []) (range_with_len a n)) ≡ 0
 unfolding total
@@ -350,7 +348,7 @@ valid fs s clean ended h =
       };
       one_each = ap length h.lists ∙ length-map-range_with_len (commands_of fs) 0 (cpus_in fs) ∙ sym h.cpus;
       lists = rw h.lists (lists_valid s.layout (commands_of fs) 0 (cpus_in fs) (λ c.
-        All-weaker (IsOwnCommand (threads_in fs) (trans_in fs) c) (IsCommandOf s.layout c)
+          All-weaker (IsOwnCommand (threads_in fs) (trans_in fs) c) (IsCommandOf s.layout c)
           (command_in s.layout (threads_in fs) (trans_in fs) h.threads h.trans c) (commands_of fs c) (d.own c)));
       few = rw (h.lists, total-sum) (omega (arith, lists_total fs None 0 (cpus_in fs), d.commands));
     }

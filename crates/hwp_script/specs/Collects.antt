@@ -1,5 +1,5 @@
 -- From the lines of a script to the script.
-use Rattle.std.specs.Prelude.{◌≡◌, ℕ, ◌-◌, ◌==◌, ◌++◌, true, false, if◌then◌else◌, length, map, replicate, fold, slice_get, option_to_list, Option, Some, None, List, [], ◌∷◌}
+use Rattle.std.specs.Prelude.{◌≡◌, ℕ, ◌-◌, ◌==◌, ◌++◌, true, false, if◌then◌else◌, length, map, replicate, slice_get, option_to_list, Option, Some, None, List, [], ◌∷◌}
 use Rattle.std.specs.List.{range_with_len}
 use Rattle.hwp_script.specs.declared.script.Script.{Script}
 use Rattle.hwp_script.specs.declared.script.Command.{Command}

@@ -66,12 +66,15 @@ frames_in above = sum (filter_map frames_of above)
 abbrev pub procs_in : List Form → ℕ
 procs_in above = length (filter_map proc_of above)
 
+-- the threads, by their numbers
 abbrev pub threads_in : List Form → List ThreadDecl
 threads_in above = filter_map thread_of above
 
+-- the pages, by their numbers
 abbrev pub pages_in : List Form → List PageKind
 pages_in above = filter_map page_of above
 
+-- the translations, by their numbers
 abbrev pub trans_in : List Form → List TransDecl
 trans_in above = filter_map trans_of above
 
@@ -93,7 +96,7 @@ place_after at f = at
 abbrev pub place_in : List Form → Option ℕ
 place_in above = fold place_after None above
 
--- the group of a kind of line: groups stand in rising order
+-- the group of a kind of line: groups stand in rising order, and those of kinds that are not read yet are left out
 abbrev pub group : Form → ℕ
 group forms.Header = 0
 group (forms.Cpus n) = 1
@@ -131,7 +134,7 @@ IsElsewhere (Some c) None = ⊥
 abbrev pub IsAccessOver : List Form → ℕ → ℕ → ℕ → Type 0
 IsAccessOver above t v l = (thread_limit ≤ t) ⊎ (translation_limit ≤ v) ⊎ (line_limit ≤ l) ⊎ (command_limit ≤ commands_in above)
 
--- the reason applies to the line, after those above it
+-- the reason applies to the line, after those above it (a line below `end`, also a second `end`, is in the wrong place)
 abbrev pub Applies : List Form → Form → Why → Type 0
 Applies above forms.Header whys.UnknownWord = 0 < length above
 Applies above forms.Header w = ⊥

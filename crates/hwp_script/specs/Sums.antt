@@ -1,5 +1,5 @@
 -- What is kept of the lines above while a script is read.
-use Rattle.std.specs.Prelude.{◌≡◌, length, List}
+use Rattle.std.specs.Prelude.{◌≡◌, List}
 use Rattle.hwp_script.specs.declared.forms.Form.{Form}
 use Rattle.hwp_script.specs.declared.context.Summary.{Summary}
 use Rattle.hwp_script.specs.Context.{cpus_in, frames_in, procs_in, threads_in, pages_in, trans_in, lists_in, commands_in, place_in, highest}

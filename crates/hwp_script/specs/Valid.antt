@@ -1,5 +1,5 @@
 -- What every script has that some text gives.
-use Rattle.std.specs.Prelude.{◌≡◌, ℕ, ◌<◌, ◌≤◌, ◌+◌, length, sum_by, All, IsSomeAnd, slice_get, List, [], ◌∷◌}
+use Rattle.std.specs.Prelude.{◌≡◌, ℕ, ◌≤◌, ◌+◌, length, sum_by, All, IsSomeAnd, slice_get, List, [], ◌∷◌}
 use Rattle.hwp_geom.specs.Layout.{IsSound}
 use Rattle.hwp_geom.specs.declared.Layout.{Layout}
 use Rattle.hwp_geom.specs.declared.Thread.{Thread}
@@ -15,7 +15,7 @@ use Rattle.hwp_script.specs.Limits.{command_limit}
 abbrev pub IsAccess : Layout → ℕ → Thread → VSlot → Type 0
 IsAccess layout cpu thread slot =
     IsSomeAnd (slice_get layout.threads thread.0) (λ (t : ThreadDecl). (t.cpu.0 ≡ cpu)
-        × IsSomeAnd (slice_get layout.trans slot.0) (λ (v : TransDecl). v.process ≡ t.process))
+    × IsSomeAnd (slice_get layout.trans slot.0) (λ (v : TransDecl). v.process ≡ t.process))
 
 -- the names of a command of the processor are declared, and fit one another
 abbrev pub IsCommandOf : Layout → ℕ → Command → Type 0

@@ -4,16 +4,13 @@ ghost use Rattle.hwp_script.specs.Context.{IsClean, AreClean, command_of, place_
 ghost use Rattle.hwp_script.specs.Collects.{command_at, commands_of, Collects};
 ghost use Rattle.hwp_script.specs.Sums.{Sums};
 
-use std::alloc::Global;
-
-use hwp_geom::{Layout, Line, List, OutOfMemory, Thread, VSlot};
-
 use crate::context::Summary;
 use crate::forms::Form;
 use crate::script::{Command, Script};
+use hwp_geom::{Layout, Line, List, OutOfMemory, Thread, VSlot};
+use std::alloc::Global;
 
 /// The command that a line is.
-#[tactic(auto, using(crate::proofs::CleanLaws::clean_load, crate::proofs::CleanLaws::clean_store))]
 fn command(above: &[Form], form: &Form) -> Option<Command>
     requires { IsClean above.now form.now }
     ensures { result ≡ command_of form.now }
@@ -114,7 +111,11 @@ fn lists_of(alloc: Global, forms: &[Form], cpus: u8) -> Result<List<List<Command
 }
 
 /// The script that clean lines give, of which this is the summary.
-pub(crate) fn collect(alloc: Global, forms: &[Form], summary: Summary) -> Result<Script, OutOfMemory>
+pub(crate) fn collect(
+    alloc: Global,
+    forms: &[Form],
+    summary: Summary,
+) -> Result<Script, OutOfMemory>
     requires clean { AreClean forms.now }
     requires sums { Sums forms.now summary }
     ensures { IfOk result (λ script. Collects forms.now script) }

@@ -1,18 +1,18 @@
 ghost use Rattle.std.specs.Prelude.{◌≡◌, ◌↔◌, IsTrue, IfOk, OnOk, [], ◌∷◌, ◌++◌, Contains};
 ghost use Rattle.hwp_script.specs.Context.{IsClean};
 
-use std::alloc::Global;
-
-use hwp_geom::{Cpu, List, OutOfMemory, Page, PageKind, Proc, ThreadDecl, TransDecl};
-
 use crate::forms::Form;
+use hwp_geom::{Cpu, List, OutOfMemory, Page, PageKind, Proc, ThreadDecl, TransDecl};
+use std::alloc::Global;
 
 /// What the lines above a line declare.
 #[derive(Drop)]
 pub(crate) struct Summary {
     /// The highest group.
     pub group: u8,
+    /// The number of processors, 0 before its line.
     pub cpus: u8,
+    /// The number of frames, 0 before its line.
     pub frames: u16,
     pub procs: u8,
     pub threads: List<ThreadDecl>,
@@ -84,7 +84,13 @@ impl Summary {
     }
 
     #[tactic(auto, using(crate::proofs::CleanLaws::clean_thread))]
-    fn add_thread(&mut self, above: &[Form], thread: u64, process: u64, cpu: u64) -> Result<(), OutOfMemory>
+    fn add_thread(
+        &mut self,
+        above: &[Form],
+        thread: u64,
+        process: u64,
+        cpu: u64,
+    ) -> Result<(), OutOfMemory>
         requires sums { Sums above.now self.old }
         requires clean { IsClean above.now (Form.Thread thread process cpu) }
         ensures { OnOk result (Sums (above.now ++ Form.Thread thread process cpu ∷ []) self.new) }
@@ -110,7 +116,13 @@ impl Summary {
     }
 
     #[tactic(auto, using(crate::proofs::CleanLaws::clean_trans))]
-    fn add_trans(&mut self, above: &[Form], slot: u64, process: u64, page: u64) -> Result<(), OutOfMemory>
+    fn add_trans(
+        &mut self,
+        above: &[Form],
+        slot: u64,
+        process: u64,
+        page: u64,
+    ) -> Result<(), OutOfMemory>
         requires sums { Sums above.now self.old }
         requires clean { IsClean above.now (Form.Trans slot process page) }
         ensures { OnOk result (Sums (above.now ++ Form.Trans slot process page ∷ []) self.new) }
@@ -176,9 +188,17 @@ impl Summary {
             Form::Cpus(n) => self.add_cpus(above, n),
             Form::Frames(n) => self.add_frames(above, n),
             Form::Proc(process) => self.add_proc(above, process),
-            Form::Thread { thread, process, cpu } => return self.add_thread(above, thread, process, cpu),
+            Form::Thread {
+                thread,
+                process,
+                cpu,
+            } => return self.add_thread(above, thread, process, cpu),
             Form::Page(page) => return self.add_page(above, page),
-            Form::Trans { slot, process, page } => return self.add_trans(above, slot, process, page),
+            Form::Trans {
+                slot,
+                process,
+                page,
+            } => return self.add_trans(above, slot, process, page),
             Form::Cpu(cpu) => return self.add_cpu(above, cpu),
             Form::Load { thread, slot, line } => self.add_load(above, thread, slot, line),
             Form::Store {

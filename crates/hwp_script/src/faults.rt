@@ -2,12 +2,11 @@ ghost use Rattle.std.specs.Prelude.{◌≡◌, ℕ, ◌<◌, ◌↔◌, length, 
 ghost use Rattle.hwp_script.specs.Context.{IsClean, IsLowest, IsForeign, IsElsewhere, IsMisplaced, IsAccessOver};
 ghost use Rattle.hwp_script.specs.Sums.{Sums};
 
-use hwp_geom::{LINES, MAX_CPUS, MAX_FRAMES, MAX_PAGES, MAX_PROCS, MAX_THREADS, MAX_TRANS};
-
 use crate::context::Summary;
 use crate::forms::Form;
 use crate::script::MAX_COMMANDS;
 use crate::why::Why;
+use hwp_geom::{LINES, MAX_CPUS, MAX_FRAMES, MAX_PAGES, MAX_PROCS, MAX_THREADS, MAX_TRANS};
 
 /// Whether a line of a group may not stand below these lines.
 fn is_misplaced(summary: &Summary, above: &[Form], group: u8) -> bool
@@ -33,7 +32,10 @@ fn is_foreign(summary: &Summary, thread: u64, slot: u64) -> bool
 fn is_elsewhere(summary: &Summary, thread: u64) -> bool
     ensures { IsTrue result ↔ IsElsewhere summary.now.place (slice_get summary.now.threads thread) }
 {
-    match (summary.place, summary.threads.as_slice().get(thread as usize)) {
+    match (
+        summary.place,
+        summary.threads.as_slice().get(thread as usize),
+    ) {
         (None, _) => true,
         (Some(place), Some(thread)) => u64::from(thread.cpu.0) != place,
         (Some(_), None) => false,
@@ -99,13 +101,22 @@ fn proc_fault(summary: &Summary, above: &[Form], process: u64) -> Option<Why>
     }
 }
 
-fn thread_fault(summary: &Summary, above: &[Form], thread: u64, process: u64, cpu: u64) -> Option<Why>
+fn thread_fault(
+    summary: &Summary,
+    above: &[Form],
+    thread: u64,
+    process: u64,
+    cpu: u64,
+) -> Option<Why>
     requires sums { Sums above.now summary.now }
     requires some { 0 < length above.now }
     ensures { MatchOption result (IsClean above.now (Form.Thread thread process cpu)) (λ why. IsLowest above.now (Form.Thread thread process cpu) why) }
 {
     let threads = summary.threads.len() as u64;
-    if thread >= u64::from(MAX_THREADS) || process >= u64::from(MAX_PROCS) || cpu >= u64::from(MAX_CPUS) {
+    if thread >= u64::from(MAX_THREADS)
+        || process >= u64::from(MAX_PROCS)
+        || cpu >= u64::from(MAX_CPUS)
+    {
         Some(Why::OverLimit)
     } else if process >= u64::from(summary.procs) || cpu >= u64::from(summary.cpus) {
         Some(Why::Undeclared)
@@ -141,7 +152,10 @@ fn trans_fault(summary: &Summary, above: &[Form], slot: u64, process: u64, page:
     ensures { MatchOption result (IsClean above.now (Form.Trans slot process page)) (λ why. IsLowest above.now (Form.Trans slot process page) why) }
 {
     let slots = summary.trans.len() as u64;
-    if slot >= u64::from(MAX_TRANS) || process >= u64::from(MAX_PROCS) || page >= u64::from(MAX_PAGES) {
+    if slot >= u64::from(MAX_TRANS)
+        || process >= u64::from(MAX_PROCS)
+        || page >= u64::from(MAX_PAGES)
+    {
         Some(Why::OverLimit)
     } else if process >= u64::from(summary.procs) || page >= summary.pages.len() as u64 {
         Some(Why::Undeclared)
@@ -188,7 +202,14 @@ fn load_fault(summary: &Summary, above: &[Form], thread: u64, slot: u64, line: u
     }
 }
 
-fn store_fault(summary: &Summary, above: &[Form], thread: u64, slot: u64, line: u64, word: u64) -> Option<Why>
+fn store_fault(
+    summary: &Summary,
+    above: &[Form],
+    thread: u64,
+    slot: u64,
+    line: u64,
+    word: u64,
+) -> Option<Why>
     requires sums { Sums above.now summary.now }
     requires some { 0 < length above.now }
     ensures { MatchOption result (IsClean above.now (Form.Store thread slot line word)) (λ why. IsLowest above.now (Form.Store thread slot line word) why) }
@@ -229,9 +250,17 @@ pub(crate) fn fault(summary: &Summary, above: &[Form], form: &Form) -> Option<Wh
         Form::Cpus(n) => cpus_fault(summary, above, n),
         Form::Frames(n) => frames_fault(summary, above, n),
         Form::Proc(process) => proc_fault(summary, above, process),
-        Form::Thread { thread, process, cpu } => thread_fault(summary, above, thread, process, cpu),
+        Form::Thread {
+            thread,
+            process,
+            cpu,
+        } => thread_fault(summary, above, thread, process, cpu),
         Form::Page(page) => page_fault(summary, above, page),
-        Form::Trans { slot, process, page } => trans_fault(summary, above, slot, process, page),
+        Form::Trans {
+            slot,
+            process,
+            page,
+        } => trans_fault(summary, above, slot, process, page),
         Form::Cpu(cpu) => cpu_fault(summary, above, cpu),
         Form::Load { thread, slot, line } => load_fault(summary, above, thread, slot, line),
         Form::Store {

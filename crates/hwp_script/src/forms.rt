@@ -7,7 +7,7 @@ use itoa::Buffer;
 
 /// The first word of a line, which says its kind.
 #[derive(Clone, Copy)]
-pub enum Keyword {
+pub(crate) enum Keyword {
     Hwp,
     Cpus,
     Frames,
@@ -33,15 +33,27 @@ pub enum Form {
     /// `proc P`: a process.
     Proc(u64),
     /// `thread T P C handler`: a thread of a process, on a processor, with a SIGBUS handler.
-    Thread { thread: u64, process: u64, cpu: u64 },
+    Thread {
+        thread: u64,
+        process: u64,
+        cpu: u64,
+    },
     /// `page Q anon`: a page with nothing behind it.
     Page(u64),
     /// `trans V P Q`: a translation of a process to a page.
-    Trans { slot: u64, process: u64, page: u64 },
+    Trans {
+        slot: u64,
+        process: u64,
+        page: u64,
+    },
     /// `cpu C`: the head of a processor's commands.
     Cpu(u64),
     /// `load T V L`: a thread loads the word of a line, through a translation.
-    Load { thread: u64, slot: u64, line: u64 },
+    Load {
+        thread: u64,
+        slot: u64,
+        line: u64,
+    },
     /// `store T V L X`: a thread stores a word at a line, through a translation.
     Store {
         thread: u64,
@@ -110,7 +122,11 @@ fn three_numbers(words: &[&[u8]]) -> Option<(u64, u64, u64)>
 {
     match words {
         [first, second, third] => {
-            Some((read_number(first)?, read_number(second)?, read_number(third)?))
+            Some((
+                read_number(first)?,
+                read_number(second)?,
+                read_number(third)?,
+            ))
         }
         _ => None,
     }
@@ -171,7 +187,11 @@ fn read_thread(words: &[&[u8]]) -> Option<(u64, u64, u64)>
 {
     match words {
         [thread, process, cpu, handler] if is_handler(handler) => {
-            Some((read_number(thread)?, read_number(process)?, read_number(cpu)?))
+            Some((
+                read_number(thread)?,
+                read_number(process)?,
+                read_number(cpu)?,
+            ))
         }
         _ => None,
     }
@@ -205,12 +225,20 @@ pub(crate) fn read_form(words: &[&[u8]]) -> Option<Form>
         Keyword::Proc => Some(Form::Proc(one_number(rest)?)),
         Keyword::Thread => {
             let (thread, process, cpu) = read_thread(rest)?;
-            Some(Form::Thread { thread, process, cpu })
+            Some(Form::Thread {
+                thread,
+                process,
+                cpu,
+            })
         }
         Keyword::Page => Some(Form::Page(read_page(rest)?)),
         Keyword::Trans => {
             let (slot, process, page) = three_numbers(rest)?;
-            Some(Form::Trans { slot, process, page })
+            Some(Form::Trans {
+                slot,
+                process,
+                page,
+            })
         }
         Keyword::Cpu => Some(Form::Cpu(one_number(rest)?)),
         Keyword::Load => {
@@ -219,7 +247,12 @@ pub(crate) fn read_form(words: &[&[u8]]) -> Option<Form>
         }
         Keyword::Store => {
             let (thread, slot, line, word) = four_numbers(rest)?;
-            Some(Form::Store { thread, slot, line, word })
+            Some(Form::Store {
+                thread,
+                slot,
+                line,
+                word,
+            })
         }
         Keyword::End => rest.is_empty().then_some(Form::End),
     }

@@ -7,10 +7,12 @@ mod faults;
 mod forms;
 mod reading;
 mod script;
+#[cfg(test)]
+mod tests;
 mod texts;
 mod why;
 
-pub use forms::{Form, Keyword};
+pub use forms::Form;
 pub use reading::{ReadScript, read};
 pub use script::{Command, MAX_COMMANDS, MAX_SCRIPT, Script};
 pub use why::{Refused, Why};

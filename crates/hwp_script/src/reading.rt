@@ -7,10 +7,6 @@ ghost use Rattle.hwp_script.specs.Valid.{IsValid};
 ghost use Rattle.hwp_script.specs.declared.script.Script.{Script};
 ghost use Rattle.hwp_script.specs.declared.why.Refused.{Refused};
 
-use std::alloc::Global;
-
-use hwp_geom::OutOfMemory;
-
 use crate::collecting::collect;
 use crate::context::Summary;
 use crate::faults::fault;
@@ -18,6 +14,8 @@ use crate::forms::Form;
 use crate::script::{MAX_SCRIPT, Script};
 use crate::texts::read_forms;
 use crate::why::{Refused, Why};
+use hwp_geom::OutOfMemory;
+use std::alloc::Global;
 
 /// Why `read` gives no script.
 #[derive(Clone, Copy, Debug, PartialEq, Eq)]
@@ -36,7 +34,7 @@ fn summarize(alloc: Global, forms: &[Form]) -> Result<Option<Summary>, OutOfMemo
     let mut summary = Summary::new(alloc);
     for (at, form) in forms.iter().enumerate() {
         let above = &forms[..at];
-        if let Some(_) = fault(&summary, above, form) {
+        if let Some(_why) = fault(&summary, above, form) {
             return Ok(None);
         }
         summary.add(above, form)?;

@@ -4,11 +4,9 @@ ghost use Rattle.hwp_geom.specs.Words.{cut};
 ghost use Rattle.hwp_script.specs.Forms.{IsForm, IsText};
 ghost use Rattle.hwp_script.specs.declared.forms.Form.{Form};
 
-use std::alloc::Global;
-
-use hwp_geom::OutOfMemory;
-
 use crate::forms::{Form, read_form};
+use hwp_geom::OutOfMemory;
+use std::alloc::Global;
 
 /// The parts of a text that the byte `at` parts.
 fn parts<'a>(alloc: Global, bytes: &'a [u8], at: u8) -> Result<Vec<&'a [u8]>, OutOfMemory>

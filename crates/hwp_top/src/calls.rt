@@ -5,15 +5,13 @@ ghost use Rattle.hwp_script.specs.declared.Refused.{Refused};
 ghost use Rattle.hwp_report.specs.Text.{report_text};
 ghost use Rattle.hwp_top.specs.Top.{IsStep, Refuses, Reports, Told, memory_text, refusal_text, told_text, write_fault_text};
 
-use std::alloc::Global;
-
-use hwp_geom::{OutOfMemory, Text};
-use hwp_io::{Sink, Source, WriteFault, write_all};
-use hwp_report::{Report, print};
-
 use crate::bench::run;
 use crate::inputs::{InputFault, take_script};
 use crate::messages::{OUT_OF_MEMORY, READ_FAULT, USAGE, WRITE_FAULT, refusal, tell};
+use hwp_geom::{OutOfMemory, Text};
+use hwp_io::{Sink, Source, WriteFault, write_all};
+use hwp_report::{Report, print};
+use std::alloc::Global;
 
 /// How a call ended: its exit status, and the report where there is one.
 #[derive(Drop)]
@@ -170,3 +168,6 @@ fn tell_memory<E: Sink>(err: &mut E) -> u8
     tell(err, OUT_OF_MEMORY);
     6
 }
+
+#[cfg(test)]
+mod tests;

@@ -5,10 +5,9 @@ ghost use Rattle.hwp_script.specs.Valid.{IsValid};
 ghost use Rattle.hwp_script.specs.declared.Refused.{Refused};
 ghost use Rattle.hwp_top.specs.Top.{Refuses, Takes};
 
-use std::alloc::Global;
-
 use hwp_io::{ReadAll, Source, read_all};
 use hwp_script::{MAX_SCRIPT, ReadScript, Refused, Script, Why, read};
+use std::alloc::Global;
 
 /// Why a source gives no script.
 #[derive(Clone, Copy, Debug, PartialEq, Eq)]

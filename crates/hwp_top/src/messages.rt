@@ -2,10 +2,9 @@
 ghost use Rattle.std.specs.Prelude.{◌≡◌, ◌≤◌, IfOk, string_bytes};
 ghost use Rattle.hwp_top.specs.Top.{Told, refusal_text, why_text};
 
-use std::alloc::{AllocError, Global};
-
 use hwp_io::{Sink, write_all};
 use hwp_script::{Refused, Why};
+use std::alloc::{AllocError, Global};
 
 /// The text where the words are no form that is served.
 pub const USAGE: &[u8] = b"usage: hwp step|run|check|gen N|sum N\n";

@@ -1,5 +1,5 @@
-use Rattle.std.proofs.Common.{ℕ, ◌≡◌, arith, rules, ◌∙◌}
-use Rattle.std.specs.Prelude.{IsUtf8, IsAscii, List}
+use Rattle.std.proofs.Common.{ℕ, ◌≡◌, rules, ◌∙◌}
+use Rattle.std.specs.Prelude.{IsUtf8, List}
 use Rattle.std.proofs.lemmas.Fmt.{parse-decimal, IsAscii-decimal}
 use Rattle.std.proofs.lemmas.Str.{IsUtf8-from_ascii}
 use Rattle.hwp_script.specs.Forms.{IsNumber}

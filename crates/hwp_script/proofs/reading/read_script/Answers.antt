@@ -1,4 +1,4 @@
-use Rattle.std.proofs.Common.{rules, ◌≡◌, IsTrue}
+use Rattle.std.proofs.Common.{rules, IsTrue}
 use Rattle.hwp_script.specs.Forms.{IsText}
 use Rattle.hwp_script.specs.Collects.{IsEnded}
 use Rattle.hwp_script.proofs.ReadLaws.{lines_are, reads}

@@ -1,8 +1,8 @@
-use Rattle.std.proofs.Common.{◌≡◌, ◌<◌, ◌≤◌, List, [], ◌∷◌, ◌++◌, length, map, sym, ap, ◌∙◌, arith, rules, take}
+use Rattle.std.proofs.Common.{◌≡◌, ◌≤◌, [], ◌∷◌, ◌++◌, length, map, sym, ap, ◌∙◌, arith, take}
 use Rattle.std.proofs.lemmas.Grind.{common_steps}
 use Rattle.std.proofs.lemmas.List.{nil_from_length, length-map, map_push, take_all}
 use Rattle.hwp_geom.specs.Words.{pieces}
-use Rattle.hwp_script.proofs.LineLaws.{AreLinesOf, AreLinesOf-more, AreLinesOf-none_at, IsText-pieces, pieces-text, no_pieces}
+use Rattle.hwp_script.proofs.LineLaws.{AreLinesOf-more, AreLinesOf-none_at, IsText-pieces, pieces-text, no_pieces}
 use Rattle.hwp_script.proofs.texts.read_forms.Goals as goal
 use Rattle.hwp_script.proofs.texts.read_forms.Goals.{In-Some}
 
@@ -35,5 +35,5 @@ returns-clause-some c =
     let nil : c.in-Some.last.now ≡ [] = nil_from_length _ (grind (arith, common_steps)) in
     let long : length (map (λ p. p.now) c.as_slice-line-items.result.now) ≤ c.loop-line.line-index = rw length-map (omega arith) in
     let all : take c.loop-line.line-index (map (λ p. p.now) c.as_slice-line-items.result.now) ≡ map (λ p. p.now) c.pop.new.self.items =
-        take_all c.loop-line.line-index (map (λ p. p.now) c.as_slice-line-items.result.now) long ∙ ap (map (λ p. p.now)) c.as_slice-line-items.ensures.value in
+    take_all c.loop-line.line-index (map (λ p. p.now) c.as_slice-line-items.result.now) long ∙ ap (map (λ p. p.now)) c.as_slice-line-items.ensures.value in
     IsText-pieces (rw nil at (pieces_are (goal.at.returns-clause-some c).In-Some)) (rw all at c.loop-line.invariant)

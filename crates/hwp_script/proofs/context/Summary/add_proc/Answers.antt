@@ -1,4 +1,4 @@
-use Rattle.std.proofs.Common.{refl, arith}
+use Rattle.std.proofs.Common.{refl}
 use Rattle.hwp_script.specs.declared.forms.Form.TheVariants as forms
 use Rattle.hwp_script.proofs.CleanLaws.{clean_proc}
 use Rattle.hwp_script.proofs.SumLaws.{next_sums}

@@ -1,0 +1,59 @@
+//! The program `hwp`: its words and standard streams to the top call, and its exit status.
+#![tactic(auto)]
+
+use hwp_io::{StdSink, StdSource};
+use hwp_top::{Done, top};
+use std::process::ExitCode;
+use std::{env, io};
+
+/// What `--version` prints.
+const VERSION: &str = "hwp 0.1.0";
+
+/// What `--help` prints.
+const HELP: &str = "\
+usage: hwp step < SCRIPT > REPORT
+
+Simulates a machine whose memory lines go bad while its processors load and store.
+
+  hwp step     reads a fault script from standard input, runs it step by step,
+               and writes the report to standard output
+  hwp --help   prints this text
+  hwp --version
+
+Exit status: 0 done, 2 wrong words, 3 the script is refused, 4 a read failed,
+5 a write failed, 6 out of memory.";
+
+/// The exit status for want of memory.
+const OUT_OF_MEMORY: u8 = 6;
+
+/// The words after the program's name.
+fn words(rt: &HostRuntime) -> io::Result<Vec<String>> {
+    let mut words = Vec::new(rt.alloc());
+    for word in env::args(rt)?.skip(1) {
+        words.push(word)?;
+    }
+    Ok(words)
+}
+
+/// Runs the top call over the standard streams.
+fn serve(rt: &HostRuntime, words: &[String]) -> Done {
+    let mut src = StdSource::new(rt.reader());
+    let mut out = StdSink::new(io::writer(rt));
+    let mut err = StdSink::new(rt.stderr());
+    top(rt.alloc(), words, &mut src, &mut out, &mut err)
+}
+
+fn main(rt: HostRuntime) -> ExitCode {
+    let Ok(words) = words(&rt) else {
+        return ExitCode::from(OUT_OF_MEMORY);
+    };
+    let printed = match words.as_slice() {
+        [word] if word.as_str() == "--help" => rt.println(HELP),
+        [word] if word.as_str() == "--version" => rt.println(VERSION),
+        words => return ExitCode::from(serve(&rt, words).status),
+    };
+    match printed {
+        Ok(()) => ExitCode::SUCCESS,
+        Err(_) => ExitCode::from(5),
+    }
+}

@@ -1,0 +1,4 @@
+pub mod Status
+pub mod Events
+pub mod Logged
+pub mod Numbers

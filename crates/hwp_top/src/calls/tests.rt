@@ -1,0 +1,236 @@
+//! The top call over memory: worked scripts, refusals, and faults of the source and the sink at each call.
+use super::{Done, top};
+use hwp_io::{MemSink, MemSource};
+use std::alloc::Global;
+use std::test::Fail;
+
+const STORE_AND_LOAD: &str = "\
+hwp 1
+cpus 1
+frames 2
+proc 0
+thread 0 0 0 handler
+page 0 anon
+trans 0 0 0
+cpu 0
+store 0 0 5 77
+load 0 0 5
+end
+";
+
+const STORED_AND_LOADED: &str = "\
+hwp-report 1
+stop none
+count 0
+frame 0 page 0 bad 0 weak 0
+frame 1 free bad 0 weak 0
+page 0 4
+in 0 0
+map 0 0 0
+store 0 0 0 5 0 77
+load 0 1 0 5 0 77
+cpu 0 2
+0 stored 0 2
+1 value 77 0 3
+end
+";
+
+/// What a call left: its status, whether it gave a report, and the bytes on both sinks.
+#[derive(Drop)]
+struct Left {
+    status: u8,
+    reported: bool,
+    out: Vec<u8>,
+    err: Vec<u8>,
+}
+
+/// A call of `top` over memory. The reads and the writes whose numbers are listed fail.
+fn call(
+    alloc: Global,
+    words: &[&str],
+    input: &[u8],
+    fail_reads: &[u64],
+    take: usize,
+    fail_writes: &[u64],
+) -> Result<Left, Fail>
+    requires { 0 < take }
+{
+    let mut list = Vec::new(alloc);
+    for word in words {
+        list.push(String::from_str(alloc, word)?)?;
+    }
+    let mut src = MemSource::new(input.to_vec(alloc)?, fail_reads.to_vec(alloc)?);
+    let mut out = MemSink::new(alloc, take, fail_writes.to_vec(alloc)?);
+    let mut err = MemSink::new(alloc, 4096, Vec::new(alloc));
+    let Done { status, report } = top(alloc, list.as_slice(), &mut src, &mut out, &mut err);
+    Ok(Left {
+        status,
+        reported: report.is_some(),
+        out: out.bytes().to_vec(alloc)?,
+        err: err.bytes().to_vec(alloc)?,
+    })
+}
+
+#[test]
+fn worked_scripts_give_their_reports(rt: HostRuntime) -> Result<(), Fail> {
+    let table = [
+        ("a store and a load", STORE_AND_LOAD, STORED_AND_LOADED),
+        (
+            "nothing but a frame",
+            "hwp 1\ncpus 1\nframes 1\nend\n",
+            "hwp-report 1\nstop none\ncount 0\nframe 0 free bad 0 weak 0\ncpu 0 0\nend\n",
+        ),
+        (
+            "the last line of a page, before and after a store of the largest word",
+            "hwp 1\ncpus 1\nframes 2\nproc 0\nthread 0 0 0 handler\npage 0 anon\ntrans 0 0 0\ncpu 0\n\
+load 0 0 63\nstore 0 0 63 18446744073709551615\nload 0 0 63\nend\n",
+            "hwp-report 1\nstop none\ncount 0\nframe 0 page 0 bad 0 weak 0\nframe 1 free bad 0 weak 0\n\
+page 0 5\nin 0 0\nmap 0 0 0\nload 0 0 0 63 0 0\nstore 0 1 0 63 0 18446744073709551615\n\
+load 0 2 0 63 0 18446744073709551615\ncpu 0 3\n0 value 0 0 2\n1 stored 0 3\n\
+2 value 18446744073709551615 0 4\nend\n",
+        ),
+        (
+            "two pages and one frame",
+            "hwp 1\ncpus 1\nframes 1\nproc 0\nthread 0 0 0 handler\npage 0 anon\npage 1 anon\n\
+trans 0 0 0\ntrans 1 0 1\ncpu 0\nstore 0 0 0 1\nload 0 1 0\nend\n",
+            "hwp-report 1\nstop none\ncount 0\nframe 0 page 0 bad 0 weak 0\npage 0 3\nin 0 0\nmap 0 0 0\n\
+store 0 0 0 0 0 1\npage 1 0\ncpu 0 2\n0 stored 0 2\n1 noframe\nend\n",
+        ),
+        (
+            "two translations of one page",
+            "hwp 1\ncpus 1\nframes 2\nproc 0\nthread 0 0 0 handler\npage 0 anon\ntrans 0 0 0\n\
+trans 1 0 0\ncpu 0\nstore 0 0 0 9\nload 0 1 0\nend\n",
+            "hwp-report 1\nstop none\ncount 0\nframe 0 page 0 bad 0 weak 0\nframe 1 free bad 0 weak 0\n\
+page 0 5\nin 0 0\nmap 0 0 0\nstore 0 0 0 0 0 9\nmap 0 1 1\nload 0 1 1 0 0 9\ncpu 0 2\n\
+0 stored 0 2\n1 value 9 0 4\nend\n",
+        ),
+    ];
+    for (name, script, report) in &table {
+        let left = call(rt.alloc(), &["step"], script.as_bytes(), &[], 4096, &[])?;
+        assert_eq!(rt; left.status, 0, "{name}");
+        assert!(rt; left.reported, "{name}");
+        assert_eq!(rt; left.out.as_slice(), report.as_bytes(), "{name}");
+        assert_eq!(rt; left.err.len(), 0, "{name}");
+    }
+    Ok(())
+}
+
+#[test]
+fn other_words_are_usage(rt: HostRuntime) -> Result<(), Fail> {
+    let table: [&[&str]; 6] = [
+        &[],
+        &["run"],
+        &["step", "now"],
+        &["gen"],
+        &["gen", "01"],
+        &["STEP"],
+    ];
+    for words in &table {
+        let left = call(rt.alloc(), words, STORE_AND_LOAD.as_bytes(), &[], 4096, &[])?;
+        assert_eq!(rt; left.status, 2);
+        assert!(rt; !left.reported);
+        assert_eq!(rt; left.out.len(), 0);
+        assert_eq!(rt;
+            left.err.as_slice(),
+            b"usage: hwp step|run|check|gen N|sum N\n".as_slice()
+        );
+    }
+    Ok(())
+}
+
+#[test]
+fn a_refused_script_leaves_nothing_on_out(rt: HostRuntime) -> Result<(), Fail> {
+    let table = [
+        "",
+        "hwp 1\ncpus 2\nframes 2\nproc 0\nthread 0 0 0 handler\npage 0 anon\ntrans 0 0 0\ncpu 0\nend\n",
+        "hwp 1\ncpus 1\nframes 2\nproc 1\nend\n",
+        "hwp 1\ncpus 1\nframes 2\n",
+    ];
+    for script in &table {
+        let left = call(rt.alloc(), &["step"], script.as_bytes(), &[], 4096, &[])?;
+        assert_eq!(rt; left.status, 3, "{script}");
+        assert!(rt; !left.reported, "{script}");
+        assert_eq!(rt; left.out.len(), 0, "{script}");
+        assert_eq!(rt;
+            left.err.as_slice(),
+            b"script line 0: NotBuilt\n".as_slice(),
+            "{script}"
+        );
+    }
+    let long = vec![in rt.alloc(); b' '; 1_048_577]?;
+    let left = call(rt.alloc(), &["step"], long.as_slice(), &[], 4096, &[])?;
+    assert_eq!(rt; left.status, 3);
+    assert_eq!(rt; left.err.as_slice(), b"script line 0: TooLong\n".as_slice());
+    Ok(())
+}
+
+#[test]
+fn each_cut_of_a_script_is_refused(rt: HostRuntime) -> Result<(), Fail> {
+    let whole = STORE_AND_LOAD.as_bytes();
+    for end in 0..whole.len() {
+        let left = call(rt.alloc(), &["step"], &whole[..end], &[], 4096, &[])?;
+        assert_eq!(rt; left.status, 3, "cut at {end}");
+        assert_eq!(rt; left.out.len(), 0, "cut at {end}");
+    }
+    Ok(())
+}
+
+#[test]
+fn a_failing_read_leaves_nothing_on_out(rt: HostRuntime) -> Result<(), Fail> {
+    for read in 1..3 {
+        let left = call(
+            rt.alloc(),
+            &["step"],
+            STORE_AND_LOAD.as_bytes(),
+            &[read],
+            4096,
+            &[],
+        )?;
+        assert_eq!(rt; left.status, 4, "read {read}");
+        assert!(rt; !left.reported, "read {read}");
+        assert_eq!(rt; left.out.len(), 0, "read {read}");
+        assert_eq!(rt;
+            left.err.as_slice(),
+            b"read fault\n".as_slice(),
+            "read {read}"
+        );
+    }
+    Ok(())
+}
+
+#[test]
+fn a_failing_write_leaves_a_front_of_the_report(rt: HostRuntime) -> Result<(), Fail> {
+    let report = STORED_AND_LOADED.as_bytes();
+    let whole = report.len();
+    for write in 1..13 {
+        let kept = 16 * (write - 1);
+        assert!(rt; kept < whole);
+        let left = call(
+            rt.alloc(),
+            &["step"],
+            STORE_AND_LOAD.as_bytes(),
+            &[],
+            16,
+            &[write as u64],
+        )?;
+        assert_eq!(rt; left.status, 5, "write {write}");
+        assert!(rt; left.reported, "write {write}");
+        assert_eq!(rt; left.out.as_slice(), &report[..kept], "write {write}");
+        assert_eq!(rt;
+            left.err.as_slice(),
+            b"write fault\n".as_slice(),
+            "write {write}"
+        );
+    }
+    let left = call(
+        rt.alloc(),
+        &["step"],
+        STORE_AND_LOAD.as_bytes(),
+        &[],
+        16,
+        &[],
+    )?;
+    assert_eq!(rt; left.status, 0);
+    assert_eq!(rt; left.out.as_slice(), report);
+    Ok(())
+}
