@@ -29,19 +29,19 @@ merged first second = record first { status = record { 0 = bit_or first.status.0
 
 -- what a valid event leaves in a bank that holds one: overwrite rows 1 to 7
 abbrev pub overwritten : Class → Class → Event → Event → Event
-overwritten Corrected Corrected first second = with_over first  -- row 1
-overwritten Corrected Uncorrected first second = with_over second  -- row 2
-overwritten Uncorrected Corrected first second = with_over first  -- row 3
-overwritten Uncorrected Uncorrected first second = with_over (merged first second)  -- row 4
-overwritten Corrected Fatal first second = with_over second  -- row 5
-overwritten Uncorrected Fatal first second = with_over second  -- row 5
-overwritten Fatal Corrected first second = with_over first  -- row 6
-overwritten Fatal Uncorrected first second = with_over first  -- row 6
-overwritten Fatal Fatal first second = with_over first  -- row 7
+overwritten Corrected Corrected first second = with_over first  -- overwrite row 1
+overwritten Corrected Uncorrected first second = with_over second  -- overwrite row 2
+overwritten Uncorrected Corrected first second = with_over first  -- overwrite row 3
+overwritten Uncorrected Uncorrected first second = with_over (merged first second)  -- overwrite row 4
+overwritten Corrected Fatal first second = with_over second  -- overwrite row 5
+overwritten Uncorrected Fatal first second = with_over second  -- overwrite row 5
+overwritten Fatal Corrected first second = with_over first  -- overwrite row 6
+overwritten Fatal Uncorrected first second = with_over first  -- overwrite row 6
+overwritten Fatal Fatal first second = with_over first  -- overwrite row 7
 
 -- what a valid event leaves: overwrite row 8 in an empty bank
 abbrev pub stored : Option Event → Event → Event
-stored None second = without_over second  -- row 8
+stored None second = without_over second  -- overwrite row 8
 stored (Some first) second = overwritten (class_of first.status) (class_of second.status) first second
 
 -- the bank after an event; one without VAL changes nothing

@@ -48,7 +48,7 @@ rows s g m =
     ∷ (13, is_signaled s && not (is_action_required s), severities.Logged)
     ∷ []
 
--- the grade of the first row that matches, or that of row 14: anything else
+-- the grade of the first row that matches, or that of row S14: anything else
 abbrev pub first_match : List Row → Grade
 first_match [] = record { severity = severities.Logged; row = 14 }
 first_match (r ∷ rs) = if r.1 then record { severity = r.2; row = r.0 } else first_match rs

@@ -55,7 +55,7 @@ pub fn grade(status: Status, mcg: McgBits, mode: Mode) -> Grade
     }
 }
 
-/// The grade of an uncorrected error from which software may recover: row 6 or a later one.
+/// The grade of an uncorrected error from which software may recover: row S6 or a later one.
 fn grade_recoverable(status: Status, mcg: McgBits, mode: Mode) -> Grade
     requires { IsRecoverable status mcg }
     ensures table { result ≡ graded status mcg mode }

@@ -135,80 +135,18 @@ fn every_combination_has_its_row(rt: HostRuntime) {
 }
 
 #[test]
+#[rattlefmt::skip]
 fn known_events_have_their_grades(rt: HostRuntime) {
     for (status, ripv, eipv, mode, severity, row) in [
-        (
-            0xbd80000000000134,
-            false,
-            true,
-            Mode::User,
-            Severity::Stop,
-            11,
-        ),
-        (
-            0xbd000000000000c0,
-            false,
-            true,
-            Mode::Kernel,
-            Severity::Optional,
-            12,
-        ),
-        (
-            0xbd80000000000134,
-            true,
-            true,
-            Mode::User,
-            Severity::Required,
-            9,
-        ),
-        (
-            0xbd80000000000134,
-            true,
-            true,
-            Mode::Kernel,
-            Severity::Stop,
-            10,
-        ),
-        (
-            0xbd80000000000150,
-            true,
-            false,
-            Mode::User,
-            Severity::Required,
-            9,
-        ),
-        (
-            0xfd800000000000c0,
-            true,
-            true,
-            Mode::User,
-            Severity::Stop,
-            8,
-        ),
-        (
-            0x9c000000000000c0,
-            true,
-            true,
-            Mode::Kernel,
-            Severity::Keep,
-            4,
-        ),
-        (
-            0xfc000000000000c0,
-            true,
-            true,
-            Mode::Kernel,
-            Severity::Deferred,
-            6,
-        ),
-        (
-            0x9e00000000000134,
-            true,
-            true,
-            Mode::Kernel,
-            Severity::Stop,
-            3,
-        ),
+        (0xbd80000000000134, false, true, Mode::User, Severity::Stop, 11),
+        (0xbd000000000000c0, false, true, Mode::Kernel, Severity::Optional, 12),
+        (0xbd80000000000134, true, true, Mode::User, Severity::Required, 9),
+        (0xbd80000000000134, true, true, Mode::Kernel, Severity::Stop, 10),
+        (0xbd80000000000150, true, false, Mode::User, Severity::Required, 9),
+        (0xfd800000000000c0, true, true, Mode::User, Severity::Stop, 8),
+        (0x9c000000000000c0, true, true, Mode::Kernel, Severity::Keep, 4),
+        (0xfc000000000000c0, true, true, Mode::Kernel, Severity::Deferred, 6),
+        (0x9e00000000000134, true, true, Mode::Kernel, Severity::Stop, 3),
         (0, true, true, Mode::Kernel, Severity::None, 1),
     ] {
         let graded = grade(Status(status), McgBits { ripv, eipv }, mode);
