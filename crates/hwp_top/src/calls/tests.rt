@@ -1,4 +1,6 @@
 //! The top call over memory: worked scripts, refusals, and faults of the source and the sink at each call.
+ghost use Rattle.std.specs.Prelude.{◌<◌};
+
 use super::{Done, top};
 use hwp_io::{MemSink, MemSource};
 use std::alloc::Global;
