@@ -20,8 +20,8 @@ Simulates a machine whose memory lines go bad while its processors load and stor
   hwp --help   prints this text
   hwp --version
 
-Exit status: 0 done, 2 wrong words, 3 the script is refused, 4 a read failed,
-5 a write failed, 6 out of memory.";
+Exit status: 0 done, 8 done and the machine stopped, 2 wrong words,
+3 the script is refused, 4 a read failed, 5 a write failed, 6 out of memory.";
 
 /// The exit status for want of memory.
 const OUT_OF_MEMORY: u8 = 6;

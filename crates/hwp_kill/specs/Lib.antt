@@ -1,3 +1,5 @@
+pub mod Kill
 pub mod Limits
 pub mod Lowest
 pub mod Members
+pub mod Prctl

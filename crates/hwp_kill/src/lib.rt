@@ -1,6 +1,23 @@
-//! Sets of translations. The kill table and the policies of prctl(2) will stand here too.
+//! Sets of translations, the policies of prctl(2), and the kill table: whom a memory failure signals, and whose policies
+//! it reads for that.
 #![tactic(auto)]
 
+mod kill;
+mod policies;
+mod reading;
+mod signal_list;
 mod slots;
+mod types;
 
+pub use kill::signals;
+pub use policies::{
+    PR_MCE_KILL, PR_MCE_KILL_CLEAR, PR_MCE_KILL_DEFAULT, PR_MCE_KILL_EARLY, PR_MCE_KILL_GET,
+    PR_MCE_KILL_LATE, PR_MCE_KILL_SET, prctl,
+};
+pub use reading::are_policies_read;
+pub use signal_list::{MAX_SIGNALS, SignalList};
 pub use slots::{SLOTS, Slots};
+pub use types::{Code, Policy, Reply, Seen, Signal};
+
+#[cfg(test)]
+mod tests;

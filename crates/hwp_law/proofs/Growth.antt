@@ -1,24 +1,32 @@
 -- The report law under one more entry and one more answer.
-use Rattle.std.proofs.Common.{◌≡◌, ℕ, suc, zero, ◌+◌, ◌<◌, ◌≤◌, Bool, true, false, List, [], ◌∷◌, ◌++◌, Option, Some, None, length, slice_get, ◌⊎◌, inl, inr, refl, sym, ap, ◌∙◌, subst, IsSomeAnd, IsTrue, arith, add-one, add-zero, true≢false, set, option_and_then}
+use Rattle.std.proofs.Common.{◌≡◌, ℕ, suc, zero, ◌+◌, ◌<◌, ◌≤◌, false, List, [], ◌∷◌, ◌++◌, Option, Some, None, length, slice_get, ◌⊎◌, inl, inr, refl, sym, ap, ◌∙◌, subst, IsSomeAnd, arith, add-zero, true≢false, set, take, option_and_then}
 use Rattle.std.proofs.lemmas.Bool.{cases_eq}
-use Rattle.std.proofs.lemmas.Option.{slice_get_within}
-use Rattle.std.proofs.lemmas.List.{length-set}
+use Rattle.std.proofs.lemmas.Option.{same_Some, slice_get_within}
+use Rattle.std.proofs.lemmas.List.{append-nil, length-set, length-append, take-append-le}
 use Rattle.hwp_geom.specs.declared.Page.{Page}
 use Rattle.hwp_geom.specs.declared.Cpu.{Cpu}
 use Rattle.hwp_geom.specs.declared.Who.{Who}
 use Rattle.hwp_page.specs.declared.At.{At}
 use Rattle.hwp_page.specs.declared.Entry.{Entry}
 use Rattle.hwp_page.specs.declared.What.{What}
+use Rattle.hwp_page.specs.declared.What.TheVariants as entries
+use Rattle.hwp_page.specs.declared.PageState.{PageState}
+use Rattle.hwp_page.specs.Step.{opening_of}
+use Rattle.hwp_geom.specs.declared.Layout.{Layout}
+use Rattle.hwp_geom.specs.declared.VSlot.{VSlot}
+use Rattle.hwp_geom.specs.declared.Thread.{Thread}
 use Rattle.hwp_script.specs.declared.Command.{Command}
 use Rattle.hwp_script.specs.declared.Command.TheVariants as commands
 use Rattle.hwp_script.specs.declared.Script.{Script}
 use Rattle.hwp_report.specs.declared.Answer.{Answer}
-use Rattle.hwp_report.specs.declared.Answer.TheVariants.{Value, Stored, NoFrame}
+use Rattle.hwp_report.specs.declared.Answer.TheVariants as answers
+use Rattle.hwp_report.specs.declared.Stop.{Stop}
 use Rattle.hwp_report.specs.declared.CpuLine.{CpuLine}
 use Rattle.hwp_report.specs.declared.CpuLine.TheVariants as lines
 use Rattle.hwp_law.specs.Places.{entry_at}
 use Rattle.hwp_law.specs.History.{AreMade, AreOrdered, IsMade}
-use Rattle.hwp_law.specs.Answers.{AreAnswers, IsAnswer, StandsAt, AreNamed, IsNamed, named_place, is_answering}
+use Rattle.hwp_law.specs.Answers.{AreAnswers, IsAnswer, IsLoadAnswer, IsPageAnswer, StandsAt, AreNamed, IsNamed, is_answering}
+use Rattle.hwp_law.specs.States.{HadState, place_named, state_after}
 
 -- the new histories are the old ones with one entry more, at the end of its page
 pub record OneMore (old new : List (List Entry)) (at : At) (e : Entry) : Type 0 where
@@ -27,6 +35,11 @@ pub record OneMore (old new : List (List Entry)) (at : At) (e : Entry) : Type 0 
   pub only : (bt : At) (f : Entry) → entry_at new bt ≡ Some f → (entry_at old bt ≡ Some f) ⊎ ((bt ≡ at) × (f ≡ e))
   pub last : (bt : At) (f : Entry) → entry_at old bt ≡ Some f → bt.page ≡ at.page → bt.entry < at.entry
   pub same_pages : length new ≡ length old
+  pub grown : (n : ℕ) (log : List Entry) → slice_get old n ≡ Some log → (more : List Entry) × (slice_get new n ≡ Some (log ++ more))
+  pub log : List Entry
+  pub there : slice_get old at.page.0 ≡ Some log
+  pub ended : at.entry ≡ length log
+  pub was : (n : ℕ) (longer : List Entry) → slice_get new n ≡ Some longer → (shorter : List Entry) × (slice_get old n ≡ Some shorter) × (length shorter ≤ length longer)
 
 -- no entry of the entry's processor is of a later command
 abbrev pub IsLatest : List (List Entry) → Entry → Type 0
@@ -63,35 +76,114 @@ AreOrdered-more {old} {new} {at} {e} more latest ordered bt later f g first seco
 pub StandsAt-more : {old new : List (List Entry)} {at : At} {e : Entry} (who : Who) (bt : At) (what : What) → OneMore old new at e → StandsAt old who bt what → StandsAt new who bt what
 StandsAt-more who bt what more stands = more.kept bt _ stands
 
-pub IsAnswer-more : (script : Script) {old new : List (List Entry)} {at : At} {e : Entry} (who : Who) (command : Command) (answer : Answer)
-    → OneMore old new at e → IsAnswer script old who command answer → IsAnswer script new who command answer
-IsAnswer-more script who (commands.Load thread slot line) (Value word bt) more is = (is.0, more.kept bt _ is.1)
-IsAnswer-more script who (commands.Load thread slot line) (Stored bt) more is = is
-IsAnswer-more script who (commands.Load thread slot line) NoFrame more is = is
-IsAnswer-more script who (commands.Store thread slot line word) (Value w bt) more is = is
-IsAnswer-more script who (commands.Store thread slot line word) (Stored bt) more is = (is.0, more.kept bt _ is.1)
-IsAnswer-more script who (commands.Store thread slot line word) NoFrame more is = is
+-- what a page was like is not changed by later entries
+pub HadState-more : (layout : Layout) {old new : List (List Entry)} {at : At} {e : Entry} (bt : At) (P : PageState → Type 0) → OneMore old new at e → HadState layout old bt P → HadState layout new bt P
+HadState-more layout {old} {new} {at} {e} bt P more had =
+    let g = more.grown bt.page.0 had.entries had.there in
+    let same : take bt.entry (had.entries ++ g.0) ≡ take bt.entry had.entries = take-append-le bt.entry had.entries g.0 had.within in
+    record {
+      kind = had.kind;
+      entries = had.entries ++ g.0;
+      declared = had.declared;
+      there = g.1;
+      within = omega (arith, length-append had.entries g.0, had.within);
+      had = subst (λ (l : List Entry). P (state_after (opening_of had.kind) l)) (sym same) had.had;
+    }
 
-pub AreAnswers-more : (script : Script) {old new : List (List Entry)} {at : At} {e : Entry} (cpu : Cpu) (n : ℕ) (list : List Command) (rows : List CpuLine)
-    → OneMore old new at e → AreAnswers script old cpu n list rows → AreAnswers script new cpu n list rows
-AreAnswers-more script cpu n [] [] more are = are
-AreAnswers-more script cpu n [] (row ∷ rows) more are = are
-AreAnswers-more script cpu n (command ∷ list) [] more are = are
-AreAnswers-more script cpu n (command ∷ list) (lines.Answer seq answer ∷ rows) more are =
-    (are.0, IsAnswer-more script _ command answer more are.1, AreAnswers-more script cpu (n + 1) list rows more are.2)
+IsLoadAnswer-more : (script : Script) {old new : List (List Entry)} {at : At} {e : Entry} (who : Who) (slot : VSlot) (line : ℕ) (answer : Answer)
+    → OneMore old new at e → IsLoadAnswer script old who slot line answer → IsLoadAnswer script new who slot line answer
+IsLoadAnswer-more script who slot line (answers.Value word bt) more is = (is.0, more.kept bt _ is.1)
+IsLoadAnswer-more script who slot line _ more is = is
 
-pub AreAnswers-push : (script : Script) (pages : List (List Entry)) (cpu : Cpu) (n : ℕ) (list : List Command) (rows : List CpuLine) (command : Command) (answer : Answer) (seq : ℕ)
+IsPageAnswer-more : (layout : Layout) {old new : List (List Entry)} {at : At} {e : Entry} (who : Who) (page : Page) (what : What) (answer : Answer)
+    → OneMore old new at e → IsPageAnswer layout old who page what answer → IsPageAnswer layout new who page what answer
+IsPageAnswer-more layout who page what (answers.DoneAt bt) more is = (is.0, more.kept bt _ is.1)
+IsPageAnswer-more layout who page what (answers.NotResident bt) more is = (is.0, HadState-more layout bt _ more is.1)
+IsPageAnswer-more layout who page what _ more is = is
+
+IsStoreAnswer-more : (script : Script) {old new : List (List Entry)} {at : At} {e : Entry} (stop : Option Stop) (who : Who) (thread : Thread) (slot : VSlot) (line word : ℕ) (answer : Answer)
+    → OneMore old new at e → IsAnswer script old stop who (commands.Store thread slot line word) answer → IsAnswer script new stop who (commands.Store thread slot line word) answer
+IsStoreAnswer-more script stop who thread slot line word (answers.Stored bt) more is = (is.0, more.kept bt _ is.1)
+IsStoreAnswer-more script stop who thread slot line word _ more is = is
+
+IsFreeAnswer-more : (script : Script) {old new : List (List Entry)} {at : At} {e : Entry} (stop : Option Stop) (who : Who) (slot : VSlot) (answer : Answer)
+    → OneMore old new at e → IsAnswer script old stop who (commands.Free slot) answer → IsAnswer script new stop who (commands.Free slot) answer
+IsFreeAnswer-more script stop who slot (answers.DoneAt bt) more is = more.kept bt _ is
+IsFreeAnswer-more script stop who slot (answers.NotMapped bt) more is = (is.0, HadState-more script.layout bt _ more is.1)
+IsFreeAnswer-more script stop who slot _ more is = is
+
+IsDropAnswer-more : (script : Script) {old new : List (List Entry)} {at : At} {e : Entry} (stop : Option Stop) (who : Who) (page : Page) (answer : Answer)
+    → OneMore old new at e → IsAnswer script old stop who (commands.Drop page) answer → IsAnswer script new stop who (commands.Drop page) answer
+IsDropAnswer-more script stop who page (answers.DoneAt bt) more is = (is.0, more.kept bt _ is.1)
+IsDropAnswer-more script stop who page (answers.NotResident bt) more is = (is.0, HadState-more script.layout bt _ more is.1)
+IsDropAnswer-more script stop who page (answers.Dirty bt) more is = (is.0, HadState-more script.layout bt _ more is.1)
+IsDropAnswer-more script stop who page (answers.Mapped bt) more is = (is.0, HadState-more script.layout bt _ more is.1)
+IsDropAnswer-more script stop who page _ more is = is
+
+IsLoadedAnswer-more : (script : Script) {old new : List (List Entry)} {at : At} {e : Entry} (stop : Option Stop) (who : Who) (thread : Thread) (slot : VSlot) (line : ℕ) (answer : Answer)
+    → OneMore old new at e → IsAnswer script old stop who (commands.Load thread slot line) answer → IsAnswer script new stop who (commands.Load thread slot line) answer
+IsLoadedAnswer-more script stop who thread slot line answers.Stopped more is = is
+IsLoadedAnswer-more script stop who thread slot line answer more is = IsLoadAnswer-more script who slot line answer more is
+
+IsSyncAnswer-more : (script : Script) {old new : List (List Entry)} {at : At} {e : Entry} (stop : Option Stop) (who : Who) (page : Page) (answer : Answer)
+    → OneMore old new at e → IsAnswer script old stop who (commands.Sync page) answer → IsAnswer script new stop who (commands.Sync page) answer
+IsSyncAnswer-more script stop who page answers.Stopped more is = is
+IsSyncAnswer-more script stop who page answer more is = IsPageAnswer-more script.layout who page entries.Sync answer more is
+
+IsOutAnswer-more : (script : Script) {old new : List (List Entry)} {at : At} {e : Entry} (stop : Option Stop) (who : Who) (page : Page) (answer : Answer)
+    → OneMore old new at e → IsAnswer script old stop who (commands.Out page) answer → IsAnswer script new stop who (commands.Out page) answer
+IsOutAnswer-more script stop who page answers.Stopped more is = is
+IsOutAnswer-more script stop who page answer more is = IsPageAnswer-more script.layout who page entries.Out answer more is
+
+pub IsAnswer-more : (script : Script) {old new : List (List Entry)} {at : At} {e : Entry} (stop : Option Stop) (who : Who) (command : Command) (answer : Answer)
+    → OneMore old new at e → IsAnswer script old stop who command answer → IsAnswer script new stop who command answer
+IsAnswer-more script stop who (commands.Load thread slot line) answer more is = IsLoadedAnswer-more script stop who thread slot line answer more is
+IsAnswer-more script stop who (commands.Fetch thread slot line) answer more is = IsLoadedAnswer-more script stop who thread slot line answer more is
+IsAnswer-more script stop who (commands.KLoad thread slot line) answer more is = IsLoadedAnswer-more script stop who thread slot line answer more is
+IsAnswer-more script stop who (commands.Store thread slot line word) answer more is = IsStoreAnswer-more script stop who thread slot line word answer more is
+IsAnswer-more script stop who (commands.Free slot) answer more is = IsFreeAnswer-more script stop who slot answer more is
+IsAnswer-more script stop who (commands.Drop page) answer more is = IsDropAnswer-more script stop who page answer more is
+IsAnswer-more script stop who (commands.Sync page) answer more is = IsSyncAnswer-more script stop who page answer more is
+IsAnswer-more script stop who (commands.Out page) answer more is = IsOutAnswer-more script stop who page answer more is
+IsAnswer-more script stop who _ answers.Done more is = is
+IsAnswer-more script stop who _ answer more is = is
+
+pub AreAnswers-more : (script : Script) {old new : List (List Entry)} {at : At} {e : Entry} (stop : Option Stop) (cpu : Cpu) (n : ℕ) (list : List Command) (rows : List CpuLine)
+    → OneMore old new at e → AreAnswers script old stop cpu n list rows → AreAnswers script new stop cpu n list rows
+AreAnswers-more script stop cpu n [] [] more are = are
+AreAnswers-more script stop cpu n [] (row ∷ rows) more are = are
+AreAnswers-more script stop cpu n (command ∷ list) [] more are = are
+AreAnswers-more script stop cpu n (command ∷ list) (lines.Event a b c d f g h ∷ rows) more are = are
+AreAnswers-more script stop cpu n (command ∷ list) (lines.Answer seq answer ∷ rows) more are =
+    (are.0, IsAnswer-more script stop _ command answer more are.1, AreAnswers-more script stop cpu (n + 1) list rows more are.2)
+
+-- the answers of a machine that had not stopped are still answers when it has
+pub IsAnswer-stopped : (script : Script) (pages : List (List Entry)) (s : Stop) (who : Who) (command : Command) (answer : Answer) → IsAnswer script pages None who command answer → IsAnswer script pages (Some s) who command answer
+IsAnswer-stopped script pages s who command answers.Stopped is = refl
+IsAnswer-stopped script pages s who command (answers.Value word at) is = is
+IsAnswer-stopped script pages s who command answer is = is
+
+pub AreAnswers-stopped : (script : Script) (pages : List (List Entry)) (s : Stop) (cpu : Cpu) (n : ℕ) (list : List Command) (rows : List CpuLine) → AreAnswers script pages None cpu n list rows → AreAnswers script pages (Some s) cpu n list rows
+AreAnswers-stopped script pages s cpu n [] [] are = are
+AreAnswers-stopped script pages s cpu n [] (row ∷ rows) are = are
+AreAnswers-stopped script pages s cpu n (command ∷ list) [] are = are
+AreAnswers-stopped script pages s cpu n (command ∷ list) (lines.Event a b c d f g h ∷ rows) are = are
+AreAnswers-stopped script pages s cpu n (command ∷ list) (lines.Answer seq answer ∷ rows) are =
+    (are.0, IsAnswer-stopped script pages s _ command answer are.1, AreAnswers-stopped script pages s cpu (n + 1) list rows are.2)
+
+pub AreAnswers-push : (script : Script) (pages : List (List Entry)) (stop : Option Stop) (cpu : Cpu) (n : ℕ) (list : List Command) (rows : List CpuLine) (command : Command) (answer : Answer) (seq : ℕ)
     → seq ≡ n + length list
-    → AreAnswers script pages cpu n list rows
-    → IsAnswer script pages (record { cpu = cpu; seq = seq }) command answer
-    → AreAnswers script pages cpu n (list ++ command ∷ []) (rows ++ lines.Answer seq answer ∷ [])
-AreAnswers-push script pages cpu n [] [] command answer seq at are is =
+    → AreAnswers script pages stop cpu n list rows
+    → IsAnswer script pages stop (record { cpu = cpu; seq = seq }) command answer
+    → AreAnswers script pages stop cpu n (list ++ command ∷ []) (rows ++ lines.Answer seq answer ∷ [])
+AreAnswers-push script pages stop cpu n [] [] command answer seq at are is =
     let here : seq ≡ n = at ∙ add-zero n in
-    (here, subst (λ (k : ℕ). IsAnswer script pages (record { cpu = cpu; seq = k }) command answer) here is, tt)
-AreAnswers-push script pages cpu n [] (row ∷ rows) command answer seq at are is = absurd are
-AreAnswers-push script pages cpu n (first ∷ list) [] command answer seq at are is = absurd are
-AreAnswers-push script pages cpu n (first ∷ list) (lines.Answer first_seq first_answer ∷ rows) command answer seq at are is =
-    (are.0, are.1, AreAnswers-push script pages cpu (n + 1) list rows command answer seq (omega arith) are.2 is)
+    (here, subst (λ (k : ℕ). IsAnswer script pages stop (record { cpu = cpu; seq = k }) command answer) here is, tt)
+AreAnswers-push script pages stop cpu n [] (row ∷ rows) command answer seq at are is = absurd are
+AreAnswers-push script pages stop cpu n (first ∷ list) [] command answer seq at are is = absurd are
+AreAnswers-push script pages stop cpu n (first ∷ list) (lines.Event a b c d f g h ∷ rows) command answer seq at are is = absurd are
+AreAnswers-push script pages stop cpu n (first ∷ list) (lines.Answer first_seq first_answer ∷ rows) command answer seq at are is =
+    (are.0, are.1, AreAnswers-push script pages stop cpu (n + 1) list rows command answer seq (omega arith) are.2 is)
 
 -- a list of lines keeps what stands in it when one more is added
 pub slice_get-kept : {A : Type 0} (xs ys : List A) (i : ℕ) (x : A) → slice_get xs i ≡ Some x → slice_get (xs ++ ys) i ≡ Some x
@@ -129,7 +221,7 @@ AreNamed-quiet {old} {new} {at} {e} cpus more quiet named bt f there answering =
 
 -- an entry of the first processor, and the answer that names it
 pub AreNamed-answered : {old new : List (List Entry)} {at : At} {e : Entry} (rows : List CpuLine) (answer : Answer)
-    → OneMore old new at e → e.who.cpu.0 ≡ 0 → named_place answer ≡ Some at
+    → OneMore old new at e → e.who.cpu.0 ≡ 0 → place_named answer ≡ Some at
     → AreNamed old (rows ∷ []) → AreNamed new ((rows ++ lines.Answer e.who.seq answer ∷ []) ∷ [])
 AreNamed-answered {old} {new} {at} {e} rows answer more first place named bt f there answering =
     elim (more.only bt f there) [
@@ -204,4 +296,20 @@ OneMore-set pages at log e there last =
           let inside : bt.entry < length log = slice_get_within log bt.entry f (sym (entry_at-is pages bt log (was bt (ap (λ (p : Page). p.0) same))) ∙ is) in
           omega arith;
       same_pages = length-set pages at.page.0 (log ++ e ∷ []);
+      grown = λ n l is. elim (cases_eq n at.page.0) [
+        | inl same ↦
+            let is_log : l ≡ log = same_Some l log (sym is ∙ ap (slice_get pages) same ∙ there) in
+            (e ∷ [], ap (slice_get new) same ∙ slice_get-set_at pages at.page.0 (log ++ e ∷ []) within ∙ ap (λ (x : List Entry). Some (x ++ e ∷ [])) (sym is_log))
+        | inr other ↦ ([], slice_get-set_other pages at.page.0 n (log ++ e ∷ []) other ∙ is ∙ ap (λ (x : List Entry). Some x) (sym (append-nil l)))
+      ];
+      log = log;
+      there = there;
+      ended = last;
+      was = λ n l is. elim (cases_eq n at.page.0) [
+        | inl same ↦
+            let longer : l ≡ log ++ e ∷ [] = same_Some l (log ++ e ∷ []) (sym is ∙ ap (slice_get new) same ∙ slice_get-set_at pages at.page.0 (log ++ e ∷ []) within) in
+            let more_of = ap (λ (x : List Entry). length x) longer ∙ length-append log (e ∷ []) in
+            (log, ap (slice_get pages) same ∙ there, omega (arith, more_of))
+        | inr other ↦ (l, sym (slice_get-set_other pages at.page.0 n (log ++ e ∷ []) other) ∙ is, omega arith)
+      ];
     }

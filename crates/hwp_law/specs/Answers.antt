@@ -1,8 +1,14 @@
 -- When the answers of a report are those of the script's commands.
-use Rattle.std.specs.Prelude.{◌≡◌, ℕ, ◌+◌, ◌*◌, Bool, true, false, not, nat_lt, List, [], ◌∷◌, Option, Some, None, length, slice_get, count_by, IsSomeAnd, IsTrue}
+use Rattle.std.specs.Prelude.{◌≡◌, ◌≢◌, ◌⊎◌, ℕ, ◌+◌, ◌*◌, Bool, true, false, not, nat_lt, List, [], ◌∷◌, Option, Some, None, length, slice_get, count_by, IsSome, IsSomeAnd, IsTrue, IsFalse}
+use Rattle.std.specs.FinSet as set
 use Rattle.hwp_geom.specs.declared.Cpu.{Cpu}
 use Rattle.hwp_geom.specs.declared.Who.{Who}
 use Rattle.hwp_geom.specs.declared.Mask.{Mask}
+use Rattle.hwp_geom.specs.declared.Layout.{Layout}
+use Rattle.hwp_geom.specs.declared.Page.{Page}
+use Rattle.hwp_geom.specs.declared.VSlot.{VSlot}
+use Rattle.hwp_page.specs.declared.PageState.{PageState}
+use Rattle.hwp_page.specs.Step.{IsOf}
 use Rattle.hwp_page.specs.declared.At.{At}
 use Rattle.hwp_page.specs.declared.Entry.{Entry}
 use Rattle.hwp_page.specs.declared.What.{What}
@@ -12,10 +18,16 @@ use Rattle.hwp_script.specs.declared.Command.{Command}
 use Rattle.hwp_script.specs.declared.Command.TheVariants as commands
 use Rattle.hwp_script.specs.declared.Script.{Script}
 use Rattle.hwp_report.specs.declared.Answer.{Answer}
-use Rattle.hwp_report.specs.declared.Answer.TheVariants.{Value, Stored, NoFrame}
+use Rattle.hwp_report.specs.declared.Answer.TheVariants as answers
+use Rattle.hwp_report.specs.declared.Stop.{Stop}
 use Rattle.hwp_report.specs.declared.CpuLine.{CpuLine}
 use Rattle.hwp_report.specs.declared.CpuLine.TheVariants as lines
+use Rattle.hwp_kill.specs.declared.Reply.{Reply}
+use Rattle.hwp_kill.specs.declared.Reply.TheVariants as replies
+use Rattle.hwp_kill.specs.Prctl.{policy_number, reply}
 use Rattle.hwp_law.specs.Places.{entry_at}
+use Rattle.hwp_law.specs.Policies.{arguments, policy_before}
+use Rattle.hwp_law.specs.States.{HadState, IsInWindow, place_named, state_named}
 
 -- the frames that are not the kernel's
 abbrev pub usable_frames : Script → ℕ
@@ -29,43 +41,80 @@ is_ample script = nat_lt (length script.layout.pages + 2 * script.layout.cpus) (
 abbrev pub StandsAt : List (List Entry) → Who → At → What → Type 0
 StandsAt pages who at what = entry_at pages at ≡ Some (record { who = who; what = what })
 
+-- a load gave the word of its entry, or no frame was free
+abbrev pub IsLoadAnswer : Script → List (List Entry) → Who → VSlot → ℕ → Answer → Type 0
+IsLoadAnswer script pages who slot line (answers.Value word at) = (mask : Mask) × StandsAt pages who at (entries.Load slot line (Word mask word))
+IsLoadAnswer script pages who slot line answers.NoFrame = is_ample script ≡ false
+IsLoadAnswer script pages who slot line _ = ⊥
+
+-- the page's content does not stand behind it
+abbrev pub IsUnsaved : PageState → Type 0
+IsUnsaved s = (s.dirty ≡ true) ⊎ (s.back ≡ None)
+
+-- the answer that a reply of prctl(2) gives
+abbrev pub reply_answer : Reply → Answer
+reply_answer (replies.Set policy) = answers.Done
+reply_answer (replies.Is policy) = answers.Is (policy_number policy)
+reply_answer replies.Einval = answers.Einval
+
+-- the answer of a command that names a page: it was made, or the page was in no frame
+abbrev pub IsPageAnswer : Layout → List (List Entry) → Who → Page → What → Answer → Type 0
+IsPageAnswer layout pages who page what (answers.DoneAt at) = (at.page ≡ page) × StandsAt pages who at what
+IsPageAnswer layout pages who page what (answers.NotResident at) = (at.page ≡ page) × HadState layout pages at (λ s. s.cached ≡ false)
+IsPageAnswer layout pages who page what _ = ⊥
+
 -- the report shows the cause of a command's answer
-abbrev pub IsAnswer : Script → List (List Entry) → Who → Command → Answer → Type 0
-IsAnswer script pages who (commands.Load thread slot line) (Value word at) =
-    (mask : Mask) × StandsAt pages who at (entries.Load slot line (Word mask word))
-IsAnswer script pages who (commands.Store thread slot line word) (Stored at) =
+abbrev pub IsAnswer : Script → List (List Entry) → Option Stop → Who → Command → Answer → Type 0
+IsAnswer script pages stop who command answers.Stopped = IsSome stop
+IsAnswer script pages stop who (commands.Load thread slot line) answer = IsLoadAnswer script pages who slot line answer
+IsAnswer script pages stop who (commands.Fetch thread slot line) answer = IsLoadAnswer script pages who slot line answer
+IsAnswer script pages stop who (commands.KLoad thread slot line) answer = IsLoadAnswer script pages who slot line answer
+IsAnswer script pages stop who (commands.Store thread slot line word) (answers.Stored at) =
     (mask : Mask) × StandsAt pages who at (entries.Store slot line (Word mask word))
-IsAnswer script pages who (commands.Load thread slot line) NoFrame = is_ample script ≡ false
-IsAnswer script pages who (commands.Store thread slot line word) NoFrame = is_ample script ≡ false
-IsAnswer _ _ _ _ _ = ⊥
+IsAnswer script pages stop who (commands.Store thread slot line word) answers.NoFrame = is_ample script ≡ false
+IsAnswer script pages stop who (commands.Free slot) (answers.DoneAt at) = StandsAt pages who at (entries.Free slot)
+IsAnswer script pages stop who (commands.Free slot) (answers.NotMapped at) =
+    IsOf script.layout at.page slot × HadState script.layout pages at (λ s. IsFalse (set.contains s.maps slot.0))
+IsAnswer script pages stop who (commands.Drop page) (answers.Dirty at) =
+    (at.page ≡ page) × HadState script.layout pages at (λ s. (s.cached ≡ true) × IsUnsaved s)
+IsAnswer script pages stop who (commands.Drop page) (answers.Mapped at) =
+    (at.page ≡ page) × HadState script.layout pages at (λ s. (s.cached ≡ true) × (¬ IsUnsaved s) × (s.maps ≢ set.empty))
+IsAnswer script pages stop who (commands.Drop page) answer = IsPageAnswer script.layout pages who page entries.Drop answer
+IsAnswer script pages stop who (commands.Sync page) answer = IsPageAnswer script.layout pages who page entries.Sync answer
+IsAnswer script pages stop who (commands.Out page) answer = IsPageAnswer script.layout pages who page entries.Out answer
+IsAnswer script pages stop who (commands.Fsync file) answers.Done = Unit {0}
+IsAnswer script pages stop who (commands.Prctl thread args) answer = answer ≡ reply_answer (reply (policy_before script who thread) (arguments args))
+IsAnswer script pages stop who (commands.Log status addr misc) answers.Done = Unit {0}
+IsAnswer script pages stop who _ _ = ⊥
 
 -- the commands from number n on have exactly one answer each, in order, and the report shows its cause
-abbrev pub AreAnswers : Script → List (List Entry) → Cpu → ℕ → List Command → List CpuLine → Type 0
-AreAnswers script pages cpu n [] [] = Unit {0}
-AreAnswers script pages cpu n (command ∷ commands) (lines.Answer seq answer ∷ rest) =
-    (seq ≡ n) × IsAnswer script pages (record { cpu = cpu; seq = n }) command answer × AreAnswers script pages cpu (n + 1) commands rest
-AreAnswers script pages cpu n _ _ = ⊥
-
--- the place that an answer names
-abbrev pub named_place : Answer → Option At
-named_place (Value word at) = Some at
-named_place (Stored at) = Some at
-named_place NoFrame = None
+abbrev pub AreAnswers : Script → List (List Entry) → Option Stop → Cpu → ℕ → List Command → List CpuLine → Type 0
+AreAnswers script pages stop cpu n [] [] = Unit {0}
+AreAnswers script pages stop cpu n (command ∷ commands) (lines.Answer seq answer ∷ rest) =
+    (seq ≡ n) × IsAnswer script pages stop (record { cpu = cpu; seq = n }) command answer × AreAnswers script pages stop cpu (n + 1) commands rest
+AreAnswers script pages stop cpu n _ _ = ⊥
 
 -- an entry that its command's answer has to name
 abbrev pub is_answering : What → Bool
-is_answering (entries.Load slot line met) = true
-is_answering (entries.Store slot line met) = true
 is_answering entries.FaultIn = false
 is_answering (entries.Map slot) = false
+is_answering (entries.Mce slot line mask) = false
+is_answering (entries.Fail situation required seen signals) = false
+is_answering _ = true
 
 -- among the lines of the entry's processor stands the answer of its command, and it names the place
 abbrev pub IsNamed : List (List CpuLine) → At → Entry → Type 0
 IsNamed cpus at e =
     (answer : Answer) × (i : ℕ)
     × IsSomeAnd (slice_get cpus e.who.cpu.0) (λ (rows : List CpuLine). slice_get rows i ≡ Some (lines.Answer e.who.seq answer))
-    × (named_place answer ≡ Some at)
+    × (place_named answer ≡ Some at)
 
 -- each entry that answers a command is the one that the command's answer names
 abbrev pub AreNamed : List (List Entry) → List (List CpuLine) → Type 0
 AreNamed pages cpus = (at : At) (e : Entry) → entry_at pages at ≡ Some e → IsTrue (is_answering e.what) → IsNamed cpus at e
+
+-- each answer that says what state a page was in names a number of entries in its command's window
+abbrev pub AreInWindows : List (List Entry) → List (List CpuLine) → Type 0
+AreInWindows pages cpus =
+    (cpu : Cpu) (rows : List CpuLine) (i seq : ℕ) (answer : Answer) (at : At) → slice_get cpus cpu.0 ≡ Some rows → slice_get rows i ≡ Some (lines.Answer seq answer)
+    → state_named answer ≡ Some at → IsInWindow pages rows (record { cpu = cpu; seq = seq }) at

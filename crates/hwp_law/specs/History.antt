@@ -1,8 +1,9 @@
 -- When the histories of a report are legal.
-use Rattle.std.specs.Prelude.{◌≡◌, ℕ, ◌<◌, ◌≤◌, List, Some, slice_get, IsSomeAnd}
+use Rattle.std.specs.Prelude.{◌≡◌, ℕ, ◌<◌, ◌≤◌, List, Some, IsSomeAnd}
 use Rattle.hwp_geom.specs.declared.Layout.{Layout}
 use Rattle.hwp_geom.specs.declared.Page.{Page}
 use Rattle.hwp_geom.specs.declared.Thread.{Thread}
+use Rattle.hwp_geom.specs.declared.VSlot.{VSlot}
 use Rattle.hwp_page.specs.declared.At.{At}
 use Rattle.hwp_page.specs.declared.Entry.{Entry}
 use Rattle.hwp_page.specs.declared.What.{What}
@@ -25,21 +26,45 @@ abbrev pub IsStoredBy : ℕ → Met → Type 0
 IsStoredBy word (Word mask stored) = stored ≡ word
 IsStoredBy word (Sigbus thread) = Unit {0}
 
+-- the entry is one that any access through the translation makes
+abbrev pub FitsAccess : VSlot → What → Type 0
+FitsAccess slot entries.FaultIn = Unit {0}
+FitsAccess slot (entries.Map slot') = slot' ≡ slot
+FitsAccess slot _ = ⊥
+
+-- the entry is one that a load makes, also a fetch or a load of the kernel
+abbrev pub FitsLoad : Thread → VSlot → ℕ → What → Type 0
+FitsLoad thread slot line (entries.Load slot' line' met) = (slot' ≡ slot) × (line' ≡ line) × IsMetBy thread met
+FitsLoad thread slot line what = FitsAccess slot what
+
+-- the entry is one that a store makes
+abbrev pub FitsStore : Thread → VSlot → ℕ → ℕ → What → Type 0
+FitsStore thread slot line word (entries.Store slot' line' met) = (slot' ≡ slot) × (line' ≡ line) × IsMetBy thread met × IsStoredBy word met
+FitsStore thread slot line word what = FitsAccess slot what
+
 -- the entry is of a kind that the command makes, with the command's numbers
 abbrev pub Fits : Command → What → Type 0
-Fits (commands.Load thread slot line) (entries.Load slot' line' met) = (slot' ≡ slot) × (line' ≡ line) × IsMetBy thread met
-Fits (commands.Load thread slot line) entries.FaultIn = Unit {0}
-Fits (commands.Load thread slot line) (entries.Map slot') = slot' ≡ slot
-Fits (commands.Store thread slot line word) (entries.Store slot' line' met) =
-    (slot' ≡ slot) × (line' ≡ line) × IsMetBy thread met × IsStoredBy word met
-Fits (commands.Store thread slot line word) entries.FaultIn = Unit {0}
-Fits (commands.Store thread slot line word) (entries.Map slot') = slot' ≡ slot
+Fits (commands.Load thread slot line) what = FitsLoad thread slot line what
+Fits (commands.Fetch thread slot line) what = FitsLoad thread slot line what
+Fits (commands.KLoad thread slot line) what = FitsLoad thread slot line what
+Fits (commands.Store thread slot line word) what = FitsStore thread slot line word what
+Fits (commands.Free slot) (entries.Free slot') = slot' ≡ slot
+Fits (commands.Drop page) entries.Drop = Unit {0}
+Fits (commands.Sync page) entries.Sync = Unit {0}
+Fits (commands.Out page) entries.Out = Unit {0}
 Fits _ _ = ⊥
 
 -- the page is the one that the command names
 abbrev pub Names : Layout → Command → Page → Type 0
 Names layout (commands.Load thread slot line) page = IsOf layout page slot
+Names layout (commands.Fetch thread slot line) page = IsOf layout page slot
+Names layout (commands.KLoad thread slot line) page = IsOf layout page slot
 Names layout (commands.Store thread slot line word) page = IsOf layout page slot
+Names layout (commands.Free slot) page = IsOf layout page slot
+Names layout (commands.Drop named) page = page ≡ named
+Names layout (commands.Sync named) page = page ≡ named
+Names layout (commands.Out named) page = page ≡ named
+Names layout _ page = ⊥
 
 -- the entry is one that its command makes, in the page that the command names
 abbrev pub IsMade : Script → Page → Entry → Type 0

@@ -1,4 +1,7 @@
 pub mod Places
 pub mod History
+pub mod Policies
+pub mod States
 pub mod Answers
+pub mod Stops
 pub mod Report

@@ -1,5 +1,5 @@
 -- What a script has at a command's place, and a report at an entry's.
-use Rattle.std.specs.Prelude.{ℕ, Option, List, slice_get, option_and_then}
+use Rattle.std.specs.Prelude.{Option, List, slice_get, option_and_then}
 use Rattle.hwp_geom.specs.declared.Who.{Who}
 use Rattle.hwp_page.specs.declared.At.{At}
 use Rattle.hwp_page.specs.declared.Entry.{Entry}

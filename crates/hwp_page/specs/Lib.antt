@@ -1,2 +1,4 @@
+pub mod Situations
+pub mod Actions
 pub mod Step
 pub mod History

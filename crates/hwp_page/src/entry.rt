@@ -1,6 +1,8 @@
 ghost use Rattle.std.specs.Prelude.{◌≡◌, IfOk};
 
-use hwp_geom::{Line, Mask, OutOfMemory, Page, Thread, VSlot, Who};
+use crate::situation::Situation;
+use hwp_geom::{Line, List, Mask, OutOfMemory, Page, Thread, VSlot, Who};
+use hwp_kill::{Seen, SignalList};
 use std::alloc::Global;
 
 /// A place in a history: the entry's number in its page, from 0.
@@ -22,13 +24,49 @@ pub enum Met {
 #[derive(Drop)]
 pub enum What {
     /// A thread loaded the word at a line, through a translation.
-    Load { slot: VSlot, line: Line, met: Met },
+    Load {
+        slot: VSlot,
+        line: Line,
+        met: Met,
+    },
     /// A thread stored a word at a line, through a translation.
-    Store { slot: VSlot, line: Line, met: Met },
+    Store {
+        slot: VSlot,
+        line: Line,
+        met: Met,
+    },
     /// The page was brought into a frame.
     FaultIn,
     /// A translation came into use.
-    Map { slot: VSlot },
+    Map {
+        slot: VSlot,
+    },
+    /// A translation went out of use.
+    Free {
+        slot: VSlot,
+    },
+    /// The page left its frame; its content stands behind it.
+    Drop,
+    /// The content was written to the file.
+    Sync,
+    /// The content was swapped out, and the page left its frame.
+    Out,
+    /// A thread met a bad line through a translation; `mask` has the bad lines of the frame at that moment.
+    Mce {
+        slot: VSlot,
+        line: Line,
+        mask: Mask,
+    },
+    /// A memory failure took the page's frame (Linux hwpoison.rst): what it found, the current thread where a thread
+    /// needed the page now, the policies that were read (prctl(2)), and the signals.
+    Fail {
+        situation: Situation,
+        required: Option<Thread>,
+        seen: List<Seen>,
+        signals: SignalList,
+    },
+    /// The content moved to another frame, and nobody was signalled (soft offline).
+    Soft,
 }
 
 /// An entry of a page's history: who, and what.
@@ -68,6 +106,27 @@ impl What {
             }),
             What::FaultIn => Ok(What::FaultIn),
             What::Map { slot } => Ok(What::Map { slot: *slot }),
+            What::Free { slot } => Ok(What::Free { slot: *slot }),
+            What::Drop => Ok(What::Drop),
+            What::Sync => Ok(What::Sync),
+            What::Out => Ok(What::Out),
+            What::Mce { slot, line, mask } => Ok(What::Mce {
+                slot: *slot,
+                line: *line,
+                mask: *mask,
+            }),
+            What::Fail {
+                situation,
+                required,
+                seen,
+                signals,
+            } => Ok(What::Fail {
+                situation: *situation,
+                required: *required,
+                seen: seen.copy(alloc)?,
+                signals: signals.copy(),
+            }),
+            What::Soft => Ok(What::Soft),
         }
     }
 }

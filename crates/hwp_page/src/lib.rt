@@ -4,8 +4,12 @@
 mod belonging;
 mod body;
 mod entry;
+mod failing;
+mod sets;
+mod situation;
 mod state;
 
 pub use body::Body;
 pub use entry::{At, Entry, Met, What};
+pub use situation::{Outcome, Situation};
 pub use state::PageState;

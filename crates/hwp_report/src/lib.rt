@@ -1,8 +1,13 @@
 //! The report of a run: its type, and its one text.
 #![tactic(auto)]
 
+mod frames;
+mod lines;
 mod printing;
 mod report;
 
+pub use frames::{FrameLine, How, MarkLine, Place};
+pub use hwp_page::Outcome;
+pub use lines::{Acted, Answer, CpuLine};
 pub use printing::print;
-pub use report::{Answer, CpuLine, FrameLine, Place, Report};
+pub use report::{Report, Stop, StopCause};

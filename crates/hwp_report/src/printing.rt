@@ -1,13 +1,22 @@
-ghost use Rattle.std.specs.Prelude.{◌≡◌, ◌∷◌, ◌++◌, OnOk, IfOk, string_bytes, decimal, map};
+ghost use Rattle.std.specs.Prelude.{◌≡◌, ◌∷◌, ◌++◌, OnOk, IfOk, string_bytes, codes, decimal, map};
 ghost use Rattle.std.specs.List.{flat_map};
 ghost use Rattle.hwp_geom.specs.Words.{line};
-ghost use Rattle.hwp_report.specs.Text.{answer_words, cpu_line_words, cpu_lines, entry_lines, frame_lines, head_lines, met_words, numbered, page_lines, report_text};
+ghost use Rattle.hwp_report.specs.Text.{cause_words, cpu_lines, file_lines, frame_lines, frame_words, graded_words, head_lines, how_words, mark_words, numbered, page_lines, report_text, stop_words};
 
-use crate::report::{Answer, CpuLine, FrameLine, Place, Report};
-use hwp_geom::{Line, List, OutOfMemory, Text, VSlot, Who};
-use hwp_page::{Entry, Met, What};
+use crate::frames::{FrameLine, How, MarkLine, Place};
+use crate::lines::CpuLine;
+use crate::report::{Report, Stop, StopCause};
+use answers::put_cpu_lines;
+use entries::put_entries;
+use hwp_geom::{List, Mode, OutOfMemory, Text, Who};
+use hwp_page::Entry;
+use hwp_severity::McgBits;
 use std::alloc::Global;
+use terms::{bit, cause_word, mode_word, outcome_word, situation_word};
 
+mod answers;
+mod entries;
+mod terms;
 #[cfg(test)]
 mod tests;
 
@@ -16,7 +25,7 @@ pub fn print(alloc: Global, report: &Report) -> Result<Text, OutOfMemory>
     ensures { IfOk result (λ text. text ≡ report_text report.now) }
 {
     let mut out = String::new(alloc);
-    put_head(&mut out, report.count)?;
+    put_front(&mut out, report)?;
     put_frames(&mut out, report.frames.as_slice())?;
     put_pages(&mut out, report.pages.as_slice())?;
     put_cpus(&mut out, report.cpus.as_slice())?;
@@ -24,37 +33,158 @@ pub fn print(alloc: Global, report: &Report) -> Result<Text, OutOfMemory>
     Ok(Text::from_string(out))
 }
 
-fn put_head(out: &mut String, count: u64) -> Result<(), OutOfMemory>
-    ensures { OnOk result (string_bytes out.new ≡ string_bytes out.old ++ flat_map line (head_lines count)) }
+fn put_front(out: &mut String, report: &Report) -> Result<(), OutOfMemory>
+    ensures { OnOk result (string_bytes out.new ≡ string_bytes out.old
+        ++ flat_map line (head_lines report.now.stop report.now.count ++ numbered file_lines 0 report.now.files)) }
+{
+    put_head(out, report.stop, report.count)?;
+    put_files(out, report.files.as_slice())
+}
+
+fn put_head(out: &mut String, stop: Option<Stop>, count: u64) -> Result<(), OutOfMemory>
+    ensures { OnOk result (string_bytes out.new ≡ string_bytes out.old ++ flat_map line (head_lines stop count)) }
 {
     writeln!(out, "hwp-report 1")?;
-    writeln!(out, "stop none")?;
+    put_stop(out, stop)?;
     writeln!(out, "count {count}")
+}
+
+fn put_stop(out: &mut String, stop: Option<Stop>) -> Result<(), OutOfMemory>
+    ensures { OnOk result (string_bytes out.new ≡ string_bytes out.old ++ line (stop_words stop)) }
+{
+    match stop {
+        None => writeln!(out, "stop none"),
+        Some(stop) => put_cause(out, stop.who, stop.cause),
+    }
+}
+
+fn put_cause(out: &mut String, who: Who, cause: StopCause) -> Result<(), OutOfMemory>
+    ensures { OnOk result (string_bytes out.new ≡ string_bytes out.old
+        ++ line (codes "stop" ∷ decimal who.cpu.0 ∷ decimal who.seq ∷ cause_words cause)) }
+{
+    match cause {
+        StopCause::Severity {
+            row,
+            bank,
+            status,
+            mcg,
+            mode,
+        } => {
+            write!(out, "stop {} {} severity S{row} ", who.cpu.0, who.seq)?;
+            put_graded(out, bank, status, mcg, mode)
+        }
+        StopCause::Shutdown => writeln!(out, "stop {} {} shutdown", who.cpu.0, who.seq),
+        StopCause::Panic(frame) => {
+            writeln!(out, "stop {} {} panic {}", who.cpu.0, who.seq, frame.0)
+        }
+    }
+}
+
+fn put_graded(
+    out: &mut String,
+    bank: u8,
+    status: u64,
+    mcg: McgBits,
+    mode: Mode,
+) -> Result<(), OutOfMemory>
+    ensures { OnOk result (string_bytes out.new ≡ string_bytes out.old ++ line (graded_words bank status mcg mode)) }
+{
+    let ripv = bit(mcg.ripv);
+    let eipv = bit(mcg.eipv);
+    let mode = mode_word(mode);
+    writeln!(out, "{bank} {status:x} {ripv} {eipv} {mode}")
+}
+
+fn put_files(out: &mut String, files: &[u64]) -> Result<(), OutOfMemory>
+    ensures { OnOk result (string_bytes out.new ≡ string_bytes out.old ++ flat_map line (numbered file_lines 0 files.now)) }
+{
+    for (number, lost) in files.iter().enumerate() {
+        put_file(out, number, *lost)?;
+    }
+    Ok(())
+}
+
+fn put_file(out: &mut String, number: usize, lost: u64) -> Result<(), OutOfMemory>
+    ensures { OnOk result (string_bytes out.new ≡ string_bytes out.old ++ flat_map line (file_lines number lost)) }
+{
+    writeln!(out, "file {number} lost {lost}")
 }
 
 fn put_frames(out: &mut String, frames: &[FrameLine]) -> Result<(), OutOfMemory>
     ensures { OnOk result (string_bytes out.new ≡ string_bytes out.old ++ flat_map line (numbered frame_lines 0 frames.now)) }
 {
     for (number, frame) in frames.iter().enumerate() {
-        put_frame(out, number, *frame)?;
+        put_frame(out, number, frame)?;
     }
     Ok(())
 }
 
-fn put_frame(out: &mut String, number: usize, frame: FrameLine) -> Result<(), OutOfMemory>
-    ensures { OnOk result (string_bytes out.new ≡ string_bytes out.old ++ flat_map line (frame_lines number frame)) }
+fn put_frame(out: &mut String, number: usize, frame: &FrameLine) -> Result<(), OutOfMemory>
+    ensures { OnOk result (string_bytes out.new ≡ string_bytes out.old ++ flat_map line (frame_lines number frame.now)) }
+{
+    put_frame_head(out, number, frame)?;
+    put_marks(out, frame.marks.as_slice())
+}
+
+fn put_frame_head(out: &mut String, number: usize, frame: &FrameLine) -> Result<(), OutOfMemory>
+    ensures { OnOk result (string_bytes out.new ≡ string_bytes out.old ++ line (frame_words number frame.now)) }
 {
     let bad = frame.bad.0;
     let weak = frame.weak.0;
     match frame.place {
         Place::Free => writeln!(out, "frame {number} free bad {bad:x} weak {weak:x}"),
         Place::Kernel => writeln!(out, "frame {number} kernel bad {bad:x} weak {weak:x}"),
+        Place::Handled => writeln!(out, "frame {number} handled bad {bad:x} weak {weak:x}"),
         Place::Of(page) => writeln!(
             out,
             "frame {number} page {} bad {bad:x} weak {weak:x}",
             page.0
         ),
     }
+}
+
+fn put_marks(out: &mut String, marks: &[MarkLine]) -> Result<(), OutOfMemory>
+    ensures { OnOk result (string_bytes out.new ≡ string_bytes out.old ++ flat_map line (map mark_words marks.now)) }
+{
+    for mark in marks {
+        put_mark(out, *mark)?;
+    }
+    Ok(())
+}
+
+fn put_mark(out: &mut String, mark: MarkLine) -> Result<(), OutOfMemory>
+    ensures { OnOk result (string_bytes out.new ≡ string_bytes out.old ++ line (mark_words mark)) }
+{
+    match mark {
+        MarkLine::Poisoned { cycle, who, how } => put_poisoned(out, cycle, who, how),
+        MarkLine::Unpoisoned { cycle, who } => {
+            writeln!(out, "unpoisoned {cycle} {} {}", who.cpu.0, who.seq)
+        }
+    }
+}
+
+fn put_poisoned(out: &mut String, cycle: u32, who: Who, how: How) -> Result<(), OutOfMemory>
+    ensures { OnOk result (string_bytes out.new ≡ string_bytes out.old
+        ++ line (codes "poisoned" ∷ decimal cycle ∷ decimal who.cpu.0 ∷ decimal who.seq ∷ how_words how)) }
+{
+    let (cause, situation, outcome) = match how {
+        How::Failure {
+            hardware,
+            situation,
+            outcome,
+        } => (
+            cause_word(hardware),
+            situation_word(situation),
+            outcome_word(outcome),
+        ),
+        How::Moved => ("soft", "moved", "recovered"),
+        How::TakenFree => ("soft", "free", "recovered"),
+    };
+    writeln!(
+        out,
+        "poisoned {cycle} {} {} {cause} {situation} {outcome}",
+        who.cpu.0, who.seq
+    )
 }
 
 fn put_pages(out: &mut String, pages: &[List<Entry>]) -> Result<(), OutOfMemory>
@@ -73,57 +203,6 @@ fn put_page(out: &mut String, number: usize, entries: &[Entry]) -> Result<(), Ou
     put_entries(out, entries)
 }
 
-fn put_entries(out: &mut String, entries: &[Entry]) -> Result<(), OutOfMemory>
-    ensures { OnOk result (string_bytes out.new ≡ string_bytes out.old ++ flat_map line (flat_map entry_lines entries.now)) }
-{
-    for entry in entries {
-        put_entry(out, entry)?;
-    }
-    Ok(())
-}
-
-fn put_entry(out: &mut String, entry: &Entry) -> Result<(), OutOfMemory>
-    ensures { OnOk result (string_bytes out.new ≡ string_bytes out.old ++ flat_map line (entry_lines entry.now)) }
-{
-    let who = entry.who;
-    match entry.what {
-        What::Load { slot, line, met } => put_access(out, "load", who, slot, line, met),
-        What::Store { slot, line, met } => put_access(out, "store", who, slot, line, met),
-        What::FaultIn => writeln!(out, "in {} {}", who.cpu.0, who.seq),
-        What::Map { slot } => writeln!(out, "map {} {} {}", who.cpu.0, who.seq, slot.0),
-    }
-}
-
-fn put_access(
-    out: &mut String,
-    verb: &str,
-    who: Who,
-    slot: VSlot,
-    at: Line,
-    met: Met,
-) -> Result<(), OutOfMemory>
-    ensures { OnOk result (string_bytes out.new ≡ string_bytes out.old
-        ++ line (verb.now ∷ decimal who.cpu.0 ∷ decimal who.seq ∷ decimal slot.0 ∷ decimal at ∷ met_words met)) }
-{
-    let at = at.get();
-    match met {
-        Met::Word { mask, word } => {
-            writeln!(
-                out,
-                "{verb} {} {} {} {at} {:x} {word}",
-                who.cpu.0, who.seq, slot.0, mask.0
-            )
-        }
-        Met::Sigbus { thread } => {
-            writeln!(
-                out,
-                "{verb} {} {} {} {at} sigbus {}",
-                who.cpu.0, who.seq, slot.0, thread.0
-            )
-        }
-    }
-}
-
 fn put_cpus(out: &mut String, cpus: &[List<CpuLine>]) -> Result<(), OutOfMemory>
     ensures { OnOk result (string_bytes out.new ≡ string_bytes out.old ++ flat_map line (numbered cpu_lines 0 cpus.now)) }
 {
@@ -138,35 +217,4 @@ fn put_cpu(out: &mut String, number: usize, lines: &[CpuLine]) -> Result<(), Out
 {
     writeln!(out, "cpu {number} {}", lines.len())?;
     put_cpu_lines(out, lines)
-}
-
-fn put_cpu_lines(out: &mut String, lines: &[CpuLine]) -> Result<(), OutOfMemory>
-    ensures { OnOk result (string_bytes out.new ≡ string_bytes out.old ++ flat_map line (map cpu_line_words lines.now)) }
-{
-    for item in lines {
-        put_cpu_line(out, *item)?;
-    }
-    Ok(())
-}
-
-fn put_cpu_line(out: &mut String, item: CpuLine) -> Result<(), OutOfMemory>
-    ensures { OnOk result (string_bytes out.new ≡ string_bytes out.old ++ line (cpu_line_words item)) }
-{
-    match item {
-        CpuLine::Answer { seq, answer } => put_answer(out, seq, answer),
-    }
-}
-
-fn put_answer(out: &mut String, seq: u32, answer: Answer) -> Result<(), OutOfMemory>
-    ensures { OnOk result (string_bytes out.new ≡ string_bytes out.old ++ line (decimal seq ∷ answer_words answer)) }
-{
-    match answer {
-        Answer::Value { word, at } => writeln!(
-            out,
-            "{seq} value {word} {} {}",
-            at.page.0, at.entry
-        ),
-        Answer::Stored(at) => writeln!(out, "{seq} stored {} {}", at.page.0, at.entry),
-        Answer::NoFrame => writeln!(out, "{seq} noframe"),
-    }
 }

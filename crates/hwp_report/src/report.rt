@@ -1,48 +1,46 @@
-use hwp_geom::{List, Mask, Page};
-use hwp_page::{At, Entry};
+use crate::frames::FrameLine;
+use crate::lines::CpuLine;
+use hwp_geom::{Frame, List, Mode, Who};
+use hwp_page::Entry;
+use hwp_severity::McgBits;
 
-/// Where a frame is.
+/// What stopped the machine.
 #[derive(Clone, Copy, Debug, PartialEq, Eq)]
-pub enum Place {
-    /// On the free list.
-    Free,
-    /// The kernel's own.
-    Kernel,
-    /// It holds a page.
-    Of(Page),
+pub enum StopCause {
+    /// The event of a bank: the row of the severity table that graded it, the bank, and what was graded.
+    Severity {
+        row: u8,
+        bank: u8,
+        status: u64,
+        mcg: McgBits,
+        mode: Mode,
+    },
+    /// A machine check came inside a machine check (Intel SDM vol. 3).
+    Shutdown,
+    /// A memory failure of this frame where `vm.memory_failure_recovery` is 0 (Linux hwpoison.rst).
+    Panic(Frame),
 }
 
-/// The line of a frame: where it is, and its bad and its weak lines.
+/// What stopped the machine, and the command that met it.
 #[derive(Clone, Copy, Debug, PartialEq, Eq)]
-pub struct FrameLine {
-    pub place: Place,
-    pub bad: Mask,
-    pub weak: Mask,
+pub struct Stop {
+    pub who: Who,
+    pub cause: StopCause,
 }
 
-/// The answer of a command.
-#[derive(Clone, Copy, Debug, PartialEq, Eq)]
-pub enum Answer {
-    /// A load gave this word; the place is that of its entry.
-    Value { word: u64, at: At },
-    /// A store was made; the place is that of its entry.
-    Stored(At),
-    /// No frame was free for the page.
-    NoFrame,
-}
-
-/// A line of a processor: the answer of its command number `seq`, from 0.
-#[derive(Clone, Copy, Debug, PartialEq, Eq)]
-pub enum CpuLine {
-    Answer { seq: u32, answer: Answer },
-}
-
-/// What a run is reported as: the number of poisoned frames, a line for each frame, the history of each page, and the
-/// lines of each processor.
+/// What a run is reported as.
 #[derive(Drop)]
 pub struct Report {
+    /// What stopped the machine, if it was stopped.
+    pub stop: Option<Stop>,
+    /// The number of poisoned frames.
     pub count: u64,
+    /// For each file, the number of losses that no `fsync` has told yet.
+    pub files: List<u64>,
+    /// A line for each frame.
     pub frames: List<FrameLine>,
+    /// The history of each page.
     pub pages: List<List<Entry>>,
+    /// The lines of each processor.
     pub cpus: List<List<CpuLine>>,
 }

@@ -1,9 +1,13 @@
 -- What it says of a line that no reason applies to it, kind by kind.
-use Rattle.std.proofs.Common.{ℕ, ◌≡◌, ◌<◌, ◌≤◌, List, [], ◌∷◌, length, inl, inr, refl, arith}
-use Rattle.std.specs.Prelude.{◌⊎◌, slice_get}
-use Rattle.hwp_script.specs.Context.{cpus_in, frames_in, procs_in, threads_in, pages_in, trans_in, commands_in, place_in, highest, IsMisplaced, IsForeign, IsElsewhere, IsAccessOver, IsClean}
-use Rattle.hwp_script.specs.declared.forms.Form.{Form}
-use Rattle.hwp_script.specs.declared.forms.Form.TheVariants as forms
+use Rattle.std.proofs.Common.{ℕ, Bool, ◌≡◌, ◌<◌, ◌≤◌, List, [], ◌∷◌, length, inl, inr, refl, arith, rules, Option, None, Some, ◌+◌}
+use Rattle.std.specs.Prelude.{slice_get, option_and_then, IsSome}
+use Rattle.hwp_script.specs.Context.{cpus_in, frames_in, recovery_in, early_in, files_in, procs_in, threads_in, pages_in, trans_in, commands_in, go_in, place_in, highest}
+use Rattle.hwp_script.specs.Reasons.{IsMisplaced, IsElsewhere, IsBackingOver, IsBackingUndeclared, IsOver, IsUndeclared, actor, top_cpu, IsClean}
+use Rattle.hwp_form.specs.declared.Order.{Order}
+use Rattle.hwp_form.specs.declared.Backing.{Backing}
+use Rattle.hwp_form.specs.declared.GoWord.{GoWord}
+use Rattle.hwp_form.specs.declared.Form.{Form}
+use Rattle.hwp_form.specs.declared.Form.TheVariants as forms
 use Rattle.hwp_script.specs.declared.why.Why.TheVariants as whys
 
 -- a line of the group may stand here
@@ -52,6 +56,47 @@ clean_frames {above} {n} h =
     let place : 2 < highest above → ⊥ = λ e. h.none whys.WrongPlace (inl e) in
     record { some = omega arith; few = omega arith; first = omega arith; late = omega arith }
 
+pub record IsKernelClean (above : List Form) (f : ℕ) : Type 0 where
+  pub placed : IsPlaced above 3
+  pub declared : f < frames_in above
+  pub low : f < 256
+
+pub clean_kernel : {above : List Form} {f : ℕ} → IsClean above (forms.Kernel f) → IsKernelClean above f
+clean_kernel {above} {f} h =
+    let over = h.none whys.OverLimit in
+    let none = h.none whys.Undeclared in
+    record { placed = placed above 3 (h.none whys.WrongPlace); declared = omega arith; low = omega arith }
+
+no_some : {A : Type 0} (o : Option A) → (IsSome o → ⊥) → o ≡ None
+no_some None h = refl
+no_some (Some x) h = absurd (h (search rules))
+
+pub record IsRecoveryClean (above : List Form) : Type 0 where
+  pub placed : IsPlaced above 4
+  pub first : recovery_in above ≡ None
+
+pub clean_recovery : {above : List Form} {b : ℕ} → IsClean above (forms.Recovery b) → IsRecoveryClean above
+clean_recovery {above} {b} h = record { placed = placed above 4 (h.none whys.WrongPlace); first = no_some (recovery_in above) (h.none whys.Twice) }
+
+pub record IsEarlyClean (above : List Form) : Type 0 where
+  pub placed : IsPlaced above 5
+  pub first : early_in above ≡ None
+
+pub clean_early : {above : List Form} {b : ℕ} → IsClean above (forms.Early b) → IsEarlyClean above
+clean_early {above} {b} h = record { placed = placed above 5 (h.none whys.WrongPlace); first = no_some (early_in above) (h.none whys.Twice) }
+
+pub record IsFileClean (above : List Form) (n : ℕ) : Type 0 where
+  pub placed : IsPlaced above 6
+  pub few : n < 16
+  pub next : n ≡ files_in above
+
+pub clean_file : {above : List Form} {n : ℕ} → IsClean above (forms.File n) → IsFileClean above n
+clean_file {above} {n} h =
+    let over = h.none whys.OverLimit in
+    let twice = h.none whys.Twice in
+    let gap : files_in above < n → ⊥ = λ e. h.none whys.WrongPlace (inr e) in
+    record { placed = placed above 6 (λ e. h.none whys.WrongPlace (inl e)); few = omega arith; next = omega arith }
+
 pub record IsProcClean (above : List Form) (p : ℕ) : Type 0 where
   pub placed : IsPlaced above 7
   pub few : p < 16
@@ -73,8 +118,8 @@ pub record IsThreadClean (above : List Form) (t p c : ℕ) : Type 0 where
   pub cpu : c < cpus_in above
   pub low_cpu : c < 8
 
-pub clean_thread : {above : List Form} {t p c : ℕ} → IsClean above (forms.Thread t p c) → IsThreadClean above t p c
-clean_thread {above} {t} {p} {c} h =
+pub clean_thread : {above : List Form} {t p c : ℕ} {b : Bool} → IsClean above (forms.Thread t p c b) → IsThreadClean above t p c
+clean_thread {above} {t} {p} {c} {b} h =
     let over_thread : 32 ≤ t → ⊥ = λ e. h.none whys.OverLimit (inl e) in
     let over_process : 16 ≤ p → ⊥ = λ e. h.none whys.OverLimit (inr (inl e)) in
     let over_cpu : 8 ≤ c → ⊥ = λ e. h.none whys.OverLimit (inr (inr e)) in
@@ -92,17 +137,25 @@ clean_thread {above} {t} {p} {c} h =
       low_cpu = omega arith;
     }
 
-pub record IsPageClean (above : List Form) (q : ℕ) : Type 0 where
+pub record IsPageClean (above : List Form) (q : ℕ) (b : Backing) : Type 0 where
   pub placed : IsPlaced above 9
   pub few : q < 256
   pub next : q ≡ length (pages_in above)
+  pub low : IsBackingOver b → ⊥
+  pub backed : IsBackingUndeclared above b → ⊥
 
-pub clean_page : {above : List Form} {q : ℕ} → IsClean above (forms.Page q) → IsPageClean above q
-clean_page {above} {q} h =
-    let over = h.none whys.OverLimit in
+pub clean_page : {above : List Form} {q : ℕ} {b : Backing} → IsClean above (forms.Page q b) → IsPageClean above q b
+clean_page {above} {q} {b} h =
+    let over : 256 ≤ q → ⊥ = λ e. h.none whys.OverLimit (inl e) in
     let twice = h.none whys.Twice in
     let gap : length (pages_in above) < q → ⊥ = λ e. h.none whys.WrongPlace (inr e) in
-    record { placed = placed above 9 (λ e. h.none whys.WrongPlace (inl e)); few = omega arith; next = omega arith }
+    record {
+      placed = placed above 9 (λ e. h.none whys.WrongPlace (inl e));
+      few = omega arith;
+      next = omega arith;
+      low = λ e. h.none whys.OverLimit (inr e);
+      backed = h.none whys.Undeclared;
+    }
 
 pub record IsTransClean (above : List Form) (v p q : ℕ) : Type 0 where
   pub placed : IsPlaced above 10
@@ -143,38 +196,36 @@ clean_cpu {above} {c} h =
     let none = h.none whys.Undeclared in
     record { placed = placed above 11 (h.none whys.WrongPlace); cpu = omega arith; low = omega arith }
 
-pub record IsAccessClean (above : List Form) (t v l : ℕ) : Type 0 where
+pub record IsOrderClean (above : List Form) (o : Order) : Type 0 where
   pub placed : IsPlaced above 11
-  pub low_thread : t < 32
-  pub low_slot : v < 512
-  pub low_line : l < 64
+  pub low : IsOver o → ⊥
   pub few : commands_in above < 4096
-  pub own : IsForeign (slice_get (threads_in above) t) (slice_get (trans_in above) v) → ⊥
-  pub here : IsElsewhere (place_in above) (slice_get (threads_in above) t) → ⊥
+  pub named : IsUndeclared above o → ⊥
+  pub here : IsElsewhere (place_in above) (option_and_then (λ t. slice_get (threads_in above) t) (actor o)) → ⊥
 
-access : (above : List Form) (t v l : ℕ) → (IsAccessOver above t v l → ⊥)
-    → (IsForeign (slice_get (threads_in above) t) (slice_get (trans_in above) v) → ⊥)
-    → (IsMisplaced above 11 ⊎ IsElsewhere (place_in above) (slice_get (threads_in above) t) → ⊥) → IsAccessClean above t v l
-access above t v l over own place =
-    let over_thread : 32 ≤ t → ⊥ = λ e. over (inl e) in
-    let over_slot : 512 ≤ v → ⊥ = λ e. over (inr (inl e)) in
-    let over_line : 64 ≤ l → ⊥ = λ e. over (inr (inr (inl e))) in
-    let many : 4096 ≤ commands_in above → ⊥ = λ e. over (inr (inr (inr e))) in
+pub clean_order : {above : List Form} {o : Order} → IsClean above (forms.Order o) → IsOrderClean above o
+clean_order {above} {o} h =
+    let many : 4096 ≤ commands_in above → ⊥ = λ e. h.none whys.OverLimit (inr e) in
     record {
-      placed = placed above 11 (λ e. place (inl e));
-      low_thread = omega arith;
-      low_slot = omega arith;
-      low_line = omega arith;
+      placed = placed above 11 (λ e. h.none whys.WrongPlace (inl e));
+      low = λ e. h.none whys.OverLimit (inl e);
       few = omega arith;
-      own = own;
-      here = λ e. place (inr e);
+      named = h.none whys.Undeclared;
+      here = λ e. h.none whys.WrongPlace (inr e);
     }
 
-pub clean_load : {above : List Form} {t v l : ℕ} → IsClean above (forms.Load t v l) → IsAccessClean above t v l
-clean_load {above} {t} {v} {l} h = access above t v l (h.none whys.OverLimit) (h.none whys.Undeclared) (h.none whys.WrongPlace)
+pub record IsScheduleClean (above : List Form) (ws : List GoWord) : Type 0 where
+  pub placed : IsPlaced above 12
+  pub few : length (go_in above) + length ws ≤ 100000
+  pub cpus : top_cpu ws < cpus_in above
+  pub low : top_cpu ws < 8
 
-pub clean_store : {above : List Form} {t v l x : ℕ} → IsClean above (forms.Store t v l x) → IsAccessClean above t v l
-clean_store {above} {t} {v} {l} {x} h = access above t v l (h.none whys.OverLimit) (h.none whys.Undeclared) (h.none whys.WrongPlace)
+pub clean_schedule : {above : List Form} {ws : List GoWord} → IsClean above (forms.Schedule ws) → IsScheduleClean above ws
+clean_schedule {above} {ws} h =
+    let over : 8 ≤ top_cpu ws → ⊥ = λ e. h.none whys.OverLimit (inl e) in
+    let many : 100000 < length (go_in above) + length ws → ⊥ = λ e. h.none whys.OverLimit (inr e) in
+    let none = h.none whys.Undeclared in
+    record { placed = placed above 12 (h.none whys.WrongPlace); few = omega arith; cpus = omega arith; low = omega arith }
 
 pub clean_end : {above : List Form} → IsClean above forms.End → IsPlaced above 12
 clean_end {above} h = placed above 12 (h.none whys.WrongPlace)

@@ -4,15 +4,15 @@ use Rattle.std.specs.Prelude.{slice_get}
 use Rattle.std.proofs.lemmas.List.{take_more, take-append-le, take_at, length_push}
 use Rattle.std.proofs.lemmas.Option.{slice_get_within, same_Some}
 use Rattle.std.proofs.lemmas.Bool.{cases_lt}
-use Rattle.hwp_script.specs.Context.{IsClean, AreClean}
-use Rattle.hwp_script.specs.declared.forms.Form.{Form}
+use Rattle.hwp_script.specs.Reasons.{IsClean, AreClean}
+use Rattle.hwp_form.specs.declared.Form.{Form}
 
 slice_get-append_left : {A : Type 0} (xs ys : List A) (n : ℕ) → n < length xs → slice_get (xs ++ ys) n ≡ slice_get xs n
 slice_get-append_left [] ys n h = absurd (omega arith)
 slice_get-append_left (x ∷ xs) ys zero h = refl
 slice_get-append_left (x ∷ xs) ys (suc n) h = slice_get-append_left xs ys n (omega arith)
 
-slice_get-append_at : {A : Type 0} (xs : List A) (y : A) → slice_get (xs ++ y ∷ []) (length xs) ≡ Some y
+pub slice_get-append_at : {A : Type 0} (xs : List A) (y : A) → slice_get (xs ++ y ∷ []) (length xs) ≡ Some y
 slice_get-append_at [] y = refl
 slice_get-append_at (x ∷ xs) y = slice_get-append_at xs y
 

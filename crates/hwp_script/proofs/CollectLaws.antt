@@ -8,7 +8,7 @@ use Rattle.std.proofs.lemmas.List.Sums.{fold-append}
 use Rattle.hwp_script.specs.Context.{place_after, place_in}
 use Rattle.hwp_script.specs.Collects.{command_at, commands_from, commands_of}
 use Rattle.hwp_script.specs.declared.script.Command.{Command}
-use Rattle.hwp_script.specs.declared.forms.Form.{Form}
+use Rattle.hwp_form.specs.declared.Form.{Form}
 
 commands_from-push : (place : Option ℕ) (c : ℕ) (xs : List Form) (f : Form)
     → commands_from place c (xs ++ f ∷ []) ≡ commands_from place c xs ++ option_to_list (command_at (fold place_after place xs) c f)
@@ -26,12 +26,11 @@ pub record IsListed (fs : List Form) (c : ℕ) (list : List Command) (place : Op
   pub commands : list ≡ commands_of fs c
   pub here : place ≡ place_in fs
 
-pub IsListed-more : (fs : List Form) (i : ℕ) (d : Form) (c : ℕ) (list : List Command) (place : Option ℕ) → i < length fs
-    → IsListed (take i fs) c list place
-    → IsListed (take (i + 1) fs) c (list ++ option_to_list (command_at place c (get_or fs i d))) (place_after place (get_or fs i d))
-IsListed-more fs i d c list place l h = rw (take_more fs i d l) (record {
-  commands = rw (h.commands, h.here) (sym (commands_of-push (take i fs) (get_or fs i d) c));
-  here = ap (λ p. place_after p (get_or fs i d)) h.here ∙ sym (fold-append place_after None (take i fs) (get_or fs i d ∷ []));
+pub IsListed-more : (fs : List Form) (i : ℕ) (f : Form) (c : ℕ) (list : List Command) (place : Option ℕ) → i < length fs → f ≡ get_or fs i f
+    → IsListed (take i fs) c list place → IsListed (take (i + 1) fs) c (list ++ option_to_list (command_at place c f)) (place_after place f)
+IsListed-more fs i f c list place l is h = rw (take_more fs i f l, ← is) (record {
+  commands = rw (h.commands, h.here) (sym (commands_of-push (take i fs) f c));
+  here = ap (λ p. place_after p f) h.here ∙ sym (fold-append place_after None (take i fs) (f ∷ []));
 })
 
 pub lists_of-more : (fs : List Form) (k : ℕ) (lists more : List (List Command)) (list : List Command) → lists ≡ map (commands_of fs) (range_with_len 0 k)

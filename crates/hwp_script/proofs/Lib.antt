@@ -1,10 +1,10 @@
-pub mod FormWords
-pub mod TextLaws
-pub mod LineLaws
+pub mod WordLaws
 pub mod ContextLaws
 pub mod CleanLaws
 pub mod CleanLists
 pub mod SumLaws
 pub mod CollectLaws
+pub mod JudgeLaws
+pub mod NameLaws
 pub mod ValidLaws
 pub mod ReadLaws

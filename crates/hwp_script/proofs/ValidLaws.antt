@@ -1,8 +1,8 @@
 -- Why the script of clean lines is valid.
 use Rattle.std.proofs.Common.{ℕ, ◌≡◌, ◌≢◌, ◌<◌, ◌≤◌, ◌+◌, ◌-◌, ◌++◌, ◌==◌, Bool, true, false, if◌then◌else◌, List, [], ◌∷◌, length, get_or, map, take, Option, Some, None, zero, suc, ap, subst, ◌∙◌, sym, refl, arith, add-one, ⊎_elim}
-use Rattle.std.specs.Prelude.{All, sum_by, filter_map, slice_get, option_to_list, IsSomeAnd}
+use Rattle.std.specs.Prelude.{All, sum_by, filter_map, slice_get, option_to_list}
 use Rattle.std.specs.List.{range_with_len, cons_option}
-use Rattle.std.proofs.lemmas.List.{take_more, take_all, length-replicate, length-append, length_push}
+use Rattle.std.proofs.lemmas.List.{take_more, take_all, length-append, length_push, append-nil, length-map}
 use Rattle.std.proofs.lemmas.List.Elements.{All-nil, All-cons, All-append, All-push, All-weaker}
 use Rattle.std.proofs.lemmas.List.Sums.{sum_by-cons}
 use Rattle.std.proofs.lemmas.List.FromFn.{length-map-range_with_len}
@@ -11,20 +11,22 @@ use Rattle.std.proofs.lemmas.Bool.{cases_eq}
 use Rattle.std.proofs.lemmas.Bool.Decides.{nat_tests}
 use Rattle.hwp_geom.specs.Layout.{IsBacked}
 use Rattle.hwp_geom.specs.declared.Layout.{Layout}
-use Rattle.hwp_geom.specs.declared.Proc.{Proc}
 use Rattle.hwp_geom.specs.declared.ThreadDecl.{ThreadDecl}
 use Rattle.hwp_geom.specs.declared.TransDecl.{TransDecl}
-use Rattle.hwp_script.specs.Context.{cpus_of, frames_of, proc_of, thread_of, page_of, trans_of, command_of, cpus_in, frames_in, procs_in, threads_in, pages_in, trans_in, commands_in, place_in, place_after, IsForeign, IsElsewhere, IsClean, AreClean}
+use Rattle.hwp_form.specs.declared.Form.{Form}
+use Rattle.hwp_form.specs.declared.Form.TheVariants as forms
+use Rattle.hwp_form.specs.declared.GoWord.{GoWord}
+use Rattle.hwp_script.specs.Context.{cpus_of, frames_of, file_of, proc_of, thread_of, page_of, trans_of, command_of, words_of, go_of, cpus_in, frames_in, files_in, procs_in, threads_in, pages_in, trans_in, commands_in, go_in, place_in, place_after}
+use Rattle.hwp_script.specs.Reasons.{IsClean, AreClean, top_cpu}
 use Rattle.hwp_script.specs.Collects.{command_at, commands_from, commands_of, IsEnded, Collects}
 use Rattle.hwp_script.specs.Valid.{IsCommandOf, AreLists, IsValid}
 use Rattle.hwp_script.specs.declared.script.Script.{Script}
+use Rattle.hwp_script.specs.declared.script.Go.{Go}
 use Rattle.hwp_script.specs.declared.script.Command.{Command}
-use Rattle.hwp_script.specs.declared.script.Command.TheVariants as commands
-use Rattle.hwp_script.specs.declared.forms.Form.{Form}
-use Rattle.hwp_script.specs.declared.forms.Form.TheVariants as forms
 use Rattle.hwp_script.proofs.ContextLaws.{onto, plus, more, pushed}
-use Rattle.hwp_script.proofs.CleanLaws.{clean_cpus, clean_frames, clean_proc, clean_thread, clean_page, clean_trans, clean_load, clean_store, clean_end, IsAccessClean}
+use Rattle.hwp_script.proofs.CleanLaws.{clean_cpus, clean_frames, clean_file, clean_proc, clean_thread, clean_page, clean_trans, clean_order, clean_schedule, clean_end}
 use Rattle.hwp_script.proofs.CollectLaws.{commands_of-push}
+use Rattle.hwp_script.proofs.NameLaws.{names_in, Grows, grows_line, command_kept, backed_kept, backed, order_valid, plus_le, more_le, onto_le}
 
 -- the numbers stay within their limits
 cpus_step : (above : List Form) (f : Form) → cpus_in above ≤ 8 → IsClean above f → plus (cpus_of f) (cpus_in above) ≤ 8
@@ -40,34 +42,28 @@ procs_step above (forms.Proc p) h k = omega (arith, (clean_proc k).few, (clean_p
 procs_step above f h k = h
 
 threads_step : (above : List Form) (f : Form) → length (threads_in above) ≤ 32 → IsClean above f → length (onto (thread_of f) (threads_in above)) ≤ 32
-threads_step above (forms.Thread t p c) h k = rw length_push (omega (arith, (clean_thread k).few, (clean_thread k).next))
+threads_step above (forms.Thread t p c b) h k = rw length_push (omega (arith, (clean_thread k).few, (clean_thread k).next))
 threads_step above f h k = h
 
 pages_step : (above : List Form) (f : Form) → length (pages_in above) ≤ 256 → IsClean above f → length (onto (page_of f) (pages_in above)) ≤ 256
-pages_step above (forms.Page q) h k = rw length_push (omega (arith, (clean_page k).few, (clean_page k).next))
+pages_step above (forms.Page q b) h k = rw length_push (omega (arith, (clean_page k).few, (clean_page k).next))
 pages_step above f h k = h
 
 trans_step : (above : List Form) (f : Form) → length (trans_in above) ≤ 512 → IsClean above f → length (onto (trans_of f) (trans_in above)) ≤ 512
 trans_step above (forms.Trans v p q) h k = rw length_push (omega (arith, (clean_trans k).few, (clean_trans k).next))
 trans_step above f h k = h
 
+files_step : (above : List Form) (f : Form) → files_in above ≤ 16 → IsClean above f → more (file_of f) (files_in above) ≤ 16
+files_step above (forms.File n) h k = omega (arith, (clean_file k).few, (clean_file k).next)
+files_step above f h k = h
+
 commands_step : (above : List Form) (f : Form) → commands_in above ≤ 4096 → IsClean above f → more (command_of f) (commands_in above) ≤ 4096
-commands_step above (forms.Load t v l) h k = omega (arith, (clean_load k).few)
-commands_step above (forms.Store t v l x) h k = omega (arith, (clean_store k).few)
+commands_step above (forms.Order o) h k = omega (arith, (clean_order k).few)
 commands_step above f h k = h
 
--- what grows
-plus_le : (o : Option ℕ) (n : ℕ) → n ≤ plus o n
-plus_le None n = omega arith
-plus_le (Some m) n = omega arith
-
-more_le : {A : Type 0} (o : Option A) (n : ℕ) → n ≤ more o n
-more_le None n = omega arith
-more_le (Some x) n = omega arith
-
-onto_le : {A : Type 0} (o : Option A) (xs : List A) → length xs ≤ length (onto o xs)
-onto_le None xs = omega arith
-onto_le (Some x) xs = rw length_push (omega arith)
+go_count_step : (above : List Form) (f : Form) → length (go_in above) ≤ 100000 → IsClean above f → length (go_in above ++ map go_of (words_of f)) ≤ 100000
+go_count_step above (forms.Schedule ws) h k = simp (length-append, length-map) (simp length-map at (clean_schedule k).few)
+go_count_step above f h k = rw append-nil h
 
 -- the names in declarations are declared
 abbrev pub IsNamedThread : ℕ → ℕ → ThreadDecl → Type 0
@@ -78,7 +74,7 @@ IsNamedTrans procs pages v = (v.process.0 < procs) × (v.page.0 < pages)
 
 thread_names_step : (above : List Form) (f : Form) (procs cpus : ℕ) → procs_in above ≤ procs → cpus_in above ≤ cpus
     → All (IsNamedThread procs cpus) (threads_in above) → IsClean above f → All (IsNamedThread procs cpus) (onto (thread_of f) (threads_in above))
-thread_names_step above (forms.Thread t p c) procs cpus a b h k =
+thread_names_step above (forms.Thread t p c x) procs cpus a b h k =
     All-push (IsNamedThread procs cpus) (threads_in above) _ h (omega (arith, (clean_thread k).process), omega (arith, (clean_thread k).cpu))
 thread_names_step above f procs cpus a b h k = h
 
@@ -88,46 +84,23 @@ trans_names_step above (forms.Trans v p q) procs pages a b h k =
     All-push (IsNamedTrans procs pages) (trans_in above) _ h (omega (arith, (clean_trans k).process), omega (arith, (clean_trans k).page))
 trans_names_step above f procs pages a b h k = h
 
-page_names_step : (layout : Layout) (above : List Form) (f : Form) → All (IsBacked layout) (pages_in above) → All (IsBacked layout) (onto (page_of f) (pages_in above))
-page_names_step layout above (forms.Page q) h = All-push (IsBacked layout) (pages_in above) _ h tt
-page_names_step layout above f h = h
+page_names_step : (above : List Form) (f : Form) → All (IsBacked (names_in above)) (pages_in above) → IsClean above f
+    → All (IsBacked (names_in above)) (onto (page_of f) (pages_in above))
+page_names_step above (forms.Page q b) h k = All-push (IsBacked (names_in above)) (pages_in above) _ h (backed above b (clean_page k).backed)
+page_names_step above f h k = h
 
--- an access of a thread of the processor through a translation of its process
-abbrev pub IsOwn : ℕ → Option ThreadDecl → Option TransDecl → Type 0
-IsOwn c thread trans = IsSomeAnd thread (λ (t : ThreadDecl). (t.cpu.0 ≡ c) × IsSomeAnd trans (λ (v : TransDecl). v.process ≡ t.process))
+-- a word of the schedule names a declared processor
+abbrev pub IsNamedGo : ℕ → Go → Type 0
+IsNamedGo cpus g = g.cpu.0 < cpus
 
-abbrev pub IsOwnCommand : List ThreadDecl → List TransDecl → ℕ → Command → Type 0
-IsOwnCommand threads trans c (commands.Load thread slot line) = IsOwn c (slice_get threads thread.0) (slice_get trans slot.0)
-IsOwnCommand threads trans c (commands.Store thread slot line word) = IsOwn c (slice_get threads thread.0) (slice_get trans slot.0)
+go_words : (n : ℕ) (ws : List GoWord) → top_cpu ws < n → All (IsNamedGo n) (map go_of ws)
+go_words n [] l = All-nil (IsNamedGo n)
+go_words n (w ∷ ws) l = All-cons (IsNamedGo n) _ _ (omega arith) (go_words n ws (omega arith))
 
-own : (c place : ℕ) (thread : Option ThreadDecl) (trans : Option TransDecl) → place ≡ c → (IsForeign thread trans → ⊥)
-    → (IsElsewhere (Some place) thread → ⊥) → IsOwn c thread trans
-own c place None trans e foreign here = absurd (foreign tt)
-own c place (Some t) None e foreign here = absurd (foreign tt)
-own c place (Some t) (Some v) e foreign here =
-    let same : t.process.0 ≡ v.process.0 = ⊎_elim (λ (e : t.process.0 ≡ v.process.0). e) (λ (n : t.process.0 ≢ v.process.0). absurd (foreign n)) (cases_eq t.process.0 v.process.0) in
-    let cpu : t.cpu.0 ≡ place = ⊎_elim (λ (e : t.cpu.0 ≡ place). e) (λ (n : t.cpu.0 ≢ place). absurd (here n)) (cases_eq t.cpu.0 place) in
-    (cpu ∙ e, let P : ℕ → Proc = λ n. record { 0 = n } in sym (ap P same))
-
-slice_get-onto : {A : Type 0} (o : Option A) (xs : List A) (i : ℕ) (x : A) → slice_get xs i ≡ Some x → slice_get (onto o xs) i ≡ Some x
-slice_get-onto None xs i x e = e
-slice_get-onto (Some y) [] i x e = cc
-slice_get-onto (Some y) (z ∷ zs) zero x e = e
-slice_get-onto (Some y) (z ∷ zs) (suc i) x e = slice_get-onto (Some y) zs i x e
-
-own_kept : (c : ℕ) (thread thread' : Option ThreadDecl) (trans trans' : Option TransDecl)
-    → ((t : ThreadDecl) → thread ≡ Some t → thread' ≡ Some t) → ((v : TransDecl) → trans ≡ Some v → trans' ≡ Some v)
-    → IsOwn c thread trans → IsOwn c thread' trans'
-own_kept c None thread' trans trans' a b h = absurd h
-own_kept c (Some t) thread' None trans' a b h = absurd h.1
-own_kept c (Some t) thread' (Some v) trans' a b h = rw (a t refl, b v refl) h
-
-own_command_kept : (threads : List ThreadDecl) (more_threads : Option ThreadDecl) (trans : List TransDecl) (more_trans : Option TransDecl) (c : ℕ) (command : Command)
-    → IsOwnCommand threads trans c command → IsOwnCommand (onto more_threads threads) (onto more_trans trans) c command
-own_command_kept threads mt trans mv c (commands.Load thread slot line) h =
-    own_kept c _ _ _ _ (slice_get-onto mt threads thread.0) (slice_get-onto mv trans slot.0) h
-own_command_kept threads mt trans mv c (commands.Store thread slot line word) h =
-    own_kept c _ _ _ _ (slice_get-onto mt threads thread.0) (slice_get-onto mv trans slot.0) h
+go_step : (above : List Form) (f : Form) → All (IsNamedGo (cpus_in above)) (go_in above) → IsClean above f
+    → All (IsNamedGo (cpus_in above)) (go_in above ++ map go_of (words_of f))
+go_step above (forms.Schedule ws) h k = All-append (IsNamedGo (cpus_in above)) _ _ h (go_words (cpus_in above) ws (clean_schedule k).cpus)
+go_step above f h k = rw append-nil h
 
 -- a command that a clean line adds to the list of processor c
 added : (P : Command → Type 0) (test : Bool) (command : Command) → (test ≡ true → P command) → All P (option_to_list (if test then Some command else None))
@@ -141,23 +114,19 @@ no_command P false = All-nil P
 same_place : (place c : ℕ) → (place == c) ≡ true → place ≡ c
 same_place place c e = grind (arith, nat_tests)
 
-added_access : (above : List Form) (t v l : ℕ) (c place : ℕ) → place_in above ≡ Some place → IsAccessClean above t v l → place ≡ c
-    → IsOwn c (slice_get (threads_in above) t) (slice_get (trans_in above) v)
-added_access above t v l c place e k same = own c place _ _ same k.own (rw e at k.here)
-
 added_command : (above : List Form) (f : Form) (c : ℕ) (place : Option ℕ) → place_in above ≡ place → IsClean above f
-    → All (IsOwnCommand (threads_in above) (trans_in above) c) (option_to_list (command_at place c f))
-added_command above f c None e k = All-nil (IsOwnCommand (threads_in above) (trans_in above) c)
-added_command above (forms.Load t v l) c (Some place) e k =
-    added (IsOwnCommand (threads_in above) (trans_in above) c) (place == c) _ (λ is. added_access above t v l c place e (clean_load k) (same_place place c is))
-added_command above (forms.Store t v l x) c (Some place) e k =
-    added (IsOwnCommand (threads_in above) (trans_in above) c) (place == c) _ (λ is. added_access above t v l c place e (clean_store k) (same_place place c is))
-added_command above f c (Some place) e k = no_command (IsOwnCommand (threads_in above) (trans_in above) c) (place == c)
+    → All (IsCommandOf (names_in above) c) (option_to_list (command_at place c f))
+added_command above f c None e k = All-nil (IsCommandOf (names_in above) c)
+added_command above (forms.Order o) c (Some place) e k =
+    let o_is = clean_order k in
+    added (IsCommandOf (names_in above) c) (place == c) _ (λ is. order_valid above o c place (same_place place c is) o_is.low o_is.named (rw e at o_is.here))
+added_command above f c (Some place) e k = no_command (IsCommandOf (names_in above) c) (place == c)
 
 -- what clean lines declare
 pub record IsDeclared (fs : List Form) : Type 0 where
   pub cpus : cpus_in fs ≤ 8
   pub frames : frames_in fs ≤ 256
+  pub files : files_in fs ≤ 16
   pub procs : procs_in fs ≤ 16
   pub threads : length (threads_in fs) ≤ 32
   pub pages : length (pages_in fs) ≤ 256
@@ -165,13 +134,16 @@ pub record IsDeclared (fs : List Form) : Type 0 where
   pub commands : commands_in fs ≤ 4096
   pub thread_names : All (IsNamedThread (procs_in fs) (cpus_in fs)) (threads_in fs)
   pub trans_names : All (IsNamedTrans (procs_in fs) (length (pages_in fs))) (trans_in fs)
-  pub page_names : (layout : Layout) → All (IsBacked layout) (pages_in fs)
-  pub own : (c : ℕ) → All (IsOwnCommand (threads_in fs) (trans_in fs) c) (commands_of fs c)
+  pub page_names : All (IsBacked (names_in fs)) (pages_in fs)
+  pub own : (c : ℕ) → All (IsCommandOf (names_in fs) c) (commands_of fs c)
+  pub go : All (IsNamedGo (cpus_in fs)) (go_in fs)
+  pub few_go : length (go_in fs) ≤ 100000
 
 declared_none : IsDeclared []
 declared_none = record {
   cpus = omega arith;
   frames = omega arith;
+  files = omega arith;
   procs = omega arith;
   threads = omega arith;
   pages = omega arith;
@@ -179,19 +151,23 @@ declared_none = record {
   commands = omega arith;
   thread_names = All-nil (IsNamedThread 0 0);
   trans_names = All-nil (IsNamedTrans 0 0);
-  page_names = λ layout. All-nil (IsBacked layout);
-  own = λ c. All-nil (IsOwnCommand [] [] c);
+  page_names = All-nil (IsBacked (names_in []));
+  own = λ c. All-nil (IsCommandOf (names_in []) c);
+  go = All-nil (IsNamedGo 0);
+  few_go = omega arith;
 }
 
 declared_step : (above : List Form) (f : Form) → IsDeclared above → IsClean above f → IsDeclared (above ++ f ∷ [])
 declared_step above f h k =
     let p = pushed above f in
+    let grows = grows_line above f in
     let procs : procs_in above ≤ more (proc_of f) (procs_in above) = more_le (proc_of f) (procs_in above) in
     let cpus : cpus_in above ≤ plus (cpus_of f) (cpus_in above) = plus_le (cpus_of f) (cpus_in above) in
     let pages : length (pages_in above) ≤ length (onto (page_of f) (pages_in above)) = onto_le (page_of f) (pages_in above) in
     record {
       cpus = rw p.cpus (cpus_step above f h.cpus k);
       frames = rw p.frames (frames_step above f h.frames k);
+      files = rw p.files (files_step above f h.files k);
       procs = rw p.procs (procs_step above f h.procs k);
       threads = rw p.threads (threads_step above f h.threads k);
       pages = rw p.pages (pages_step above f h.pages k);
@@ -203,12 +179,15 @@ declared_step above f h k =
       trans_names = rw (p.procs, p.pages, p.trans) (trans_names_step above f _ _ procs pages
           (All-weaker (IsNamedTrans (procs_in above) (length (pages_in above))) (IsNamedTrans (more (proc_of f) (procs_in above)) (length (onto (page_of f) (pages_in above))))
           (λ v n. (omega (arith, n.0), omega (arith, n.1))) (trans_in above) h.trans_names) k);
-      page_names = λ layout. rw p.pages (page_names_step layout above f (h.page_names layout));
-      own = λ c. rw (p.threads, p.trans, commands_of-push above f c)
-          (All-weaker (IsOwnCommand (threads_in above) (trans_in above) c) (IsOwnCommand (onto (thread_of f) (threads_in above)) (onto (trans_of f) (trans_in above)) c)
-          (own_command_kept (threads_in above) (thread_of f) (trans_in above) (trans_of f) c) (commands_of above c ++ option_to_list (command_at (place_in above) c f))
-          (All-append (IsOwnCommand (threads_in above) (trans_in above) c) (commands_of above c) (option_to_list (command_at (place_in above) c f))
+      page_names = rw p.pages (All-weaker (IsBacked (names_in above)) (IsBacked (names_in (above ++ f ∷ []))) (backed_kept (names_in above) (names_in (above ++ f ∷ [])) grows.files)
+          (onto (page_of f) (pages_in above)) (page_names_step above f h.page_names k));
+      own = λ c. rw (commands_of-push above f c)
+          (All-weaker (IsCommandOf (names_in above) c) (IsCommandOf (names_in (above ++ f ∷ [])) c)
+          (command_kept (names_in above) (names_in (above ++ f ∷ [])) c grows) (commands_of above c ++ option_to_list (command_at (place_in above) c f))
+          (All-append (IsCommandOf (names_in above) c) (commands_of above c) (option_to_list (command_at (place_in above) c f))
           (h.own c) (added_command above f c (place_in above) refl k)));
+      go = rw (p.cpus, p.go) (All-weaker (IsNamedGo (cpus_in above)) (IsNamedGo (plus (cpus_of f) (cpus_in above))) (λ g l. omega (arith, cpus)) _ (go_step above f h.go k));
+      few_go = rw p.go (go_count_step above f h.few_go k);
     }
 
 declared_upto : (fs : List Form) → AreClean fs → (n : ℕ) → n ≤ length fs → IsDeclared (take n fs)
@@ -296,13 +275,6 @@ lists_valid : (layout : Layout) (g : ℕ → List Command) (a n : ℕ) → ((c :
 lists_valid layout g a zero h = tt
 lists_valid layout g a (suc n) h = (h a, lists_valid layout g (a + 1) n h)
 
-command_in : (layout : Layout) (threads : List ThreadDecl) (trans : List TransDecl) → layout.threads ≡ threads → layout.trans ≡ trans
-    → (c : ℕ) (command : Command) → IsOwnCommand threads trans c command → IsCommandOf layout c command
-command_in layout threads trans e d c (commands.Load thread slot line) h = own_kept c (slice_get threads thread.0) (slice_get layout.threads thread.0)
-    (slice_get trans slot.0) (slice_get layout.trans slot.0) (λ t k. ap (λ l. slice_get l thread.0) e ∙ k) (λ v k. ap (λ l. slice_get l slot.0) d ∙ k) h
-command_in layout threads trans e d c (commands.Store thread slot line word) h = own_kept c (slice_get threads thread.0) (slice_get layout.threads thread.0)
-    (slice_get trans slot.0) (slice_get layout.trans slot.0) (λ t k. ap (λ l. slice_get l thread.0) e ∙ k) (λ v k. ap (λ l. slice_get l slot.0) d ∙ k) h
-
 -- the last line stands behind the others
 last_behind : (fs : List Form) (f : Form) → slice_get fs (length fs - 1) ≡ Some f → fs ≡ take (length fs - 1) fs ++ f ∷ []
 last_behind fs f e =
@@ -330,25 +302,35 @@ pub valid : (fs : List Form) (s : Script) → AreClean fs → IsEnded fs → Col
 valid fs s clean ended h =
     let d = declared fs clean in
     let size = has_size fs clean ended in
+    let grows : Grows (names_in fs) s.layout = record {
+      frames = omega (arith, h.frames);
+      files = omega (arith, h.files);
+      threads = λ i t e. rw h.threads e;
+      pages = λ i q e. rw h.pages e;
+      trans = λ i v e. rw h.trans e;
+      page_count = rw h.pages (omega arith);
+      trans_count = rw h.trans (omega arith);
+    } in
     record {
       sound = record {
         some_cpu = omega (arith, h.cpus);
         cpus = omega (arith, h.cpus);
         some_frame = omega (arith, h.frames);
         frames = omega (arith, h.frames);
-        kernel = ap length h.kernel ∙ length-replicate (frames_in fs) false ∙ sym h.frames;
-        files = omega (arith, h.files);
+        kernel = h.marks ∙ sym h.frames;
+        files = omega (arith, h.files, d.files);
         procs = omega (arith, h.procs);
         threads = rw h.threads d.threads;
         pages = rw h.pages d.pages;
         trans = rw h.trans d.trans;
         thread_names = rw (h.threads, h.procs, h.cpus) d.thread_names;
-        page_names = rw h.pages (d.page_names s.layout);
+        page_names = rw h.pages (All-weaker (IsBacked (names_in fs)) (IsBacked s.layout) (backed_kept (names_in fs) s.layout grows.files) (pages_in fs) d.page_names);
         trans_names = rw (h.trans, h.procs, h.pages) d.trans_names;
       };
       one_each = ap length h.lists ∙ length-map-range_with_len (commands_of fs) 0 (cpus_in fs) ∙ sym h.cpus;
       lists = rw h.lists (lists_valid s.layout (commands_of fs) 0 (cpus_in fs) (λ c.
-          All-weaker (IsOwnCommand (threads_in fs) (trans_in fs) c) (IsCommandOf s.layout c)
-          (command_in s.layout (threads_in fs) (trans_in fs) h.threads h.trans c) (commands_of fs c) (d.own c)));
+          All-weaker (IsCommandOf (names_in fs) c) (IsCommandOf s.layout c) (command_kept (names_in fs) s.layout c grows) (commands_of fs c) (d.own c)));
       few = rw (h.lists, total-sum) (omega (arith, lists_total fs None 0 (cpus_in fs), d.commands));
+      go = rw (h.go, h.cpus) d.go;
+      few_go = rw h.go d.few_go;
     }

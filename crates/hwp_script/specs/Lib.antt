@@ -1,7 +1,9 @@
 pub mod Limits
-pub mod Forms
 pub mod Context
+pub mod Reasons
 pub mod Sums
 pub mod Collects
-pub mod Reads
+pub mod Refusals
+pub mod Judged
 pub mod Valid
+pub mod Reads

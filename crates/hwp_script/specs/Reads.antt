@@ -1,31 +1,34 @@
 -- When bytes are the text of a script, and when they are refused.
 use Rattle.std.specs.Prelude.{◌≡◌, ℕ, ◌<◌, ◌≤◌, length, List}
+use Rattle.hwp_form.specs.Lines.{AreLinesOf}
+use Rattle.hwp_form.specs.declared.Numbered.{Numbered}
 use Rattle.hwp_script.specs.Limits.{script_limit}
-use Rattle.hwp_script.specs.Forms.{IsText}
-use Rattle.hwp_script.specs.Context.{AreClean}
-use Rattle.hwp_script.specs.Collects.{Collects, IsEnded}
+use Rattle.hwp_script.specs.Refusals.{AreScript, AreRefused}
 use Rattle.hwp_script.specs.declared.script.Script.{Script}
-use Rattle.hwp_script.specs.declared.forms.Form.{Form}
 use Rattle.hwp_script.specs.declared.why.Refused.{Refused}
 use Rattle.hwp_script.specs.declared.why.Why.{Why}
 use Rattle.hwp_script.specs.declared.why.Why.TheVariants as whys
 
--- the bytes are the text of clean lines, of which the last is `end`, and which give the script
+-- the bytes are the text of the script
 pub record Reads (bytes : List ℕ) (s : Script) : Type 0 where
   pub short : length bytes ≤ script_limit
-  pub forms : List Form
-  pub text : IsText bytes forms
-  pub clean : AreClean forms
-  pub ended : IsEnded forms
-  pub collects : Collects forms s
+  pub lines : List Numbered
+  pub numbered : AreLinesOf bytes lines
+  pub script : AreScript lines s
 
--- the reason holds of the bytes: they are too long, or the text of no script
-abbrev pub IsReason : List ℕ → Why → Type 0
-IsReason bytes whys.TooLong = script_limit < length bytes
-IsReason bytes whys.NotBuilt = (length bytes ≤ script_limit) × ((s : Script) → Reads bytes s → ⊥)
-IsReason bytes w = ⊥
+-- the bytes are not too long, and their lines are refused so
+pub record IsFaulty (bytes : List ℕ) (r : Refused) : Type 0 where
+  pub short : length bytes ≤ script_limit
+  pub lines : List Numbered
+  pub numbered : AreLinesOf bytes lines
+  pub refused : AreRefused lines r
 
--- the bytes are refused as a whole, for a reason that holds
+-- the bytes are refused so, by cases on the reason
+abbrev pub IsRefusedFor : List ℕ → Refused → Why → Type 0
+IsRefusedFor bytes r whys.TooLong = (r.line ≡ 0) × (script_limit < length bytes)
+IsRefusedFor bytes r whys.NotBuilt = ⊥
+IsRefusedFor bytes r w = IsFaulty bytes r
+
+-- the bytes are refused so: as too long, or at the first line at fault
 pub record IsRefused (bytes : List ℕ) (r : Refused) : Type 0 where
-  pub whole : r.line ≡ 0
-  pub reason : IsReason bytes r.why
+  pub reason : IsRefusedFor bytes r r.why

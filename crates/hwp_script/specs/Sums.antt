@@ -1,14 +1,19 @@
 -- What is kept of the lines above while a script is read.
-use Rattle.std.specs.Prelude.{◌≡◌, List}
-use Rattle.hwp_script.specs.declared.forms.Form.{Form}
+use Rattle.std.specs.Prelude.{◌≡◌, ℕ, ◌↔◌, true, length, slice_get, Some, Contains, List}
+use Rattle.hwp_form.specs.declared.Form.{Form}
 use Rattle.hwp_script.specs.declared.context.Summary.{Summary}
-use Rattle.hwp_script.specs.Context.{cpus_in, frames_in, procs_in, threads_in, pages_in, trans_in, lists_in, commands_in, place_in, highest}
+use Rattle.hwp_script.specs.Context.{cpus_in, frames_in, kernel_in, recovery_in, early_in, files_in, procs_in, threads_in, pages_in, trans_in, lists_in, commands_in, go_in, place_in, highest}
 
 -- the summary is that of these lines
 pub record Sums (above : List Form) (s : Summary) : Type 0 where
   pub group : s.group ≡ highest above
   pub cpus : s.cpus ≡ cpus_in above
   pub frames : s.frames ≡ frames_in above
+  pub marks : length s.kernel.items ≡ frames_in above
+  pub kernel : (frame : ℕ) → (slice_get s.kernel.items frame ≡ Some true) ↔ Contains (kernel_in above) frame
+  pub recovery : s.recovery ≡ recovery_in above
+  pub early : s.early ≡ early_in above
+  pub files : s.files ≡ files_in above
   pub procs : s.procs ≡ procs_in above
   pub threads : s.threads ≡ threads_in above
   pub pages : s.pages ≡ pages_in above
@@ -16,3 +21,4 @@ pub record Sums (above : List Form) (s : Summary) : Type 0 where
   pub lists : s.lists ≡ lists_in above
   pub place : s.place ≡ place_in above
   pub commands : s.commands ≡ commands_in above
+  pub go : s.go ≡ go_in above

@@ -1,55 +1,30 @@
 ghost use Rattle.std.specs.Prelude.{◌≡◌, ◌++◌, IfOk, OnOk, map, option_to_list};
 ghost use Rattle.std.specs.List.{range_with_len};
-ghost use Rattle.hwp_script.specs.Context.{IsClean, AreClean, command_of, place_after};
+ghost use Rattle.hwp_script.specs.Context.{command_of, place_after};
+ghost use Rattle.hwp_script.specs.Reasons.{IsClean, AreClean};
 ghost use Rattle.hwp_script.specs.Collects.{command_at, commands_of, Collects};
 ghost use Rattle.hwp_script.specs.Sums.{Sums};
 
+use crate::commands::command;
 use crate::context::Summary;
-use crate::forms::Form;
 use crate::script::{Command, Script};
-use hwp_geom::{Layout, Line, List, OutOfMemory, Thread, VSlot};
+use hwp_form::Form;
+use hwp_geom::{Layout, List, OutOfMemory};
 use std::alloc::Global;
 
 /// The command that a line is.
-fn command(above: &[Form], form: &Form) -> Option<Command>
+#[tactic(auto, using(crate::proofs::CleanLaws::clean_order))]
+fn line_command(above: &[Form], form: &Form) -> Option<Command>
     requires { IsClean above.now form.now }
     ensures { result ≡ command_of form.now }
 {
-    match *form {
-        Form::Load { thread, slot, line } => load(above, thread, slot, line),
-        Form::Store {
-            thread,
-            slot,
-            line,
-            word,
-        } => store(above, thread, slot, line, word),
-        _ => None,
-    }
-}
-
-#[tactic(auto, using(crate::proofs::CleanLaws::clean_load))]
-fn load(above: &[Form], thread: u64, slot: u64, line: u64) -> Option<Command>
-    requires { IsClean above.now (Form.Load thread slot line) }
-    ensures { result ≡ command_of (Form.Load thread slot line) }
-{
-    Some(Command::Load {
-        thread: Thread(thread as u8),
-        slot: VSlot(slot as u16),
-        line: Line::new(line as u8)?,
-    })
-}
-
-#[tactic(auto, using(crate::proofs::CleanLaws::clean_store))]
-fn store(above: &[Form], thread: u64, slot: u64, line: u64, word: u64) -> Option<Command>
-    requires { IsClean above.now (Form.Store thread slot line word) }
-    ensures { result ≡ command_of (Form.Store thread slot line word) }
-{
-    Some(Command::Store {
-        thread: Thread(thread as u8),
-        slot: VSlot(slot as u16),
-        line: Line::new(line as u8)?,
-        word,
-    })
+    let Form::Order(order) = form else {
+        return None;
+    };
+    let Some(command) = command(order) else {
+        return None;
+    };
+    Some(command)
 }
 
 /// The command that a line is, if it stands in the list of processor `cpu`.
@@ -58,7 +33,7 @@ fn command_in(place: Option<u64>, cpu: u64, above: &[Form], form: &Form) -> Opti
     ensures { result ≡ command_at place cpu form.now }
 {
     match place {
-        Some(place) if place == cpu => command(above, form),
+        Some(place) if place == cpu => line_command(above, form),
         _ => None,
     }
 }
@@ -67,9 +42,9 @@ fn command_in(place: Option<u64>, cpu: u64, above: &[Form], form: &Form) -> Opti
 fn next_place(place: Option<u64>, form: &Form) -> Option<u64>
     ensures { result ≡ place_after place form.now }
 {
-    match *form {
-        Form::Cpu(cpu) => Some(cpu),
-        Form::End => None,
+    match form {
+        Form::Cpu(cpu) => Some(*cpu),
+        Form::Schedule(_) | Form::End => None,
         _ => place,
     }
 }
@@ -121,20 +96,20 @@ pub(crate) fn collect(
     ensures { IfOk result (λ script. Collects forms.now script) }
 {
     let lists = lists_of(alloc, forms, summary.cpus)?;
-    let kernel = List::from_vec(vec![in alloc; false; usize::from(summary.frames)]?);
     Ok(Script {
         layout: Layout {
             cpus: summary.cpus,
             frames: summary.frames,
-            kernel,
-            recovery: true,
-            early: false,
-            files: 0,
+            kernel: List::from_vec(summary.kernel),
+            recovery: summary.recovery.unwrap_or(true),
+            early: summary.early.unwrap_or(false),
+            files: summary.files,
             procs: summary.procs,
             threads: summary.threads,
             pages: summary.pages,
             trans: summary.trans,
         },
         lists,
+        go: summary.go,
     })
 }

@@ -1,56 +1,46 @@
-ghost use Rattle.std.specs.Prelude.{◌≡◌, ℕ, ◌<◌, ◌↔◌, length, slice_get, IsTrue, MatchOption, Contains};
-ghost use Rattle.hwp_script.specs.Context.{IsClean, IsLowest, IsForeign, IsElsewhere, IsMisplaced, IsAccessOver};
+ghost use Rattle.std.specs.Prelude.{◌≡◌, ℕ, max, ◌<◌, ◌+◌, ◌↔◌, length, slice_get, IsTrue, MatchOption, Contains, Some, true};
+ghost use Rattle.hwp_script.specs.Reasons.{IsClean, IsLowest, IsMisplaced, IsBackingOver, IsBackingUndeclared, top_cpu};
+ghost use Rattle.hwp_script.specs.Limits.{schedule_limit};
 ghost use Rattle.hwp_script.specs.Sums.{Sums};
 
 use crate::context::Summary;
-use crate::forms::Form;
-use crate::script::MAX_COMMANDS;
+use crate::orders::order_fault;
+use crate::script::MAX_SCHEDULE;
 use crate::why::Why;
-use hwp_geom::{LINES, MAX_CPUS, MAX_FRAMES, MAX_PAGES, MAX_PROCS, MAX_THREADS, MAX_TRANS};
+use hwp_form::{Backing, Form, GoWord};
+use hwp_geom::{MAX_CPUS, MAX_FILES, MAX_FRAMES, MAX_PAGES, MAX_PROCS, MAX_THREADS, MAX_TRANS};
 
 /// Whether a line of a group may not stand below these lines.
-fn is_misplaced(summary: &Summary, above: &[Form], group: u8) -> bool
+pub(crate) fn is_misplaced(summary: &Summary, above: &[Form], group: u8) -> bool
     requires { Sums above.now summary.now }
     ensures { IsTrue result ↔ IsMisplaced above.now group }
 {
     group < summary.group || summary.cpus == 0 || summary.frames == 0
 }
 
-/// Whether a thread and a translation are not both declared, or are of two processes.
-fn is_foreign(summary: &Summary, thread: u64, slot: u64) -> bool
-    ensures { IsTrue result ↔ IsForeign (slice_get summary.now.threads thread) (slice_get summary.now.trans slot) }
+/// Whether a frame is given to the kernel already.
+fn is_kernel(summary: &Summary, frame: u64) -> bool
+    ensures { IsTrue result ↔ (slice_get summary.now.kernel.items frame ≡ Some true) }
 {
-    let thread = summary.threads.as_slice().get(thread as usize);
-    let slot = summary.trans.as_slice().get(slot as usize);
-    match (thread, slot) {
-        (Some(thread), Some(slot)) => thread.process.0 != slot.process.0,
-        _ => true,
-    }
+    matches!(summary.kernel.as_slice().get(frame as usize), Some(true))
 }
 
-/// Whether a command of a thread would stand in no list, or in another processor's.
-fn is_elsewhere(summary: &Summary, thread: u64) -> bool
-    ensures { IsTrue result ↔ IsElsewhere summary.now.place (slice_get summary.now.threads thread) }
+/// The higher of two numbers.
+fn higher(left: u64, right: u64) -> u64
+    ensures { result ≡ max left right }
 {
-    match (
-        summary.place,
-        summary.threads.as_slice().get(thread as usize),
-    ) {
-        (None, _) => true,
-        (Some(place), Some(thread)) => u64::from(thread.cpu.0) != place,
-        (Some(_), None) => false,
-    }
+    if left < right { right } else { left }
 }
 
-/// Whether an access names a number that is too large, or is a command too many.
-fn is_access_over(summary: &Summary, above: &[Form], thread: u64, slot: u64, line: u64) -> bool
-    requires { Sums above.now summary.now }
-    ensures { IsTrue result ↔ IsAccessOver above.now thread slot line }
+/// The highest processor that words of a schedule name.
+fn highest_cpu(words: &[GoWord]) -> u64
+    ensures { result ≡ top_cpu words.now }
 {
-    thread >= u64::from(MAX_THREADS)
-        || slot >= u64::from(MAX_TRANS)
-        || line >= LINES as u64
-        || summary.commands >= MAX_COMMANDS
+    let mut highest = 0;
+    for word in words {
+        highest = higher(highest, word.cpu);
+    }
+    highest
 }
 
 fn cpus_fault(summary: &Summary, above: &[Form], n: u64) -> Option<Why>
@@ -85,6 +75,72 @@ fn frames_fault(summary: &Summary, above: &[Form], n: u64) -> Option<Why>
     }
 }
 
+fn kernel_fault(summary: &Summary, above: &[Form], frame: u64) -> Option<Why>
+    requires sums { Sums above.now summary.now }
+    requires some { 0 < length above.now }
+    ensures { MatchOption result (IsClean above.now (Form.Kernel frame)) (λ why. IsLowest above.now (Form.Kernel frame) why) }
+{
+    if frame >= u64::from(MAX_FRAMES) {
+        Some(Why::OverLimit)
+    } else if frame >= u64::from(summary.frames) {
+        Some(Why::Undeclared)
+    } else if is_kernel(summary, frame) {
+        Some(Why::Twice)
+    } else if is_misplaced(summary, above, 3) {
+        Some(Why::WrongPlace)
+    } else {
+        None
+    }
+}
+
+fn recovery_fault(summary: &Summary, above: &[Form], value: u64) -> Option<Why>
+    requires sums { Sums above.now summary.now }
+    requires some { 0 < length above.now }
+    ensures { MatchOption result (IsClean above.now (Form.Recovery value)) (λ why. IsLowest above.now (Form.Recovery value) why) }
+{
+    if value > 1 {
+        Some(Why::OverLimit)
+    } else if summary.recovery.is_some() {
+        Some(Why::Twice)
+    } else if is_misplaced(summary, above, 4) {
+        Some(Why::WrongPlace)
+    } else {
+        None
+    }
+}
+
+fn early_fault(summary: &Summary, above: &[Form], value: u64) -> Option<Why>
+    requires sums { Sums above.now summary.now }
+    requires some { 0 < length above.now }
+    ensures { MatchOption result (IsClean above.now (Form.Early value)) (λ why. IsLowest above.now (Form.Early value) why) }
+{
+    if value > 1 {
+        Some(Why::OverLimit)
+    } else if summary.early.is_some() {
+        Some(Why::Twice)
+    } else if is_misplaced(summary, above, 5) {
+        Some(Why::WrongPlace)
+    } else {
+        None
+    }
+}
+
+fn file_fault(summary: &Summary, above: &[Form], file: u64) -> Option<Why>
+    requires sums { Sums above.now summary.now }
+    requires some { 0 < length above.now }
+    ensures { MatchOption result (IsClean above.now (Form.File file)) (λ why. IsLowest above.now (Form.File file) why) }
+{
+    if file >= u64::from(MAX_FILES) {
+        Some(Why::OverLimit)
+    } else if file < u64::from(summary.files) {
+        Some(Why::Twice)
+    } else if is_misplaced(summary, above, 6) || file > u64::from(summary.files) {
+        Some(Why::WrongPlace)
+    } else {
+        None
+    }
+}
+
 fn proc_fault(summary: &Summary, above: &[Form], process: u64) -> Option<Why>
     requires sums { Sums above.now summary.now }
     requires some { 0 < length above.now }
@@ -107,10 +163,11 @@ fn thread_fault(
     thread: u64,
     process: u64,
     cpu: u64,
+    handler: bool,
 ) -> Option<Why>
     requires sums { Sums above.now summary.now }
     requires some { 0 < length above.now }
-    ensures { MatchOption result (IsClean above.now (Form.Thread thread process cpu)) (λ why. IsLowest above.now (Form.Thread thread process cpu) why) }
+    ensures { MatchOption result (IsClean above.now (Form.Thread thread process cpu handler)) (λ why. IsLowest above.now (Form.Thread thread process cpu handler) why) }
 {
     let threads = summary.threads.len() as u64;
     if thread >= u64::from(MAX_THREADS)
@@ -129,14 +186,37 @@ fn thread_fault(
     }
 }
 
-fn page_fault(summary: &Summary, above: &[Form], page: u64) -> Option<Why>
+/// Whether the number of the file behind a page is too high.
+fn is_backing_over(backing: Backing) -> bool
+    ensures { IsTrue result ↔ IsBackingOver backing }
+{
+    match backing {
+        Backing::Anon => false,
+        Backing::File { file, .. } => file >= u64::from(MAX_FILES),
+    }
+}
+
+/// Whether the file behind a page is not declared.
+fn is_backing_undeclared(summary: &Summary, above: &[Form], backing: Backing) -> bool
+    requires { Sums above.now summary.now }
+    ensures { IsTrue result ↔ IsBackingUndeclared above.now backing }
+{
+    match backing {
+        Backing::Anon => false,
+        Backing::File { file, .. } => file >= u64::from(summary.files),
+    }
+}
+
+fn page_fault(summary: &Summary, above: &[Form], page: u64, backing: Backing) -> Option<Why>
     requires sums { Sums above.now summary.now }
     requires some { 0 < length above.now }
-    ensures { MatchOption result (IsClean above.now (Form.Page page)) (λ why. IsLowest above.now (Form.Page page) why) }
+    ensures { MatchOption result (IsClean above.now (Form.Page page backing)) (λ why. IsLowest above.now (Form.Page page backing) why) }
 {
     let pages = summary.pages.len() as u64;
-    if page >= u64::from(MAX_PAGES) {
+    if page >= u64::from(MAX_PAGES) || is_backing_over(backing) {
         Some(Why::OverLimit)
+    } else if is_backing_undeclared(summary, above, backing) {
+        Some(Why::Undeclared)
     } else if page < pages {
         Some(Why::Twice)
     } else if is_misplaced(summary, above, 9) || page > pages {
@@ -186,39 +266,24 @@ fn cpu_fault(summary: &Summary, above: &[Form], cpu: u64) -> Option<Why>
     }
 }
 
-fn load_fault(summary: &Summary, above: &[Form], thread: u64, slot: u64, line: u64) -> Option<Why>
-    requires sums { Sums above.now summary.now }
-    requires some { 0 < length above.now }
-    ensures { MatchOption result (IsClean above.now (Form.Load thread slot line)) (λ why. IsLowest above.now (Form.Load thread slot line) why) }
+/// Whether so many more words make the schedule too long.
+fn is_too_long(words: usize, more: usize) -> bool
+    ensures { IsTrue result ↔ (schedule_limit < words + more) }
 {
-    if is_access_over(summary, above, thread, slot, line) {
-        Some(Why::OverLimit)
-    } else if is_foreign(summary, thread, slot) {
-        Some(Why::Undeclared)
-    } else if is_misplaced(summary, above, 11) || is_elsewhere(summary, thread) {
-        Some(Why::WrongPlace)
-    } else {
-        None
-    }
+    words > MAX_SCHEDULE as usize || more > MAX_SCHEDULE as usize - words
 }
 
-fn store_fault(
-    summary: &Summary,
-    above: &[Form],
-    thread: u64,
-    slot: u64,
-    line: u64,
-    word: u64,
-) -> Option<Why>
+fn schedule_fault(summary: &Summary, above: &[Form], words: &[GoWord]) -> Option<Why>
     requires sums { Sums above.now summary.now }
     requires some { 0 < length above.now }
-    ensures { MatchOption result (IsClean above.now (Form.Store thread slot line word)) (λ why. IsLowest above.now (Form.Store thread slot line word) why) }
+    ensures { MatchOption result (IsClean above.now (Form.Schedule words.now)) (λ why. IsLowest above.now (Form.Schedule words.now) why) }
 {
-    if is_access_over(summary, above, thread, slot, line) {
+    let highest = highest_cpu(words);
+    if highest >= u64::from(MAX_CPUS) || is_too_long(summary.go.len(), words.len()) {
         Some(Why::OverLimit)
-    } else if is_foreign(summary, thread, slot) {
+    } else if highest >= u64::from(summary.cpus) {
         Some(Why::Undeclared)
-    } else if is_misplaced(summary, above, 11) || is_elsewhere(summary, thread) {
+    } else if is_misplaced(summary, above, 12) {
         Some(Why::WrongPlace)
     } else {
         None
@@ -245,30 +310,30 @@ pub(crate) fn fault(summary: &Summary, above: &[Form], form: &Form) -> Option<Wh
     if above.is_empty() {
         return first_fault(above, form);
     }
-    match *form {
+    match form {
         Form::Header => Some(Why::UnknownWord),
-        Form::Cpus(n) => cpus_fault(summary, above, n),
-        Form::Frames(n) => frames_fault(summary, above, n),
-        Form::Proc(process) => proc_fault(summary, above, process),
+        Form::Cpus(n) => cpus_fault(summary, above, *n),
+        Form::Frames(n) => frames_fault(summary, above, *n),
+        Form::Kernel(frame) => kernel_fault(summary, above, *frame),
+        Form::Recovery(value) => recovery_fault(summary, above, *value),
+        Form::Early(value) => early_fault(summary, above, *value),
+        Form::File(file) => file_fault(summary, above, *file),
+        Form::Proc(process) => proc_fault(summary, above, *process),
         Form::Thread {
             thread,
             process,
             cpu,
-        } => thread_fault(summary, above, thread, process, cpu),
-        Form::Page(page) => page_fault(summary, above, page),
+            handler,
+        } => thread_fault(summary, above, *thread, *process, *cpu, *handler),
+        Form::Page { page, backing } => page_fault(summary, above, *page, *backing),
         Form::Trans {
             slot,
             process,
             page,
-        } => trans_fault(summary, above, slot, process, page),
-        Form::Cpu(cpu) => cpu_fault(summary, above, cpu),
-        Form::Load { thread, slot, line } => load_fault(summary, above, thread, slot, line),
-        Form::Store {
-            thread,
-            slot,
-            line,
-            word,
-        } => store_fault(summary, above, thread, slot, line, word),
+        } => trans_fault(summary, above, *slot, *process, *page),
+        Form::Cpu(cpu) => cpu_fault(summary, above, *cpu),
+        Form::Order(order) => order_fault(summary, above, order),
+        Form::Schedule(words) => schedule_fault(summary, above, words.as_slice()),
         Form::End => end_fault(summary, above),
     }
 }

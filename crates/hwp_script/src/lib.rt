@@ -1,18 +1,20 @@
 //! The fault script: its type, its reading from bytes, and its text.
 #![tactic(auto)]
 
+mod adding;
 mod collecting;
+mod commands;
 mod context;
 mod faults;
-mod forms;
+mod judging;
+mod orders;
 mod reading;
 mod script;
 #[cfg(test)]
 mod tests;
-mod texts;
 mod why;
 
-pub use forms::Form;
+pub use hwp_form::{PrctlArgs, Until};
 pub use reading::{ReadScript, read};
-pub use script::{Command, MAX_COMMANDS, MAX_SCRIPT, Script};
+pub use script::{Command, Go, MAX_COMMANDS, MAX_SCHEDULE, MAX_SCRIPT, Script};
 pub use why::{Refused, Why};

@@ -1,19 +1,15 @@
-ghost use Rattle.std.specs.Prelude.{◌≡◌, ◌≤◌, ◌↔◌, length, IfOk, IfSome, IfNone, IsErrOf, IsTrue};
-ghost use Rattle.hwp_script.specs.Context.{AreClean};
-ghost use Rattle.hwp_script.specs.Collects.{IsEnded};
-ghost use Rattle.hwp_script.specs.Sums.{Sums};
+ghost use Rattle.std.specs.Prelude.{◌≡◌, IfOk, IfErr, IsErrOf};
 ghost use Rattle.hwp_script.specs.Reads.{Reads, IsRefused};
+ghost use Rattle.hwp_script.specs.Refusals.{AreScript, AreRefused};
 ghost use Rattle.hwp_script.specs.Valid.{IsValid};
 ghost use Rattle.hwp_script.specs.declared.script.Script.{Script};
 ghost use Rattle.hwp_script.specs.declared.why.Refused.{Refused};
 
 use crate::collecting::collect;
-use crate::context::Summary;
-use crate::faults::fault;
-use crate::forms::Form;
+use crate::judging::{Clean, Judged, judge};
 use crate::script::{MAX_SCRIPT, Script};
-use crate::texts::read_forms;
 use crate::why::{Refused, Why};
+use hwp_form::{Numbered, read_lines};
 use hwp_geom::OutOfMemory;
 use std::alloc::Global;
 
@@ -26,69 +22,41 @@ pub enum ReadScript {
     OutOfMemory,
 }
 
-/// What the lines of a script declare, if each is clean after those above it.
-fn summarize(alloc: Global, forms: &[Form]) -> Result<Option<Summary>, OutOfMemory>
-    ensures some { IfOk result (λ read. IfSome read (λ summary. AreClean forms.now × Sums forms.now summary)) }
-    ensures none { IfOk result (λ read. IfNone read (AreClean forms.now → ⊥)) }
+/// The script that lines give, or their first line at fault.
+fn read_script(alloc: Global, lines: Vec<Numbered>) -> Result<Result<Script, Refused>, OutOfMemory>
+    ensures script { IfOk result (λ read. IfOk read (AreScript lines.items)) }
+    ensures valid { IfOk result (λ read. IfOk read IsValid) }
+    ensures refused { IfOk result (λ read. IfErr read (AreRefused lines.items)) }
 {
-    let mut summary = Summary::new(alloc);
-    for (at, form) in forms.iter().enumerate() {
-        let above = &forms[..at];
-        if let Some(_why) = fault(&summary, above, form) {
-            return Ok(None);
+    match judge(alloc, lines)? {
+        Judged::Clean(Clean { forms, summary }) => {
+            Ok(Ok(collect(alloc, forms.as_slice(), summary)?))
         }
-        summary.add(above, form)?;
+        Judged::Faulty(refused) => Ok(Err(refused)),
     }
-    Ok(Some(summary))
 }
 
-/// Whether the last line is `end`.
-fn is_ended(forms: &[Form]) -> bool
-    ensures { IsTrue result ↔ IsEnded forms.now }
-{
-    matches!(forms.last(), Some(Form::End))
-}
-
-/// The script that bytes are the text of.
-fn read_script(alloc: Global, bytes: &[u8]) -> Result<Option<Script>, OutOfMemory>
-    requires { length bytes.now ≤ MAX_SCRIPT }
-    ensures some { IfOk result (λ read. IfSome read (λ script. Reads bytes.now script × IsValid script)) }
-    ensures none { IfOk result (λ read. IfNone read ((script : Script) → Reads bytes.now script → ⊥)) }
-{
-    let Some(forms) = read_forms(alloc, bytes)? else {
-        return Ok(None);
-    };
-    let lines = forms.as_slice();
-    if !is_ended(lines) {
-        return Ok(None);
-    }
-    let Some(summary) = summarize(alloc, lines)? else {
-        return Ok(None);
-    };
-    Ok(Some(collect(alloc, lines, summary)?))
-}
-
-/// The script that bytes are the text of: lines of words with one space between two, each with a line feed, and each
-/// clean after those above it. Bytes beyond `MAX_SCRIPT` are refused as `TooLong`, and all others that are the text
-/// of no script as `NotBuilt`, at line 0.
+/// The script that bytes are the text of. Bytes beyond `MAX_SCRIPT` are refused as `TooLong` at line 0. All others
+/// that are the text of no script are refused at the first line that is at fault, with the lowest reason that applies
+/// to it. No text is both.
 pub fn read(alloc: Global, bytes: &[u8]) -> Result<Script, ReadScript>
     ensures script { IfOk result (λ script. Reads bytes.now script) }
     ensures valid { IfOk result IsValid }
     ensures refused { (r : Refused) → IsErrOf result (ReadScript.Refused r) → IsRefused bytes.now r }
+    ensures apart { (r : Refused) (script : Script) → IsRefused bytes.now r → Reads bytes.now script → ⊥ }
 {
     if bytes.len() > MAX_SCRIPT {
-        return Err(refused(Why::TooLong));
+        return Err(ReadScript::Refused(Refused {
+            line: 0,
+            why: Why::TooLong,
+        }));
     }
-    match read_script(alloc, bytes) {
-        Ok(Some(script)) => Ok(script),
-        Ok(None) => Err(refused(Why::NotBuilt)),
+    let Ok(lines) = read_lines(alloc, bytes) else {
+        return Err(ReadScript::OutOfMemory);
+    };
+    match read_script(alloc, lines) {
+        Ok(Ok(script)) => Ok(script),
+        Ok(Err(refused)) => Err(ReadScript::Refused(refused)),
         Err(_) => Err(ReadScript::OutOfMemory),
     }
-}
-
-/// The refusal of a whole script.
-fn refused(why: Why) -> ReadScript
-    ensures { result ≡ ReadScript.Refused (record { line = 0; why = why }) }
-{
-    ReadScript::Refused(Refused { line: 0, why })
 }

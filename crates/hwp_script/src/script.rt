@@ -1,7 +1,11 @@
-use hwp_geom::{Layout, Line, List, Thread, VSlot};
+use hwp_form::{PrctlArgs, Until};
+use hwp_geom::{Cpu, FileNo, Frame, Layout, Line, List, Page, Thread, VSlot};
 
 /// The most commands of a script, over all processors.
 pub const MAX_COMMANDS: u32 = 4096;
+
+/// The most words of a schedule.
+pub const MAX_SCHEDULE: u32 = 100_000;
 
 /// The most bytes of a script: 1 MiB.
 pub const MAX_SCRIPT: usize = 1_048_576;
@@ -15,6 +19,18 @@ pub enum Command {
         slot: VSlot,
         line: Line,
     },
+    /// As `Load`, for an instruction: a bad line is met by a fetch.
+    Fetch {
+        thread: Thread,
+        slot: VSlot,
+        line: Line,
+    },
+    /// As `Load`, in kernel mode.
+    KLoad {
+        thread: Thread,
+        slot: VSlot,
+        line: Line,
+    },
     /// A thread stores a word at a line, through a translation.
     Store {
         thread: Thread,
@@ -22,11 +38,90 @@ pub enum Command {
         line: Line,
         word: u64,
     },
+    /// Releases a translation.
+    Free {
+        slot: VSlot,
+    },
+    /// Frees the frame of a clean page.
+    Drop {
+        page: Page,
+    },
+    /// Writes a page back to its file.
+    Sync {
+        page: Page,
+    },
+    /// Swaps an anonymous page out.
+    Out {
+        page: Page,
+    },
+    /// Takes the number of losses of a file, as fsync(2) reports an error once.
+    Fsync {
+        file: FileNo,
+    },
+    /// A thread calls prctl(2), with PR_MCE_KILL or PR_MCE_KILL_GET where the numbers say so.
+    Prctl {
+        thread: Thread,
+        args: PrctlArgs,
+    },
+    /// A line of a frame goes bad: an uncorrected error.
+    Bad {
+        frame: Frame,
+        line: Line,
+    },
+    /// A line of a frame gets weak: a corrected error.
+    Weak {
+        frame: Frame,
+        line: Line,
+    },
+    /// The scrubber goes over the frames from `first` to `last`.
+    Scrub {
+        first: Frame,
+        last: Frame,
+    },
+    /// A raw event of this status, address and misc word in bank 1.
+    Log {
+        status: u64,
+        addr: u64,
+        misc: u64,
+    },
+    /// A machine check in a thread, with these bits of IA32_MCG_STATUS (Intel SDM vol. 3).
+    RaiseUser {
+        thread: Thread,
+        ripv: bool,
+        eipv: bool,
+    },
+    /// A machine check in the kernel, with these bits of IA32_MCG_STATUS (Intel SDM vol. 3).
+    RaiseKernel {
+        ripv: bool,
+        eipv: bool,
+    },
+    /// A machine check while one is handled, which shuts the processor down (Intel SDM vol. 3).
+    RaiseNested,
+    /// A memory failure of a frame, by software.
+    Inject {
+        frame: Frame,
+    },
+    /// Soft offline (Linux hwpoison.rst): takes a frame out of use, and keeps its content.
+    Soft {
+        frame: Frame,
+    },
+    /// Takes the failure of a frame back.
+    Unpoison {
+        frame: Frame,
+    },
 }
 
-/// A fault script: the machine that it declares, and for each processor its list of commands.
+/// A word of the schedule: a processor goes on.
+#[derive(Clone, Copy, Debug, PartialEq, Eq)]
+pub struct Go {
+    pub cpu: Cpu,
+    pub until: Until,
+}
+
+/// A fault script: the machine that it declares, for each processor its list of commands, and the schedule.
 #[derive(Drop)]
 pub struct Script {
     pub layout: Layout,
     pub lists: List<List<Command>>,
+    pub go: List<Go>,
 }

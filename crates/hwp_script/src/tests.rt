@@ -1,5 +1,6 @@
 use super::*;
-use hwp_geom::{Cpu, Line, Page, PageKind, Proc, Thread, ThreadDecl, TransDecl, VSlot};
+use hwp_form::{PrctlArgs, Until};
+use hwp_geom::{Cpu, FileNo, Frame, Kind, Line, Page, PageKind, Thread, VSlot};
 use std::alloc::Global;
 use std::test::Fail;
 
@@ -7,253 +8,302 @@ use std::test::Fail;
 const ONE: &str =
     "hwp 1\ncpus 1\nframes 2\nproc 0\nthread 0 0 0 handler\npage 0 anon\ntrans 0 0 0\ncpu 0\nstore 0 0 5 77\nload 0 0 5\nend\n";
 
-/// Two processes, each with a thread on a processor of its own, and the second processor's list before the first's.
-const TWO: &str =
-    "hwp 1\ncpus 2\nframes 3\nproc 0\nproc 1\nthread 0 0 0 handler\nthread 1 1 1 handler\npage 0 anon\npage 1 anon\ntrans 0 0 1\ntrans 1 1 0\ncpu 1\nload 1 1 7\ncpu 0\nstore 0 0 5 77\nload 0 0 6\nend\n";
+/// A script with every form of line, in the spellings that a user may choose.
+const ALL: &str =
+    "# all forms\n\n  hwp   1 \ncpus 2\nframes 4\nkernel 3\nrecovery 0\nearly 1\nfile 0\nproc 0\nproc 1\nthread 0 0 0 handler\nthread 1 1 1 nohandler\npage 0 anon\npage 1 file 0 fill 9\ntrans 0 0 0\ntrans 1 1 1\ncpu 1\nload 1 1 7\nfetch 1 1 8\nkload 1 1 9\nstore 1 1 10 18446744073709551615\nfree 1\ndrop 1\nsync 1\nfsync 0\nprctl 1 33 1 2 0 7\ncpu 0\nout 0\nbad 0 3\nweak 1 63\nscrub 0 3\nlog 0xBD000000000000c0 0x1000 0\nraise user 0 1 0\nraise kernel 0 1\nraise nested\ninject 1\nsoft 2\nunpoison 3\nschedule 0 1. 0@poison\n# done\nschedule 1\nend\n\n# after the end";
 
-/// The reason for which a text is refused, at line 0, or `None` where it is read.
-fn reason(alloc: Global, text: &[u8]) -> Result<Option<Why>, Fail> {
+/// The line and the reason at which a text is refused, or `None` where it is read.
+fn refusal(alloc: Global, text: &[u8]) -> Result<Answer, Fail> {
     match read(alloc, text) {
         Ok(_) => Ok(None),
-        Err(ReadScript::Refused(Refused { line: 0, why })) => Ok(Some(why)),
+        Err(ReadScript::Refused(Refused { line, why })) => Ok(Some((line, why))),
         Err(other) => Err(other)?,
     }
 }
 
+/// A change of a text, and the line and the reason at which it is then refused.
+type Change<'a> = (&'a str, &'a str, u32, Why);
+
+/// What becomes of a text: the line and the reason of its refusal, if it is refused.
+type Answer = Option<(u32, Why)>;
+
+/// The first change that is not refused as it says, counted from 0, and what becomes of it.
+fn first_miss(
+    alloc: Global,
+    text: &str,
+    changes: &[Change<'_>],
+) -> Result<Option<(usize, Answer)>, Fail> {
+    for (at, (from, to, line, why)) in changes.iter().enumerate() {
+        let changed = text.replace(alloc, from, to)?;
+        let answer = refusal(alloc, changed.as_bytes())?;
+        if answer != Some((*line, *why)) {
+            return Ok(Some((at, answer)));
+        }
+    }
+    Ok(None)
+}
+
 #[test]
-fn a_script_of_one_processor_has_its_declarations_and_commands(
-    rt: HostRuntime,
-) -> Result<(), Fail> {
-    let script = read(rt.alloc(), ONE.as_bytes())?;
+fn every_form_gives_its_part_of_the_script(rt: HostRuntime) -> Result<(), Fail> {
+    let script = read(rt.alloc(), ALL.as_bytes())?;
     let layout = &script.layout;
     assert_eq!(rt;
         (layout.cpus, layout.frames, layout.procs, layout.files),
-        (1, 2, 1, 0)
+        (2, 4, 2, 1)
     );
-    assert_eq!(rt; (layout.recovery, layout.early), (true, false));
-    assert_eq!(rt; layout.kernel.as_slice(), [false, false].as_slice());
-    let thread = ThreadDecl {
-        process: Proc(0),
-        cpu: Cpu(0),
-        handler: true,
-    };
-    assert_eq!(rt; layout.threads.as_slice(), [thread].as_slice());
-    assert_eq!(rt; layout.pages.as_slice(), [PageKind::Anon].as_slice());
-    let slot = TransDecl {
-        process: Proc(0),
-        page: Page(0),
-    };
-    assert_eq!(rt; layout.trans.as_slice(), [slot].as_slice());
-    assert_eq!(rt; script.lists.len(), 1);
-    let line = Line::new(5).ok_or("no line 5")?;
-    let store = Command::Store {
-        thread: Thread(0),
-        slot: VSlot(0),
-        line,
-        word: 77,
-    };
-    let load = Command::Load {
-        thread: Thread(0),
-        slot: VSlot(0),
-        line,
-    };
+    assert_eq!(rt; (layout.recovery, layout.early), (false, true));
     assert_eq!(rt;
-        script.lists.as_slice()[0].as_slice(),
-        [store, load].as_slice()
+        layout.kernel.as_slice(),
+        [false, false, false, true].as_slice()
     );
-    Ok(())
-}
-
-#[test]
-fn lists_are_those_of_their_processors_in_any_order(rt: HostRuntime) -> Result<(), Fail> {
-    let script = read(rt.alloc(), TWO.as_bytes())?;
     assert_eq!(rt;
-        script.layout.trans.as_slice().get(1).map(|slot| slot.page),
-        Some(Page(0))
+        layout
+            .threads
+            .as_slice()
+            .get(1)
+            .map(|thread| (thread.cpu.0, thread.handler)),
+        Some((1, false))
     );
+    let file = PageKind::File {
+        file: FileNo(0),
+        fill: 9,
+    };
+    assert_eq!(rt; layout.pages.as_slice(), [PageKind::Anon, file].as_slice());
     assert_eq!(rt; script.lists.len(), 2);
-    assert_eq!(rt; script.lists.as_slice()[0].len(), 2);
-    let load = Command::Load {
-        thread: Thread(1),
-        slot: VSlot(1),
-        line: Line::new(7).ok_or("no line 7")?,
+    let go = [
+        (0, Until::One),
+        (1, Until::Command),
+        (0, Until::After(Kind::Poison)),
+        (1, Until::One),
+    ];
+    assert_eq!(rt; script.go.len(), 4);
+    for (word, (cpu, until)) in script.go.as_slice().iter().zip(go.iter()) {
+        assert_eq!(rt; (word.cpu.0, word.until), (*cpu, *until));
+    }
+    Ok(())
+}
+
+#[test]
+fn every_command_stands_in_the_list_of_its_processor(rt: HostRuntime) -> Result<(), Fail> {
+    let script = read(rt.alloc(), ALL.as_bytes())?;
+    let thread = Thread(1);
+    let slot = VSlot(1);
+    let args = PrctlArgs {
+        operation: 33,
+        arg2: 1,
+        arg3: 2,
+        arg4: 0,
+        arg5: 7,
     };
-    assert_eq!(rt; script.lists.as_slice()[1].as_slice(), [load].as_slice());
+    let second = [
+        Command::Load {
+            thread,
+            slot,
+            line: line(7)?,
+        },
+        Command::Fetch {
+            thread,
+            slot,
+            line: line(8)?,
+        },
+        Command::KLoad {
+            thread,
+            slot,
+            line: line(9)?,
+        },
+        Command::Store {
+            thread,
+            slot,
+            line: line(10)?,
+            word: u64::MAX,
+        },
+        Command::Free { slot },
+        Command::Drop { page: Page(1) },
+        Command::Sync { page: Page(1) },
+        Command::Fsync { file: FileNo(0) },
+        Command::Prctl { thread, args },
+    ];
+    assert_eq!(rt; list(&script, 1)?, second.as_slice());
+    let first = [
+        Command::Out { page: Page(0) },
+        Command::Bad {
+            frame: Frame(0),
+            line: line(3)?,
+        },
+        Command::Weak {
+            frame: Frame(1),
+            line: line(63)?,
+        },
+        Command::Scrub {
+            first: Frame(0),
+            last: Frame(3),
+        },
+        Command::Log {
+            status: 0xbd00_0000_0000_00c0,
+            addr: 0x1000,
+            misc: 0,
+        },
+        Command::RaiseUser {
+            thread: Thread(0),
+            ripv: true,
+            eipv: false,
+        },
+        Command::RaiseKernel {
+            ripv: false,
+            eipv: true,
+        },
+        Command::RaiseNested,
+        Command::Inject { frame: Frame(1) },
+        Command::Soft { frame: Frame(2) },
+        Command::Unpoison { frame: Frame(3) },
+    ];
+    assert_eq!(rt; list(&script, 0)?, first.as_slice());
+    Ok(())
+}
+
+/// The list of a processor.
+fn list(script: &Script, cpu: usize) -> Result<&[Command], Fail> {
+    Ok(
+        script
+            .lists
+            .as_slice()
+            .get(cpu)
+            .ok_or("no such list")?
+            .as_slice(),
+    )
+}
+
+/// The line of this number.
+fn line(number: u8) -> Result<Line, Fail> {
+    Ok(Line::new(number).ok_or("no such line")?)
+}
+
+#[test]
+fn a_refusal_names_the_first_line_at_fault(rt: HostRuntime) -> Result<(), Fail> {
+    let changes = [
+        ("end\n", "", 10, Why::NoEnd),
+        ("5 77", "5 18446744073709551616", 9, Why::BadNumber),
+        ("0 0 5 77", "0 0 64 1", 9, Why::OverLimit),
+        ("load 0 0 5", "load 0 1 5", 10, Why::Undeclared),
+        ("proc 0\n", "proc 0\nproc 0\n", 5, Why::Twice),
+        (
+            "cpus 1\nframes 2\n",
+            "frames 2\ncpus 1\n",
+            2,
+            Why::WrongPlace,
+        ),
+        ("hwp 1", "hwp 3", 1, Why::BadHeader),
+        ("store", "sotre", 9, Why::UnknownWord),
+    ];
+    assert_eq!(rt; first_miss(rt.alloc(), ONE, changes.as_slice())?, None);
+    assert_eq!(rt; refusal(rt.alloc(), b"")?, Some((1, Why::BadHeader)));
+    assert_eq!(rt; refusal(rt.alloc(), b"hwp 1")?, Some((1, Why::NoEnd)));
     Ok(())
 }
 
 #[test]
-fn no_cut_of_a_script_is_read(rt: HostRuntime) -> Result<(), Fail> {
-    let text = ONE.as_bytes();
-    for end in 0..text.len() {
-        assert_eq!(rt;
-            reason(rt.alloc(), &text[..end])?,
-            Some(Why::NotBuilt),
-            "cut at {end}"
-        );
-    }
-    Ok(())
-}
-
-/// The reason for which the script of two processors is refused, with one text in place of another.
-fn changed(alloc: Global, from: &str, to: &str) -> Result<Option<Why>, Fail> {
-    let text = TWO.replace(alloc, from, to)?;
-    reason(alloc, text.as_bytes())
-}
-
-#[test]
-fn numbers_reach_their_limits(rt: HostRuntime) -> Result<(), Fail> {
-    for (from, to) in [
-        ("frames 3", "frames 256"),
-        ("cpus 2", "cpus 8"),
-        ("0 0 5 77", "0 0 63 18446744073709551615"),
-        ("cpu 0\nstore 0 0 5 77\nload 0 0 6\n", ""),
-    ] {
-        assert_eq!(rt; changed(rt.alloc(), from, to)?, None, "{from} to {to}");
-    }
+fn the_header_stands_first_and_every_line_has_a_form(rt: HostRuntime) -> Result<(), Fail> {
+    let changes = [
+        ("hwp 1\n", "", 1, Why::BadHeader),
+        ("hwp 1\n", "\n# one\nhwp 01\n", 3, Why::BadHeader),
+        ("hwp 1\n", "nothing\n", 1, Why::BadHeader),
+        ("cpus 1", "cpus 1 1", 2, Why::UnknownWord),
+        ("proc 0", "# c\nproc zero 0", 5, Why::UnknownWord),
+        ("end\n", "end\nhwp 1\n", 12, Why::UnknownWord),
+        ("cpus 1", "cpus 01", 2, Why::BadNumber),
+        ("proc 0", "# c\nproc +0", 5, Why::BadNumber),
+        ("end\n", "end\nkernel x\n", 12, Why::BadNumber),
+    ];
+    assert_eq!(rt; first_miss(rt.alloc(), ONE, changes.as_slice())?, None);
     Ok(())
 }
 
 #[test]
-fn the_first_line_is_the_header(rt: HostRuntime) -> Result<(), Fail> {
-    for (from, to) in [
-        ("hwp 1\n", ""),
-        ("hwp 1", "hwp 2"),
-        ("hwp 1", "hwp 01"),
-        ("hwp 1\n", "hwp 1\nhwp 1\n"),
-        ("hwp 1\n", "\nhwp 1\n"),
-    ] {
-        assert_eq!(rt;
-            changed(rt.alloc(), from, to)?,
-            Some(Why::NotBuilt),
-            "{from} to {to}"
-        );
-    }
+fn numbers_outside_their_ranges_are_over_the_limit(rt: HostRuntime) -> Result<(), Fail> {
+    let changes = [
+        ("cpus 1", "cpus 0", 2, Why::OverLimit),
+        ("cpus 1", "cpus 9", 2, Why::OverLimit),
+        ("frames 2", "# c\nframes 257", 4, Why::OverLimit),
+        ("proc 0\n", "recovery 2\nproc 0\n", 4, Why::OverLimit),
+        ("thread 0 0 0", "thread 0 0 8", 5, Why::OverLimit),
+        ("load 0 0 5", "scrub 1 0", 10, Why::OverLimit),
+        ("load 0 0 5", "raise kernel 2 0", 10, Why::OverLimit),
+        ("end\n", "schedule 8\nend\n", 11, Why::OverLimit),
+        ("end\n", "end\nframes 0\n", 12, Why::OverLimit),
+    ];
+    assert_eq!(rt; first_miss(rt.alloc(), ONE, changes.as_slice())?, None);
     Ok(())
 }
 
 #[test]
-fn cpus_and_frames_stand_once_in_order_and_within_their_limits(
-    rt: HostRuntime,
-) -> Result<(), Fail> {
-    for (from, to) in [
-        ("cpus 2\nframes 3\n", "frames 3\ncpus 2\n"),
-        ("cpus 2\n", ""),
-        ("cpus 2\n", "cpus 2\ncpus 2\n"),
-        ("cpus 2", "cpus 0"),
-        ("cpus 2", "cpus 9"),
-        ("frames 3\n", ""),
-        ("frames 3\n", "frames 3\nframes 3\n"),
-        ("frames 3", "frames 0"),
-        ("frames 3", "frames 257"),
-    ] {
-        assert_eq!(rt;
-            changed(rt.alloc(), from, to)?,
-            Some(Why::NotBuilt),
-            "{from} to {to}"
-        );
-    }
+fn names_are_declared_above_and_once(rt: HostRuntime) -> Result<(), Fail> {
+    let changes = [
+        ("hwp 1\n", "hwp 1\nkernel 0\n", 2, Why::Undeclared),
+        ("thread 0 0 0", "# c\nthread 0 1 0", 6, Why::Undeclared),
+        ("load 0 0 5", "sync 0", 10, Why::Undeclared),
+        ("load 0 0 5", "inject 2", 10, Why::Undeclared),
+        ("end\n", "schedule 1\nend\n", 11, Why::Undeclared),
+        ("cpus 1\n", "cpus 1\ncpus 1\n", 3, Why::Twice),
+        (
+            "proc 0\n",
+            "kernel 1\n# c\nkernel 1\nproc 0\n",
+            6,
+            Why::Twice,
+        ),
+        ("end\n", "cpu 0\nend\n", 11, Why::Twice),
+    ];
+    assert_eq!(rt; first_miss(rt.alloc(), ONE, changes.as_slice())?, None);
     Ok(())
 }
 
 #[test]
-fn declarations_count_from_0_and_name_what_stands_above(rt: HostRuntime) -> Result<(), Fail> {
-    for (from, to) in [
-        ("proc 1", "proc 2"),
-        ("proc 1", "proc 0"),
-        ("thread 1 1 1", "thread 2 1 1"),
-        ("thread 1 1 1", "thread 1 2 1"),
-        ("thread 1 1 1", "thread 1 1 2"),
-        ("page 1 anon", "page 2 anon"),
-        ("page 1 anon\n", "page 1 anon\nproc 2\n"),
-        ("trans 1 1 0", "trans 2 1 0"),
-        ("trans 1 1 0", "trans 1 2 0"),
-        ("trans 1 1 0", "trans 1 1 2"),
-    ] {
-        assert_eq!(rt;
-            changed(rt.alloc(), from, to)?,
-            Some(Why::NotBuilt),
-            "{from} to {to}"
-        );
-    }
+fn lines_stand_in_their_places(rt: HostRuntime) -> Result<(), Fail> {
+    let changes = [
+        ("hwp 1\n", "hwp 1\nproc 0\n", 2, Why::WrongPlace),
+        ("proc 0\n", "# c\nproc 1\n", 5, Why::WrongPlace),
+        ("page 0 anon\n", "page 0 anon\nproc 1\n", 7, Why::WrongPlace),
+        ("cpu 0\n", "", 8, Why::WrongPlace),
+        ("load 0 0 5", "schedule 0\nload 0 0 5", 11, Why::WrongPlace),
+        ("end\n", "end\nend\n", 12, Why::WrongPlace),
+    ];
+    assert_eq!(rt; first_miss(rt.alloc(), ONE, changes.as_slice())?, None);
+    let changes = [
+        (
+            "cpu 1\nload 1 1 7",
+            "cpu 1\nload 0 0 7",
+            19,
+            Why::WrongPlace,
+        ),
+        ("raise user 0 1 0", "raise user 1 1 0", 34, Why::WrongPlace),
+        ("out 0", "out 1", 29, Why::Undeclared),
+        ("load 1 1 7", "load 1 0 7", 19, Why::Undeclared),
+        ("schedule 1\n", "schedule 2\n", 42, Why::Undeclared),
+    ];
+    assert_eq!(rt; first_miss(rt.alloc(), ALL, changes.as_slice())?, None);
     Ok(())
 }
 
 #[test]
-fn commands_are_of_threads_of_their_processor_and_process(rt: HostRuntime) -> Result<(), Fail> {
-    for (from, to) in [
-        ("cpu 1\n", ""),
-        ("cpu 1\n", "cpu 0\n"),
-        ("cpu 1\n", "cpu 2\n"),
-        ("load 1 1 7", "load 1 1 64"),
-        ("load 1 1 7", "load 2 1 7"),
-        ("load 1 1 7", "load 1 2 7"),
-        ("load 1 1 7", "load 1 0 7"),
-        ("load 1 1 7", "load 0 0 7"),
-        ("0 0 5 77", "0 0 64 77"),
-        ("0 0 5 77", "0 1 5 77"),
-    ] {
-        assert_eq!(rt;
-            changed(rt.alloc(), from, to)?,
-            Some(Why::NotBuilt),
-            "{from} to {to}"
-        );
-    }
+fn the_lowest_reason_is_named(rt: HostRuntime) -> Result<(), Fail> {
+    let changes = [
+        ("hwp 1\n", "hwp x\n", 1, Why::BadHeader),
+        ("load 0 0 5", "load 9 9 64", 10, Why::OverLimit),
+        ("end\n", "cpu 1\nend\n", 11, Why::Undeclared),
+        ("trans 0 0 0\n", "trans 0 0 0\nproc 0\n", 8, Why::Twice),
+        ("cpu 0\n", "load 0 1 5\ncpu 0\n", 8, Why::Undeclared),
+    ];
+    assert_eq!(rt; first_miss(rt.alloc(), ONE, changes.as_slice())?, None);
     Ok(())
 }
 
-#[test]
-fn words_and_numbers_have_one_spelling(rt: HostRuntime) -> Result<(), Fail> {
-    for (from, to) in [
-        ("load 1 1 7", "load  1 1 7"),
-        ("load 1 1 7", " load 1 1 7"),
-        ("load 1 1 7", "load 1 1"),
-        ("load 1 1 7", "load 1 1 7 7"),
-        ("load 1 1 7", "fetch 1 1 7"),
-        ("1 1 1 handler", "1 1 1"),
-        ("5 77", "5 077"),
-        ("5 77", "5 +77"),
-        ("5 77", "5 18446744073709551616"),
-        ("proc 1\n", "proc 1\r\n"),
-    ] {
-        assert_eq!(rt;
-            changed(rt.alloc(), from, to)?,
-            Some(Why::NotBuilt),
-            "{from} to {to}"
-        );
-    }
-    Ok(())
-}
-
-#[test]
-fn nothing_follows_the_end_and_nothing_is_skipped(rt: HostRuntime) -> Result<(), Fail> {
-    for (from, to) in [
-        ("end\n", "end"),
-        ("end\n", ""),
-        ("end\n", "end\nend\n"),
-        ("end\n", "end\n\n"),
-        ("end\n", "end\nload 0 0 6\n"),
-        ("end\n", "end\ncpu 0\nend\n"),
-        ("proc 1\n", "\nproc 1\n"),
-        ("proc 1\n", "# two\nproc 1\n"),
-    ] {
-        assert_eq!(rt;
-            changed(rt.alloc(), from, to)?,
-            Some(Why::NotBuilt),
-            "{from} to {to}"
-        );
-    }
-    Ok(())
-}
-
-/// A script of so many loads.
-fn loads(alloc: Global, count: u32) -> Result<String, Fail> {
+/// A script of so many lines in its list, with the end behind them.
+fn listed(alloc: Global, line: &str, count: u32) -> Result<String, Fail> {
     let mut text = String::from_str(
         alloc,
         "hwp 1\ncpus 1\nframes 1\nproc 0\nthread 0 0 0 handler\npage 0 anon\ntrans 0 0 0\ncpu 0\n",
     )?;
     for _ in 0..count {
-        text.push_str("load 0 0 0\n")?;
+        text.push_str(line)?;
     }
     text.push_str("end\n")?;
     Ok(text)
@@ -261,18 +311,31 @@ fn loads(alloc: Global, count: u32) -> Result<String, Fail> {
 
 #[test]
 fn the_limits_of_a_script_are_exact(rt: HostRuntime) -> Result<(), Fail> {
-    for (count, want) in [(0, None), (4096, None), (4097, Some(Why::NotBuilt))] {
-        let text = loads(rt.alloc(), count)?;
+    let many = Why::OverLimit;
+    for (line, count, want) in [
+        ("inject 0\n", 4096, None),
+        ("inject 0\n", 4097, Some((4105, many))),
+        ("schedule 0 0 0 0 0 0 0 0 0 0\n", 10_000, None),
+        (
+            "schedule 0 0 0 0 0 0 0 0 0 0\n",
+            10_001,
+            Some((10_009, many)),
+        ),
+    ] {
+        let text = listed(rt.alloc(), line, count)?;
         assert_eq!(rt;
-            reason(rt.alloc(), text.as_bytes())?,
+            refusal(rt.alloc(), text.as_bytes())?,
             want,
-            "{count} commands"
+            "{count} lines"
         );
     }
-    for (length, want) in [(1 << 20, Why::NotBuilt), ((1 << 20) + 1, Why::TooLong)] {
-        let bytes = vec![in rt.alloc(); b'x'; length]?;
+    for (length, want) in [
+        (1 << 20, (1, Why::BadHeader)),
+        ((1 << 20) + 1, (0, Why::TooLong)),
+    ] {
+        let bytes = vec![in rt.alloc(); b'\n'; length]?;
         assert_eq!(rt;
-            reason(rt.alloc(), bytes.as_slice())?,
+            refusal(rt.alloc(), bytes.as_slice())?,
             Some(want),
             "{length} bytes"
         );

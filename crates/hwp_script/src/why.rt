@@ -19,7 +19,7 @@ pub enum Why {
     NoEnd,
     /// The script is longer than `MAX_SCRIPT`.
     TooLong,
-    /// The script is none of those that can be read yet.
+    /// The script is read, and has what is not served yet: `read` never gives this reason.
     NotBuilt,
 }
 

@@ -1,27 +1,25 @@
 -- What an access, or the want of a frame, makes of the answers.
-use Rattle.std.proofs.Common.{◌≡◌, ℕ, ◌+◌, ◌<◌, Bool, true, false, List, Some, None, Option, length, get_or, slice_get, IsSomeAnd, IsTrue, refl, sym, ap, ◌∙◌, subst, arith}
-use Rattle.std.proofs.lemmas.Option.{same_Some}
-use Rattle.hwp_geom.specs.declared.Mask.{Mask}
+use Rattle.std.proofs.Common.{◌≡◌, ℕ, false, List, Some, None, length, slice_get, refl, sym, ap, ◌∙◌, subst}
+use Rattle.std.proofs.lemmas.Option.{none-some, same_Some}
 use Rattle.hwp_geom.specs.declared.Page.{Page}
 use Rattle.hwp_geom.specs.declared.Who.{Who}
 use Rattle.hwp_page.specs.declared.At.{At}
 use Rattle.hwp_page.specs.declared.Entry.{Entry}
-use Rattle.hwp_page.specs.declared.Met.TheVariants.{Word}
 use Rattle.hwp_page.specs.declared.PageState.{PageState}
 use Rattle.hwp_page.specs.declared.What.{What}
-use Rattle.hwp_page.specs.declared.What.TheVariants as entries
 use Rattle.hwp_page.specs.Step.{after}
 use Rattle.hwp_page.specs.History.{Held}
 use Rattle.hwp_script.specs.declared.Command.{Command}
 use Rattle.hwp_script.specs.declared.Command.TheVariants as commands
 use Rattle.hwp_script.specs.declared.Script.{Script}
 use Rattle.hwp_report.specs.declared.Answer.{Answer}
-use Rattle.hwp_report.specs.declared.Answer.TheVariants.{Value, Stored, NoFrame}
-use Rattle.hwp_law.specs.Places.{entry_at}
+use Rattle.hwp_report.specs.declared.Answer.TheVariants as answers
+use Rattle.hwp_geom.specs.declared.VSlot.{VSlot}
 use Rattle.hwp_law.specs.History.{IsMade, Fits}
-use Rattle.hwp_law.specs.Answers.{IsAnswer, StandsAt, is_ample, is_answering, named_place}
-use Rattle.hwp_law.proofs.Growth.{OneMore, same_place}
-use Rattle.hwp_top.specs.Bench.{Answers, Appended, Gives, Keeps, Serves, at_command, logs}
+use Rattle.hwp_law.specs.Answers.{IsAnswer, StandsAt, is_ample}
+use Rattle.hwp_law.specs.States.{place_named, state_named}
+use Rattle.hwp_law.proofs.Growth.{same_place}
+use Rattle.hwp_top.specs.Bench.{Answers, Appended, Gives, IsAccessBy, Keeps, Serves, at_command, logs}
 use Rattle.hwp_top.proofs.Following.{Answers-entry, Answers-refused, OneMore-appended}
 use Rattle.hwp_top.proofs.Machines.{IsStill}
 use Rattle.hwp_top.proofs.Serving.{made-by}
@@ -37,21 +35,30 @@ still-given {old} {new} {at} {e} command at0 answer added gives =
         subst (λ (w : What). IsStill s (after s w)) (sym gives.2) (record { cached = refl; bar = refl; lost = refl })
     kept_by (commands.Store thread slot line word) at0 what answer s gives =
         subst (λ (w : What). IsStill s (after s w)) (sym gives.1) (record { cached = refl; bar = refl; lost = refl })
+    kept_by _ at0 what answer s gives = absurd gives
 
 -- the access is one that its command makes, answers it, and stands where the answer says
 fits-given : (command : Command) (at : At) (what : What) (answer : Answer) → Gives command at what answer → Fits command what
 fits-given (commands.Load thread slot line) at what answer gives = subst (Fits (commands.Load thread slot line)) (sym gives.2) (refl, refl, tt)
 fits-given (commands.Store thread slot line word) at what answer gives = subst (Fits (commands.Store thread slot line word)) (sym gives.1) (refl, refl, tt, refl)
+fits-given _ at what answer gives = absurd gives
 
-place-given : (command : Command) (at : At) (what : What) (answer : Answer) → Gives command at what answer → named_place answer ≡ Some at
-place-given (commands.Load thread slot line) at what answer gives = ap named_place gives.3
-place-given (commands.Store thread slot line word) at what answer gives = ap named_place gives.2
+place-given : (command : Command) (at : At) (what : What) (answer : Answer) → Gives command at what answer → place_named answer ≡ Some at
+place-given (commands.Load thread slot line) at what answer gives = ap place_named gives.3
+place-given (commands.Store thread slot line word) at what answer gives = ap place_named gives.2
+place-given _ at what answer gives = absurd gives
 
-answer-given : (script : Script) (pages : List (List Entry)) (who : Who) (command : Command) (at : At) (what : What) (answer : Answer) → StandsAt pages who at what → Gives command at what answer → IsAnswer script pages who command answer
+stateless-given : (command : Command) (at : At) (what : What) (answer : Answer) → Gives command at what answer → state_named answer ≡ None
+stateless-given (commands.Load thread slot line) at what answer gives = ap state_named gives.3
+stateless-given (commands.Store thread slot line word) at what answer gives = ap state_named gives.2
+stateless-given _ at what answer gives = absurd gives
+
+answer-given : (script : Script) (pages : List (List Entry)) (who : Who) (command : Command) (at : At) (what : What) (answer : Answer) → StandsAt pages who at what → Gives command at what answer → IsAnswer script pages None who command answer
 answer-given script pages who (commands.Load thread slot line) at what answer stands gives =
-    subst (IsAnswer script pages who (commands.Load thread slot line)) (sym gives.3) (gives.0, subst (StandsAt pages who at) gives.2 stands)
+    subst (IsAnswer script pages None who (commands.Load thread slot line)) (sym gives.3) (gives.0, subst (StandsAt pages who at) gives.2 stands)
 answer-given script pages who (commands.Store thread slot line word) at what answer stands gives =
-    subst (IsAnswer script pages who (commands.Store thread slot line word)) (sym gives.2) (gives.0, subst (StandsAt pages who at) gives.1 stands)
+    subst (IsAnswer script pages None who (commands.Store thread slot line word)) (sym gives.2) (gives.0, subst (StandsAt pages who at) gives.1 stands)
+answer-given script pages who _ at what answer stands gives = absurd gives
 
 pub Answers-given : (script : Script) (seq : ℕ) (command : Command) (page : Page) (answer : Answer) {old new : List Held} {at : At} (e : Entry) (at0 : At) → Appended old new at e
     → at0 ≡ at → at.page ≡ page → Serves script seq command page → e.who ≡ at_command seq → Gives command at0 e.what answer → Answers script seq command answer (logs old) (logs new)
@@ -61,7 +68,7 @@ Answers-given script seq command page answer {old} {new} {at} e at0 added same o
     let e_is : e ≡ record { who = at_command seq; what = e.what } = ap (λ (w : Who). let x : Entry = record { who = w; what = e.what } in x) who in
     let stands : StandsAt (logs new) (at_command seq) at e.what = (OneMore-appended added).placed ∙ ap (λ (x : Entry). Some x) e_is in
     Answers-entry script seq command answer added who (subst (λ (q : Page). IsMade script q e) (sym of_page) made)
-    (answer-given script (logs new) (at_command seq) command at e.what answer stands gives) (place-given command at e.what answer gives)
+    (answer-given script (logs new) (at_command seq) command at e.what answer stands gives) (place-given command at e.what answer gives) (stateless-given command at e.what answer gives)
 
 -- the place that was counted before the append is where the entry stands
 pub counted-place : (old new : List Held) (at : At) (e : Entry) (page : Page) (n : ℕ) (h : Held) → Appended old new at e → at.page ≡ page → slice_get old page.0 ≡ Some h → n ≡ length h.log
@@ -71,10 +78,11 @@ counted-place old new at e page n h added of_page there count =
     same_place (record { page = page; entry = n }) at (ap (λ (q : Page). q.0) (sym of_page)) (count ∙ ap (λ (b : Held). length b.log) same ∙ sym added.last)
 
 -- the answer where no frame is free
-pub Answers-noframe : (script : Script) (seq : ℕ) (command : Command) (old new : List (List Entry)) → Keeps script seq old new → is_ample script ≡ false → Answers script seq command NoFrame old new
-Answers-noframe script seq command old new keeps unample list rows count follows =
-    Answers-refused script seq command NoFrame new (refused command) list rows count (keeps list rows follows)
+pub Answers-noframe : (script : Script) (seq : ℕ) (command : Command) (slot : VSlot) (old new : List (List Entry)) → IsAccessBy command slot → Keeps script seq old new → is_ample script ≡ false → Answers script seq command answers.NoFrame old new
+Answers-noframe script seq command slot old new access keeps unample list rows count follows =
+    Answers-refused script seq command answers.NoFrame new (refused command slot access) (λ bt names. absurd (none-some bt names)) list rows count (keeps list rows count follows)
   where
-    refused : (command : Command) → IsAnswer script new (at_command seq) command NoFrame
-    refused (commands.Load thread slot line) = unample
-    refused (commands.Store thread slot line word) = unample
+    refused : (command : Command) (slot : VSlot) → IsAccessBy command slot → IsAnswer script new None (at_command seq) command answers.NoFrame
+    refused (commands.Load thread own line) slot is = unample
+    refused (commands.Store thread own line word) slot is = unample
+    refused _ slot is = absurd is

@@ -1,5 +1,5 @@
 -- A run's beginning fits and follows nothing, and its end is a report.
-use Rattle.std.proofs.Common.{◌≡◌, ℕ, suc, zero, ◌+◌, ◌*◌, ◌<◌, ◌≤◌, Bool, true, false, cond, List, [], ◌∷◌, ◌++◌, Some, None, Option, length, map, refl, sym, ap, ◌∙◌, subst, arith, slice_get, count_by, sum_by, All, get_or, option_map, option_and_then}
+use Rattle.std.proofs.Common.{◌≡◌, ℕ, suc, zero, ◌<◌, ◌≤◌, Bool, true, false, cond, List, [], ◌∷◌, Some, None, Option, length, map, refl, sym, ap, ◌∙◌, subst, arith, slice_get, count_by, get_or, option_map, option_and_then}
 use Rattle.std.proofs.lemmas.List.Sums.{sum_by-cons, sum_by-le}
 use Rattle.std.proofs.lemmas.List.{length-map}
 use Rattle.std.proofs.lemmas.Option.{slice_get-get_or, slice_get-map, slice_get_within, same_Some, none-some}
@@ -23,7 +23,12 @@ use Rattle.hwp_report.specs.declared.Place.TheVariants as places
 use Rattle.hwp_report.specs.declared.Report.{Report}
 use Rattle.hwp_law.specs.Places.{entry_at}
 use Rattle.hwp_law.specs.History.{AreMade, AreOrdered}
-use Rattle.hwp_law.specs.Answers.{AreAnswers, AreNamed}
+use Rattle.hwp_law.specs.Answers.{AreAnswers, AreInWindows, AreNamed}
+use Rattle.hwp_law.specs.Stops.{StopFits}
+use Rattle.hwp_law.proofs.Windows.{only_rows}
+use Rattle.hwp_report.specs.declared.Stop.{Stop}
+use Rattle.hwp_report.specs.declared.CpuLine.TheVariants as lines
+use Rattle.hwp_top.proofs.Following.{StopFits-none}
 use Rattle.hwp_law.specs.Report.{is_of, IsPlace, IsFrame, IsHistory, IsReport}
 use Rattle.hwp_top.specs.Bench.{Reports, Machine, IsBodyOf, Follows, AreFresh, logs, opening_place, frame_line, is_used, first_cpu}
 
@@ -93,14 +98,21 @@ no_entries layout bodies fresh at e there =
         let gone : slice_get body.log at.entry ≡ None = ap (λ (l : List Entry). slice_get l at.entry) (empty body refl) in
         cc
 
+no_rows : {row : CpuLine} (rows : List CpuLine) (i cpu : ℕ) → slice_get ([] ∷ []) cpu ≡ Some rows → slice_get rows i ≡ Some row → ⊥
+no_rows {row} rows i cpu of_cpu there = none-some row (ap (λ (r : List CpuLine). slice_get r i) (sym (only_rows [] rows cpu of_cpu).1) ∙ there)
+
 -- at opening nothing is followed yet
-pub Follows-none : (script : Script) (layout : Layout) (bodies : List Held) → AreFresh layout bodies → Follows script [] 0 (logs bodies) []
+pub Follows-none : (script : Script) (layout : Layout) (bodies : List Held) → AreFresh layout bodies → Follows script [] 0 (logs bodies) [] None
 Follows-none script layout bodies fresh = record {
   made = λ at e there. absurd (no_entries layout bodies fresh at e there);
   ordered = λ at later e f there. absurd (no_entries layout bodies fresh at e there);
   before = λ at e there. absurd (no_entries layout bodies fresh at e there);
   answers = tt;
   named = λ at e there. absurd (no_entries layout bodies fresh at e there);
+  windows = λ cpu rows i seq answer at of_cpu row names. absurd (no_rows rows i cpu.0 of_cpu row);
+  within = λ i seq answer bt row names. absurd (none-some (lines.Answer seq answer) row);
+  below = λ i seq answer row. absurd (none-some (lines.Answer seq answer) row);
+  stops = StopFits-none script (logs bodies) [] [] tt;
 }
 
 count-lines : (page : Page) (frames : List Place) → count_by (λ (f : FrameLine). is_of page f.place) (map frame_line frames) ≡ count_by (is_of page) frames
@@ -115,7 +127,7 @@ frame_lines : (layout : Layout) (kernel : List Bool) (frames : List Place) → P
 frame_lines layout [] [] pairs = tt
 frame_lines layout [] (p ∷ frames) pairs = pairs
 frame_lines layout (k ∷ kernel) [] pairs = pairs
-frame_lines layout (k ∷ kernel) (p ∷ frames) pairs = (record { place = pairs.0; bad = refl; weak = refl }, frame_lines layout kernel frames pairs.1)
+frame_lines layout (k ∷ kernel) (p ∷ frames) pairs = (record { place = pairs.0; bad = refl; weak = refl; unmarked = refl }, frame_lines layout kernel frames pairs.1)
 
 -- the only list of one processor's script is the first
 only_first : {A : Type 0} (x y : A) (cpu : Cpu) → slice_get (x ∷ []) cpu.0 ≡ Some y → (cpu ≡ first_cpu) × (y ≡ x)
@@ -126,10 +138,10 @@ only_first {A} x y cpu there = (ap (λ (n : ℕ). let c : Cpu = record { 0 = n }
     at_zero (suc n) is = absurd (none-some y is)
 
 -- the report of a run that is over keeps the report law
-pub IsReport-whole : (script : Script) (report : Report) (bodies : List Held) (frames : List Place) (rows : List CpuLine) (list : List Command) (n : ℕ)
-    → script.layout.cpus ≡ 1 → script.lists ≡ list ∷ [] → Machine script.layout bodies frames → Follows script list n (logs bodies) rows
-    → Reports report bodies frames rows → IsReport script report
-IsReport-whole script report bodies frames rows list n one lists machine follows reports =
+pub IsReport-whole : (script : Script) (report : Report) (bodies : List Held) (frames : List Place) (rows : List CpuLine) (stop : Option Stop) (list : List Command) (n : ℕ)
+    → script.layout.cpus ≡ 1 → script.lists ≡ list ∷ [] → Machine script.layout bodies frames → Follows script list n (logs bodies) rows stop
+    → Reports script.layout.files report bodies frames rows stop → IsReport script report
+IsReport-whole script report bodies frames rows stop list n one lists machine follows reports =
     let layout : Layout = script.layout in
     let held : (page : Page) → count_by (λ (f : FrameLine). is_of page f.place) report.frames ≡ count_by (is_of page) frames =
     λ (page : Page). ap (count_by (λ (f : FrameLine). is_of page f.place)) reports.frames_are ∙ count-lines page frames in
@@ -146,11 +158,15 @@ IsReport-whole script report bodies frames rows list n one lists machine follows
       answers = λ cpu commands lines theirs mine.
           let c = only_first list commands cpu (ap (λ (l : List (List Command)). slice_get l cpu.0) (sym lists) ∙ theirs) in
           let r = only_first rows lines cpu (ap (λ (l : List (List CpuLine)). slice_get l cpu.0) (sym reports.cpus_are) ∙ mine) in
-          subst (λ (x : Cpu). AreAnswers script report.pages x 0 commands lines) (sym c.0)
-          (subst (λ (l : List Command). AreAnswers script report.pages first_cpu 0 l lines) (sym c.1)
-          (subst (λ (l : List CpuLine). AreAnswers script report.pages first_cpu 0 list l) (sym r.1)
-          (subst (λ (l : List (List Entry)). AreAnswers script l first_cpu 0 list rows) (sym reports.pages_are) follows.answers)));
+          subst (λ (x : Cpu). AreAnswers script report.pages report.stop x 0 commands lines) (sym c.0)
+          (subst (λ (l : List Command). AreAnswers script report.pages report.stop first_cpu 0 l lines) (sym c.1)
+          (subst (λ (l : List CpuLine). AreAnswers script report.pages report.stop first_cpu 0 list l) (sym r.1)
+          (subst (λ (l : List (List Entry)). AreAnswers script l report.stop first_cpu 0 list rows) (sym reports.pages_are)
+          (subst (λ (o : Option Stop). AreAnswers script (logs bodies) o first_cpu 0 list rows) (sym reports.stop_is) follows.answers))));
       named = subst (λ (l : List (List CpuLine)). AreNamed report.pages l) (sym reports.cpus_are) (subst (λ (l : List (List Entry)). AreNamed l (rows ∷ [])) (sym reports.pages_are) follows.named);
+      windows = subst (λ (l : List (List CpuLine)). AreInWindows report.pages l) (sym reports.cpus_are) (subst (λ (l : List (List Entry)). AreInWindows l (rows ∷ [])) (sym reports.pages_are) follows.windows);
+      stop = subst (λ (l : List (List CpuLine)). StopFits script l report.stop) (sym reports.cpus_are) (subst (λ (o : Option Stop). StopFits script (rows ∷ []) o) (sym reports.stop_is) follows.stops);
+      losses = reports.losses;
       unpoisoned = reports.count;
       frames = subst (Pairs (IsFrame layout) layout.kernel) (sym reports.frames_are) (frame_lines layout layout.kernel frames machine.places);
     }

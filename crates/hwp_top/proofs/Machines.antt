@@ -1,19 +1,16 @@
 -- The bodies and the frames still fit when an entry is appended.
-use Rattle.std.proofs.Common.{◌≡◌, ℕ, suc, zero, ◌+◌, ◌*◌, ◌<◌, ◌≤◌, Bool, true, false, not, cond, List, [], ◌∷◌, ◌++◌, Some, None, Option, length, map, refl, sym, ap, ◌∙◌, subst, arith, inl, inr, ◌⊎◌, slice_get, set, get_or, count_by, sum_by, nat_lt, All}
+use Rattle.std.proofs.Common.{◌≡◌, ℕ, suc, zero, ◌+◌, ◌<◌, ◌≤◌, Bool, true, false, not, cond, List, [], ◌∷◌, ◌++◌, Some, length, refl, sym, ap, ◌∙◌, subst, arith, inl, inr, slice_get, set, get_or, count_by, All}
 use Rattle.std.proofs.lemmas.Bool.{cases_eq, eq-eqb, ne_eqb}
 use Rattle.std.proofs.lemmas.List.Elements.{All-head, All-tail}
 use Rattle.std.proofs.lemmas.List.{length-set}
 use Rattle.std.proofs.lemmas.List.Sums.{sum_by-set, sum_by-cons, count_by-le-length}
 use Rattle.std.proofs.lemmas.Option.{slice_get_within, get_or_from_slice_get, same_Some}
-use Rattle.std.specs.Prelude.{◌==◌, IsSomeAnd, IsTrue}
-use Rattle.std.specs.FinSet as finset
+use Rattle.std.specs.Prelude.{◌==◌}
 use Rattle.hwp_geom.specs.Pairs.{Pairs}
 use Rattle.hwp_geom.specs.declared.Layout.{Layout}
 use Rattle.hwp_geom.specs.declared.Page.{Page}
-use Rattle.hwp_geom.specs.declared.VSlot.{VSlot}
 use Rattle.hwp_page.specs.declared.At.{At}
 use Rattle.hwp_page.specs.declared.Entry.{Entry}
-use Rattle.hwp_page.specs.declared.What.{What}
 use Rattle.hwp_page.specs.declared.What.TheVariants as entries
 use Rattle.hwp_page.specs.declared.PageState.{PageState}
 use Rattle.hwp_page.specs.Step.{Allowed, after}
@@ -22,7 +19,7 @@ use Rattle.hwp_report.specs.declared.Place.{Place}
 use Rattle.hwp_report.specs.declared.Place.TheVariants as places
 use Rattle.hwp_law.specs.Report.{is_of, IsPlace}
 use Rattle.hwp_law.proofs.Growth.{slice_get-set_at, slice_get-set_other}
-use Rattle.hwp_top.specs.Bench.{Machine, IsBodyOf, Appended, is_used, is_free, IsCached, IsMapped}
+use Rattle.hwp_top.specs.Bench.{Machine, IsBodyOf, Appended, is_used, is_free}
 
 -- 1 where the test passes
 abbrev flag : Bool → ℕ
@@ -112,37 +109,31 @@ eqb-same n = eq-eqb n n refl
 eqb-other : (n m : ℕ) → (n ≡ m → ⊥) → (n == m) ≡ false
 eqb-other n m other = ne_eqb n m other
 
--- a page is brought into a free frame
-pub Machine-brought : (layout : Layout) (frames : List Place) (f : ℕ) {old new : List Held} {at : At} {e : Entry} (added : Appended old new at e)
-    → slice_get frames f ≡ Some places.Free → e.what ≡ entries.FaultIn → Machine layout old frames → Machine layout new (set frames f (places.Of at.page))
-Machine-brought layout frames f {old} {new} {at} {e} added free brings machine =
+-- an entry with which the page comes into a frame or leaves it
+Machine-moved : (layout : Layout) (frames : List Place) (f : ℕ) (p p' : Place) {old new : List Held} {at : At} {e : Entry} (added : Appended old new at e)
+    → slice_get frames f ≡ Some p → ((kernel : Bool) → IsPlace layout kernel p → IsPlace layout kernel p')
+    → flag (is_used p') + flag added.held.state.cached ≡ flag (is_used p) + flag added.now.state.cached
+    → flag (is_of at.page p') + flag added.held.state.cached ≡ flag (is_of at.page p) + flag added.now.state.cached
+    → ((q : Page) → (q.0 ≡ at.page.0 → ⊥) → flag (is_of q p') ≡ flag (is_of q p))
+    → added.now.state.bar ≡ added.held.state.bar → added.now.state.lost ≡ added.held.state.lost
+    → Machine layout old frames → Machine layout new (set frames f p')
+Machine-moved layout frames f p p' {old} {new} {at} {e} added there fits uses here away bar lost machine =
     let within : at.page.0 < length old = slice_get_within old at.page.0 added.held added.was in
-    let inside : at.page.0 < length layout.pages = omega (arith, machine.fit) in
     let was : IsBodyOf layout frames at.page added.held = machine.each at.page added.held added.was in
-    let state_is : added.now.state ≡ record added.held.state { cached = true } = added.state_is ∙ ap (after added.held.state) brings in
-    let out : added.held.state.cached ≡ false = (subst (Allowed added.held.layout added.held.page added.held.state) brings added.allowed).0 in
-    let cached : added.now.state.cached ≡ true = ap (λ (s : PageState). s.cached) state_is in
-    let none : count_by (is_of at.page) frames ≡ 0 = was.held ∙ ap flag out in
-    let one : count_by (is_of at.page) (set frames f (places.Of at.page)) ≡ 1 =
-    let moved = count-set (is_of at.page) frames f places.Free (places.Of at.page) free in
-    let mine : flag (is_of at.page (places.Of at.page)) ≡ 1 = ap flag (eqb-same at.page.0) in
-    omega (arith, moved, mine, none) in
-    let mine : IsBodyOf layout (set frames f (places.Of at.page)) at.page added.now =
-    IsBodyOf-more layout frames (set frames f (places.Of at.page)) added was (ap (λ (s : PageState). s.bar) state_is) (ap (λ (s : PageState). s.lost) state_is) (one ∙ ap flag (sym cached)) in
-    let others : (page : Page) (body : Held) → (page.0 ≡ at.page.0 → ⊥) → IsBodyOf layout frames page body → IsBodyOf layout (set frames f (places.Of at.page)) page body =
+    let mine_held : count_by (is_of at.page) (set frames f p') ≡ flag added.now.state.cached =
+    let moved = count-set (is_of at.page) frames f p p' there in
+    omega (arith, moved, here, was.held) in
+    let mine : IsBodyOf layout (set frames f p') at.page added.now = IsBodyOf-more layout frames (set frames f p') added was bar lost mine_held in
+    let others : (page : Page) (body : Held) → (page.0 ≡ at.page.0 → ⊥) → IsBodyOf layout frames page body → IsBodyOf layout (set frames f p') page body =
     λ (page : Page) (body : Held) (other : page.0 ≡ at.page.0 → ⊥) (is : IsBodyOf layout frames page body).
-    let moved = count-set (is_of page) frames f places.Free (places.Of at.page) free in
-    let no_more : flag (is_of page (places.Of at.page)) ≡ 0 = ap flag (eqb-other at.page.0 page.0 (λ same. other (sym same))) in
-    let held : count_by (is_of page) (set frames f (places.Of at.page)) ≡ flag body.state.cached = omega (arith, moved, no_more, is.held) in
+    let moved = count-set (is_of page) frames f p p' there in
+    let same = away page other in
+    let held : count_by (is_of page) (set frames f p') ≡ flag body.state.cached = omega (arith, moved, same, is.held) in
     record { page_is = is.page_is; layout_is = is.layout_is; replay = is.replay; unbarred = is.unbarred; kept = is.kept; held = held } in
-    let used : count_by is_used (set frames f (places.Of at.page)) ≡ count_by is_used frames + 1 =
-    let moved = count-set is_used frames f places.Free (places.Of at.page) free in
-    omega (arith, moved) in
-    let counts : count_by (λ (h : Held). h.state.cached) (set old at.page.0 added.now) ≡ count_by (λ (h : Held). h.state.cached) old + 1 =
-    let moved = count-set (λ (h : Held). h.state.cached) old at.page.0 added.held added.now added.was in
-    let here : flag added.now.state.cached ≡ 1 = ap flag cached in
-    let there : flag added.held.state.cached ≡ 0 = ap flag out in
-    omega (arith, moved, here, there) in
+    let used = count-set is_used frames f p p' there in
+    let counts = count-set (λ (h : Held). h.state.cached) old at.page.0 added.held added.now added.was in
+    let before : count_by is_used frames ≡ count_by (λ (h : Held). h.state.cached) old = machine.counted in
+    let after_set : count_by is_used (set frames f p') ≡ count_by (λ (h : Held). h.state.cached) (set old at.page.0 added.now) = omega (arith, used, counts, uses, before) in
     record {
       fit = ap length added.new_is ∙ length-set old at.page.0 added.now ∙ machine.fit;
       each = λ page body there.
@@ -150,13 +141,39 @@ Machine-brought layout frames f {old} {new} {at} {e} added free brings machine =
           elim (cases_eq page.0 at.page.0) [
             | inl same ↦
                 let body_is : body ≡ added.now = same_Some body added.now (sym there' ∙ ap (slice_get (set old at.page.0 added.now)) same ∙ slice_get-set_at old at.page.0 added.now within) in
-                subst (λ (h : Held). IsBodyOf layout (set frames f (places.Of at.page)) page h) (sym body_is)
-                (subst (λ (n : ℕ). let q : Page = record { 0 = n } in IsBodyOf layout (set frames f (places.Of at.page)) q added.now) (sym same) mine)
+                subst (λ (h : Held). IsBodyOf layout (set frames f p') page h) (sym body_is)
+                (subst (λ (n : ℕ). let q : Page = record { 0 = n } in IsBodyOf layout (set frames f p') q added.now) (sym same) mine)
             | inr other ↦ others page body other (machine.each page body (sym (slice_get-set_other old at.page.0 page.0 added.now other) ∙ there'))
           ];
-      places = Pairs-set (IsPlace layout) layout.kernel frames f places.Free (places.Of at.page) free (λ kernel no_kernel. (no_kernel, inside)) machine.places;
-      counted = used ∙ ap (λ (n : ℕ). n + 1) machine.counted ∙ sym counts ∙ ap (count_by (λ (h : Held). h.state.cached)) (sym added.new_is);
+      places = Pairs-set (IsPlace layout) layout.kernel frames f p p' there fits machine.places;
+      counted = after_set ∙ ap (count_by (λ (h : Held). h.state.cached)) (sym added.new_is);
     }
+
+-- a page is brought into a free frame
+pub Machine-brought : (layout : Layout) (frames : List Place) (f : ℕ) {old new : List Held} {at : At} {e : Entry} (added : Appended old new at e)
+    → slice_get frames f ≡ Some places.Free → e.what ≡ entries.FaultIn → Machine layout old frames → Machine layout new (set frames f (places.Of at.page))
+Machine-brought layout frames f {old} {new} {at} {e} added free brings machine =
+    let within : at.page.0 < length old = slice_get_within old at.page.0 added.held added.was in
+    let inside : at.page.0 < length layout.pages = omega (arith, machine.fit) in
+    let state_is : added.now.state ≡ record added.held.state { cached = true } = added.state_is ∙ ap (after added.held.state) brings in
+    let out : flag added.held.state.cached ≡ 0 = ap flag (subst (Allowed added.held.layout added.held.page added.held.state) brings added.allowed).0 in
+    let cached : flag added.now.state.cached ≡ 1 = ap (λ (s : PageState). flag s.cached) state_is in
+    let mine : flag (is_of at.page (places.Of at.page)) ≡ 1 = ap flag (eqb-same at.page.0) in
+    Machine-moved layout frames f places.Free (places.Of at.page) added free (λ kernel no_kernel. (no_kernel, inside)) (omega (arith, out, cached)) (omega (arith, mine, out, cached))
+    (λ q other. ap flag (eqb-other at.page.0 q.0 (λ same. other (sym same))))
+    (ap (λ (s : PageState). s.bar) state_is) (ap (λ (s : PageState). s.lost) state_is) machine
+
+-- a page leaves its frame, which is free then
+pub Machine-left : (layout : Layout) (frames : List Place) (f : ℕ) {old new : List Held} {at : At} {e : Entry} (added : Appended old new at e)
+    → slice_get frames f ≡ Some (places.Of at.page) → added.held.state.cached ≡ true → added.now.state.cached ≡ false
+    → added.now.state.bar ≡ added.held.state.bar → added.now.state.lost ≡ added.held.state.lost → Machine layout old frames → Machine layout new (set frames f places.Free)
+Machine-left layout frames f {old} {new} {at} {e} added there held now bar lost machine =
+    let in_frame : flag added.held.state.cached ≡ 1 = ap flag held in
+    let out : flag added.now.state.cached ≡ 0 = ap flag now in
+    let mine : flag (is_of at.page (places.Of at.page)) ≡ 1 = ap flag (eqb-same at.page.0) in
+    Machine-moved layout frames f (places.Of at.page) places.Free added there (λ kernel is. is.0) (omega (arith, in_frame, out)) (omega (arith, mine, in_frame, out))
+    (λ q other. sym (ap flag (eqb-other at.page.0 q.0 (λ same. other (sym same)))))
+    bar lost machine
 
 -- where no frame is free, each frame that is not the kernel's holds a page
 used-full : (layout : Layout) (kernel : List Bool) (frames : List Place) → All (λ (p : Place). is_free p ≡ false) frames → Pairs (IsPlace layout) kernel frames → count_by (λ (k : Bool). not k) kernel ≡ count_by is_used frames
@@ -174,6 +191,7 @@ used-full layout (k ∷ kernel) (p ∷ frames) full pairs =
     same_use : (layout : Layout) (k : Bool) (p : Place) → is_free p ≡ false → IsPlace layout k p → flag (not k) ≡ flag (is_used p)
     same_use layout k places.Free full is = absurd (cc)
     same_use layout k places.Kernel full is = ap (λ (b : Bool). flag (not b)) is
+    same_use layout k places.Handled full is = absurd is
     same_use layout k (places.Of page) full is = ap (λ (b : Bool). flag (not b)) is.0
 
 -- where no frame is free, the frames are no more than the pages

@@ -1,9 +1,9 @@
 -- What each step of serving a command needs and gives.
-use Rattle.std.proofs.Common.{◌≡◌, ℕ, ◌+◌, ◌*◌, ◌<◌, ◌≤◌, Bool, true, false, not, cond, List, [], ◌∷◌, Some, None, Option, length, get_or, slice_get, position, count_by, nat_lt, All, IsSomeAnd, IsTrue, refl, sym, ap, ◌∙◌, subst, arith, inl, inr}
+use Rattle.std.proofs.Common.{◌≡◌, ℕ, ◌+◌, ◌*◌, ◌<◌, ◌≤◌, Bool, true, false, cond, List, Some, None, Option, length, get_or, slice_get, position, nat_lt, All, IsSomeAnd, IsTrue, refl, sym, ap, ◌∙◌, subst, arith, inl, inr}
 use Rattle.std.proofs.lemmas.Bool.{cases_Bool, ltb-false, le-ltb}
 use Rattle.std.proofs.lemmas.List.Quantifiers.{position-Some}
 use Rattle.std.proofs.lemmas.List.Sums.{fails_before_first}
-use Rattle.std.proofs.lemmas.Option.{slice_get_read, slice_get-get_or, slice_get_within, same_Some}
+use Rattle.std.proofs.lemmas.Option.{slice_get_read, slice_get-get_or, slice_get_within}
 use Rattle.std.specs.List.{position_or_len}
 use Rattle.std.specs.Ordering.{nat_cmp}
 use Rattle.std.specs.FinSet as set
@@ -14,7 +14,6 @@ use Rattle.hwp_geom.specs.declared.VSlot.{VSlot}
 use Rattle.hwp_page.specs.declared.At.{At}
 use Rattle.hwp_page.specs.declared.Entry.{Entry}
 use Rattle.hwp_page.specs.declared.PageState.{PageState}
-use Rattle.hwp_page.specs.declared.What.{What}
 use Rattle.hwp_page.specs.declared.What.TheVariants as entries
 use Rattle.hwp_page.specs.Step.{Allowed, IsOf, after}
 use Rattle.hwp_page.specs.History.{Held}
@@ -27,25 +26,25 @@ use Rattle.hwp_law.specs.Places.{command_at}
 use Rattle.hwp_law.specs.History.{IsMade, Fits, Names}
 use Rattle.hwp_law.specs.Answers.{is_ample, usable_frames}
 use Rattle.hwp_law.proofs.Growth.{slice_get-set_at}
-use Rattle.hwp_top.specs.Bench.{Machine, Appended, Serves, IsCached, IsMapped, at_command, command_slot, is_free}
+use Rattle.hwp_top.specs.Bench.{Machine, Appended, Serves, IsCached, IsMapped, IsAccessBy, at_command, is_free}
 use Rattle.hwp_top.proofs.Machines.{IsStill, full-few}
 
--- where the search for a free frame finds none, none is free
-none_free : (frames : List Place) → position is_free frames ≡ None → All (λ (p : Place). is_free p ≡ false) frames
-none_free frames none i d within =
-    fails_before_first is_free frames i d (elim (cases_Bool (nat_lt (position_or_len is_free frames) (length frames))) [
+-- where a search finds nothing, nothing passes
+pub none_passes : {A : Type 0} (p : A → Bool) (xs : List A) → position p xs ≡ None → All (λ (x : A). p x ≡ false) xs
+none_passes p xs none i d within =
+    fails_before_first p xs i d (elim (cases_Bool (nat_lt (position_or_len p xs) (length xs))) [
       | inl found ↦
-          let some : cond (nat_lt (position_or_len is_free frames) (length frames)) (Some (position_or_len is_free frames)) None ≡ Some (position_or_len is_free frames) =
-          ap (λ (b : Bool). cond b (Some (position_or_len is_free frames)) None) found in
+          let some : cond (nat_lt (position_or_len p xs) (length xs)) (Some (position_or_len p xs)) None ≡ Some (position_or_len p xs) =
+          ap (λ (b : Bool). cond b (Some (position_or_len p xs)) None) found in
           absurd (cc)
       | inr past ↦
-          let beyond = ltb-false (position_or_len is_free frames) (length frames) past in
+          let beyond = ltb-false (position_or_len p xs) (length xs) past in
           omega arith
     ])
 
 pub unample-full : (script : Script) (bodies : List Held) (frames : List Place) → Machine script.layout bodies frames → position is_free frames ≡ None → is_ample script ≡ false
 unample-full script bodies frames machine none =
-    let few : usable_frames script ≤ length script.layout.pages = full-few script.layout bodies frames machine (none_free frames none) in
+    let few : usable_frames script ≤ length script.layout.pages = full-few script.layout bodies frames machine (none_passes is_free frames none) in
     ltb_not (length script.layout.pages + 2 * script.layout.cpus) (usable_frames script) (omega arith)
   where
     ltb_not : (a b : ℕ) → b ≤ a → nat_lt a b ≡ false
@@ -60,6 +59,7 @@ found_free frames f found =
     only_free : (p : Place) → is_free p ≡ true → p ≡ places.Free
     only_free places.Free passes = refl
     only_free places.Kernel passes = cc
+    only_free places.Handled passes = cc
     only_free (places.Of page) passes = cc
 
 -- what was read of a body is so of the body at that place
@@ -73,9 +73,10 @@ made-by script seq command page e serves who fits =
     let there : command_at script e.who ≡ Some command = ap (command_at script) who ∙ serves.at in
     subst (λ (o : Option Command). IsSomeAnd o (λ (c : Command). Fits c e.what × Names script.layout c page)) (sym there) (fits, serves.names)
 
-pub fits-FaultIn : (command : Command) → Fits command entries.FaultIn
-fits-FaultIn (commands.Load thread slot line) = tt
-fits-FaultIn (commands.Store thread slot line word) = tt
+pub fits-FaultIn : (command : Command) (slot : VSlot) → IsAccessBy command slot → Fits command entries.FaultIn
+fits-FaultIn (commands.Load thread own line) slot is = tt
+fits-FaultIn (commands.Store thread own line word) slot is = tt
+fits-FaultIn _ slot is = absurd is
 
 -- after a fault-in the page is cached
 pub cached-after : {old new : List Held} {at : At} {e : Entry} → Appended old new at e → e.what ≡ entries.FaultIn → IsCached new at.page
@@ -86,22 +87,24 @@ cached-after {old} {new} {at} {e} added brings =
     subst (λ (o : Option Held). IsSomeAnd o (λ (h : Held). h.state.cached ≡ true)) (sym there) cached
 
 -- the page that the command names is that of its translation
-names_slot : (layout : Layout) (command : Command) (page : Page) → Names layout command page → IsOf layout page (command_slot command)
-names_slot layout (commands.Load thread slot line) page names = names
-names_slot layout (commands.Store thread slot line word) page names = names
+names_slot : (layout : Layout) (command : Command) (page : Page) (slot : VSlot) → IsAccessBy command slot → Names layout command page → IsOf layout page slot
+names_slot layout (commands.Load thread own line) page slot is names = subst (IsOf layout page) (sym is) names
+names_slot layout (commands.Store thread own line word) page slot is names = subst (IsOf layout page) (sym is) names
+names_slot layout _ page slot is names = absurd is
 
-pub fits-Map : (command : Command) (slot : VSlot) → slot ≡ command_slot command → Fits command (entries.Map slot)
+pub fits-Map : (command : Command) (slot : VSlot) → IsAccessBy command slot → Fits command (entries.Map slot)
 fits-Map (commands.Load thread own line) slot is = is
 fits-Map (commands.Store thread own line word) slot is = is
+fits-Map _ slot is = absurd is
 
 -- a body whose page is cached, and which has the command's translation neither in use nor poisoned, allows it to be mapped
 pub allowed-Map : (script : Script) (bodies : List Held) (frames : List Place) (command : Command) (page : Page) (slot : VSlot) (seq : ℕ) → Machine script.layout bodies frames
-    → Serves script seq command page → IsCached bodies page → slot ≡ command_slot command → (h : Held) → slice_get bodies page.0 ≡ Some h
+    → Serves script seq command page → IsCached bodies page → IsAccessBy command slot → (h : Held) → slice_get bodies page.0 ≡ Some h
     → set.contains h.state.maps slot.0 ≡ false → Allowed h.layout h.page h.state (entries.Map slot)
 allowed-Map script bodies frames command page slot seq machine serves cached is h there unmapped =
     let body = machine.each page h there in
     let here : h.state.cached ≡ true = subst (λ (o : Option Held). IsSomeAnd o (λ (b : Held). b.state.cached ≡ true)) there cached in
-    let of_script : IsOf script.layout page slot = subst (IsOf script.layout page) (sym is) (names_slot script.layout command page serves.names) in
+    let of_script : IsOf script.layout page slot = names_slot script.layout command page slot is serves.names in
     let of_body : IsOf h.layout h.page slot = subst (λ (l : Layout). IsOf l h.page slot) (sym body.layout_is) (subst (λ (q : Page). IsOf script.layout q slot) (sym body.page_is) of_script) in
     let unbarred : set.contains h.state.bar slot.0 ≡ false = ap (λ (s : set.FinSet nat_cmp). set.contains s slot.0) body.unbarred ∙ set.contains-empty nat_cmp slot.0 in
     (here, of_body, unmapped, unbarred)

@@ -1,5 +1,5 @@
 -- What the top call promises: of what was read, of what was written, and of each status.
-use Rattle.std.specs.Prelude.{◌≡◌, ◌≢◌, ℕ, ◌++◌, ◌==◌, if◌then◌else◌, List, [], ◌∷◌, Option, Some, None, length, map, codes, decimal, ◌⊎◌, String, string_bytes}
+use Rattle.std.specs.Prelude.{◌≡◌, ◌≢◌, ℕ, ◌++◌, ◌==◌, if◌then◌else◌, List, [], ◌∷◌, Option, Some, None, is_some, codes, decimal, ◌⊎◌}
 use Rattle.std.specs.Io.KnownBytes.{Appends, Consumes, IsAtEnd}
 use Rattle.hwp_io.specs.Causes.{Rose}
 use Rattle.hwp_script.specs.declared.Script.{Script}
@@ -8,16 +8,12 @@ use Rattle.hwp_script.specs.declared.Why.{Why}
 use Rattle.hwp_script.specs.declared.Why.TheVariants as whys
 use Rattle.hwp_script.specs.Reads.{Reads, IsRefused}
 use Rattle.hwp_report.specs.declared.Report.{Report}
-use Rattle.hwp_report.specs.Text.{report_text}
 use Rattle.hwp_law.specs.Report.{IsReport}
+use Rattle.hwp_top.specs.Bench.{IsBuilt}
 
 -- the words are those of the command that runs a script step by step
 abbrev pub IsStep : List (List ℕ) → Type 0
 IsStep words = words ≡ codes "step" ∷ []
-
--- the script has only what is built: one processor
-abbrev pub IsBuilt : Script → Type 0
-IsBuilt script = script.layout.cpus ≡ 1
 
 -- the bytes are refused: they are the text of no script, or of one that is not built
 abbrev pub IsRefusal : List ℕ → Refused → Type 0
@@ -86,3 +82,11 @@ told_text status =
     else if status == 5 then Some write_fault_text
     else if status == 6 then Some memory_text
     else None
+
+-- the whole report was written
+abbrev pub IsDone : ℕ → Type 0
+IsDone status = (status ≡ 0) ⊎ (status ≡ 8)
+
+-- the status of a report that was written: 8 where the machine stopped
+abbrev pub done_status : Report → ℕ
+done_status report = if is_some report.stop then 8 else 0

@@ -1,240 +1,206 @@
 //! The bench: runs the commands of one processor one by one over frames and bodies, the lowest free frame first. It
 //! serves until the core does.
-ghost use Rattle.std.specs.Prelude.{◌≡◌, ◌+◌, ◌<◌, ℕ, false, position, take, [], ◌∷◌, length, map, slice_get, slice_index, IsSomeAnd, IsTrue, IsFalse, IfOk, OnOk, Some};
+ghost use Rattle.std.specs.Prelude.{◌≡◌, ◌+◌, ◌<◌, [], ◌∷◌, ◌++◌, All, true, length, map, replicate, slice_get, take, List, IfSome, IfNone, IfOk, OnOk, Some, None};
 ghost use Rattle.std.specs.Arc.{arc_value};
-ghost use Rattle.std.specs.FinSet as set;
 ghost use Rattle.hwp_geom.specs.Layout.{IsSound};
-ghost use Rattle.hwp_page.specs.History.{Held};
-ghost use Rattle.hwp_page.specs.Step.{Allowed, IsOf};
+ghost use Rattle.hwp_geom.specs.declared.VSlot.{VSlot};
 ghost use Rattle.hwp_script.specs.Valid.{IsCommandOf, IsValid};
-ghost use Rattle.hwp_law.specs.Answers.{is_ample};
-ghost use Rattle.hwp_law.specs.History.{Names};
+ghost use Rattle.hwp_law.specs.Answers.{reply_answer};
 ghost use Rattle.hwp_law.specs.Places.{command_at};
+ghost use Rattle.hwp_law.specs.Policies.{arguments};
 ghost use Rattle.hwp_law.specs.Report.{IsReport};
-ghost use Rattle.hwp_top.specs.Bench.{Answers, Appended, AreFresh, Follows, Gives, IsCached, IsMapped, Keeps, Machine, Reports, Serves, at_command, command_slot, frame_line, is_free, logs, opening_place};
+ghost use Rattle.hwp_top.specs.Bench.{Answers, Calls, AreFresh, ArePolicies, Follows, Goes, IsBuilt, IsAccessBy, IsServable, Machine, Reports, at_command, frame_line, is_built_command, logs, opening_place, set_reply};
 
-use hwp_geom::{Cpu, Layout, Line, List, Mask, OutOfMemory, Page, Thread, VSlot, Who};
-use hwp_page::{At, Body, Entry, Met, What};
-use hwp_report::{Answer, CpuLine, FrameLine, Place, Report};
+use crate::access::{page_of, serve_access};
+use crate::eviction::{drop_page, free_slot, out_page, sync_page};
+use crate::steps::who_at;
+use hwp_form::PrctlArgs;
+use hwp_geom::{Layout, List, Mask, OutOfMemory, Page, Thread, VSlot};
+use hwp_kill::{Policy, Reply, prctl};
+use hwp_page::{Body, Entry};
+use hwp_report::{Answer, CpuLine, FrameLine, Place, Report, Stop, StopCause};
 use hwp_script::{Command, Script};
 use std::alloc::Global;
 use std::sync::Arc;
 
-/// A command of the first processor.
-fn who_at(seq: u32) -> Who
-    ensures { result ≡ at_command seq }
+/// Whether the bench serves the command.
+pub fn is_built(command: Command) -> bool
+    ensures { result ≡ is_built_command command }
 {
-    Who { cpu: Cpu(0), seq }
+    matches!(
+        command,
+        Command::Load { .. }
+            | Command::Store { .. }
+            | Command::Free { .. }
+            | Command::Drop { .. }
+            | Command::Sync { .. }
+            | Command::Out { .. }
+            | Command::Fsync { .. }
+            | Command::Prctl { .. }
+            | Command::Log { .. }
+            | Command::RaiseNested
+    )
 }
 
-/// Adds an entry to the history of a page, whose state allows it.
-fn add(bodies: &mut [Body], page: Page, entry: Entry) -> Result<At, OutOfMemory>
-    requires inside { page.0 < length bodies.old }
-    requires allowed { (h : Held) → slice_get bodies.old page.0 ≡ Some h → Allowed h.layout h.page h.state entry.what }
-    ensures place { IfOk result (λ at. at.page ≡ page) }
-    ensures added { IfOk result (λ at. Appended bodies.old bodies.new at entry) }
-{
-    let body = &mut bodies[usize::from(page.0)];
-    body.room()?;
-    let at = At {
-        page,
-        entry: body.len(),
-    };
-    body.append(entry);
-    Ok(at)
-}
-
-/// The number of the lowest frame on the free list.
-fn lowest_free(frames: &[Place]) -> Option<usize>
-    ensures { result ≡ position is_free frames.now }
-{
-    frames.iter().position(|place| matches!(place, Place::Free))
-}
-
-/// The translation of a command.
-fn slot_of(command: Command) -> VSlot
-    ensures { result ≡ command_slot command }
+/// The translation of a load or a store.
+fn accessed(command: &Command) -> Option<VSlot>
+    ensures some { IfSome result (λ slot. IsAccessBy command.now slot) }
+    ensures none { IfNone result ((slot : VSlot) → IsAccessBy command.now slot → ⊥) }
 {
     match command {
-        Command::Load { slot, .. } => slot,
-        Command::Store { slot, .. } => slot,
+        Command::Load { slot, .. } => Some(*slot),
+        Command::Store { slot, .. } => Some(*slot),
+        _ => None,
     }
 }
 
-/// The page that a command names.
-fn page_of(layout: &Layout, command: Command) -> Page
-    requires sound { IsSound layout.now }
-    requires valid { IsCommandOf layout.now 0 command }
-    ensures names { Names layout.now command result }
-    ensures inside { result.0 < length layout.now.pages }
-{
-    layout.trans.as_slice()[usize::from(slot_of(command).0)].page
-}
-
-/// Brings the page into the lowest free frame, where it is in none. It answers whether a frame holds the page now.
-fn bring_in(
-    script: &Script,
-    bodies: &mut [Body],
-    frames: &mut [Place],
-    command: Command,
-    page: Page,
-    seq: u32,
-) -> Result<bool, OutOfMemory>
-    requires inside { page.0 < length script.now.layout.pages }
-    requires serves { Serves script.now seq command page }
-    requires machine { Machine script.now.layout bodies.old frames.old }
-    ensures machine { OnOk result (Machine script.now.layout bodies.new frames.new) }
-    ensures keeps { OnOk result (Keeps script.now seq (logs bodies.old) (logs bodies.new)) }
-    ensures there { IfOk result (λ there. IsTrue there → IsCached bodies.new page) }
-    ensures full { IfOk result (λ there. IsFalse there → is_ample script.now ≡ false) }
-{
-    if bodies[usize::from(page.0)].state().cached {
-        return Ok(true);
-    }
-    let Some(frame) = lowest_free(frames) else {
-        return Ok(false);
-    };
-    add(
-        bodies,
-        page,
-        Entry {
-            who: who_at(seq),
-            what: What::FaultIn,
-        },
-    )?;
-    frames[frame] = Place::Of(page);
-    Ok(true)
-}
-
-/// Brings the command's translation into use, where it is in none.
-fn map_slot(
-    script: &Script,
-    bodies: &mut [Body],
-    frames: &[Place],
-    command: Command,
-    page: Page,
-    seq: u32,
-) -> Result<(), OutOfMemory>
-    requires inside { page.0 < length script.now.layout.pages }
-    requires serves { Serves script.now seq command page }
-    requires machine { Machine script.now.layout bodies.old frames.now }
-    requires cached { IsCached bodies.old page }
-    ensures machine { OnOk result (Machine script.now.layout bodies.new frames.now) }
-    ensures keeps { OnOk result (Keeps script.now seq (logs bodies.old) (logs bodies.new)) }
-    ensures mapped { OnOk result (IsMapped bodies.new page (command_slot command)) }
-{
-    let slot = slot_of(command);
-    if bodies[usize::from(page.0)].state().maps.has(slot) {
-        return Ok(());
-    }
-    add(
-        bodies,
-        page,
-        Entry {
-            who: who_at(seq),
-            what: What::Map { slot },
-        },
-    )?;
-    Ok(())
-}
-
-/// What an access through the command's translation does, and its answer.
-fn access_of(body: &Body, command: Command, at: At) -> (What, Answer)
-    requires mapped { IsTrue (set.contains body.now.state.maps (command_slot command).0) }
-    ensures allowed { Allowed body.now.layout body.now.page body.now.state result.0 }
-    ensures gives { Gives command at result.0 result.1 }
-{
-    let mask = Mask(0);
-    match command {
-        Command::Load { slot, line, .. } => {
-            let word = body.state().val.get(line);
-            let met = Met::Word { mask, word };
-            (What::Load { slot, line, met }, Answer::Value { word, at })
-        }
-        Command::Store {
-            slot,
-            line,
-            word,
-            ..
-        } => {
-            let met = Met::Word { mask, word };
-            (What::Store { slot, line, met }, Answer::Stored(at))
-        }
-    }
-}
-
-/// Makes the access of a command whose translation is in use, and answers it.
-fn access(
-    script: &Script,
-    bodies: &mut [Body],
-    frames: &[Place],
-    command: Command,
-    page: Page,
-    seq: u32,
-) -> Result<Answer, OutOfMemory>
-    requires inside { page.0 < length script.now.layout.pages }
-    requires serves { Serves script.now seq command page }
-    requires machine { Machine script.now.layout bodies.old frames.now }
-    requires mapped { IsMapped bodies.old page (command_slot command) }
-    ensures machine { OnOk result (Machine script.now.layout bodies.new frames.now) }
-    ensures answers { IfOk result (λ answer. Answers script.now seq command answer (logs bodies.old) (logs bodies.new)) }
-{
-    let body = &bodies[usize::from(page.0)];
-    let at = At {
-        page,
-        entry: body.len(),
-    };
-    let (what, answer) = access_of(body, command, at);
-    let who = who_at(seq);
-    add(bodies, page, Entry { who, what })?;
-    Ok(answer)
-}
-
-/// Serves a command, and answers it.
+/// Serves a command on pages, or one that changes nothing that is reported.
 fn serve(
     script: &Script,
     bodies: &mut [Body],
     frames: &mut [Place],
-    command: Command,
+    command: &Command,
     seq: u32,
 ) -> Result<Answer, OutOfMemory>
     requires sound { IsSound script.now.layout }
-    requires valid { IsCommandOf script.now.layout 0 command }
-    requires at { command_at script.now (at_command seq) ≡ Some command }
+    requires valid { IsCommandOf script.now.layout 0 command.now }
+    requires servable { IsServable command.now }
+    requires at { command_at script.now (at_command seq) ≡ Some command.now }
     requires machine { Machine script.now.layout bodies.old frames.old }
     ensures machine { OnOk result (Machine script.now.layout bodies.new frames.new) }
-    ensures answers { IfOk result (λ answer. Answers script.now seq command answer (logs bodies.old) (logs bodies.new)) }
+    ensures answers { IfOk result (λ answer. Answers script.now seq command.now answer (logs bodies.old) (logs bodies.new)) }
 {
-    let page = page_of(&script.layout, command);
-    if !bring_in(script, bodies, frames, command, page, seq)? {
-        return Ok(Answer::NoFrame);
+    if let Some(slot) = accessed(command) {
+        return serve_access(script, bodies, frames, *command, slot, seq);
     }
-    map_slot(script, bodies, frames, command, page, seq)?;
-    access(script, bodies, frames, command, page, seq)
+    match command {
+        Command::Free { slot } => {
+            let page = page_of(&script.layout, *slot);
+            free_slot(script, bodies, frames, *slot, page, seq)
+        }
+        Command::Drop { page } => drop_page(script, bodies, frames, *page, seq),
+        Command::Sync { page } => sync_page(script, bodies, frames, *page, seq),
+        Command::Out { page } => out_page(script, bodies, frames, *page, seq),
+        Command::Fsync { .. } | Command::Log { .. } => Ok(Answer::Done),
+        _ => unreachable!(),
+    }
 }
 
-/// Serves the commands of the only processor one by one, and gives its lines.
+/// The five arguments of a prctl command in their order.
+fn arguments_of(args: PrctlArgs) -> [u64; 5]
+    ensures { result ≡ arguments args }
+{
+    [args.operation, args.arg2, args.arg3, args.arg4, args.arg5]
+}
+
+/// The answer of a reply of prctl(2).
+fn answer_of(reply: Reply) -> Answer
+    ensures { result ≡ reply_answer reply }
+{
+    match reply {
+        Reply::Set(_) => Answer::Done,
+        Reply::Is(policy) => Answer::Is(policy.number()),
+        Reply::Einval => Answer::Einval,
+    }
+}
+
+/// Sets a thread's policy, where the reply of prctl(2) says so.
+fn set_policy(policies: &mut [Policy], thread: Thread, reply: Reply)
+    requires { thread.0 < length policies.old }
+    ensures { policies.new ≡ set_reply policies.old thread reply }
+{
+    if let Reply::Set(policy) = reply {
+        policies[usize::from(thread.0)] = policy;
+    }
+}
+
+/// Serves a call of prctl(2): the thread's policy may change.
+fn call_prctl(policies: &mut [Policy], thread: Thread, args: PrctlArgs) -> Answer
+    requires { thread.0 < length policies.old }
+    ensures { Calls policies.old policies.new thread args result }
+{
+    let reply = prctl(policies[usize::from(thread.0)], arguments_of(args));
+    set_policy(policies, thread, reply);
+    answer_of(reply)
+}
+
+/// Serves the next command of the only processor, which may stop the machine.
+fn serve_next(
+    script: &Script,
+    list: &[Command],
+    bodies: &mut [Body],
+    frames: &mut [Place],
+    policies: &mut [Policy],
+    stop: &mut Option<Stop>,
+    seq: u32,
+) -> Result<Answer, OutOfMemory>
+    requires valid { IsValid script.now }
+    requires only { script.now.lists ≡ list.now ∷ [] }
+    requires built { All (λ c. is_built_command c ≡ true) list.now }
+    requires inside { seq < length list.now }
+    requires machine { Machine script.now.layout bodies.old frames.old }
+    requires policies { stop.old ≡ None → ArePolicies script.now.layout (take seq list.now) policies.old }
+    ensures machine { OnOk result (Machine script.now.layout bodies.new frames.new) }
+    ensures policies { OnOk result (stop.new ≡ None → ArePolicies script.now.layout (take (seq + 1) list.now) policies.new) }
+    ensures goes { IfOk result (λ answer. Goes script.now list.now seq answer (logs bodies.old) (logs bodies.new) stop.old stop.new) }
+{
+    let command = &list[seq as usize];
+    if stop.is_some() {
+        return Ok(Answer::Stopped);
+    }
+    match command {
+        Command::Prctl { thread, args } => Ok(call_prctl(policies, *thread, *args)),
+        Command::RaiseNested => {
+            *stop = Some(Stop {
+                who: who_at(seq),
+                cause: StopCause::Shutdown,
+            });
+            Ok(Answer::Stopped)
+        }
+        _ => serve(script, bodies, frames, command, seq),
+    }
+}
+
+/// What the run of a list of commands left: the lines of the processor, and the stop, if there was one.
+#[derive(Drop)]
+struct Served {
+    rows: Vec<CpuLine>,
+    stop: Option<Stop>,
+}
+
+/// Serves the commands of the only processor one by one.
 fn serve_all(
     alloc: Global,
     script: &Script,
     list: &[Command],
     bodies: &mut [Body],
     frames: &mut [Place],
-) -> Result<Vec<CpuLine>, OutOfMemory>
+    policies: &mut [Policy],
+) -> Result<Served, OutOfMemory>
     requires valid { IsValid script.now }
     requires only { script.now.lists ≡ list.now ∷ [] }
+    requires built { All (λ c. is_built_command c ≡ true) list.now }
     requires machine { Machine script.now.layout bodies.old frames.old }
-    requires begins { Follows script.now [] 0 (logs bodies.old) [] }
+    requires policies { ArePolicies script.now.layout [] policies.old }
+    requires begins { Follows script.now [] 0 (logs bodies.old) [] None }
     ensures machine { OnOk result (Machine script.now.layout bodies.new frames.new) }
-    ensures follows { IfOk result (λ rows. Follows script.now list.now (length list.now) (logs bodies.new) rows.items) }
+    ensures follows { IfOk result (λ served. Follows script.now list.now (length list.now) (logs bodies.new) served.rows.items served.stop) }
 {
     let mut rows = Vec::with_capacity(alloc, list.len())?;
-    for (number, command) in list.iter().enumerate() {
+    let mut stop = None;
+    for number in 0..list.len() {
         let seq = number as u32;
-        let answer = serve(script, bodies, frames, *command, seq)?;
+        let answer = serve_next(script, list, bodies, frames, policies, &mut stop, seq)?;
         rows.push(CpuLine::Answer { seq, answer })?;
     }
-    Ok(rows)
+    Ok(Served { rows, stop })
+}
+
+/// The policies of all threads at opening: the system default.
+fn open_policies(alloc: Global, layout: &Layout) -> Result<Vec<Policy>, OutOfMemory>
+    ensures { IfOk result (λ policies. ArePolicies layout.now [] policies.items) }
+{
+    vec![in alloc; Policy::Default; layout.threads.len()]
 }
 
 /// The bodies of all pages, at their opening.
@@ -273,6 +239,7 @@ fn frame_lines(alloc: Global, frames: &[Place]) -> Result<Vec<FrameLine>, OutOfM
             place: *place,
             bad: Mask(0),
             weak: Mask(0),
+            marks: List::new(alloc),
         })
         .collect(alloc)
 }
@@ -287,35 +254,40 @@ fn histories(alloc: Global, bodies: Vec<Body>) -> Result<Vec<List<Entry>>, OutOf
         .collect(alloc)
 }
 
+/// The report of what the bodies, the frames and the lines show.
+fn report_of(
+    alloc: Global,
+    files: u8,
+    bodies: Vec<Body>,
+    frames: &[Place],
+    served: Served,
+) -> Result<Report, OutOfMemory>
+    ensures { IfOk result (λ report. Reports files report bodies.items frames.now served.rows.items served.stop) }
+{
+    let losses = vec![in alloc; 0; usize::from(files)]?;
+    let mut cpus = Vec::with_capacity(alloc, 1)?;
+    cpus.push(List::from_vec(served.rows))?;
+    Ok(Report {
+        stop: served.stop,
+        count: 0,
+        files: List::from_vec(losses),
+        frames: List::from_vec(frame_lines(alloc, frames)?),
+        pages: List::from_vec(histories(alloc, bodies)?),
+        cpus: List::from_vec(cpus),
+    })
+}
+
 /// The run of a script of one processor, as a report.
 pub fn run(alloc: Global, script: &Script) -> Result<Report, OutOfMemory>
     requires valid { IsValid script.now }
-    requires single { script.now.layout.cpus ≡ 1 }
+    requires built { IsBuilt script.now }
     ensures { IfOk result (IsReport script.now) }
 {
     let layout = Arc::new(alloc, script.layout.copy(alloc)?)?;
     let mut bodies = open_bodies(alloc, &layout)?;
     let mut frames = open_frames(alloc, &script.layout)?;
+    let mut policies = open_policies(alloc, &script.layout)?;
     let list = script.lists.as_slice()[0].as_slice();
-    let rows = serve_all(alloc, script, list, &mut bodies, &mut frames)?;
-    report_of(alloc, bodies, &frames, rows)
-}
-
-/// The report of what the bodies, the frames and the lines show.
-fn report_of(
-    alloc: Global,
-    bodies: Vec<Body>,
-    frames: &[Place],
-    rows: Vec<CpuLine>,
-) -> Result<Report, OutOfMemory>
-    ensures { IfOk result (λ report. Reports report bodies.items frames.now rows.items) }
-{
-    let mut cpus = Vec::with_capacity(alloc, 1)?;
-    cpus.push(List::from_vec(rows))?;
-    Ok(Report {
-        count: 0,
-        frames: List::from_vec(frame_lines(alloc, frames)?),
-        pages: List::from_vec(histories(alloc, bodies)?),
-        cpus: List::from_vec(cpus),
-    })
+    let served = serve_all(alloc, script, list, &mut bodies, &mut frames, &mut policies)?;
+    report_of(alloc, script.layout.files, bodies, &frames, served)
 }

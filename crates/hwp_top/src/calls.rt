@@ -3,7 +3,7 @@ ghost use Rattle.std.specs.Io.KnownBytes.{Appends};
 ghost use Rattle.hwp_io.specs.Causes.{AppendsStrictFront, Rose};
 ghost use Rattle.hwp_script.specs.declared.Refused.{Refused};
 ghost use Rattle.hwp_report.specs.Text.{report_text};
-ghost use Rattle.hwp_top.specs.Top.{IsStep, Refuses, Reports, Told, memory_text, refusal_text, told_text, write_fault_text};
+ghost use Rattle.hwp_top.specs.Top.{IsDone, IsStep, done_status, Refuses, Reports, Told, memory_text, refusal_text, told_text, write_fault_text};
 
 use crate::bench::run;
 use crate::inputs::{InputFault, take_script};
@@ -58,13 +58,14 @@ fn report_of<S: Source>(alloc: Global, src: &mut S) -> Result<(Report, Text), In
 /// writes the report to `out`. The exit statuses are:
 ///
 /// - 0: done, and the whole report is written;
+/// - 8: done too, and the report says that the machine stopped;
 /// - 2: the words are no form that is served;
 /// - 3: the script is refused;
 /// - 4: the source failed;
 /// - 5: the sink failed, and a part of the report is written;
 /// - 6: want of memory.
 ///
-/// For each but 0 a text goes to `err`. A fault of `err` changes nothing. (This project's rule.)
+/// For each but 0 and 8 a text goes to `err`. A fault of `err` changes nothing. (This project's rule.)
 pub fn top<S: Source, K: Sink, E: Sink>(
     alloc: Global,
     words: &[String],
@@ -72,12 +73,14 @@ pub fn top<S: Source, K: Sink, E: Sink>(
     out: &mut K,
     err: &mut E,
 ) -> Done
-    ensures statuses { Contains (0 ∷ 2 ∷ 3 ∷ 4 ∷ 5 ∷ 6 ∷ []) result.status }
+    ensures statuses { Contains (0 ∷ 2 ∷ 3 ∷ 4 ∷ 5 ∷ 6 ∷ 8 ∷ []) result.status }
 
-    // Status 0: what the source had left is the text of a script, and what is written is the text of a report of it.
-    ensures done { result.status ≡ 0 → IsSomeAnd result.report (λ report.
+    // Status 0, or 8 where the machine stopped: what the source had left is the text of a script, and what is written is
+    // the text of a report of it.
+    ensures done { IsDone result.status → IsSomeAnd result.report (λ report.
         Reports (S.left src.old) (S.left src.new) report
-        × Appends (K.taken out.old) (K.taken out.new) (report_text report)) }
+        × Appends (K.taken out.old) (K.taken out.new) (report_text report)
+        × (result.status ≡ done_status report)) }
 
     // Status 2 comes exactly on other words, and statuses 3, 4 and 5 only by their cause.
     ensures usage { (result.status ≡ 2) ↔ (¬ IsStep (map string_bytes words.now)) }
@@ -90,11 +93,11 @@ pub fn top<S: Source, K: Sink, E: Sink>(
     ensures cut { result.status ≡ 5 → IsSomeAnd result.report (λ report.
         Reports (S.left src.old) (S.left src.new) report
         × AppendsStrictFront (K.taken out.old) (K.taken out.new) (report_text report)) }
-    ensures unwritten { result.status ≢ 0 → result.status ≢ 5 → out.new ≡ out.old }
-    ensures no_report { result.status ≢ 0 → result.status ≢ 5 → result.report ≡ None }
+    ensures unwritten { (¬ IsDone result.status) → result.status ≢ 5 → out.new ≡ out.old }
+    ensures no_report { (¬ IsDone result.status) → result.status ≢ 5 → result.report ≡ None }
 
     // What is told on `err`.
-    ensures silent { result.status ≡ 0 → err.new ≡ err.old }
+    ensures silent { IsDone result.status → err.new ≡ err.old }
     ensures told { (text : List ℕ) → told_text result.status ≡ Some text
         → Told (E.taken err.old) (E.taken err.new) (E.faults err.old) (E.faults err.new) text }
 {
@@ -117,17 +120,18 @@ pub fn top<S: Source, K: Sink, E: Sink>(
 /// Writes a report's text, and says how that ended.
 fn deliver<K: Sink, E: Sink>(out: &mut K, err: &mut E, report: Report, text: Text) -> Done
     requires { text ≡ report_text report }
-    ensures statuses { (result.status ≡ 0) ⊎ (result.status ≡ 5) }
+    ensures statuses { (result.status ≡ done_status report) ⊎ (result.status ≡ 5) }
     ensures report { result.report ≡ Some report }
-    ensures done { result.status ≡ 0 → Appends (K.taken out.old) (K.taken out.new) (report_text report) }
-    ensures silent { result.status ≡ 0 → err.new ≡ err.old }
+    ensures done { IsDone result.status → (result.status ≡ done_status report) × Appends (K.taken out.old) (K.taken out.new) (report_text report) }
+    ensures silent { IsDone result.status → err.new ≡ err.old }
     ensures write_fault { result.status ≡ 5 → Rose (K.faults out.old) (K.faults out.new) }
     ensures cut { result.status ≡ 5 → AppendsStrictFront (K.taken out.old) (K.taken out.new) (report_text report) }
     ensures told { result.status ≡ 5 → Told (E.taken err.old) (E.taken err.new) (E.faults err.old) (E.faults err.new) write_fault_text }
 {
+    let status = if report.stop.is_some() { 8 } else { 0 };
     let report = Some(report);
     match write_all(out, text.as_slice()) {
-        Ok(()) => Done { status: 0, report },
+        Ok(()) => Done { status, report },
         Err(WriteFault) => {
             tell(err, WRITE_FAULT);
             Done { status: 5, report }
@@ -137,7 +141,7 @@ fn deliver<K: Sink, E: Sink>(out: &mut K, err: &mut E, report: Report, text: Tex
 
 /// Tells the fault of an input on `err`, and gives its exit status.
 fn tell_fault<E: Sink>(alloc: Global, err: &mut E, fault: InputFault) -> u8
-    ensures statuses { Contains (3 ∷ 4 ∷ 6 ∷ []) result }
+    ensures statuses { (result ≡ 3) ⊎ ((result ≡ 4) ⊎ (result ≡ 6)) }
     ensures refused { result ≡ 3 → (r : Refused) × (fault ≡ InputFault.Refused r)
         × Told (E.taken err.old) (E.taken err.new) (E.faults err.old) (E.faults err.new) (refusal_text r) }
     ensures read_fault { result ≡ 4 → fault ≡ InputFault.ReadFault }

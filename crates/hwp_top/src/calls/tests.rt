@@ -141,23 +141,99 @@ fn other_words_are_usage(rt: HostRuntime) -> Result<(), Fail> {
 }
 
 #[test]
+fn commands_on_pages_change_what_frames_and_histories_show(rt: HostRuntime) -> Result<(), Fail> {
+    let table = [
+        (
+            "a page of a file: dirty, then clean and mapped, then dropped, and read again",
+            "hwp 1\ncpus 1\nframes 1\nfile 0\nproc 0\nthread 0 0 0 handler\npage 0 file 0 fill 3\ntrans 0 0 0\n\
+cpu 0\nload 0 0 1\nstore 0 0 1 8\ndrop 0\nsync 0\ndrop 0\nfree 0\ndrop 0\nfree 0\nsync 0\nload 0 0 1\nfsync 0\nend\n",
+            "hwp-report 1\nstop none\ncount 0\nfile 0 lost 0\nframe 0 page 0 bad 0 weak 0\npage 0 10\nin 0 0\nmap 0 0 0\n\
+load 0 0 0 1 0 3\nstore 0 1 0 1 0 8\nsync 0 3\nfree 0 5 0\ndrop 0 6\nin 0 9\nmap 0 9 0\nload 0 9 0 1 0 8\ncpu 0 11\n\
+0 value 3 0 2\n1 stored 0 3\n2 dirty 0 4\n3 done 0 4\n4 mapped 0 5\n5 done 0 5\n6 done 0 6\n7 notmapped 0 7\n\
+8 notresident 0 7\n9 value 8 0 9\n10 done\nend\n",
+        ),
+        (
+            "an anonymous page swapped out and in, beside a frame of the kernel",
+            "hwp 1\ncpus 1\nframes 2\nkernel 0\nproc 0\nthread 0 0 0 handler\npage 0 anon\ntrans 0 0 0\ncpu 0\n\
+store 0 0 0 5\nout 0\nout 0\nload 0 0 0\nend\n",
+            "hwp-report 1\nstop none\ncount 0\nframe 0 kernel bad 0 weak 0\nframe 1 page 0 bad 0 weak 0\npage 0 7\n\
+in 0 0\nmap 0 0 0\nstore 0 0 0 0 0 5\nout 0 1\nin 0 3\nmap 0 3 0\nload 0 3 0 0 0 5\ncpu 0 4\n0 stored 0 2\n\
+1 done 0 3\n2 notresident 0 4\n3 value 5 0 6\nend\n",
+        ),
+    ];
+    for (name, script, report) in &table {
+        let left = call(rt.alloc(), &["step"], script.as_bytes(), &[], 4096, &[])?;
+        assert_eq!(rt; left.status, 0, "{name}");
+        assert_eq!(rt; left.out.as_slice(), report.as_bytes(), "{name}");
+    }
+    Ok(())
+}
+
+#[test]
+fn prctl_answers_the_policy_that_was_set(rt: HostRuntime) -> Result<(), Fail> {
+    let script =
+        "hwp 1\ncpus 1\nframes 1\nproc 0\nthread 0 0 0 nohandler\nthread 1 0 0 handler\ncpu 0\n\
+prctl 0 34 0 0 0 0\nprctl 0 33 1 1 0 0\nprctl 0 34 0 0 0 0\nprctl 1 34 0 0 0 0\nprctl 0 33 1 0 1 0\n\
+prctl 0 33 1 0 0 0\nprctl 0 34 0 0 0 0\nprctl 0 33 0 0 0 0\nprctl 0 34 0 0 0 0\nprctl 0 35 0 0 0 0\n\
+log 0xBD000000000000C0 0x1000 0x8c\nend\n";
+    let report =
+        "hwp-report 1\nstop none\ncount 0\nframe 0 free bad 0 weak 0\ncpu 0 11\n0 is 2\n1 done\n2 is 1\n\
+3 is 2\n4 einval\n5 done\n6 is 0\n7 done\n8 is 2\n9 einval\n10 done\nend\n";
+    let left = call(rt.alloc(), &["step"], script.as_bytes(), &[], 4096, &[])?;
+    assert_eq!(rt; left.status, 0);
+    assert_eq!(rt; left.out.as_slice(), report.as_bytes());
+    Ok(())
+}
+
+#[test]
+fn a_nested_machine_check_stops_the_machine(rt: HostRuntime) -> Result<(), Fail> {
+    let script =
+        "hwp 1\ncpus 1\nframes 1\nproc 0\nthread 0 0 0 handler\npage 0 anon\ntrans 0 0 0\ncpu 0\n\
+store 0 0 0 7\nraise nested\nload 0 0 0\nraise nested\nend\n";
+    let report =
+        "hwp-report 1\nstop 0 1 shutdown\ncount 0\nframe 0 page 0 bad 0 weak 0\npage 0 3\nin 0 0\nmap 0 0 0\n\
+store 0 0 0 0 0 7\ncpu 0 4\n0 stored 0 2\n1 stopped\n2 stopped\n3 stopped\nend\n";
+    let left = call(rt.alloc(), &["step"], script.as_bytes(), &[], 4096, &[])?;
+    assert_eq!(rt; left.status, 8);
+    assert!(rt; left.reported);
+    assert_eq!(rt; left.out.as_slice(), report.as_bytes());
+    assert_eq!(rt; left.err.len(), 0);
+    Ok(())
+}
+
+#[test]
 fn a_refused_script_leaves_nothing_on_out(rt: HostRuntime) -> Result<(), Fail> {
     let table = [
-        "",
-        "hwp 1\ncpus 2\nframes 2\nproc 0\nthread 0 0 0 handler\npage 0 anon\ntrans 0 0 0\ncpu 0\nend\n",
-        "hwp 1\ncpus 1\nframes 2\nproc 1\nend\n",
-        "hwp 1\ncpus 1\nframes 2\n",
+        ("", "script line 1: BadHeader\n"),
+        ("hwp 2\n", "script line 1: BadHeader\n"),
+        (
+            "hwp 1\ncpus 1\nframes 2\nproc 1\nend\n",
+            "script line 4: WrongPlace\n",
+        ),
+        ("hwp 1\ncpus 1\nframes 2\n", "script line 3: NoEnd\n"),
+        (
+            "hwp 1\n# a comment\n\ncpus 9\n",
+            "script line 4: OverLimit\n",
+        ),
+        (
+            "hwp 1\ncpus 2\nframes 2\nend\n",
+            "script line 0: NotBuilt\n",
+        ),
+        (
+            "hwp 1\ncpus 1\nframes 2\ncpu 0\nbad 0 1\nend\n",
+            "script line 0: NotBuilt\n",
+        ),
+        (
+            "hwp 1\ncpus 1\nframes 2\nschedule 0\nend\n",
+            "script line 0: NotBuilt\n",
+        ),
     ];
-    for script in &table {
+    for (script, told) in &table {
         let left = call(rt.alloc(), &["step"], script.as_bytes(), &[], 4096, &[])?;
         assert_eq!(rt; left.status, 3, "{script}");
         assert!(rt; !left.reported, "{script}");
         assert_eq!(rt; left.out.len(), 0, "{script}");
-        assert_eq!(rt;
-            left.err.as_slice(),
-            b"script line 0: NotBuilt\n".as_slice(),
-            "{script}"
-        );
+        assert_eq!(rt; left.err.as_slice(), told.as_bytes(), "{script}");
     }
     let long = vec![in rt.alloc(); b' '; 1_048_577]?;
     let left = call(rt.alloc(), &["step"], long.as_slice(), &[], 4096, &[])?;
@@ -169,7 +245,7 @@ fn a_refused_script_leaves_nothing_on_out(rt: HostRuntime) -> Result<(), Fail> {
 #[test]
 fn each_cut_of_a_script_is_refused(rt: HostRuntime) -> Result<(), Fail> {
     let whole = STORE_AND_LOAD.as_bytes();
-    for end in 0..whole.len() {
+    for end in 0..whole.len() - 1 {
         let left = call(rt.alloc(), &["step"], &whole[..end], &[], 4096, &[])?;
         assert_eq!(rt; left.status, 3, "cut at {end}");
         assert_eq!(rt; left.out.len(), 0, "cut at {end}");

@@ -1,20 +1,11 @@
-use Rattle.std.proofs.Common.{rules, ◌≡◌, ◌+◌, ◌<◌, ℕ, false, position, take, [], ◌∷◌, length, map, slice_get, slice_index, IsSomeAnd, IsTrue, IsFalse, IfOk, OnOk, Some, ◌-◌, ◌*◌, ◌≤◌, ◌/◌, ◌%◌, Bool, true, nat_eq, nat_lt, List, ◌++◌, slice_index_or, bit_and, bit_or, Fits, w8, w32, w64, Bor, MutBor}
+use Rattle.std.proofs.Common.{◌≡◌, [], ◌∷◌, ◌++◌, length, take, List, slice_index_or}
 use Rattle.std.specs.Arc.{arc_value}
-use Rattle.std.specs.FinSet as set
-use Rattle.hwp_geom.specs.Layout.{IsSound}
-use Rattle.hwp_page.specs.History.{Held}
-use Rattle.hwp_page.specs.Step.{Allowed, IsOf}
-use Rattle.hwp_script.specs.Valid.{IsCommandOf, IsValid}
-use Rattle.hwp_law.specs.Answers.{is_ample}
-use Rattle.hwp_law.specs.History.{Names}
-use Rattle.hwp_law.specs.Places.{command_at}
 use Rattle.hwp_law.specs.Report.{IsReport}
-use Rattle.hwp_top.specs.Bench.{Answers, Appended, AreFresh, Follows, Gives, IsCached, IsMapped, Keeps, Machine, Reports, Serves, at_command, command_slot, frame_line, is_free, logs, opening_place}
-use Rattle.std.proofs.Common.{arith, drop, sym, refl, subst, ap, ◌∙◌}
+use Rattle.hwp_top.specs.Bench.{AreFresh, Reports}
+use Rattle.std.proofs.Common.{arith, drop, sym, subst, ap, ◌∙◌, slice_index_or}
 use Rattle.std.proofs.lemmas.Result.{IfOk-weaker}
-use Rattle.hwp_report.specs.declared.CpuLine.{CpuLine}
+use Rattle.hwp_page.specs.History.{Held}
 use Rattle.hwp_report.specs.declared.Place.{Place}
-use Rattle.hwp_report.specs.declared.Report.{Report}
 use Rattle.hwp_script.specs.declared.Command.{Command}
 use Rattle.hwp_top.proofs.Ends.{IsReport-whole}
 use Rattle.hwp_top.proofs.Whole.{begins, begins-none, only_one, written_back}
@@ -35,15 +26,15 @@ serve_all-requires-clause-begins c =
 pub returns : goal.returns
 returns c =
     let only : c.args.script.now.lists ≡ c.as_slice-list.result.now ∷ [] =
-    only_one c.args.script.now.lists c.index-as_slice-0.result (c.requires.valid.one_each ∙ c.requires.single)
+    only_one c.args.script.now.lists c.index-as_slice-0.result (c.requires.valid.one_each ∙ c.requires.built.single)
     ∙ ap (λ (l : List Command). l ∷ []) (ap (λ (l : List (List Command)). slice_index_or l 0 c.index-as_slice-0.result) (sym c.as_slice.ensures) ∙ sym c.index-as_slice-0.is ∙ sym c.as_slice-list.ensures) in
     let bodies_back : List Held = take c.in_ok-bodies.bodies.len (c.serve_all.new.bodies ++ drop (length c.serve_all.new.bodies) c.in_ok-bodies.bodies.items) in
     let bodies_are : bodies_back ≡ c.serve_all.new.bodies = written_back c.in_ok-bodies.bodies.len c.serve_all.new.bodies c.in_ok-bodies.bodies.items (omega (arith, c.serve_all.auto.bodies, c.deref_mut.ensures.len)) in
     let frames_are : c.deref.result.now ≡ c.serve_all.new.frames =
     c.deref.ensures.value ∙ written_back c.in_ok-frames.frames.len c.serve_all.new.frames c.in_ok-frames.frames.items (omega (arith, c.serve_all.auto.frames, c.deref_mut-2.ensures.len)) in
-    IfOk-weaker c.report_of.result (λ report. Reports report bodies_back c.deref.result.now c.in_ok-rows.rows.items) (IsReport c.args.script.now)
-    (λ report is. IsReport-whole c.args.script.now report c.serve_all.new.bodies c.serve_all.new.frames c.in_ok-rows.rows.items c.as_slice-list.result.now
-    (length c.as_slice-list.result.now) c.requires.single only c.in_ok-rows.ensures.machine c.in_ok-rows.ensures.follows
-    (subst (λ (b : List Held). Reports report b c.serve_all.new.frames c.in_ok-rows.rows.items) bodies_are
-    (subst (λ (f : List Place). Reports report bodies_back f c.in_ok-rows.rows.items) frames_are is)))
+    IfOk-weaker c.report_of.result (λ report. Reports c.args.script.now.layout.files report bodies_back c.deref.result.now c.in_ok-served.served.rows.items c.in_ok-served.served.stop) (IsReport c.args.script.now)
+    (λ report is. IsReport-whole c.args.script.now report c.serve_all.new.bodies c.serve_all.new.frames c.in_ok-served.served.rows.items c.in_ok-served.served.stop c.as_slice-list.result.now
+    (length c.as_slice-list.result.now) c.requires.built.single only c.in_ok-served.ensures.machine c.in_ok-served.ensures.follows
+    (subst (λ (b : List Held). Reports c.args.script.now.layout.files report b c.serve_all.new.frames c.in_ok-served.served.rows.items c.in_ok-served.served.stop) bodies_are
+    (subst (λ (f : List Place). Reports c.args.script.now.layout.files report bodies_back f c.in_ok-served.served.rows.items c.in_ok-served.served.stop) frames_are is)))
     c.report_of.ensures

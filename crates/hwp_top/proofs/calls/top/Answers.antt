@@ -1,12 +1,9 @@
-use Rattle.std.proofs.Common.{rules, ◌≡◌, ◌≢◌, ◌↔◌, ◌⊎◌, ℕ, List, [], ◌∷◌, map, string_bytes, codes, Contains, IfOk, IsErrOf, IsSomeAnd, IsTrue, Some, None, ◌+◌, ◌-◌, ◌*◌, ◌<◌, ◌≤◌, length, ◌/◌, ◌%◌, Bool, true, false, nat_eq, nat_lt, ◌++◌, slice_index_or, slice_set, bit_and, bit_or, Fits, w8, w32, w64, Bor, MutBor}
-use Rattle.std.specs.Io.KnownBytes.{Appends}
-use Rattle.hwp_io.specs.Causes.{AppendsStrictFront, Rose}
-use Rattle.hwp_script.specs.declared.Refused.{Refused}
-use Rattle.hwp_report.specs.Text.{report_text}
-use Rattle.hwp_top.specs.Top.{IsStep, Refuses, Reports, Told, memory_text, refusal_text, told_text, write_fault_text}
-use Rattle.std.proofs.Common.{arith, lit<, refl, subst, sym, inl, inr}
+use Rattle.std.proofs.Common.{ℕ, List, [], ◌∷◌, Contains}
+use Rattle.hwp_top.specs.Top.{Told}
+use Rattle.std.proofs.Common.{lit<, subst, sym, inl, inr, refl}
 use Rattle.std.proofs.lemmas.Option.{same_Some}
 use Rattle.hwp_top.specs.Top.{usage_text}
+use Rattle.hwp_top.proofs.Statuses.{done_is_listed, fault_is_listed}
 use Rattle.hwp_top.proofs.calls.top.Goals as goal
 
 pub returns-then-not-is_step-clause-statuses : goal.returns-then-not-is_step-clause-statuses
@@ -18,8 +15,11 @@ returns-then-not-is_step-clause-told g c text is =
 
 pub returns-in-Ok-clause-statuses : goal.returns-in-Ok-clause-statuses
 returns-in-Ok-clause-statuses g c =
-    let in_list : ℕ → Type 0 = λ n. Contains (0 ∷ 2 ∷ 3 ∷ 4 ∷ 5 ∷ 6 ∷ []) n in
+    let in_list : ℕ → Type 0 = λ n. Contains (0 ∷ 2 ∷ 3 ∷ 4 ∷ 5 ∷ 6 ∷ 8 ∷ []) n in
     elim c.deliver.ensures.statuses [
-      | inl done ↦ subst in_list (sym done) (0, lit< tt, refl)
+      | inl done ↦ subst in_list (sym done) (done_is_listed c.in-Ok.report)
       | inr cut ↦ subst in_list (sym cut) (4, lit< tt, refl)
     ]
+
+pub returns-in-Err-clause-statuses : goal.returns-in-Err-clause-statuses
+returns-in-Err-clause-statuses g c = fault_is_listed c.tell_fault.result c.tell_fault.ensures.statuses

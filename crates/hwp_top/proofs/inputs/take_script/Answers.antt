@@ -1,8 +1,6 @@
-use Rattle.std.proofs.Common.{rules, ◌≡◌, ◌≤◌, IfOk, IsErrOf, ℕ, ◌+◌, ◌-◌, ◌*◌, ◌<◌, length, ◌/◌, ◌%◌, Bool, true, false, nat_eq, nat_lt, List, [], ◌∷◌, ◌++◌, slice_index_or, slice_set, bit_and, bit_or, Fits, w8, w32, w64, Bor, MutBor}
-use Rattle.hwp_io.specs.Causes.{Rose}
-use Rattle.hwp_script.specs.Valid.{IsValid}
+use Rattle.std.proofs.Common.{◌≡◌, ℕ, List}
 use Rattle.hwp_script.specs.declared.Refused.{Refused}
-use Rattle.hwp_top.specs.Top.{Refuses, Takes}
+use Rattle.hwp_top.specs.Top.{Refuses}
 use Rattle.std.proofs.Common.{inl, ap, Err, subst, List, ℕ}
 use Rattle.hwp_script.specs.Reads.{IsRefused}
 use Rattle.hwp_top.proofs.inputs.take_script.Goals as goal
@@ -10,7 +8,7 @@ use Rattle.hwp_top.proofs.inputs.take_script.Goals as goal
 pub returns-in-Err-Refused-clause-refused : goal.returns-in-Err-Refused-clause-refused
 returns-in-Err-Refused-clause-refused g c r is =
     let same : c.in-Err-Refused.refused ≡ r = cc in
-    let refused : IsRefused c.as_slice.result.now c.in-Err-Refused.refused = c.in-Err-Refused.ensures.refused c.in-Err-Refused.refused (ap Err c.in-Err-Refused.field-0-is) in
+    let refused : IsRefused c.as_slice.result.now c.in-Err-Refused.refused = c.in-Err-Refused.ensures-1.refused c.in-Err-Refused.refused (ap Err c.in-Err-Refused.field-0-is) in
     subst (λ (x : Refused). Refuses (g.S.Source.left c.args.src.now) (g.S.Source.left c.read_all.new.src) x) same
     (record {
       bytes = c.in-Ok.bytes;

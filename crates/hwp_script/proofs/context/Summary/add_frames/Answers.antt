@@ -1,9 +1,13 @@
-use Rattle.std.proofs.Common.{refl, arith}
-use Rattle.hwp_script.specs.declared.forms.Form.TheVariants as forms
+use Rattle.std.proofs.Common.{refl, sym, arith}
+use Rattle.std.proofs.lemmas.List.{append-nil, length-replicate}
+use Rattle.hwp_form.specs.declared.Form.TheVariants as forms
 use Rattle.hwp_script.proofs.CleanLaws.{clean_frames}
-use Rattle.hwp_script.proofs.SumLaws.{next_sums}
+use Rattle.hwp_script.proofs.SumLaws.{next_sums, no_marks}
 use Rattle.hwp_script.proofs.context.Summary.add_frames.Goals as goal
 
 pub returns : goal.returns
 returns c =
-    next_sums _ (forms.Frames c.args.n) _ _ c.requires.sums (clean_frames c.requires.clean).late refl refl (omega (arith, (clean_frames c.requires.clean).first)) refl refl refl refl refl refl refl
+    let k = clean_frames c.requires.clean in
+    next_sums _ (forms.Frames c.args.n) _ _ c.requires.sums (k.late)
+    refl refl (omega (arith, c.requires.sums.frames, k.first)) (rw (c.in_ok-self.ensures, length-replicate) (omega (arith, c.requires.sums.marks, k.first)))
+    (rw c.in_ok-self.ensures (no_marks c.args.n c.requires.sums k.first)) refl refl refl refl refl refl refl refl refl refl (sym (append-nil _))

@@ -1,0 +1,276 @@
+-- Words are the words of one line.
+use Rattle.std.proofs.Common.{ℕ, ◌≡◌, ◌<◌, ◌^◌, ◌+◌, ◌*◌, ◌==◌, cond, Bool, true, false, inl, inr, List, [], ◌∷◌, length, get_or, drop, decimal, refl, sym, ap, ◌∙◌, arith}
+use Rattle.std.specs.Str.Parse.{digits_value}
+use Rattle.std.proofs.lemmas.Fmt.{decimal_is_IsNumeral, decimal_injective}
+use Rattle.std.proofs.lemmas.List.{append_cancel_right}
+use Rattle.hwp_geom.specs.Pairs.{Pairs}
+use Rattle.hwp_geom.specs.declared.Kind.{Kind}
+use Rattle.hwp_geom.specs.declared.Kind.TheVariants as kinds
+use Rattle.hwp_form.specs.Kinds.{kind_text}
+use Rattle.hwp_form.specs.Numbers.{IsRegister}
+use Rattle.hwp_form.specs.Grammar.{keyword, order_word, handler_text, Fits, OrderFits, AreRestWords, AreOrderWords, IsTurn, pieces_of, IsSentence, IsForm}
+use Rattle.hwp_form.specs.declared.form.Form.{Form}
+use Rattle.hwp_form.specs.declared.form.Order.{Order}
+use Rattle.hwp_form.specs.declared.form.GoWord.{GoWord}
+use Rattle.hwp_form.specs.declared.form.Until.{Until}
+use Rattle.hwp_form.specs.declared.form.PrctlArgs.{PrctlArgs}
+use Rattle.hwp_form.specs.declared.keywords.Keyword.{Keyword}
+use Rattle.hwp_form.specs.declared.keywords.OrderWord.{OrderWord}
+use Rattle.hwp_form.specs.declared.form.Form.TheVariants as forms
+use Rattle.hwp_form.specs.declared.form.Order.TheVariants as orders
+use Rattle.hwp_form.specs.declared.form.Backing.TheVariants as backings
+use Rattle.hwp_form.specs.declared.form.Until.TheVariants as untils
+use Rattle.hwp_form.specs.declared.keywords.Keyword.TheVariants as keywords
+use Rattle.hwp_form.specs.declared.keywords.OrderWord.TheVariants as words
+use Rattle.hwp_form.proofs.PairsLaws.{Pairs-unique}
+use Rattle.hwp_form.proofs.SentenceLaws.{sentence_from_form}
+use Rattle.hwp_form.proofs.TurnLaws.{no_dot}
+
+-- a kind of step by its name, as one number
+name_number : List ℕ → ℕ
+name_number [] = 0
+name_number (b ∷ bs) = b + 256 * name_number bs
+
+kind_at : ℕ → Kind
+kind_at t = cond (t == 478884637267643812900716) kinds.LoadCache (cond (t == 478976731661197423767404) kinds.LoadFrame (cond (t == 511959511185392450760556) kinds.LoadAvail (cond (t == 1870431169149732482924) kinds.LoadFree (cond (t == 7233170638379249516) kinds.LoadBad (cond (t == 1834258267937808936812) kinds.LoadProc (cond (t == 146749483176889398037933932) kinds.LoadPolicy (cond (t == 2074066507144521412460) kinds.LoadStop (cond (t == 549832115952473105067884) kinds.LoadCount (cond (t == 28559206348186994) kinds.Reserve (cond (t == 8388343942817210740) kinds.TakeBit (cond (t == 8388343942817933671) kinds.GiveBit (cond (t == 1871656147234782867061) kinds.Unreserve (cond (t == 500102554721) kinds.Adopt (cond (t == 28821989526627687) kinds.GetRef (cond (t == 28821989526631792) kinds.PutRef (cond (t == 478976731661197541338988) kinds.LockFrame (cond (t == 31390219086148242069191945845) kinds.UnlockFrame (cond (t == 111542069912946) kinds.Retire (cond (t == 111559249913202) kinds.Revive (cond (t == 2110237734968384316787) kinds.SetOwner (cond (t == 1870570510258438106988) kinds.LockPage (cond (t == 122589708960296999779593845) kinds.UnlockPage (cond (t == 28556998634399091) kinds.SetPte (cond (t == 1870643114326734693747) kinds.SetCache (cond (t == 121424956714864) kinds.Poison (cond (t == 34178086863408862236096425827) kinds.CountPoison (cond (t == 32772547957452405) kinds.Uncount (cond (t == 465625378931) kinds.Spoil (cond (t == 1886352499) kinds.Stop (cond (t == 31654249976195431) kinds.GiveUp (cond (t == 1819044203) kinds.Kill (cond (t == 573240168659724212135283) kinds.SetPolicy (cond (t == 1702063980) kinds.Lose (cond (t == 140780522618507488954180978) kinds.ReportLost (kinds.LoadPte)))))))))))))))))))))))))))))))))))
+
+kind_found : (k : Kind) → kind_at (name_number (kind_text k)) ≡ k
+unfolding name_number kind_at
+kind_found kinds.LoadPte = refl
+kind_found kinds.LoadCache = refl
+kind_found kinds.LoadFrame = refl
+kind_found kinds.LoadAvail = refl
+kind_found kinds.LoadFree = refl
+kind_found kinds.LoadBad = refl
+kind_found kinds.LoadProc = refl
+kind_found kinds.LoadPolicy = refl
+kind_found kinds.LoadStop = refl
+kind_found kinds.LoadCount = refl
+kind_found kinds.Reserve = refl
+kind_found kinds.TakeBit = refl
+kind_found kinds.GiveBit = refl
+kind_found kinds.Unreserve = refl
+kind_found kinds.Adopt = refl
+kind_found kinds.GetRef = refl
+kind_found kinds.PutRef = refl
+kind_found kinds.LockFrame = refl
+kind_found kinds.UnlockFrame = refl
+kind_found kinds.Retire = refl
+kind_found kinds.Revive = refl
+kind_found kinds.SetOwner = refl
+kind_found kinds.LockPage = refl
+kind_found kinds.UnlockPage = refl
+kind_found kinds.SetPte = refl
+kind_found kinds.SetCache = refl
+kind_found kinds.Poison = refl
+kind_found kinds.CountPoison = refl
+kind_found kinds.Uncount = refl
+kind_found kinds.Spoil = refl
+kind_found kinds.Stop = refl
+kind_found kinds.GiveUp = refl
+kind_found kinds.Kill = refl
+kind_found kinds.SetPolicy = refl
+kind_found kinds.Lose = refl
+kind_found kinds.ReportLost = refl
+
+kind_text_injective : (j k : Kind) → kind_text j ≡ kind_text k → j ≡ k
+kind_text_injective j k e = sym (kind_found j) ∙ ap (λ w. kind_at (name_number w)) e ∙ kind_found k
+
+-- the pieces of one word of a schedule
+until_unique : (c d : ℕ) (u v : Until) → c < 2 ^ 64 → d < 2 ^ 64 → pieces_of c u ≡ pieces_of d v → (c ≡ d) × (u ≡ v)
+until_unique c d untils.One untils.One h k e = (decimal_injective c d h k (ap (λ ws. get_or ws 0 []) e), refl)
+until_unique c d untils.One untils.Command h k e = absurd (no_dot c h (decimal d) (ap (λ ws. get_or ws 0 []) e))
+until_unique c d untils.One (untils.After j) h k e = absurd (omega (arith, ap length e))
+until_unique c d untils.Command untils.One h k e = absurd (no_dot d k (decimal c) (sym (ap (λ ws. get_or ws 0 []) e)))
+until_unique c d untils.Command untils.Command h k e =
+    (decimal_injective c d h k (append_cancel_right (decimal c) (decimal d) (46 ∷ []) (ap (λ ws. get_or ws 0 []) e)), refl)
+until_unique c d untils.Command (untils.After j) h k e = absurd (omega (arith, ap length e))
+until_unique c d (untils.After i) untils.One h k e = absurd (omega (arith, ap length e))
+until_unique c d (untils.After i) untils.Command h k e = absurd (omega (arith, ap length e))
+until_unique c d (untils.After i) (untils.After j) h k e =
+    (decimal_injective c d h k (ap (λ ws. get_or ws 0 []) e), ap untils.After (kind_text_injective i j (ap (λ ws. get_or ws 1 []) e)))
+
+abbrev turn_made : ℕ → Until → GoWord
+turn_made c u = record { cpu = c; until = u }
+
+pub turn_unique : (word : List ℕ) (s t : GoWord) → IsTurn word s → IsTurn word t → s ≡ t
+turn_unique word s t h k =
+    let both = until_unique s.cpu t.cpu s.until t.until h.fits k.fits (sym h.same ∙ k.same) in
+    ap (λ c. turn_made c s.until) both.0 ∙ ap (λ u. turn_made t.cpu u) both.1
+
+-- the number that the i-th word writes, and the value of a register word
+value : List (List ℕ) → ℕ → ℕ
+value ws i = digits_value 10 (get_or ws i [])
+
+value_is : (ws : List (List ℕ)) (i n : ℕ) → n < 2 ^ 64 → get_or ws i [] ≡ decimal n → value ws i ≡ n
+unfolding value
+value_is ws i n h e = ap (digits_value 10) e ∙ (decimal_is_IsNumeral n h).1
+
+register_value : List ℕ → ℕ
+register_value w = digits_value 16 (drop 2 w)
+
+register_is : (w : List ℕ) (n : ℕ) → IsRegister w n → register_value w ≡ n
+unfolding register_value
+register_is w n (inl h) = ap (λ v. digits_value 16 (drop 2 v)) h.0 ∙ sym h.1
+register_is w n (inr h) = ap (λ v. digits_value 16 (drop 2 v)) h.same ∙ sym h.value
+
+abbrev args_made : ℕ → ℕ → ℕ → ℕ → ℕ → PrctlArgs
+args_made o a b c d = record { operation = o; arg2 = a; arg3 = b; arg4 = c; arg5 = d }
+
+-- the command of a first word and the words behind it
+order_at : OrderWord → List (List ℕ) → Order
+order_at words.Load ws = orders.Load (value ws 0) (value ws 1) (value ws 2)
+order_at words.Fetch ws = orders.Fetch (value ws 0) (value ws 1) (value ws 2)
+order_at words.KLoad ws = orders.KLoad (value ws 0) (value ws 1) (value ws 2)
+order_at words.Store ws = orders.Store (value ws 0) (value ws 1) (value ws 2) (value ws 3)
+order_at words.Free ws = orders.Free (value ws 0)
+order_at words.Drop ws = orders.Drop (value ws 0)
+order_at words.Sync ws = orders.Sync (value ws 0)
+order_at words.Out ws = orders.Out (value ws 0)
+order_at words.Fsync ws = orders.Fsync (value ws 0)
+order_at words.Bad ws = orders.Bad (value ws 0) (value ws 1)
+order_at words.Weak ws = orders.Weak (value ws 0) (value ws 1)
+order_at words.Scrub ws = orders.Scrub (value ws 0) (value ws 1)
+order_at words.Inject ws = orders.Inject (value ws 0)
+order_at words.Soft ws = orders.Soft (value ws 0)
+order_at words.Unpoison ws = orders.Unpoison (value ws 0)
+order_at words.Prctl ws = orders.Prctl (value ws 0) (record { operation = value ws 1; arg2 = value ws 2; arg3 = value ws 3; arg4 = value ws 4; arg5 = value ws 5 })
+order_at words.Log ws = orders.Log (register_value (get_or ws 0 [])) (register_value (get_or ws 1 [])) (register_value (get_or ws 2 []))
+order_at words.Raise ws = cond (length ws == 4) (orders.RaiseUser (value ws 1) (value ws 2) (value ws 3)) (cond (length ws == 3) (orders.RaiseKernel (value ws 1) (value ws 2)) orders.RaiseNested)
+
+order_found : (ws : List (List ℕ)) (o : Order) → OrderFits o → AreOrderWords ws o → order_at (order_word o) ws ≡ o
+unfolding order_at
+order_found ws (orders.Load m n p) h e = cc (value_is ws 0 m h.0 (ap (λ us. get_or us 0 []) e), value_is ws 1 n h.1 (ap (λ us. get_or us 1 []) e), value_is ws 2 p h.2 (ap (λ us. get_or us 2 []) e))
+order_found ws (orders.Fetch m n p) h e = cc (value_is ws 0 m h.0 (ap (λ us. get_or us 0 []) e), value_is ws 1 n h.1 (ap (λ us. get_or us 1 []) e), value_is ws 2 p h.2 (ap (λ us. get_or us 2 []) e))
+order_found ws (orders.KLoad m n p) h e = cc (value_is ws 0 m h.0 (ap (λ us. get_or us 0 []) e), value_is ws 1 n h.1 (ap (λ us. get_or us 1 []) e), value_is ws 2 p h.2 (ap (λ us. get_or us 2 []) e))
+order_found ws (orders.Store m n p q) h e = cc (value_is ws 0 m h.0 (ap (λ us. get_or us 0 []) e), value_is ws 1 n h.1 (ap (λ us. get_or us 1 []) e), value_is ws 2 p h.2 (ap (λ us. get_or us 2 []) e), value_is ws 3 q h.3 (ap (λ us. get_or us 3 []) e))
+order_found ws (orders.Free m) h e = ap orders.Free (value_is ws 0 m h (ap (λ us. get_or us 0 []) e))
+order_found ws (orders.Drop m) h e = ap orders.Drop (value_is ws 0 m h (ap (λ us. get_or us 0 []) e))
+order_found ws (orders.Sync m) h e = ap orders.Sync (value_is ws 0 m h (ap (λ us. get_or us 0 []) e))
+order_found ws (orders.Out m) h e = ap orders.Out (value_is ws 0 m h (ap (λ us. get_or us 0 []) e))
+order_found ws (orders.Fsync m) h e = ap orders.Fsync (value_is ws 0 m h (ap (λ us. get_or us 0 []) e))
+order_found ws (orders.Bad m n) h e = cc (value_is ws 0 m h.0 (ap (λ us. get_or us 0 []) e), value_is ws 1 n h.1 (ap (λ us. get_or us 1 []) e))
+order_found ws (orders.Weak m n) h e = cc (value_is ws 0 m h.0 (ap (λ us. get_or us 0 []) e), value_is ws 1 n h.1 (ap (λ us. get_or us 1 []) e))
+order_found ws (orders.Scrub m n) h e = cc (value_is ws 0 m h.0 (ap (λ us. get_or us 0 []) e), value_is ws 1 n h.1 (ap (λ us. get_or us 1 []) e))
+order_found ws (orders.Inject m) h e = ap orders.Inject (value_is ws 0 m h (ap (λ us. get_or us 0 []) e))
+order_found ws (orders.Soft m) h e = ap orders.Soft (value_is ws 0 m h (ap (λ us. get_or us 0 []) e))
+order_found ws (orders.Unpoison m) h e = ap orders.Unpoison (value_is ws 0 m h (ap (λ us. get_or us 0 []) e))
+order_found ws (orders.Prctl t args) h e =
+    ap (λ x. orders.Prctl x (args_made (value ws 1) (value ws 2) (value ws 3) (value ws 4) (value ws 5))) (value_is ws 0 t h.0 (ap (λ us. get_or us 0 []) e))
+    ∙ ap (λ x. orders.Prctl t (args_made x (value ws 2) (value ws 3) (value ws 4) (value ws 5))) (value_is ws 1 args.operation h.1 (ap (λ us. get_or us 1 []) e))
+    ∙ ap (λ x. orders.Prctl t (args_made args.operation x (value ws 3) (value ws 4) (value ws 5))) (value_is ws 2 args.arg2 h.2 (ap (λ us. get_or us 2 []) e))
+    ∙ ap (λ x. orders.Prctl t (args_made args.operation args.arg2 x (value ws 4) (value ws 5))) (value_is ws 3 args.arg3 h.3 (ap (λ us. get_or us 3 []) e))
+    ∙ ap (λ x. orders.Prctl t (args_made args.operation args.arg2 args.arg3 x (value ws 5))) (value_is ws 4 args.arg4 h.4 (ap (λ us. get_or us 4 []) e))
+    ∙ ap (λ x. orders.Prctl t (args_made args.operation args.arg2 args.arg3 args.arg4 x)) (value_is ws 5 args.arg5 h.5 (ap (λ us. get_or us 5 []) e))
+order_found ws (orders.Log s a m) h e = cc (register_is (get_or ws 0 []) s e.status, register_is (get_or ws 1 []) a e.addr, register_is (get_or ws 2 []) m e.misc)
+order_found ws (orders.RaiseUser t r p) h e =
+    ap (λ k. cond (k == 4) (orders.RaiseUser (value ws 1) (value ws 2) (value ws 3)) (cond (k == 3) (orders.RaiseKernel (value ws 1) (value ws 2)) orders.RaiseNested)) (ap length e)
+    ∙ cc (value_is ws 1 t h.0 (ap (λ us. get_or us 1 []) e), value_is ws 2 r h.1 (ap (λ us. get_or us 2 []) e), value_is ws 3 p h.2 (ap (λ us. get_or us 3 []) e))
+order_found ws (orders.RaiseKernel r p) h e =
+    ap (λ k. cond (k == 4) (orders.RaiseUser (value ws 1) (value ws 2) (value ws 3)) (cond (k == 3) (orders.RaiseKernel (value ws 1) (value ws 2)) orders.RaiseNested)) (ap length e)
+    ∙ cc (value_is ws 1 r h.0 (ap (λ us. get_or us 1 []) e), value_is ws 2 p h.1 (ap (λ us. get_or us 2 []) e))
+order_found ws orders.RaiseNested h e =
+    ap (λ k. cond (k == 4) (orders.RaiseUser (value ws 1) (value ws 2) (value ws 3)) (cond (k == 3) (orders.RaiseKernel (value ws 1) (value ws 2)) orders.RaiseNested)) (ap length e)
+
+-- the line of a keyword and the words behind it, where these are the words of a schedule
+form_at : List GoWord → Keyword → List (List ℕ) → Form
+form_at turns keywords.Hwp ws = forms.Header
+form_at turns keywords.End ws = forms.End
+form_at turns keywords.Schedule ws = forms.Schedule turns
+form_at turns (keywords.Order w) ws = forms.Order (order_at w ws)
+form_at turns keywords.Trans ws = forms.Trans (value ws 0) (value ws 1) (value ws 2)
+form_at turns keywords.Thread ws = forms.Thread (value ws 0) (value ws 1) (value ws 2) (length (get_or ws 3 []) == 7)
+form_at turns keywords.Page ws = cond (length ws == 2) (forms.Page (value ws 0) backings.Anon) (forms.Page (value ws 0) (backings.File (value ws 2) (value ws 4)))
+form_at turns keywords.Cpus ws = forms.Cpus (value ws 0)
+form_at turns keywords.Frames ws = forms.Frames (value ws 0)
+form_at turns keywords.Kernel ws = forms.Kernel (value ws 0)
+form_at turns keywords.Recovery ws = forms.Recovery (value ws 0)
+form_at turns keywords.Early ws = forms.Early (value ws 0)
+form_at turns keywords.File ws = forms.File (value ws 0)
+form_at turns keywords.Proc ws = forms.Proc (value ws 0)
+form_at turns keywords.Cpu ws = forms.Cpu (value ws 0)
+
+handler_found : (h : Bool) → (length (handler_text h) == 7) ≡ h
+handler_found true = refl
+handler_found false = refl
+
+-- the turns of a schedule, and none for other lines
+turns_of : Form → List GoWord
+turns_of (forms.Schedule turns) = turns
+turns_of f = []
+
+form_found : (turns : List GoWord) (ws : List (List ℕ)) (f : Form) → (keyword f ≡ keywords.Schedule → turns ≡ turns_of f) → Fits f → AreRestWords ws f
+    → form_at turns (keyword f) ws ≡ f
+unfolding form_at turns_of
+form_found turns ws forms.Header one h e = refl
+form_found turns ws forms.End one h e = refl
+form_found turns ws (forms.Schedule ts) one h e = ap forms.Schedule (one refl)
+form_found turns ws (forms.Order o) one h e = ap forms.Order (order_found ws o h e)
+form_found turns ws (forms.Trans m n p) one h e = cc (value_is ws 0 m h.0 (ap (λ us. get_or us 0 []) e), value_is ws 1 n h.1 (ap (λ us. get_or us 1 []) e), value_is ws 2 p h.2 (ap (λ us. get_or us 2 []) e))
+form_found turns ws (forms.Thread m n p b) one h e =
+    let last : (length (get_or ws 3 []) == 7) ≡ b = ap (λ us. length (get_or us 3 []) == 7) e ∙ handler_found b in
+    cc (value_is ws 0 m h.0 (ap (λ us. get_or us 0 []) e), value_is ws 1 n h.1 (ap (λ us. get_or us 1 []) e), value_is ws 2 p h.2 (ap (λ us. get_or us 2 []) e), last)
+form_found turns ws (forms.Page q backings.Anon) one h e =
+    ap (λ k. cond (k == 2) (forms.Page (value ws 0) backings.Anon) (forms.Page (value ws 0) (backings.File (value ws 2) (value ws 4)))) (ap length e)
+    ∙ ap (λ k. forms.Page k backings.Anon) (value_is ws 0 q h (ap (λ us. get_or us 0 []) e))
+form_found turns ws (forms.Page q (backings.File n x)) one h e =
+    ap (λ k. cond (k == 2) (forms.Page (value ws 0) backings.Anon) (forms.Page (value ws 0) (backings.File (value ws 2) (value ws 4)))) (ap length e)
+    ∙ cc (value_is ws 0 q h.0 (ap (λ us. get_or us 0 []) e), value_is ws 2 n h.1 (ap (λ us. get_or us 2 []) e), value_is ws 4 x h.2 (ap (λ us. get_or us 4 []) e))
+form_found turns ws (forms.Cpus n) one h e = ap forms.Cpus (value_is ws 0 n h (ap (λ us. get_or us 0 []) e))
+form_found turns ws (forms.Frames n) one h e = ap forms.Frames (value_is ws 0 n h (ap (λ us. get_or us 0 []) e))
+form_found turns ws (forms.Kernel n) one h e = ap forms.Kernel (value_is ws 0 n h (ap (λ us. get_or us 0 []) e))
+form_found turns ws (forms.Recovery n) one h e = ap forms.Recovery (value_is ws 0 n h (ap (λ us. get_or us 0 []) e))
+form_found turns ws (forms.Early n) one h e = ap forms.Early (value_is ws 0 n h (ap (λ us. get_or us 0 []) e))
+form_found turns ws (forms.File n) one h e = ap forms.File (value_is ws 0 n h (ap (λ us. get_or us 0 []) e))
+form_found turns ws (forms.Proc n) one h e = ap forms.Proc (value_is ws 0 n h (ap (λ us. get_or us 0 []) e))
+form_found turns ws (forms.Cpu n) one h e = ap forms.Cpu (value_is ws 0 n h (ap (λ us. get_or us 0 []) e))
+
+turns_unique : (ws : List (List ℕ)) (turns : List GoWord) (g : Form) → Pairs IsTurn ws turns → AreRestWords ws g → keyword g ≡ keywords.Schedule
+    → turns ≡ turns_of g
+unfolding turns_of
+turns_unique ws turns (forms.Schedule ts) h k e = Pairs-unique IsTurn turn_unique ws turns ts h k
+turns_unique ws turns forms.Header h k e = absurd (cc e)
+turns_unique ws turns (forms.Order o) h k e = absurd (cc e)
+turns_unique ws turns (forms.Trans m n p) h k e = absurd (cc e)
+turns_unique ws turns (forms.Thread m n p b) h k e = absurd (cc e)
+turns_unique ws turns (forms.Page q b) h k e = absurd (cc e)
+turns_unique ws turns forms.End h k e = absurd (cc e)
+turns_unique ws turns (forms.Cpus n) h k e = absurd (cc e)
+turns_unique ws turns (forms.Frames n) h k e = absurd (cc e)
+turns_unique ws turns (forms.Kernel n) h k e = absurd (cc e)
+turns_unique ws turns (forms.Recovery n) h k e = absurd (cc e)
+turns_unique ws turns (forms.Early n) h k e = absurd (cc e)
+turns_unique ws turns (forms.File n) h k e = absurd (cc e)
+turns_unique ws turns (forms.Proc n) h k e = absurd (cc e)
+turns_unique ws turns (forms.Cpu n) h k e = absurd (cc e)
+
+-- the turns of a line are those of any line of these words
+turns_agree : (ws : List (List ℕ)) (f g : Form) → keyword f ≡ keyword g → AreRestWords ws f → AreRestWords ws g → keyword g ≡ keywords.Schedule
+    → turns_of f ≡ turns_of g
+unfolding turns_of
+turns_agree ws (forms.Schedule ts) g same h k e = turns_unique ws ts g h k e
+turns_agree ws forms.Header g same h k e = absurd (cc (same ∙ e))
+turns_agree ws (forms.Order o) g same h k e = absurd (cc (same ∙ e))
+turns_agree ws (forms.Trans m n p) g same h k e = absurd (cc (same ∙ e))
+turns_agree ws (forms.Thread m n p b) g same h k e = absurd (cc (same ∙ e))
+turns_agree ws (forms.Page q b) g same h k e = absurd (cc (same ∙ e))
+turns_agree ws forms.End g same h k e = absurd (cc (same ∙ e))
+turns_agree ws (forms.Cpus n) g same h k e = absurd (cc (same ∙ e))
+turns_agree ws (forms.Frames n) g same h k e = absurd (cc (same ∙ e))
+turns_agree ws (forms.Kernel n) g same h k e = absurd (cc (same ∙ e))
+turns_agree ws (forms.Recovery n) g same h k e = absurd (cc (same ∙ e))
+turns_agree ws (forms.Early n) g same h k e = absurd (cc (same ∙ e))
+turns_agree ws (forms.File n) g same h k e = absurd (cc (same ∙ e))
+turns_agree ws (forms.Proc n) g same h k e = absurd (cc (same ∙ e))
+turns_agree ws (forms.Cpu n) g same h k e = absurd (cc (same ∙ e))
+
+pub sentence_unique : (k : Keyword) (ws : List (List ℕ)) (f g : Form) → IsSentence k ws f → IsSentence k ws g → f ≡ g
+sentence_unique k ws f g h j =
+    let same : keyword f ≡ keyword g = h.kind ∙ sym j.kind in
+    sym (form_found (turns_of f) ws f (λ e. refl) h.fits h.same)
+    ∙ ap (λ i. form_at (turns_of f) i ws) same
+    ∙ form_found (turns_of f) ws g (λ e. turns_agree ws f g same h.same j.same e) j.fits j.same
+
+-- words are the words of one line
+pub form_unique : (ws : List (List ℕ)) (f g : Form) → IsForm ws f → IsForm ws g → f ≡ g
+form_unique ws f g h k = sentence_unique (keyword f) h.rest f g h.is (sentence_from_form ws (keyword f) h.rest g h.same k)

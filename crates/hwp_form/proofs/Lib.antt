@@ -1,0 +1,11 @@
+pub mod PairsLaws
+pub mod Searches
+pub mod Listed
+pub mod HexLaws
+pub mod OrderLaws
+pub mod TurnLaws
+pub mod SentenceLaws
+pub mod Decoding
+pub mod Shapes
+pub mod LineLaws
+pub mod PrintLaws

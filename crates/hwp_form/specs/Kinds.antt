@@ -1,0 +1,43 @@
+-- The names of the kinds of step.
+use Rattle.std.specs.Prelude.{ℕ, List, codes}
+use Rattle.hwp_geom.specs.declared.Kind.{Kind}
+use Rattle.hwp_geom.specs.declared.Kind.TheVariants as kinds
+
+-- the name of a kind of step, as a schedule says it
+abbrev pub kind_text : Kind → List ℕ
+kind_text kinds.LoadPte = codes "load_pte"
+kind_text kinds.LoadCache = codes "load_cache"
+kind_text kinds.LoadFrame = codes "load_frame"
+kind_text kinds.LoadAvail = codes "load_avail"
+kind_text kinds.LoadFree = codes "load_free"
+kind_text kinds.LoadBad = codes "load_bad"
+kind_text kinds.LoadProc = codes "load_proc"
+kind_text kinds.LoadPolicy = codes "load_policy"
+kind_text kinds.LoadStop = codes "load_stop"
+kind_text kinds.LoadCount = codes "load_count"
+kind_text kinds.Reserve = codes "reserve"
+kind_text kinds.TakeBit = codes "take_bit"
+kind_text kinds.GiveBit = codes "give_bit"
+kind_text kinds.Unreserve = codes "unreserve"
+kind_text kinds.Adopt = codes "adopt"
+kind_text kinds.GetRef = codes "get_ref"
+kind_text kinds.PutRef = codes "put_ref"
+kind_text kinds.LockFrame = codes "lock_frame"
+kind_text kinds.UnlockFrame = codes "unlock_frame"
+kind_text kinds.Retire = codes "retire"
+kind_text kinds.Revive = codes "revive"
+kind_text kinds.SetOwner = codes "set_owner"
+kind_text kinds.LockPage = codes "lock_page"
+kind_text kinds.UnlockPage = codes "unlock_page"
+kind_text kinds.SetPte = codes "set_pte"
+kind_text kinds.SetCache = codes "set_cache"
+kind_text kinds.Poison = codes "poison"
+kind_text kinds.CountPoison = codes "count_poison"
+kind_text kinds.Uncount = codes "uncount"
+kind_text kinds.Spoil = codes "spoil"
+kind_text kinds.Stop = codes "stop"
+kind_text kinds.GiveUp = codes "give_up"
+kind_text kinds.Kill = codes "kill"
+kind_text kinds.SetPolicy = codes "set_policy"
+kind_text kinds.Lose = codes "lose"
+kind_text kinds.ReportLost = codes "report_lost"

@@ -1,0 +1,5 @@
+pub mod Numbers
+pub mod Kinds
+pub mod Grammar
+pub mod Lines
+pub mod Printed

@@ -1,0 +1,25 @@
+-- The printed words of some kinds of line, from their parts, and the text of lines.
+use Rattle.std.specs.Prelude.{ℕ, Bool, List, [], ◌∷◌, map, codes}
+use Rattle.std.specs.List.{flat_map}
+use Rattle.hwp_geom.specs.Words.{line}
+use Rattle.hwp_form.specs.Grammar.{form_words, turn_text}
+use Rattle.hwp_form.specs.declared.form.Form.{Form}
+use Rattle.hwp_form.specs.declared.form.Backing.{Backing}
+use Rattle.hwp_form.specs.declared.form.GoWord.{GoWord}
+use Rattle.hwp_form.specs.declared.form.Form.TheVariants as forms
+
+-- the words of a thread
+abbrev pub thread_words : ℕ → ℕ → ℕ → Bool → List (List ℕ)
+thread_words t p c handler = form_words (forms.Thread t p c handler)
+
+-- the words of a page
+abbrev pub page_words : ℕ → Backing → List (List ℕ)
+page_words q backing = form_words (forms.Page q backing)
+
+-- the words of a line of the schedule
+abbrev pub schedule_words : List GoWord → List (List ℕ)
+schedule_words turns = form_words (forms.Schedule turns)
+
+-- the text of lines
+abbrev pub forms_text : List Form → List ℕ
+forms_text fs = flat_map (λ f. line (form_words f)) fs

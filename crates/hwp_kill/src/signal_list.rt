@@ -1,0 +1,75 @@
+ghost use Rattle.std.specs.Prelude.{◌≡◌, ◌<◌, ◌≤◌, [], ◌∷◌, ◌++◌, length};
+ghost use Rattle.hwp_kill.specs.declared.signal_list.TheConstants.{MAX_SIGNALS};
+
+use crate::types::{Code, Signal};
+use hwp_geom::{Proc, Thread, VSlot};
+use std::marker::Model;
+
+/// The most signals of a memory failure: one for each process of a script.
+pub const MAX_SIGNALS: usize = 16;
+
+/// What stands in a place that no signal has taken yet.
+const FREE_PLACE: Signal = Signal {
+    process: Proc(0),
+    thread: Thread(0),
+    code: Code::Ar,
+    slot: VSlot(0),
+};
+
+/// At most 16 signals, in a list that takes no memory. Clauses see it as the list of its signals.
+#[derive(Drop)]
+pub struct SignalList {
+    places: [Signal; MAX_SIGNALS],
+    taken: usize,
+}
+
+impl Model for SignalList {
+    ghost use Rattle.std.specs.Prelude.{List, take, ◌≤◌};
+    ghost use Rattle.hwp_kill.specs.declared.types.Signal.{Signal};
+    ghost use Rattle.hwp_kill.specs.declared.signal_list.TheConstants.{MAX_SIGNALS};
+
+    ghost Value = { List Signal };
+
+    ghost view = { λ a. take a.taken a.places };
+
+    ghost invariant = { λ a. a.taken ≤ MAX_SIGNALS };
+}
+
+impl SignalList {
+    /// The empty list.
+    pub fn new() -> SignalList
+        ensures { result ≡ [] }
+    {
+        SignalList {
+            places: [FREE_PLACE; MAX_SIGNALS],
+            taken: 0,
+        }
+    }
+
+    /// The signals, from the first one on.
+    pub fn as_slice(&self) -> &[Signal]
+        ensures signals { result.now ≡ self.now }
+        ensures few { length self.now ≤ MAX_SIGNALS }
+    {
+        &self.places[..self.taken]
+    }
+
+    /// Adds a signal at the end.
+    pub fn push(&mut self, signal: Signal)
+        requires { length self.old < MAX_SIGNALS }
+        ensures { self.new ≡ self.old ++ signal ∷ [] }
+    {
+        self.places[self.taken] = signal;
+        self.taken += 1;
+    }
+
+    /// The same signals once more.
+    pub fn copy(&self) -> SignalList
+        ensures { result ≡ self.now }
+    {
+        SignalList {
+            places: self.places,
+            taken: self.taken,
+        }
+    }
+}

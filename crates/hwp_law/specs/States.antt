@@ -1,0 +1,69 @@
+-- The state of a page at a place of its history, and the window in which a command can have seen it.
+use Rattle.std.specs.Prelude.{◌≡◌, ℕ, ◌<◌, ◌≤◌, List, Option, Some, None, length, take, fold, slice_get}
+use Rattle.hwp_geom.specs.declared.Layout.{Layout}
+use Rattle.hwp_geom.specs.declared.PageKind.{PageKind}
+use Rattle.hwp_geom.specs.declared.Who.{Who}
+use Rattle.hwp_page.specs.declared.At.{At}
+use Rattle.hwp_page.specs.declared.Entry.{Entry}
+use Rattle.hwp_page.specs.declared.PageState.{PageState}
+use Rattle.hwp_page.specs.Step.{after, opening_of}
+use Rattle.hwp_report.specs.declared.Answer.{Answer}
+use Rattle.hwp_report.specs.declared.Answer.TheVariants as answers
+use Rattle.hwp_report.specs.declared.CpuLine.{CpuLine}
+use Rattle.hwp_report.specs.declared.CpuLine.TheVariants as lines
+use Rattle.hwp_law.specs.Places.{entry_at}
+
+-- the state after entries
+abbrev pub state_after : PageState → List Entry → PageState
+state_after s entries = fold (λ (t : PageState) (e : Entry). after t e.what) s entries
+
+-- after as many entries of its page as the place says, the page had this property
+pub record HadState (layout : Layout) (pages : List (List Entry)) (at : At) (P : PageState → Type 0) : Type 0 where
+  pub kind : PageKind
+  pub entries : List Entry
+  pub declared : slice_get layout.pages at.page.0 ≡ Some kind
+  pub there : slice_get pages at.page.0 ≡ Some entries
+  pub within : at.entry ≤ length entries
+  pub had : P (state_after (opening_of kind) (take at.entry entries))
+
+-- the place that an answer names, of an entry or of a number of entries
+abbrev pub place_named : Answer → Option At
+place_named (answers.Value word at) = Some at
+place_named (answers.Stored at) = Some at
+place_named (answers.Sigbus at) = Some at
+place_named (answers.DoneAt at) = Some at
+place_named (answers.NotResident at) = Some at
+place_named (answers.NotMapped at) = Some at
+place_named (answers.Dirty at) = Some at
+place_named (answers.Mapped at) = Some at
+place_named (answers.BadLines mask at) = Some at
+place_named (answers.Moved frame at) = Some at
+place_named _ = None
+
+-- the place that an answer names, where it says what state the page was in
+abbrev pub state_named : Answer → Option At
+state_named (answers.NotResident at) = Some at
+state_named (answers.NotMapped at) = Some at
+state_named (answers.Dirty at) = Some at
+state_named (answers.Mapped at) = Some at
+state_named (answers.BadLines mask at) = Some at
+state_named _ = None
+
+-- the number of entries lies in the command's window: past the entries of the processor's earlier commands, not below
+-- what its earlier answers name, and not past the entries of its later commands
+pub record IsInWindow (pages : List (List Entry)) (rows : List CpuLine) (who : Who) (at : At) : Type 0 where
+  pub past_earlier : (bt : At) (e : Entry) → entry_at pages bt ≡ Some e → bt.page ≡ at.page → e.who.cpu ≡ who.cpu → e.who.seq < who.seq → bt.entry < at.entry
+  pub not_below : (i seq : ℕ) (answer : Answer) (bt : At) → slice_get rows i ≡ Some (lines.Answer seq answer) → seq < who.seq → place_named answer ≡ Some bt → bt.page ≡ at.page → bt.entry ≤ at.entry
+  pub before_later : (bt : At) (e : Entry) → entry_at pages bt ≡ Some e → bt.page ≡ at.page → e.who.cpu ≡ who.cpu → who.seq < e.who.seq → at.entry ≤ bt.entry
+
+-- the page has at least as many entries as the place says
+abbrev pub IsWithin : List (List Entry) → At → Type 0
+IsWithin pages at = (log : List Entry) → slice_get pages at.page.0 ≡ Some log → at.entry ≤ length log
+
+-- each place that an answer names is within its page's history
+abbrev pub AreWithin : List (List Entry) → List CpuLine → Type 0
+AreWithin pages rows = (i seq : ℕ) (answer : Answer) (bt : At) → slice_get rows i ≡ Some (lines.Answer seq answer) → place_named answer ≡ Some bt → IsWithin pages bt
+
+-- each answer is of a command below this number
+abbrev pub AreBelow : ℕ → List CpuLine → Type 0
+AreBelow n rows = (i seq : ℕ) (answer : Answer) → slice_get rows i ≡ Some (lines.Answer seq answer) → seq < n

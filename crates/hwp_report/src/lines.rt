@@ -1,0 +1,114 @@
+use hwp_geom::{Frame, Mask, Page};
+use hwp_page::At;
+
+/// What was done about the event of a bank.
+#[derive(Clone, Copy, Debug, PartialEq, Eq)]
+pub enum Acted {
+    /// Nothing: there was no event, or its reporting was not enabled.
+    None,
+    /// A corrected error was kept on record.
+    Keep,
+    /// An uncorrected error needed no action now.
+    Deferred,
+    /// An uncorrected error was only logged.
+    Logged,
+    /// A memory failure ended as recovered.
+    Recovered,
+    /// A memory failure ended as delayed.
+    Delayed,
+    /// A memory failure ended as ignored.
+    Ignored,
+    /// The frame was poisoned already.
+    Already,
+    /// The machine has no such frame.
+    Outside,
+    /// The event stopped the machine.
+    Stop,
+    /// The memory failure was a panic.
+    Panic,
+    /// It was not acted on, because the machine stopped.
+    Held,
+}
+
+/// The answer of a command. A place is that of the entry that gave the answer, or the number of entries at that moment.
+#[derive(Clone, Copy, Debug, PartialEq, Eq)]
+pub enum Answer {
+    /// A load gave this word.
+    Value { word: u64, at: At },
+    /// A store was made.
+    Stored(At),
+    /// The access was answered by SIGBUS.
+    Sigbus(At),
+    /// The process had ended by a signal in the history of this page.
+    Gone(Page),
+    /// No frame was free.
+    NoFrame,
+    /// The machine had stopped.
+    Stopped,
+    /// It was done.
+    Done,
+    /// It was done, by an entry.
+    DoneAt(At),
+    /// No frame held the page.
+    NotResident(At),
+    /// The translation was not in use.
+    NotMapped(At),
+    /// The page's content stood nowhere else.
+    Dirty(At),
+    /// A translation to the page was in use.
+    Mapped(At),
+    /// The page's frame had these bad lines.
+    BadLines(Mask, At),
+    /// This many losses had come to the file since the last time.
+    Eio(u64),
+    /// The policy has this number (prctl(2)).
+    Is(u64),
+    /// The arguments were none that prctl(2) takes.
+    Einval,
+    /// The memory failure ended as recovered.
+    Recovered,
+    /// The memory failure ended as delayed.
+    Delayed,
+    /// The memory failure ended as ignored.
+    Ignored,
+    /// The frame was poisoned already.
+    Already,
+    /// The content moved to this frame.
+    Moved(Frame, At),
+    /// The frame had no page, and was taken.
+    TakenFree,
+    /// The frame is the kernel's own.
+    Kernel,
+    /// The frame has these bad lines.
+    HasBad(Mask),
+    /// The frame was not poisoned.
+    NotPoisoned,
+    /// A hardware failure was seen, which bars every unpoisoning (Linux hwpoison.rst).
+    HardwareSeen,
+    /// The frame had this count.
+    InUse(u64),
+    /// The scrub found this many events.
+    Scrubbed(u64),
+    /// The machine check found this many events.
+    Raised(u64),
+}
+
+/// A line of a processor, of its command number `seq`, from 0.
+#[derive(Clone, Copy, Debug, PartialEq, Eq)]
+pub enum CpuLine {
+    /// The event of a bank in a machine check: what the bank held, the row of the severity table, and what was done.
+    Event {
+        seq: u32,
+        bank: u8,
+        status: u64,
+        addr: u64,
+        misc: u64,
+        row: u8,
+        acted: Acted,
+    },
+    /// The command's answer.
+    Answer {
+        seq: u32,
+        answer: Answer,
+    },
+}

@@ -1,0 +1,154 @@
+-- From the judgement of a line to that of all lines.
+use Rattle.std.proofs.Common.{ℕ, ◌≡◌, ◌≢◌, ◌==◌, ◌<◌, ◌≤◌, ◌+◌, ◌-◌, ◌++◌, Bool, true, List, [], ◌∷◌, length, take, get_or, Some, ap, subst, ◌∙◌, sym, refl, arith}
+use Rattle.std.proofs.lemmas.List.{map-append, length-map, length_push, nil_from_length}
+use Rattle.std.proofs.lemmas.Option.{slice_get-get_or}
+use Rattle.std.proofs.lemmas.Bool.Decides.{nat_tests}
+use Rattle.hwp_form.specs.declared.Form.{Form}
+use Rattle.hwp_form.specs.declared.Form.TheVariants as forms
+use Rattle.hwp_form.specs.declared.LineRead.TheVariants as reads
+use Rattle.hwp_form.specs.declared.Numbered.{Numbered}
+use Rattle.hwp_script.specs.declared.context.Summary.{Summary}
+use Rattle.hwp_script.specs.declared.why.Why.{Why}
+use Rattle.hwp_script.specs.declared.why.Why.TheVariants as whys
+use Rattle.hwp_script.specs.Reasons.{Applies, IsClean, AreClean, IsLowest, number}
+use Rattle.hwp_script.specs.Sums.{Sums}
+use Rattle.hwp_script.specs.Collects.{IsEnded}
+use Rattle.hwp_script.specs.Refusals.{AreForms, IsFault, IsLowestFault, IsFirst, AreRefused}
+use Rattle.hwp_script.specs.declared.why.Refused.{Refused}
+use Rattle.hwp_script.proofs.CleanLists.{AreClean-none, AreClean-push, slice_get-append_at}
+
+-- the reasons that are no line's own
+pub record AreHigh (above : List Form) (f : Form) : Type 0 where
+  pub end : Applies above f whys.NoEnd → ⊥
+  pub long : Applies above f whys.TooLong → ⊥
+  pub built : Applies above f whys.NotBuilt → ⊥
+
+high : (above : List Form) (f : Form) → AreHigh above f
+high above forms.Header = record { end = λ h. h; long = λ h. h; built = λ h. h }
+high above (forms.Cpus n) = record { end = λ h. h; long = λ h. h; built = λ h. h }
+high above (forms.Frames n) = record { end = λ h. h; long = λ h. h; built = λ h. h }
+high above (forms.Kernel f) = record { end = λ h. h; long = λ h. h; built = λ h. h }
+high above (forms.Recovery b) = record { end = λ h. h; long = λ h. h; built = λ h. h }
+high above (forms.Early b) = record { end = λ h. h; long = λ h. h; built = λ h. h }
+high above (forms.File n) = record { end = λ h. h; long = λ h. h; built = λ h. h }
+high above (forms.Proc p) = record { end = λ h. h; long = λ h. h; built = λ h. h }
+high above (forms.Thread t p c h) = record { end = λ h. h; long = λ h. h; built = λ h. h }
+high above (forms.Page q b) = record { end = λ h. h; long = λ h. h; built = λ h. h }
+high above (forms.Trans v p q) = record { end = λ h. h; long = λ h. h; built = λ h. h }
+high above (forms.Cpu c) = record { end = λ h. h; long = λ h. h; built = λ h. h }
+high above (forms.Order o) = record { end = λ h. h; long = λ h. h; built = λ h. h }
+high above (forms.Schedule ws) = record { end = λ h. h; long = λ h. h; built = λ h. h }
+high above forms.End = record { end = λ h. h; long = λ h. h; built = λ h. h }
+
+-- a reason that applies to a form is its fault
+fault_of : (last : Bool) (above : List Form) (f : Form) (w : Why) → Applies above f w → IsFault last above (reads.Form f) w
+fault_of last above f whys.NoEnd h = absurd ((high above f).end h)
+fault_of last above f w h = h
+
+low : (above : List Form) (f : Form) (w : Why) → Applies above f w → number w ≤ 7
+low above f whys.NoEnd h = absurd ((high above f).end h)
+low above f whys.TooLong h = absurd ((high above f).long h)
+low above f whys.NotBuilt h = absurd ((high above f).built h)
+low above f w h = omega arith
+
+lowest_of : (last : Bool) (above : List Form) (f : Form) (w : Why) → IsLowest above f w → (v : Why) → IsFault last above (reads.Form f) v → number w ≤ number v
+lowest_of last above f w h whys.NoEnd e = omega (arith, low above f w h.applies)
+lowest_of last above f w h v e = h.lowest v e
+
+-- the lowest reason that applies to a form is its lowest fault
+pub lowest_form : {last : Bool} {above : List Form} {f : Form} {w : Why} → IsLowest above f w → IsLowestFault last above (reads.Form f) w
+lowest_form {last} {above} {f} {w} h = record { applies = fault_of last above f w h.applies; lowest = lowest_of last above f w h }
+
+only_end : (last : Bool) (above : List Form) (f : Form) → IsClean above f → (v : Why) → IsFault last above (reads.Form f) v → 8 ≤ number v
+only_end last above f h whys.NoEnd e = omega arith
+only_end last above f h whys.BadHeader e = absurd (h.none whys.BadHeader e)
+only_end last above f h whys.UnknownWord e = absurd (h.none whys.UnknownWord e)
+only_end last above f h whys.BadNumber e = absurd (h.none whys.BadNumber e)
+only_end last above f h whys.OverLimit e = absurd (h.none whys.OverLimit e)
+only_end last above f h whys.Undeclared e = absurd (h.none whys.Undeclared e)
+only_end last above f h whys.Twice e = absurd (h.none whys.Twice e)
+only_end last above f h whys.WrongPlace e = absurd (h.none whys.WrongPlace e)
+only_end last above f h whys.TooLong e = omega arith
+only_end last above f h whys.NotBuilt e = omega arith
+
+-- a clean last line that is not `end`
+pub lacks_end : {last : Bool} {above : List Form} {f : Form} → IsClean above f → last ≡ true → f ≢ forms.End → IsLowestFault last above (reads.Form f) whys.NoEnd
+lacks_end {last} {above} {f} h l n = record { applies = (l, n); lowest = only_end last above f h }
+
+-- the lines so far have these forms, each is clean, and this is their summary; of all lines the last is `end`
+pub record AreSoFar (lines yielded : List Numbered) (fs : List Form) (s : Summary) : Type 0 where
+  pub each : AreForms yielded fs
+  pub clean : AreClean fs
+  pub ended : 0 < length fs → length lines ≤ length fs → IsEnded fs
+  pub sums : Sums fs s
+
+pub so_far_none : (lines : List Numbered) (s : Summary) → Sums [] s → AreSoFar lines [] [] s
+so_far_none lines s h = record { each = record { same = refl }; clean = AreClean-none; ended = λ some all. absurd (omega arith); sums = h }
+
+-- the next line
+pub record IsTurn (lines yielded : List Numbered) (n : Numbered) : Type 0 where
+  pub within : length yielded < length lines
+  pub there : n ≡ get_or lines (length yielded) n
+  pub front : yielded ≡ take (length yielded) lines
+
+pub as_many : {lines : List Numbered} {fs : List Form} → AreForms lines fs → length fs ≡ length lines
+as_many {lines} {fs} h = omega (arith, simp length-map at (ap length h.same))
+
+forms_more : (lines : List Numbered) (fs : List Form) (n : Numbered) (f : Form) → AreForms lines fs → n.read ≡ reads.Form f → AreForms (lines ++ n ∷ []) (fs ++ f ∷ [])
+forms_more lines fs n f h e = record {
+  same = map-append (λ (l : Numbered). l.read) lines (n ∷ []) ∙ rw (h.same, e) (sym (map-append reads.Form fs (f ∷ [])));
+}
+
+test_same : (m n : ℕ) → m ≡ n → (m == n) ≡ true
+test_same m n e = grind (arith, nat_tests)
+
+ends : (fs : List Form) (f : Form) → f ≡ forms.End → IsEnded (fs ++ f ∷ [])
+ends fs f e = let at : length (fs ++ f ∷ []) - 1 ≡ length fs = omega (arith, length_push fs f) in rw at (slice_get-append_at fs f ∙ ap Some e)
+
+pub so_far_more : {lines yielded : List Numbered} {fs : List Form} {s : Summary} (t : Summary) (n : Numbered) (f : Form) (above : List Form) (m k : ℕ)
+    → AreSoFar lines yielded fs s → IsTurn lines yielded n → above ≡ fs → m ≡ length fs → k ≡ length lines → n.read ≡ reads.Form f → IsClean above f
+    → ((m + 1 == k) ≡ true → f ≡ forms.End) → Sums (fs ++ f ∷ []) t → AreSoFar lines (yielded ++ n ∷ []) (fs ++ f ∷ []) t
+so_far_more {lines} {yielded} {fs} {s} t n f above m k h turn same have all e clean last sums =
+    let many : length fs ≡ length yielded = as_many h.each in
+    let within = turn.within in record {
+      each = forms_more yielded fs n f h.each e;
+      clean = AreClean-push fs f h.clean (subst (λ xs. IsClean xs f) same clean);
+      ended = λ some whole. ends fs f (last (test_same (m + 1) k (omega (arith, length_push fs f))));
+      sums = sums;
+    }
+
+some_refused : (lines : List Numbered) (r : Refused) → 0 < length lines → IsFirst lines r → AreRefused lines r
+some_refused [] r l h = absurd (omega arith)
+some_refused (n ∷ lines) r l h = h
+
+-- the first line at fault
+pub refused_at : {lines yielded : List Numbered} {fs : List Form} {s : Summary} (n : Numbered) (w : Why) (above : List Form) (m k : ℕ)
+    → AreSoFar lines yielded fs s → IsTurn lines yielded n → above ≡ fs → m ≡ length fs → k ≡ length lines
+    → IsLowestFault (m + 1 == k) above n.read w → AreRefused lines (record { line = n.line; why = w })
+refused_at {lines} {yielded} {fs} {s} n w above m k h turn same have all fault =
+    let within = turn.within in
+    let many : m ≡ length yielded = have ∙ as_many h.each in some_refused lines _ (omega arith) (record {
+      at = length yielded;
+      line = n;
+      there = slice_get-get_or lines (length yielded) n turn.within ∙ ap Some (sym turn.there);
+      named = refl;
+      above = fs;
+      each = subst (λ ls. AreForms ls fs) turn.front h.each;
+      clean = h.clean;
+      fault = subst (λ xs. IsLowestFault (length yielded + 1 == length lines) xs n.read w) same (rw (many, all) at fault);
+    })
+
+-- no line, where no line has a form
+pub none_refused : {lines yielded : List Numbered} {fs : List Form} {s : Summary} → AreSoFar lines yielded fs s → yielded ≡ lines → length fs ≡ 0
+    → AreRefused lines (record { line = 1; why = whys.BadHeader })
+none_refused {lines} {yielded} {fs} {s} h e none =
+    let nil : lines ≡ [] = nil_from_length lines (omega (arith, as_many h.each, ap length e)) in rw nil (refl, refl)
+
+-- all lines
+pub record AreAll (lines : List Numbered) (fs : List Form) : Type 0 where
+  pub each : AreForms lines fs
+  pub ended : IsEnded fs
+
+pub all_lines : {lines yielded : List Numbered} {fs : List Form} {s : Summary} → AreSoFar lines yielded fs s → yielded ≡ lines → 0 < length fs → AreAll lines fs
+all_lines {lines} {yielded} {fs} {s} h e some =
+    record { each = subst (λ ls. AreForms ls fs) e h.each; ended = h.ended some (omega (arith, as_many h.each, ap length e)) }

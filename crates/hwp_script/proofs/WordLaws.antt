@@ -1,0 +1,30 @@
+-- The highest processor that words of a schedule name.
+use Rattle.std.proofs.Common.{ℕ, ◌≡◌, ◌<◌, ◌≤◌, ◌+◌, ◌++◌, max, List, [], ◌∷◌, length, take, get_or, ap, ◌∙◌, arith, zero, suc}
+use Rattle.std.specs.Prelude.{All}
+use Rattle.std.proofs.lemmas.List.{take_more, take_all}
+use Rattle.std.proofs.lemmas.List.Elements.{All-nil, All-cons}
+use Rattle.hwp_form.specs.declared.GoWord.{GoWord}
+use Rattle.hwp_script.specs.Reasons.{top_cpu}
+
+top_cpu-push : (ws : List GoWord) (w : GoWord) → top_cpu (ws ++ w ∷ []) ≡ max (top_cpu ws) w.cpu
+top_cpu-push [] w = omega arith
+top_cpu-push (v ∷ ws) w = let e = top_cpu-push ws w in omega arith
+
+pub top_cpu-more : (ws : List GoWord) (i : ℕ) (d : GoWord) (m n : ℕ) → i < length ws → m ≡ top_cpu (take i ws)
+    → n ≡ max m (get_or ws i d).cpu → n ≡ top_cpu (take (i + 1) ws)
+top_cpu-more ws i d m n l h e =
+    let more : top_cpu (take (i + 1) ws) ≡ max (top_cpu (take i ws)) (get_or ws i d).cpu = ap top_cpu (take_more ws i d l) ∙ top_cpu-push (take i ws) (get_or ws i d) in
+    omega arith
+
+pub top_cpu-all : (ws : List GoWord) (i : ℕ) → length ws ≤ i → top_cpu (take i ws) ≡ top_cpu ws
+top_cpu-all ws i l = ap top_cpu (take_all i ws l)
+
+pub top_cpu-at : (ws : List GoWord) (i : ℕ) (d : GoWord) → i < length ws → (get_or ws i d).cpu ≤ top_cpu ws
+top_cpu-at [] i d l = absurd (omega arith)
+top_cpu-at (w ∷ ws) zero d l = omega arith
+top_cpu-at (w ∷ ws) (suc i) d l = omega (arith, top_cpu-at ws i d (omega arith))
+
+-- words whose highest processor is below a number name processors below it
+pub words_below : (n : ℕ) (ws : List GoWord) → top_cpu ws < n → All (λ (w : GoWord). w.cpu < n) ws
+words_below n [] l = All-nil (λ (w : GoWord). w.cpu < n)
+words_below n (w ∷ ws) l = All-cons (λ (v : GoWord). v.cpu < n) w ws (omega arith) (words_below n ws (omega arith))

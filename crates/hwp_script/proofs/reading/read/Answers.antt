@@ -1,0 +1,14 @@
+use Rattle.hwp_script.proofs.ReadLaws.{apart}
+use Rattle.hwp_script.proofs.reading.read.Goals as goal
+
+pub returns-in_default-clause-apart : goal.returns-in_default-clause-apart
+returns-in_default-clause-apart c = λ r script. apart c.args.bytes.now r script
+
+pub returns-in-Ok-Ok-clause-apart : goal.returns-in-Ok-Ok-clause-apart
+returns-in-Ok-Ok-clause-apart c = λ r script. apart c.args.bytes.now r script
+
+pub returns-in-Ok-Err-clause-apart : goal.returns-in-Ok-Err-clause-apart
+returns-in-Ok-Err-clause-apart c = λ r script. apart c.args.bytes.now r script
+
+pub returns-in-Err-clause-apart : goal.returns-in-Err-clause-apart
+returns-in-Err-clause-apart c = λ r script. apart c.args.bytes.now r script

@@ -1,0 +1,261 @@
+ghost use Rattle.std.specs.Prelude.{◌≡◌, ◌<◌, length, OnOk, IfOk, true, false, replicate, [], ◌∷◌, ◌++◌, map};
+ghost use Rattle.std.specs.List.{slice_set};
+ghost use Rattle.hwp_script.specs.Context.{go_of, kind_of};
+ghost use Rattle.hwp_script.specs.Reasons.{IsClean, IsBackingOver, top_cpu};
+ghost use Rattle.hwp_geom.specs.Limits.{cpu_limit};
+ghost use Rattle.hwp_script.specs.Sums.{Sums};
+
+use crate::context::Summary;
+use crate::script::Go;
+use hwp_form::{Backing, Form, GoWord, Order};
+use hwp_geom::{Cpu, FileNo, List, OutOfMemory, Page, PageKind, Proc, ThreadDecl, TransDecl};
+use std::alloc::Global;
+
+/// So many frames, of which none is the kernel's.
+fn no_marks(alloc: Global, frames: u64) -> Result<Vec<bool>, OutOfMemory>
+    ensures { IfOk result (λ marks. marks.items ≡ replicate frames false) }
+{
+    Ok(vec![in alloc; false; frames as usize]?)
+}
+
+/// Marks a frame as the kernel's.
+fn mark(marks: &mut Vec<bool>, frame: u64)
+    requires { frame < length marks.old.items }
+    ensures { marks.new.items ≡ slice_set marks.old.items frame true }
+{
+    marks[frame as usize] = true;
+}
+
+/// What stands behind a page.
+fn page_kind(backing: Backing) -> PageKind
+    requires { IsBackingOver backing → ⊥ }
+    ensures { result ≡ kind_of backing }
+{
+    match backing {
+        Backing::Anon => PageKind::Anon,
+        Backing::File { file, fill } => PageKind::File {
+            file: FileNo(file as u8),
+            fill,
+        },
+    }
+}
+
+/// Adds words to a schedule.
+fn push_words(go: &mut List<Go>, words: &[GoWord]) -> Result<(), OutOfMemory>
+    requires { top_cpu words.now < cpu_limit }
+    ensures { OnOk result (go.new ≡ go.old ++ map go_of words.now) }
+{
+    for word in words {
+        go.push(Go {
+            cpu: Cpu(word.cpu as u8),
+            until: word.until,
+        })?;
+    }
+    Ok(())
+}
+
+impl Summary {
+    #[tactic(auto, using(crate::proofs::CleanLaws::clean_cpus))]
+    fn add_cpus(&mut self, above: &[Form], n: u64)
+        requires sums { Sums above.now self.old }
+        requires clean { IsClean above.now (Form.Cpus n) }
+        ensures { Sums (above.now ++ Form.Cpus n ∷ []) self.new }
+    {
+        self.group = 1;
+        self.cpus = n as u8;
+    }
+
+    #[tactic(auto, using(crate::proofs::CleanLaws::clean_frames))]
+    fn add_frames(&mut self, above: &[Form], alloc: Global, n: u64) -> Result<(), OutOfMemory>
+        requires sums { Sums above.now self.old }
+        requires clean { IsClean above.now (Form.Frames n) }
+        ensures { OnOk result (Sums (above.now ++ Form.Frames n ∷ []) self.new) }
+    {
+        self.group = 2;
+        self.frames = n as u16;
+        self.kernel = no_marks(alloc, n)?;
+        Ok(())
+    }
+
+    #[tactic(auto, using(crate::proofs::CleanLaws::clean_kernel))]
+    fn add_kernel(&mut self, above: &[Form], frame: u64)
+        requires sums { Sums above.now self.old }
+        requires clean { IsClean above.now (Form.Kernel frame) }
+        ensures { Sums (above.now ++ Form.Kernel frame ∷ []) self.new }
+    {
+        self.group = 3;
+        mark(&mut self.kernel, frame);
+    }
+
+    #[tactic(auto, using(crate::proofs::CleanLaws::clean_recovery))]
+    fn add_recovery(&mut self, above: &[Form], value: u64)
+        requires sums { Sums above.now self.old }
+        requires clean { IsClean above.now (Form.Recovery value) }
+        ensures { Sums (above.now ++ Form.Recovery value ∷ []) self.new }
+    {
+        self.group = 4;
+        self.recovery = Some(value == 1);
+    }
+
+    #[tactic(auto, using(crate::proofs::CleanLaws::clean_early))]
+    fn add_early(&mut self, above: &[Form], value: u64)
+        requires sums { Sums above.now self.old }
+        requires clean { IsClean above.now (Form.Early value) }
+        ensures { Sums (above.now ++ Form.Early value ∷ []) self.new }
+    {
+        self.group = 5;
+        self.early = Some(value == 1);
+    }
+
+    #[tactic(auto, using(crate::proofs::CleanLaws::clean_file))]
+    fn add_file(&mut self, above: &[Form], file: u64)
+        requires sums { Sums above.now self.old }
+        requires clean { IsClean above.now (Form.File file) }
+        ensures { Sums (above.now ++ Form.File file ∷ []) self.new }
+    {
+        self.group = 6;
+        self.files += 1;
+    }
+
+    #[tactic(auto, using(crate::proofs::CleanLaws::clean_proc))]
+    fn add_proc(&mut self, above: &[Form], process: u64)
+        requires sums { Sums above.now self.old }
+        requires clean { IsClean above.now (Form.Proc process) }
+        ensures { Sums (above.now ++ Form.Proc process ∷ []) self.new }
+    {
+        self.group = 7;
+        self.procs += 1;
+    }
+
+    #[tactic(auto, using(crate::proofs::CleanLaws::clean_thread))]
+    fn add_thread(
+        &mut self,
+        above: &[Form],
+        thread: u64,
+        process: u64,
+        cpu: u64,
+        handler: bool,
+    ) -> Result<(), OutOfMemory>
+        requires sums { Sums above.now self.old }
+        requires clean { IsClean above.now (Form.Thread thread process cpu handler) }
+        ensures { OnOk result (Sums (above.now ++ Form.Thread thread process cpu handler ∷ []) self.new) }
+    {
+        self.group = 8;
+        self.threads.push(ThreadDecl {
+            process: Proc(process as u8),
+            cpu: Cpu(cpu as u8),
+            handler,
+        })?;
+        Ok(())
+    }
+
+    #[tactic(auto, using(crate::proofs::CleanLaws::clean_page))]
+    fn add_page(&mut self, above: &[Form], page: u64, backing: Backing) -> Result<(), OutOfMemory>
+        requires sums { Sums above.now self.old }
+        requires clean { IsClean above.now (Form.Page page backing) }
+        ensures { OnOk result (Sums (above.now ++ Form.Page page backing ∷ []) self.new) }
+    {
+        self.group = 9;
+        self.pages.push(page_kind(backing))?;
+        Ok(())
+    }
+
+    #[tactic(auto, using(crate::proofs::CleanLaws::clean_trans))]
+    fn add_trans(
+        &mut self,
+        above: &[Form],
+        slot: u64,
+        process: u64,
+        page: u64,
+    ) -> Result<(), OutOfMemory>
+        requires sums { Sums above.now self.old }
+        requires clean { IsClean above.now (Form.Trans slot process page) }
+        ensures { OnOk result (Sums (above.now ++ Form.Trans slot process page ∷ []) self.new) }
+    {
+        self.group = 10;
+        self.trans.push(TransDecl {
+            process: Proc(process as u8),
+            page: Page(page as u16),
+        })?;
+        Ok(())
+    }
+
+    #[tactic(auto, using(crate::proofs::CleanLaws::clean_cpu))]
+    fn add_cpu(&mut self, above: &[Form], cpu: u64) -> Result<(), OutOfMemory>
+        requires sums { Sums above.now self.old }
+        requires clean { IsClean above.now (Form.Cpu cpu) }
+        ensures { OnOk result (Sums (above.now ++ Form.Cpu cpu ∷ []) self.new) }
+    {
+        self.group = 11;
+        self.place = Some(cpu);
+        self.lists.push(cpu)?;
+        Ok(())
+    }
+
+    #[tactic(auto, using(crate::proofs::CleanLaws::clean_order))]
+    fn add_order(&mut self, above: &[Form], order: &Order)
+        requires sums { Sums above.now self.old }
+        requires clean { IsClean above.now (Form.Order order.now) }
+        ensures { Sums (above.now ++ Form.Order order.now ∷ []) self.new }
+    {
+        self.group = 11;
+        self.commands += 1;
+    }
+
+    #[tactic(auto, using(crate::proofs::CleanLaws::clean_schedule))]
+    fn add_schedule(&mut self, above: &[Form], words: &[GoWord]) -> Result<(), OutOfMemory>
+        requires sums { Sums above.now self.old }
+        requires clean { IsClean above.now (Form.Schedule words.now) }
+        ensures { OnOk result (Sums (above.now ++ Form.Schedule words.now ∷ []) self.new) }
+    {
+        self.group = 12;
+        self.place = None;
+        push_words(&mut self.go, words)?;
+        Ok(())
+    }
+
+    #[tactic(auto, using(crate::proofs::CleanLaws::clean_end))]
+    fn add_end(&mut self, above: &[Form])
+        requires sums { Sums above.now self.old }
+        requires clean { IsClean above.now (Form.End) }
+        ensures { Sums (above.now ++ Form.End ∷ []) self.new }
+    {
+        self.group = 13;
+        self.place = None;
+    }
+
+    /// The summary with one more line.
+    pub fn add(&mut self, alloc: Global, above: &[Form], form: &Form) -> Result<(), OutOfMemory>
+        requires sums { Sums above.now self.old }
+        requires clean { IsClean above.now form.now }
+        ensures { OnOk result (Sums (above.now ++ form.now ∷ []) self.new) }
+    {
+        match form {
+            Form::Header => {}
+            Form::Cpus(n) => self.add_cpus(above, *n),
+            Form::Frames(n) => return self.add_frames(above, alloc, *n),
+            Form::Kernel(frame) => self.add_kernel(above, *frame),
+            Form::Recovery(value) => self.add_recovery(above, *value),
+            Form::Early(value) => self.add_early(above, *value),
+            Form::File(file) => self.add_file(above, *file),
+            Form::Proc(process) => self.add_proc(above, *process),
+            Form::Thread {
+                thread,
+                process,
+                cpu,
+                handler,
+            } => return self.add_thread(above, *thread, *process, *cpu, *handler),
+            Form::Page { page, backing } => return self.add_page(above, *page, *backing),
+            Form::Trans {
+                slot,
+                process,
+                page,
+            } => return self.add_trans(above, *slot, *process, *page),
+            Form::Cpu(cpu) => return self.add_cpu(above, *cpu),
+            Form::Order(order) => self.add_order(above, order),
+            Form::Schedule(words) => return self.add_schedule(above, words.as_slice()),
+            Form::End => self.add_end(above),
+        }
+        Ok(())
+    }
+}

@@ -1,0 +1,102 @@
+ghost use Rattle.std.specs.Prelude.{◌≡◌, ◌↔◌, Bool, IsTrue, true, IfOk, IfErr};
+ghost use Rattle.hwp_script.specs.Reasons.{IsClean};
+ghost use Rattle.hwp_script.specs.Sums.{Sums};
+ghost use Rattle.hwp_script.specs.Refusals.{IsLowestFault};
+ghost use Rattle.hwp_script.specs.Judged.{IsFaultless, AreJudged};
+
+use crate::context::Summary;
+use crate::faults::fault;
+use crate::why::{Refused, Why};
+use hwp_form::{Form, LineRead, Numbered};
+use hwp_geom::OutOfMemory;
+use std::alloc::Global;
+
+/// The forms of a script's lines, each of which is clean after those above it, and their summary.
+#[derive(Drop)]
+pub(crate) struct Clean {
+    pub forms: Vec<Form>,
+    pub summary: Summary,
+}
+
+/// What the lines of a script are found to be.
+#[derive(Drop)]
+pub(crate) enum Judged {
+    Clean(Clean),
+    Faulty(Refused),
+}
+
+/// Whether a line is `end`.
+fn is_end(form: &Form) -> bool
+    ensures { IsTrue result ↔ (form.now ≡ Form.End) }
+{
+    matches!(form, Form::End)
+}
+
+/// The fault of a line of no known form.
+fn unknown_fault(above: &[Form]) -> Why
+    ensures { (last : Bool) → IsLowestFault last above.now LineRead.Unknown result }
+{
+    if above.is_empty() {
+        Why::BadHeader
+    } else {
+        Why::UnknownWord
+    }
+}
+
+/// The fault of a line with a word in a number's place that is none.
+fn number_fault(above: &[Form]) -> Why
+    ensures { (last : Bool) → IsLowestFault last above.now LineRead.BadNumber result }
+{
+    if above.is_empty() {
+        Why::BadHeader
+    } else {
+        Why::BadNumber
+    }
+}
+
+/// The form of a line, or the lowest reason that applies to it. `last` says that no line follows.
+fn judge_line(last: bool, summary: &Summary, above: &[Form], read: LineRead) -> Result<Form, Why>
+    requires { Sums above.now summary.now }
+    ensures ok { IfOk result (λ form. read ≡ LineRead.Form form) }
+    ensures clean { IfOk result (λ form. IsClean above.now form) }
+    ensures ended { IfOk result (λ form. last ≡ true → form ≡ Form.End) }
+    ensures err { IfErr result (λ why. IsLowestFault last above.now read why) }
+{
+    let form = match read {
+        LineRead::Form(form) => form,
+        LineRead::Unknown => return Err(unknown_fault(above)),
+        LineRead::BadNumber => return Err(number_fault(above)),
+    };
+    if let Some(why) = fault(summary, above, &form) {
+        return Err(why);
+    }
+    if last && !is_end(&form) {
+        return Err(Why::NoEnd);
+    }
+    Ok(form)
+}
+
+/// What the lines of a script are found to be.
+pub(crate) fn judge(alloc: Global, lines: Vec<Numbered>) -> Result<Judged, OutOfMemory>
+    ensures { IfOk result (λ judged. AreJudged lines.items judged) }
+{
+    let count = lines.len();
+    let mut forms = Vec::new(alloc);
+    let mut summary = Summary::new(alloc);
+    for Numbered { line, read } in lines {
+        let last = forms.len() + 1 == count;
+        let form = match judge_line(last, &summary, forms.as_slice(), read) {
+            Ok(form) => form,
+            Err(why) => return Ok(Judged::Faulty(Refused { line, why })),
+        };
+        summary.add(alloc, forms.as_slice(), &form)?;
+        forms.push(form)?;
+    }
+    if forms.is_empty() {
+        return Ok(Judged::Faulty(Refused {
+            line: 1,
+            why: Why::BadHeader,
+        }));
+    }
+    Ok(Judged::Clean(Clean { forms, summary }))
+}
