@@ -1,0 +1,6 @@
+pub mod Lists
+pub mod Split
+pub mod Kept
+pub mod Noted
+pub mod Given
+pub mod Reserving

@@ -1,0 +1,9 @@
+pub mod Words
+pub mod Lists
+pub mod Steps
+pub mod Logs
+pub mod Views
+pub mod parts
+pub mod Rule
+pub mod Asks
+pub mod Moves

@@ -1,0 +1,49 @@
+-- A move: what one step does to a board; and a run of moves.
+use Rattle.std.specs.Prelude.{◌≡◌, ℕ, ◌^◌, ◌<◌, true, List, [], ◌∷◌, Option, Some, slice_get, slice_set, slice_index}
+use Rattle.hwp_geom.specs.declared.Layout.{Layout}
+use Rattle.hwp_rule.specs.declared.log.Log.{Log}
+use Rattle.hwp_rule.specs.declared.record.Rec.{Rec}
+use Rattle.hwp_rule.specs.declared.record.State.{State}
+use Rattle.hwp_rule.specs.declared.step.Step.{Step}
+use Rattle.hwp_rule.specs.declared.step.Step.TheVariants as steps
+use Rattle.hwp_rule.specs.declared.view.View.{View}
+use Rattle.hwp_rule.specs.Asks.{Asks}
+use Rattle.hwp_rule.specs.Lists.{Homes}
+use Rattle.hwp_rule.specs.Steps.{place_of, word_after, goes}
+use Rattle.hwp_rule.specs.Views.{view_after, homes_after, frame_slot, shelf_slot}
+use Rattle.hwp_rule.specs.Words.{index}
+
+-- the slot is at home with this content
+abbrev pub IsIn : Homes → ℕ → Option Log → Type 0
+IsIn homes slot content = slice_get homes slot ≡ Some (Some content)
+
+-- the slot that the step takes, where it goes through, has this content
+abbrev pub Meets : Layout → Homes → Step → ℕ → Option Log → Type 0
+Meets layout homes (steps.Adopt frame) found content = IsIn homes (frame_slot frame) content
+Meets layout homes (steps.LockFrame frame) found content = goes (steps.LockFrame frame) found ≡ true → IsIn homes (frame_slot frame) content
+Meets layout homes (steps.LockPage page) found content = goes (steps.LockPage page) found ≡ true → IsIn homes (shelf_slot layout page) content
+Meets layout homes step found content = Unit {0}
+
+-- the board after a step of a seat with this view
+abbrev pub moved : Layout → ℕ → Rec → Option Log → View → State → State
+moved layout seat r content view s = record {
+  words = slice_set s.words (index layout (place_of r.step)) (word_after r.step r.found);
+  homes = homes_after layout r.step r.found content s.homes;
+  views = slice_set s.views seat (view_after layout r content view);
+}
+
+-- One step of a seat: it finds the word that stands there, its condition holds, and all other words, slots and views stay.
+pub record Move (layout : Layout) (seat : ℕ) (r : Rec) (a b : State) : Type 0 where
+  pub view : View
+  pub content : Option Log
+  pub me : slice_get a.views seat ≡ Some view
+  pub asks : Asks layout r content view
+  pub fits : r.found < 2 ^ 64
+  pub met : r.found ≡ slice_index a.words (index layout (place_of r.step))
+  pub slot : Meets layout a.homes r.step r.found content
+  pub next : b ≡ moved layout seat r content view a
+
+-- a list of moves from an opening to a board, the newest first, each with its seat
+abbrev pub Run : Layout → State → List (ℕ × Rec) → State → Type 0
+Run layout opening [] s = s ≡ opening
+Run layout opening (r ∷ rs) s = (t : State) × Run layout opening rs t × Move layout r.0 r.1 t s

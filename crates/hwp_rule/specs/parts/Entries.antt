@@ -1,0 +1,61 @@
+-- The entries of the pages' histories.
+use Rattle.std.specs.Prelude.{◌≡◌, ℕ, zero, suc, ◌+◌, ◌*◌, ◌≤◌, List, [], ◌∷◌, Option, Some, None, length}
+use Rattle.std.specs.List.{sum_by}
+use Rattle.hwp_geom.specs.declared.Frame.{Frame}
+use Rattle.hwp_geom.specs.declared.Page.{Page}
+use Rattle.hwp_geom.specs.declared.Who.{Who}
+use Rattle.hwp_kill.specs.declared.Seen.{Seen}
+use Rattle.hwp_page.specs.declared.Entry.{Entry}
+use Rattle.hwp_page.specs.declared.Met.TheVariants.{Word, Sigbus}
+use Rattle.hwp_page.specs.declared.What.{What}
+use Rattle.hwp_page.specs.declared.What.TheVariants as entries
+use Rattle.hwp_words.specs.Policies.{policy_code}
+use Rattle.hwp_rule.specs.declared.log.Log.{Log}
+use Rattle.hwp_rule.specs.declared.place.Place.{Place}
+use Rattle.hwp_rule.specs.declared.place.Place.TheVariants as places
+use Rattle.hwp_rule.specs.declared.view.Held.{Held}
+use Rattle.hwp_rule.specs.declared.view.Length.{Length}
+use Rattle.hwp_rule.specs.declared.view.Made.{Made}
+use Rattle.hwp_rule.specs.declared.view.Sight.{Sight}
+use Rattle.hwp_rule.specs.Lists.{Homes, EachBody, EachListed, EachMember, SomeMember, sum_bodies}
+
+-- what f says of the entries of a page, from a place on
+abbrev pub weigh_from : (Page → ℕ → Entry → ℕ) → Page → ℕ → List Entry → ℕ
+weigh_from f page place [] = 0
+weigh_from f page place (e ∷ es) = f page place e + weigh_from f page (suc place) es
+
+abbrev pub weigh : (Page → ℕ → Entry → ℕ) → Log → ℕ
+weigh f log = weigh_from f log.page 0 log.entries
+
+-- a step of this command showed the word at the place
+abbrev pub HasSight : List Sight → Who → Place → ℕ → Type 0
+HasSight sights who place word = SomeMember (λ (s : Sight). (s.stamp.who ≡ who) × (s.place ≡ place) × (s.word ≡ word)) sights
+
+-- a step of this command showed the bad lines of the frame that the body was in
+abbrev pub HasMask : List Sight → Who → Option Frame → ℕ → Type 0
+HasMask sights who None mask = ⊥
+HasMask sights who (Some frame) mask = HasSight sights who (places.Bad frame) mask
+
+-- a step of this command showed the policy of the thread, and the number of its settings
+abbrev pub HasPolicy : List Sight → Who → Seen → Type 0
+HasPolicy sights who seen = HasSight sights who (places.Policy seen.thread) (seen.n * 4 + policy_code seen.policy)
+
+-- the command has seen what an entry says that it saw: the bad lines of a load, a store or a machine check, no bad line
+-- for one that copies the content, and the policies of a failure
+abbrev pub HasSeen : List Sight → Who → Option Frame → What → Type 0
+HasSeen sights who frame (entries.Load slot line (Word mask word)) = HasMask sights who frame mask.0
+HasSeen sights who frame (entries.Store slot line (Word mask word)) = HasMask sights who frame mask.0
+HasSeen sights who frame (entries.Mce slot line mask) = HasMask sights who frame mask.0
+HasSeen sights who frame entries.Sync = HasMask sights who frame 0
+HasSeen sights who frame entries.Out = HasMask sights who frame 0
+HasSeen sights who frame entries.Soft = HasMask sights who frame 0
+HasSeen sights who frame (entries.Fail situation required seen signals) = EachMember (HasPolicy sights who) seen
+HasSeen sights who frame _ = Unit {0}
+
+-- The entries of the bodies are those that the views list, each at its place: whatever is summed over the ones is the same
+-- over the others. A view has the sights that its entries need, and no body is shorter than a view has seen it. Broken by:
+-- an entry appended and not listed; an older copy of a body put back; a load listed without the mask that was shown.
+pub record EntriesListed (homes : Homes) (bodies : List (List Held)) (made : List (List Made × List Sight)) (lengths : List (List Length)) : Type 0 where
+  pub balance : (f : Page → ℕ → Entry → ℕ) → sum_bodies (weigh f) homes bodies ≡ sum_by (λ (v : List Made × List Sight). sum_by (λ (m : Made). f m.page m.place m.entry) v.0) made
+  pub shown : EachMember (λ (v : List Made × List Sight). EachMember (λ (m : Made). HasSeen v.1 m.entry.who m.frame m.entry.what) v.0) made
+  pub lengths_reached : EachListed (λ (l : Length). EachBody (λ (log : Log). log.page ≡ l.page → l.entries ≤ length log.entries) homes bodies) lengths

@@ -1,0 +1,19 @@
+//! The frame rule: what holds of the machine's shared words, of the page bodies and of what the processors know, between
+//! any two atomic steps. This crate has the plain data that the rule speaks of, its definitions, and the laws of its
+//! parts. The boards above it keep the rule.
+#![tactic(auto)]
+
+mod log;
+mod place;
+mod record;
+mod step;
+mod view;
+
+pub use log::Log;
+pub use place::Place;
+pub use record::{Rec, State};
+pub use step::Step;
+pub use view::{
+    Debts, FrameLock, Held, Length, Made, Mark, MarkKind, PageLock, Part, Ref, Reported, Setting, Sight, Spoiled,
+    Stamp, View,
+};

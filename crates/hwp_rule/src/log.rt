@@ -1,0 +1,9 @@
+use hwp_geom::{List, Page};
+use hwp_page::Entry;
+
+/// A page body, as the rule sees it: whose body it is, and its history. The page's state is the replay of the history.
+#[derive(Drop)]
+pub struct Log {
+    pub page: Page,
+    pub entries: List<Entry>,
+}

@@ -1,0 +1,168 @@
+use crate::log::Log;
+use crate::place::Place;
+use crate::record::Rec;
+use hwp_geom::{Cpu, Damage, FileNo, Frame, Line, List, Page, Proc, Thread, Who};
+use hwp_kill::Policy;
+use hwp_page::Entry;
+
+/// A processor of a view, and the latest of its commands that made a step.
+#[derive(Clone, Copy, Debug, PartialEq, Eq)]
+pub struct Part {
+    pub cpu: Cpu,
+    pub latest: u32,
+}
+
+/// So many references to a frame.
+#[derive(Clone, Copy, Debug, PartialEq, Eq)]
+pub struct Ref {
+    pub frame: Frame,
+    pub count: u32,
+}
+
+/// The lock of a frame, with what its word says while the lock is held: the owner (page plus 1, or 0) and whether it is
+/// handled. Where `poisoned` is set, the word has POISON too.
+#[derive(Clone, Copy, Debug, PartialEq, Eq)]
+pub struct FrameLock {
+    pub frame: Frame,
+    pub owner: u64,
+    pub handled: bool,
+    pub poisoned: bool,
+}
+
+/// The lock of a page, with what is known while it is held: whether the page is in a frame, the cache word, and the words
+/// of the page's translations, one for each translation of the layout and 0 for those of other pages.
+#[derive(Drop)]
+pub struct PageLock {
+    pub page: Page,
+    pub resident: bool,
+    pub cache: Option<u64>,
+    pub trans: Option<List<u64>>,
+}
+
+/// A body in hand: its history as it was listed last, how many entries it had when it was taken, the frame that it was
+/// in, how many sights the view had then, and the processes that a `kill` met since.
+#[derive(Drop)]
+pub struct Held {
+    pub log: Log,
+    pub since: u64,
+    pub frame: Option<Frame>,
+    pub from: u64,
+    pub killed: List<Proc>,
+}
+
+/// What is owed: counts of poisoned frames, those of them that a bank reported, counts to take back, and a loss of each
+/// file listed.
+#[derive(Drop)]
+pub struct Debts {
+    pub counts: u32,
+    pub hardware: u32,
+    pub uncounts: u32,
+    pub losses: List<FileNo>,
+}
+
+/// When something was seen or done: by which command, and under which locks.
+#[derive(Clone, Copy, Debug, PartialEq, Eq)]
+pub struct Stamp {
+    pub who: Who,
+    pub page: Option<Page>,
+    pub frame: Option<Frame>,
+    pub second: Option<Frame>,
+}
+
+/// A word that a step showed.
+#[derive(Clone, Copy, Debug, PartialEq, Eq)]
+pub struct Sight {
+    pub stamp: Stamp,
+    pub place: Place,
+    pub word: u64,
+}
+
+/// How a mark came: by a failure, that a bank reported or not, or by an unpoisoning.
+#[derive(Clone, Copy, Debug, PartialEq, Eq)]
+pub enum MarkKind {
+    Poisoned { hardware: bool },
+    Revived,
+}
+
+/// A frame was poisoned, or its poison was cleared, in this cycle of the frame.
+#[derive(Clone, Copy, Debug, PartialEq, Eq)]
+pub struct Mark {
+    pub stamp: Stamp,
+    pub frame: Frame,
+    pub cycle: u32,
+    pub kind: MarkKind,
+}
+
+/// An entry of a page's history, its place there, and the frame that the body was taken from.
+#[derive(Drop)]
+pub struct Made {
+    pub stamp: Stamp,
+    pub page: Page,
+    pub place: u64,
+    pub entry: Entry,
+    pub frame: Option<Frame>,
+}
+
+/// The number of entries that a page's body had.
+#[derive(Clone, Copy, Debug, PartialEq, Eq)]
+pub struct Length {
+    pub stamp: Stamp,
+    pub page: Page,
+    pub entries: u64,
+}
+
+/// A line that went bad or weak.
+#[derive(Clone, Copy, Debug, PartialEq, Eq)]
+pub struct Spoiled {
+    pub stamp: Stamp,
+    pub frame: Frame,
+    pub line: Line,
+    pub damage: Damage,
+}
+
+/// A thread's policy was set.
+#[derive(Clone, Copy, Debug, PartialEq, Eq)]
+pub struct Setting {
+    pub stamp: Stamp,
+    pub thread: Thread,
+    pub policy: Policy,
+}
+
+/// Losses of a file that were read and set to 0.
+#[derive(Clone, Copy, Debug, PartialEq, Eq)]
+pub struct Reported {
+    pub stamp: Stamp,
+    pub file: FileNo,
+    pub count: u64,
+}
+
+/// What a seat knows: its processors, what it holds and owes, and all that its steps did and showed.
+#[derive(Drop)]
+pub struct View {
+    /// The processors that are its part.
+    pub parts: List<Part>,
+    /// The processors whose right to make a step it has.
+    pub rights: List<Cpu>,
+    /// Those of them that have made no step.
+    pub fresh: List<Cpu>,
+    /// Whether it knows all steps so far, and then which.
+    pub whole: bool,
+    pub seen: List<Rec>,
+    pub refs: List<Ref>,
+    pub locks: List<FrameLock>,
+    pub pages: List<PageLock>,
+    /// Frames reserved, and frames in hand.
+    pub reserved: u32,
+    pub hands: List<Frame>,
+    pub owed: Debts,
+    pub bodies: List<Held>,
+    pub made: List<Made>,
+    pub marks: List<Mark>,
+    pub sights: List<Sight>,
+    pub lengths: List<Length>,
+    pub spoiled: List<Spoiled>,
+    pub settings: List<Setting>,
+    pub reported: List<Reported>,
+    /// The commands that stopped the machine.
+    pub stops: List<Who>,
+}
