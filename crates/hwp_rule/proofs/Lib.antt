@@ -4,3 +4,5 @@ pub mod Kept
 pub mod Noted
 pub mod Given
 pub mod Reserving
+pub mod AsksNoted
+pub mod Moving
