@@ -6,3 +6,4 @@ pub mod Given
 pub mod Reserving
 pub mod AsksNoted
 pub mod Moving
+pub mod Opening

@@ -1,6 +1,6 @@
 -- The board at opening.
 use Rattle.std.specs.Prelude.{◌≡◌, ℕ, zero, suc, ◌+◌, ◌*◌, Bool, true, false, not, cond, List, [], ◌∷◌, ◌++◌, Option, Some, None, map, length, replicate, take, drop}
-use Rattle.std.specs.List.{sum_by}
+use Rattle.std.specs.List.{sum_by, concat}
 use Rattle.std.specs.Int.{from_bool}
 use Rattle.hwp_geom.specs.declared.Layout.{Layout}
 use Rattle.hwp_rule.specs.declared.log.Log.{Log}
@@ -33,22 +33,23 @@ opening_available layout = sum_by (λ (kernel : Bool). from_bool (not kernel)) l
 abbrev pub opening_policy : ℕ
 opening_policy = 2
 
--- all words, by their kinds
+-- all words: those of each kind after those of the kind before
 abbrev pub opening_words : Layout → List ℕ
-opening_words layout =
+opening_words layout = concat (
     map opening_frame layout.kernel
-    ++ replicate (length layout.trans) 0
-    ++ replicate (length layout.pages) 0
-    ++ replicate (length layout.pages) 0
-    ++ map (opening_free layout) (below (free_words layout))
-    ++ opening_available layout ∷ []
-    ++ replicate layout.frames 0
-    ++ replicate layout.frames 0
-    ++ 0 ∷ []
-    ++ replicate layout.procs 0
-    ++ replicate (length layout.threads) opening_policy
-    ++ replicate layout.files 0
-    ++ 0 ∷ []
+    ∷ replicate (length layout.trans) 0
+    ∷ replicate (length layout.pages) 0
+    ∷ replicate (length layout.pages) 0
+    ∷ map (opening_free layout) (below (free_words layout))
+    ∷ (opening_available layout ∷ [])
+    ∷ replicate layout.frames 0
+    ∷ replicate layout.frames 0
+    ∷ (0 ∷ [])
+    ∷ replicate layout.procs 0
+    ∷ replicate (length layout.threads) opening_policy
+    ∷ replicate layout.files 0
+    ∷ (0 ∷ [])
+    ∷ [])
 
 -- the slots of the frames are empty, and each page's body is on its shelf, without entries
 abbrev pub opening_log : ℕ → Log
