@@ -7,3 +7,4 @@ pub mod Reserving
 pub mod AsksNoted
 pub mod Moving
 pub mod Opening
+pub mod Opened
