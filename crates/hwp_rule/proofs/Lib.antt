@@ -5,3 +5,7 @@ pub mod Noted
 pub mod Given
 pub mod Reserving
 pub mod Sights
+pub mod Counting
+pub mod Exhausted
+pub mod Loading
+pub mod Reserve
