@@ -9,3 +9,5 @@ pub mod Counting
 pub mod Exhausted
 pub mod Loading
 pub mod Reserve
+pub mod Turns
+pub mod Shown
