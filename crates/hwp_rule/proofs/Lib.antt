@@ -11,3 +11,4 @@ pub mod Loading
 pub mod Reserve
 pub mod Turns
 pub mod Shown
+pub mod Knowing

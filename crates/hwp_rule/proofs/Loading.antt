@@ -1,9 +1,10 @@
 -- A load keeps the frame rule: it changes no word, and what it shows is explained.
-use Rattle.std.proofs.Common.{◌≡◌, ℕ, ◌<◌, List, Some, length, set, slice_get, slice_index, refl, sym, ap, ◌∙◌, subst, arith}
+use Rattle.std.proofs.Common.{◌≡◌, ℕ, ◌<◌, ◌==◌, eqb-true, Bool, true, false, cond, List, Some, length, set, slice_get, slice_index, refl, sym, ap, ◌∙◌, subst, arith}
 use Rattle.std.proofs.lemmas.List.{set-get_or}
 use Rattle.std.proofs.lemmas.Option.{slice_get-get_or}
 use Rattle.hwp_geom.specs.declared.Frame.{Frame}
 use Rattle.hwp_geom.specs.declared.Layout.{Layout}
+use Rattle.hwp_geom.specs.declared.Page.{Page}
 use Rattle.hwp_geom.specs.declared.Proc.{Proc}
 use Rattle.hwp_geom.specs.declared.Thread.{Thread}
 use Rattle.hwp_geom.specs.declared.VSlot.{VSlot}
@@ -11,14 +12,19 @@ use Rattle.hwp_geom.specs.declared.Who.{Who}
 use Rattle.hwp_rule.specs.declared.place.Place.{Place}
 use Rattle.hwp_rule.specs.declared.place.Place.TheVariants as places
 use Rattle.hwp_rule.specs.declared.step.Step.TheVariants as steps
+use Rattle.hwp_rule.specs.declared.view.Held.{Held}
+use Rattle.hwp_rule.specs.declared.view.PageLock.{PageLock}
 use Rattle.hwp_rule.specs.declared.view.View.{View}
-use Rattle.hwp_rule.specs.Lists.{Homes}
+use Rattle.hwp_rule.specs.Lists.{Homes, EachMember}
 use Rattle.hwp_rule.specs.Rule.{FrameRule}
-use Rattle.hwp_rule.specs.Views.{sighted, stamp_of}
+use Rattle.hwp_rule.specs.Views.{sighted, stamp_of, changed, is_page_lock_of}
 use Rattle.hwp_rule.specs.Words.{Words, read, put}
+use Rattle.hwp_rule.specs.parts.Fits.{KnowsWords, KnowsOwn}
 use Rattle.hwp_rule.specs.parts.Holdings.{IsPast}
 use Rattle.hwp_rule.proofs.Exhausted.{explained-available}
 use Rattle.hwp_rule.proofs.Given.{Given, Keeps}
+use Rattle.hwp_rule.proofs.Knowing.{keeps-listing}
+use Rattle.hwp_rule.proofs.Lists.{at_map, set_here, set-set, each-changed}
 use Rattle.hwp_rule.proofs.Shown.{explained-bad, explained-weak, explained-stop, explained-policy, explained-counter, explained-process}
 use Rattle.hwp_rule.proofs.Sights.{IsExplained, keeps-sight, explained-frame, explained-free, explained-quiet}
 
@@ -101,3 +107,78 @@ keeps-load-policy thread layout w homes views seat v who content given =
 pub keeps-load-stop : Keeps (steps.Load places.Stop)
 keeps-load-stop layout w homes views seat v who content given =
     keeps-shown layout w homes views seat v who places.Stop given.me given.past (explained-stop layout w homes views (stamp_of who v)) given.rule
+
+pub keeps-load-cache : (page : Page) → Keeps (steps.Load (places.Cache page))
+keeps-load-cache page layout w homes views seat v who content given =
+    subst (λ (x : Words). FrameRule layout x homes (set views seat u)) (sym (same-put (places.Cache page) w))
+        (subst (FrameRule layout w homes) (set-set views seat seen u) (keeps-listing layout w homes (set views seat seen) seat seen (set_here views seat seen v given.me) rule test to (λ l. refl) knows own))
+  where
+    word : ℕ
+    word = slice_index w.caches page.0
+
+    there : slice_get w.caches page.0 ≡ Some word
+    there = word-there w.caches page.0 (length layout.pages) given.shaped.caches given.place
+
+    test : PageLock → Bool
+    test l = is_page_lock_of page l
+
+    to : PageLock → PageLock
+    to l = record l { cache = Some word }
+
+    seen : View
+    seen = sighted who (places.Cache page) word v
+
+    u : View
+    u = record seen { pages = changed test to v.pages }
+
+    rule : FrameRule layout w homes (set views seat seen)
+    rule = keeps-sight layout w homes views seat v who (places.Cache page) word given.me given.past
+        (explained-quiet layout w homes views (record { stamp = stamp_of who v; place = places.Cache page; word = word }) refl) given.rule
+
+    knows : EachMember (KnowsWords layout w.trans w.caches) u.pages
+    knows = each-changed (KnowsWords layout w.trans w.caches) test to v.pages
+        (λ l is k. record {
+          resident = k.resident;
+          cache = λ c e.
+              let one : slice_get w.caches l.page.0 ≡ Some word = ap (slice_get w.caches) (eqb-true l.page.0 page.0 is) ∙ there in
+              one ∙ e;
+          words = k.words;
+        })
+        (given.rule.fits.known seat (v.pages, v.bodies) (at_map (λ (v : View). (v.pages, v.bodies)) views seat v given.me))
+
+    own : (b : Held) → KnowsOwn v.pages b → KnowsOwn u.pages b
+    own b k = which (test k.lock) refl
+      where
+        which : (c : Bool) → test k.lock ≡ c → KnowsOwn u.pages b
+        which true is = record {
+          lock = to k.lock;
+          there = at_map (λ (l : PageLock). cond (test l) (to l) l) v.pages 0 k.lock k.there ∙ ap (λ (c : Bool). Some (cond c (to k.lock) k.lock)) is;
+          cache = word;
+          cache_is = refl;
+          trans = k.trans;
+          trans_is = k.trans_is;
+        }
+        which false is = record {
+          lock = k.lock;
+          there = at_map (λ (l : PageLock). cond (test l) (to l) l) v.pages 0 k.lock k.there ∙ ap (λ (c : Bool). Some (cond c (to k.lock) k.lock)) is;
+          cache = k.cache;
+          cache_is = k.cache_is;
+          trans = k.trans;
+          trans_is = k.trans_is;
+        }
+
+-- every load
+pub keeps-load : (place : Place) → Keeps (steps.Load place)
+keeps-load (places.Frame frame) = keeps-load-frame frame
+keeps-load (places.Trans slot) = keeps-load-trans slot
+keeps-load (places.Cache page) = keeps-load-cache page
+keeps-load (places.Page page) = λ layout w homes views seat v who content given. absurd given.asks
+keeps-load (places.Free number) = keeps-load-free number
+keeps-load places.Available = keeps-load-available
+keeps-load (places.Bad frame) = keeps-load-bad frame
+keeps-load (places.Weak frame) = keeps-load-weak frame
+keeps-load places.Counter = keeps-load-counter
+keeps-load (places.Process process) = keeps-load-process process
+keeps-load (places.Policy thread) = keeps-load-policy thread
+keeps-load (places.Loss file) = λ layout w homes views seat v who content given. absurd given.asks
+keeps-load places.Stop = keeps-load-stop
