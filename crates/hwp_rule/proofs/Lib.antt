@@ -8,3 +8,11 @@ pub mod AsksNoted
 pub mod Moving
 pub mod Opening
 pub mod Opened
+pub mod Sights
+pub mod Counting
+pub mod Exhausted
+pub mod Loading
+pub mod Reserve
+pub mod Turns
+pub mod Shown
+pub mod Knowing
