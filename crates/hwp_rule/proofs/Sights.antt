@@ -1,0 +1,305 @@
+-- A sight more in a seat's view keeps the frame rule, where the parts explain it.
+use Rattle.std.proofs.Common.{◌≡◌, ◌≢◌, ℕ, ◌+◌, ◌*◌, ◌<◌, ◌≤◌, List, [], ◌∷◌, ◌++◌, Option, Some, None, map, set, take, length, slice_get, refl, sym, ap, ◌∙◌, subst, arith}
+use Rattle.std.specs.Int.{bit_at}
+use Rattle.std.specs.List.{sum_by}
+use Rattle.std.proofs.lemmas.Option.{same_Some}
+use Rattle.hwp_geom.specs.declared.Cpu.{Cpu}
+use Rattle.hwp_geom.specs.declared.Frame.{Frame}
+use Rattle.hwp_geom.specs.declared.Layout.{Layout}
+use Rattle.hwp_geom.specs.declared.Page.{Page}
+use Rattle.hwp_geom.specs.declared.Proc.{Proc}
+use Rattle.hwp_geom.specs.declared.Thread.{Thread}
+use Rattle.hwp_geom.specs.declared.ThreadDecl.{ThreadDecl}
+use Rattle.hwp_geom.specs.declared.Who.{Who}
+use Rattle.hwp_kill.specs.declared.Seen.{Seen}
+use Rattle.hwp_page.specs.declared.Entry.{Entry}
+use Rattle.hwp_page.specs.declared.Met.TheVariants.{Word, Sigbus}
+use Rattle.hwp_page.specs.declared.What.{What}
+use Rattle.hwp_page.specs.declared.What.TheVariants as entries
+use Rattle.hwp_words.specs.Counters.{hardware_of}
+use Rattle.hwp_words.specs.Frames.{poison_of, cycle_of}
+use Rattle.hwp_words.specs.Policies.{policy_code}
+use Rattle.hwp_words.specs.Stops.{stopper_of}
+use Rattle.hwp_rule.specs.declared.place.Place.{Place}
+use Rattle.hwp_rule.specs.declared.place.Place.TheVariants as places
+use Rattle.hwp_rule.specs.declared.view.Made.{Made}
+use Rattle.hwp_rule.specs.declared.view.Part.{Part}
+use Rattle.hwp_rule.specs.declared.view.Setting.{Setting}
+use Rattle.hwp_rule.specs.declared.view.Sight.{Sight}
+use Rattle.hwp_rule.specs.declared.view.Stamp.{Stamp}
+use Rattle.hwp_rule.specs.declared.view.View.{View}
+use Rattle.hwp_rule.specs.Lists.{Homes, EachMember, EachListed}
+use Rattle.hwp_rule.specs.Rule.{FrameRule}
+use Rattle.hwp_rule.specs.Views.{sighted, stamp_of}
+use Rattle.hwp_rule.specs.Words.{Words, sum_below}
+use Rattle.hwp_rule.specs.parts.Counter.{CounterAgrees, SomeHardware}
+use Rattle.hwp_rule.specs.parts.Damage.{DamageListed}
+use Rattle.hwp_rule.specs.parts.Endings.{EndingsAgree, ShowsEnding}
+use Rattle.hwp_rule.specs.parts.Entries.{EntriesListed, HasSight, HasMask, HasPolicy, HasSeen}
+use Rattle.hwp_rule.specs.parts.Exhaustion.{ExhaustionExplained, usable, is_marked}
+use Rattle.hwp_rule.specs.parts.Holdings.{AreOwn, IsPast}
+use Rattle.hwp_rule.specs.parts.Marks.{MarksAlternate, IsBefore}
+use Rattle.hwp_rule.specs.parts.Policies.{PoliciesListed, PolicyAgrees, IsOf, settings_of, policy_after}
+use Rattle.hwp_rule.specs.parts.Stops.{EndingsAndStopsStay}
+use Rattle.hwp_rule.proofs.Lists.{change, keep, at_map, each-set, each-push, each-weaken, some-push, sum-set}
+use Rattle.hwp_rule.proofs.Kept
+
+-- what the parts ask of a sight, on a board that keeps the rule
+pub record IsExplained (layout : Layout) (w : Words) (homes : Homes) (views : List View) (s : Sight) : Type 0 where
+  pub counter : s.place ≡ places.Counter → 0 < hardware_of s.word → SomeHardware (map (λ (v : View). (v.owed, v.marks)) views) s
+  pub bad : (frame : Frame) (word : ℕ) → slice_get w.bads frame.0 ≡ Some word → s.place ≡ places.Bad frame → (line : ℕ) → bit_at s.word line ≤ bit_at word line
+  pub weak : (frame : Frame) (word : ℕ) → slice_get w.weaks frame.0 ≡ Some word → s.place ≡ places.Weak frame → (line : ℕ) → bit_at s.word line ≤ bit_at word line
+  pub ending : ShowsEnding layout homes (map (λ (v : View). v.bodies) views) s
+  pub mark : (frame : Frame) (word : ℕ) → slice_get w.frames frame.0 ≡ Some word → s.place ≡ places.Frame frame → IsBefore word s
+  pub policy : (thread : Thread) (d : ThreadDecl) (word : ℕ) → slice_get layout.threads thread.0 ≡ Some d → slice_get w.policies thread.0 ≡ Some word
+      → EachMember (λ (v : List Part × List Setting). IsOf d.cpu v.0 → s.place ≡ places.Policy thread
+          → (n : ℕ) × (n ≤ length (settings_of thread v.1)) × (s.word ≡ policy_after (take n (settings_of thread v.1)))) (map (λ (v : View). (v.parts, v.settings)) views)
+  pub exhaustion : s.place ≡ places.Available → s.word ≡ 0
+      → sum_below (usable layout) layout.frames ≤ sum_below (is_marked layout (map (λ (v : View). v.marks) views)) layout.frames + length layout.pages + 2 * layout.cpus
+  pub ended : (process : Proc) (word : ℕ) → slice_get w.processes process.0 ≡ Some word → s.place ≡ places.Process process → s.word ≢ 0 → word ≡ s.word
+  pub stop : s.place ≡ places.Stop → stopper_of s.word ≢ 0 → stopper_of w.stop ≡ stopper_of s.word
+
+-- what a command has seen it still has
+mask-more : (sights : List Sight) (s : Sight) (who : Who) (frame : Option Frame) (mask : ℕ) → HasMask sights who frame mask → HasMask (sights ++ s ∷ []) who frame mask
+mask-more sights s who None mask has = absurd has
+mask-more sights s who (Some frame) mask has = some-push (λ (s : Sight). (s.stamp.who ≡ who) × (s.place ≡ places.Bad frame) × (s.word ≡ mask)) sights s has
+
+pub seen-more : (sights : List Sight) (s : Sight) (who : Who) (frame : Option Frame) (what : What) → HasSeen sights who frame what → HasSeen (sights ++ s ∷ []) who frame what
+seen-more sights s who frame (entries.Load slot line (Word mask word)) has = mask-more sights s who frame mask.0 has
+seen-more sights s who frame (entries.Store slot line (Word mask word)) has = mask-more sights s who frame mask.0 has
+seen-more sights s who frame (entries.Mce slot line mask) has = mask-more sights s who frame mask.0 has
+seen-more sights s who frame entries.Sync has = mask-more sights s who frame 0 has
+seen-more sights s who frame entries.Out has = mask-more sights s who frame 0 has
+seen-more sights s who frame entries.Soft has = mask-more sights s who frame 0 has
+seen-more sights s who frame (entries.Fail situation required seen signals) has =
+    each-weaken (HasPolicy sights who) (HasPolicy (sights ++ s ∷ []) who) seen
+        (λ p some. some-push (λ (s : Sight). (s.stamp.who ≡ who) × (s.place ≡ places.Policy p.thread) × (s.word ≡ p.n * 4 + policy_code p.policy)) sights s some) has
+seen-more sights s who frame _ has = has
+
+module _ (layout : Layout) (w : Words) (homes : Homes) (views : List View) (seat : ℕ) (v : View) (s : Sight) where
+  abbrev u : View
+  u = record v { sights = v.sights ++ s ∷ [] }
+
+  abbrev sights : List (List Sight)
+  sights = map (λ (v : View). v.sights) views
+
+  abbrev settings : List (List Part × List Setting)
+  settings = map (λ (v : View). (v.parts, v.settings)) views
+
+  abbrev made : List (List Made × List Sight)
+  made = map (λ (v : View). (v.made, v.sights)) views
+
+  -- each sight is so, with the new one
+  each-sight : (P : Sight → Type 0) → slice_get views seat ≡ Some v → P s → EachListed P sights → EachListed P (set sights seat u.sights)
+  each-sight P me here each =
+      each-set (EachMember P) sights seat u.sights (each-push P v.sights s here (each seat v.sights (at_map (λ (v : View). v.sights) views seat v me))) each
+
+  module _ (me : slice_get views seat ≡ Some v) (h : FrameRule layout w homes views) where
+    entries-sighted : EntriesListed homes (map (λ (v : View). v.bodies) views) (set made seat (v.made, u.sights)) (map (λ (v : View). v.lengths) views)
+    entries-sighted = record {
+      balance = λ f.
+          let at : (List Made × List Sight) → ℕ = λ (x : List Made × List Sight). sum_by (λ (m : Made). f m.page m.place m.entry) x.0 in
+          let same : sum_by at (set made seat (v.made, u.sights)) + at (v.made, v.sights) ≡ sum_by at made + at (v.made, u.sights) =
+          sum-set at made seat (v.made, v.sights) (v.made, u.sights) there in
+          let equal : at (v.made, v.sights) ≡ at (v.made, u.sights) = refl in
+          let gone : sum_by at (set made seat (v.made, u.sights)) ≡ sum_by at made = omega arith in
+          h.entries.balance f ∙ sym gone;
+      shown = each-set (λ (x : List Made × List Sight). EachMember (λ (m : Made). HasSeen x.1 m.entry.who m.frame m.entry.what) x.0) made seat (v.made, u.sights)
+          (each-weaken (λ (m : Made). HasSeen v.sights m.entry.who m.frame m.entry.what) (λ (m : Made). HasSeen u.sights m.entry.who m.frame m.entry.what) v.made
+              (λ m has. seen-more v.sights s m.entry.who m.frame m.entry.what has)
+              (h.entries.shown seat (v.made, v.sights) there))
+          h.entries.shown;
+      lengths_reached = h.entries.lengths_reached;
+    }
+      where
+        there : slice_get made seat ≡ Some (v.made, v.sights)
+        there = at_map (λ (v : View). (v.made, v.sights)) views seat v me
+
+    own-sighted : IsPast v.parts s.stamp.who → AreOwn u
+    own-sighted past = record {
+      made = own.made;
+      marks = own.marks;
+      sights = each-push (λ (s : Sight). IsPast v.parts s.stamp.who) v.sights s past own.sights;
+      lengths = own.lengths;
+      settings = own.settings;
+      stops = own.stops;
+    }
+      where
+        own : AreOwn v
+        own = h.commands.own seat v me
+
+    policies-sighted : IsExplained layout w homes views s → PoliciesListed layout.threads w.policies settings (set sights seat u.sights)
+    policies-sighted x = record {
+      agrees = λ thread d word declared there i y is of.
+          let was : PolicyAgrees thread word sights (settings_of thread y.1) = h.policies.agrees thread d word declared there i y is of in record {
+              now = was.now;
+              few = was.few;
+              shown = each-sight (λ (s : Sight). s.place ≡ places.Policy thread → (n : ℕ) × (n ≤ length (settings_of thread y.1)) × (s.word ≡ policy_after (take n (settings_of thread y.1)))) me
+                  (x.policy thread d word declared there i y is of) was.shown;
+          };
+    }
+
+    kept-sight : IsPast v.parts s.stamp.who → IsExplained layout w homes views s → FrameRule layout w homes (set views seat u)
+    kept-sight past x = record {
+      counts = Kept.kept-counts views seat v u me w.frames w.trans w.caches refl h.counts;
+      places = Kept.kept-places views seat v u me layout.kernel w.frames w.frees refl h.places;
+      frame_locks = Kept.kept-frame-locks views seat v u me w.frames refl refl h.frame_locks;
+      page_locks = Kept.kept-page-locks views seat v u me w.pages refl refl h.page_locks;
+      translations = h.translations;
+      caches = Kept.kept-caches views seat v u me w.frames w.caches refl refl h.caches;
+      bodies = Kept.kept-bodies views seat v u me layout w.frames w.caches w.pages homes refl h.bodies;
+      handled = h.handled;
+      counter = keep (λ (v : View). (v.owed, v.marks)) (λ l. CounterAgrees w.frames w.counter l (map (λ (v : View). v.sights) (set views seat u))) views seat v u me refl
+          (change (λ (v : View). v.sights) (CounterAgrees w.frames w.counter (map (λ (v : View). (v.owed, v.marks)) views)) views seat u (record {
+            poisoned = h.counter.poisoned;
+            hardware = h.counter.hardware;
+            covered = h.counter.covered;
+            shown = each-sight (λ (s : Sight). s.place ≡ places.Counter → 0 < hardware_of s.word → SomeHardware (map (λ (v : View). (v.owed, v.marks)) views) s) me x.counter h.counter.shown;
+          }));
+      free = Kept.kept-free views seat v u me layout.frames w.frees w.available refl h.free;
+      damage = keep (λ (v : View). v.spoiled) (λ l. DamageListed w.bads w.weaks l (map (λ (v : View). v.sights) (set views seat u))) views seat v u me refl
+          (change (λ (v : View). v.sights) (DamageListed w.bads w.weaks (map (λ (v : View). v.spoiled) views)) views seat u (record {
+            bad = h.damage.bad;
+            weak = h.damage.weak;
+            bad_stays = λ frame word there. each-sight (λ (s : Sight). s.place ≡ places.Bad frame → (line : ℕ) → bit_at s.word line ≤ bit_at word line) me (x.bad frame word there) (h.damage.bad_stays frame word there);
+            weak_stays = λ frame word there. each-sight (λ (s : Sight). s.place ≡ places.Weak frame → (line : ℕ) → bit_at s.word line ≤ bit_at word line) me (x.weak frame word there) (h.damage.weak_stays frame word there);
+          }));
+      entries = keep (λ (v : View). v.lengths) (λ l. EntriesListed homes (map (λ (v : View). v.bodies) (set views seat u)) (map (λ (v : View). (v.made, v.sights)) (set views seat u)) l) views seat v u me refl
+          (keep (λ (v : View). v.bodies) (λ l. EntriesListed homes l (map (λ (v : View). (v.made, v.sights)) (set views seat u)) (map (λ (v : View). v.lengths) views)) views seat v u me refl
+              (change (λ (v : View). (v.made, v.sights)) (λ l. EntriesListed homes (map (λ (v : View). v.bodies) views) l (map (λ (v : View). v.lengths) views)) views seat u entries-sighted));
+      endings = keep (λ (v : View). v.bodies) (λ l. EndingsAgree layout w.processes homes l (map (λ (v : View). v.sights) (set views seat u))) views seat v u me refl
+          (change (λ (v : View). v.sights) (EndingsAgree layout w.processes homes (map (λ (v : View). v.bodies) views)) views seat u (record {
+            caused = h.endings.caused;
+            ended = h.endings.ended;
+            ended_before = h.endings.ended_before;
+            shown = each-sight (ShowsEnding layout homes (map (λ (v : View). v.bodies) views)) me x.ending h.endings.shown;
+          }));
+      marks = keep (λ (v : View). v.marks) (λ l. MarksAlternate w.frames l (map (λ (v : View). v.sights) (set views seat u))) views seat v u me refl
+          (change (λ (v : View). v.sights) (MarksAlternate w.frames (map (λ (v : View). v.marks) views)) views seat u (record {
+            poisoned = h.marks.poisoned;
+            revived = h.marks.revived;
+            few = h.marks.few;
+            shown = λ frame word there. each-sight (λ (s : Sight). s.place ≡ places.Frame frame → IsBefore word s) me (x.mark frame word there) (h.marks.shown frame word there);
+          }));
+      holdings = Kept.kept-holdings views seat v u me layout refl h.holdings;
+      losses = Kept.kept-losses views seat v u me layout w.losses homes refl refl h.losses;
+      policies = keep (λ (v : View). (v.parts, v.settings)) (λ l. PoliciesListed layout.threads w.policies l (map (λ (v : View). v.sights) (set views seat u))) views seat v u me refl
+          (change (λ (v : View). v.sights) (PoliciesListed layout.threads w.policies settings) views seat u (policies-sighted x));
+      exhaustion = keep (λ (v : View). v.marks) (λ l. ExhaustionExplained layout l (map (λ (v : View). v.sights) (set views seat u))) views seat v u me refl
+          (change (λ (v : View). v.sights) (ExhaustionExplained layout (map (λ (v : View). v.marks) views)) views seat u (record {
+            explained = each-sight (λ (s : Sight). s.place ≡ places.Available → s.word ≡ 0
+                → sum_below (usable layout) layout.frames ≤ sum_below (is_marked layout (map (λ (v : View). v.marks) views)) layout.frames + length layout.pages + 2 * layout.cpus) me x.exhaustion h.exhaustion.explained;
+          }));
+      stops = keep (λ (v : View). v.stops) (λ l. EndingsAndStopsStay w.processes w.stop (map (λ (v : View). v.bodies) (set views seat u)) (map (λ (v : View). v.sights) (set views seat u)) l) views seat v u me refl
+          (keep (λ (v : View). v.bodies) (λ l. EndingsAndStopsStay w.processes w.stop l (map (λ (v : View). v.sights) (set views seat u)) (map (λ (v : View). v.stops) views)) views seat v u me refl
+              (change (λ (v : View). v.sights) (λ l. EndingsAndStopsStay w.processes w.stop (map (λ (v : View). v.bodies) views) l (map (λ (v : View). v.stops) views)) views seat u (record {
+                killed = h.stops.killed;
+                ended_stays = λ process word there. each-sight (λ (s : Sight). s.place ≡ places.Process process → s.word ≢ 0 → word ≡ s.word) me (x.ended process word there) (h.stops.ended_stays process word there);
+                stop_stays = each-sight (λ (s : Sight). s.place ≡ places.Stop → stopper_of s.word ≢ 0 → stopper_of w.stop ≡ stopper_of s.word) me x.stop h.stops.stop_stays;
+                one = h.stops.one;
+                named = h.stops.named;
+              })));
+      fits = Kept.kept-fits views seat v u me layout w.trans w.caches homes refl refl h.fits;
+      processors = Kept.kept-processors views seat v u me layout refl h.processors;
+      commands = Kept.kept-commands views seat v u me (own-sighted past) h.commands;
+      unpoisoned = Kept.kept-unpoisoned views seat v u me w.frames homes refl refl h.unpoisoned;
+    }
+
+-- a step's sight of a place
+pub keeps-sight : (layout : Layout) (w : Words) (homes : Homes) (views : List View) (seat : ℕ) (v : View) (who : Who) (place : Place) (word : ℕ)
+    → slice_get views seat ≡ Some v → IsPast v.parts who
+    → IsExplained layout w homes views (record { stamp = stamp_of who v; place = place; word = word })
+    → FrameRule layout w homes views → FrameRule layout w homes (set views seat (sighted who place word v))
+keeps-sight layout w homes views seat v who place word me past x h = kept-sight layout w homes views seat v (record { stamp = stamp_of who v; place = place; word = word }) me h past x
+
+-- places tell apart; 0 for those of which no part says what a sight shows
+abbrev pub shown_place : Place → ℕ
+shown_place (places.Frame frame) = 1
+shown_place (places.Trans slot) = 0
+shown_place (places.Cache page) = 0
+shown_place (places.Page page) = 0
+shown_place (places.Free number) = 0
+shown_place places.Available = 2
+shown_place (places.Bad frame) = 3
+shown_place (places.Weak frame) = 4
+shown_place places.Counter = 5
+shown_place (places.Process process) = 6
+shown_place (places.Policy thread) = 7
+shown_place (places.Loss file) = 0
+shown_place places.Stop = 8
+
+abbrev pub shown_number : Place → ℕ
+shown_number (places.Frame frame) = frame.0
+shown_number (places.Bad frame) = frame.0
+shown_number (places.Weak frame) = frame.0
+shown_number (places.Process process) = process.0
+shown_number (places.Policy thread) = thread.0
+shown_number _ = 0
+
+module _ (layout : Layout) (w : Words) (homes : Homes) (views : List View) (s : Sight) where
+  other : (place : Place) (n : ℕ) → shown_place s.place ≡ n → n ≢ shown_place place → s.place ≡ place → ⊥
+  other place n is differs e = differs (sym is ∙ ap shown_place e)
+
+  -- a sight of a word that no part reads in sights: of a translation, a cache word, a page's lock, a free word, a loss
+  pub explained-quiet : shown_place s.place ≡ 0 → IsExplained layout w homes views s
+  explained-quiet is = record {
+    counter = λ e. absurd (other places.Counter 0 is (λ n. omega arith) e);
+    bad = λ frame word there e. absurd (other (places.Bad frame) 0 is (λ n. omega arith) e);
+    weak = λ frame word there e. absurd (other (places.Weak frame) 0 is (λ n. omega arith) e);
+    ending = λ process e. absurd (other (places.Process process) 0 is (λ n. omega arith) e);
+    mark = λ frame word there e. absurd (other (places.Frame frame) 0 is (λ n. omega arith) e);
+    policy = λ thread d word declared there i y this of e. absurd (other (places.Policy thread) 0 is (λ n. omega arith) e);
+    exhaustion = λ e. absurd (other places.Available 0 is (λ n. omega arith) e);
+    ended = λ process word there e. absurd (other (places.Process process) 0 is (λ n. omega arith) e);
+    stop = λ e. absurd (other places.Stop 0 is (λ n. omega arith) e);
+  }
+
+  -- a sight of a frame's word, where the word that stands is of no earlier cycle, and of the same one with no poison less
+  pub explained-before : (frame : Frame) → s.place ≡ places.Frame frame → ((word : ℕ) → slice_get w.frames frame.0 ≡ Some word → IsBefore word s) → IsExplained layout w homes views s
+  explained-before frame is before = record {
+    counter = λ e. absurd (other places.Counter 1 frames (λ n. omega arith) e);
+    bad = λ f word there e. absurd (other (places.Bad f) 1 frames (λ n. omega arith) e);
+    weak = λ f word there e. absurd (other (places.Weak f) 1 frames (λ n. omega arith) e);
+    ending = λ process e. absurd (other (places.Process process) 1 frames (λ n. omega arith) e);
+    mark = λ f word there e. before word (subst (λ (n : ℕ). slice_get w.frames n ≡ Some word) (ap shown_number (sym e ∙ is)) there);
+    policy = λ thread d word declared there i y this of e. absurd (other (places.Policy thread) 1 frames (λ n. omega arith) e);
+    exhaustion = λ e. absurd (other places.Available 1 frames (λ n. omega arith) e);
+    ended = λ process word there e. absurd (other (places.Process process) 1 frames (λ n. omega arith) e);
+    stop = λ e. absurd (other places.Stop 1 frames (λ n. omega arith) e);
+  }
+    where
+      frames : shown_place s.place ≡ 1
+      frames = ap shown_place is
+
+  -- a sight of the available word
+  pub explained-exhausted : s.place ≡ places.Available
+      → (s.word ≡ 0 → sum_below (usable layout) layout.frames ≤ sum_below (is_marked layout (map (λ (v : View). v.marks) views)) layout.frames + length layout.pages + 2 * layout.cpus)
+      → IsExplained layout w homes views s
+  explained-exhausted is why = record {
+    counter = λ e. absurd (other places.Counter 2 available (λ n. omega arith) e);
+    bad = λ f word there e. absurd (other (places.Bad f) 2 available (λ n. omega arith) e);
+    weak = λ f word there e. absurd (other (places.Weak f) 2 available (λ n. omega arith) e);
+    ending = λ process e. absurd (other (places.Process process) 2 available (λ n. omega arith) e);
+    mark = λ f word there e. absurd (other (places.Frame f) 2 available (λ n. omega arith) e);
+    policy = λ thread d word declared there i y this of e. absurd (other (places.Policy thread) 2 available (λ n. omega arith) e);
+    exhaustion = λ e. why;
+    ended = λ process word there e. absurd (other (places.Process process) 2 available (λ n. omega arith) e);
+    stop = λ e. absurd (other places.Stop 2 available (λ n. omega arith) e);
+  }
+    where
+      available : shown_place s.place ≡ 2
+      available = ap shown_place is
+
+-- a sight of a frame's word as it stands
+pub explained-frame : (layout : Layout) (w : Words) (homes : Homes) (views : List View) (stamp : Stamp) (frame : Frame) (word : ℕ)
+    → slice_get w.frames frame.0 ≡ Some word → IsExplained layout w homes views (record { stamp = stamp; place = places.Frame frame; word = word })
+explained-frame layout w homes views stamp frame word there =
+    explained-before layout w homes views (record { stamp = stamp; place = places.Frame frame; word = word }) frame refl
+        (λ other standing.
+            let same : other ≡ word = same_Some other word (sym standing ∙ there) in
+            record { cycle = subst (λ (n : ℕ). cycle_of word ≤ cycle_of n) (sym same) (omega arith); poison = λ e. subst (λ (n : ℕ). poison_of word ≤ poison_of n) (sym same) (omega arith) })
+
+-- a sight of a free word
+pub explained-free : (layout : Layout) (w : Words) (homes : Homes) (views : List View) (stamp : Stamp) (number word : ℕ)
+    → IsExplained layout w homes views (record { stamp = stamp; place = places.Free number; word = word })
+explained-free layout w homes views stamp number word = explained-quiet layout w homes views (record { stamp = stamp; place = places.Free number; word = word }) refl
