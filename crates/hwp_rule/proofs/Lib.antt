@@ -4,4 +4,6 @@ pub mod Kept
 pub mod Noted
 pub mod Given
 pub mod Reserving
+pub mod Sights
 pub mod Refs
+pub mod FrameWord
