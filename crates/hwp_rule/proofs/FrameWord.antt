@@ -104,15 +104,12 @@ module _ (frames : List ℕ) (f w u : ℕ) (there : slice_get frames f ≡ Some 
     poisoned =
         let changed : sum_by poison_of (set frames f u) + poison_of w ≡ sum_by poison_of frames + poison_of u = sum-set poison_of frames f w u there in
         let poison : poison_of u ≡ poison_of w = like.poison in
-        let same : sum_by poison_of frames ≡ sum_by poison_of (set frames f u) = omega arith in
-        subst (λ (n : ℕ). Poisoned n) same h.poisoned;
+        let before : biased_poisoned_of counter + sum_by (λ (d : Debts × List Mark). d.0.counts + d.0.hardware) debts ≡ 2 ^ 31 + sum_by poison_of frames + sum_by (λ (d : Debts × List Mark). d.0.uncounts) debts = h.poisoned in
+        omega arith;
     hardware = h.hardware;
     covered = h.covered;
     shown = h.shown;
   }
-    where
-      abbrev Poisoned : ℕ → Type 0
-      Poisoned n = (biased_poisoned_of counter + sum_by (λ (d : Debts × List Mark). d.0.counts + d.0.hardware) debts ≡ 2 ^ 31 + n + sum_by (λ (d : Debts × List Mark). d.0.uncounts) debts)
 
   pub like-marks : (marks : List (List Mark)) (sights : List (List Sight)) → MarksAlternate frames marks sights → MarksAlternate (set frames f u) marks sights
   like-marks marks sights h = record {

@@ -7,3 +7,4 @@ pub mod Reserving
 pub mod Sights
 pub mod Refs
 pub mod FrameWord
+pub mod RefBounds
