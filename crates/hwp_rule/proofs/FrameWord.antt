@@ -4,6 +4,7 @@ use Rattle.std.proofs.lemmas.Option.{same_Some}
 use Rattle.std.specs.Int.{from_bool}
 use Rattle.std.specs.List.{sum_by}
 use Rattle.hwp_geom.specs.declared.Frame.{Frame}
+use Rattle.hwp_geom.specs.declared.Layout.{Layout}
 use Rattle.hwp_geom.specs.declared.TransDecl.{TransDecl}
 use Rattle.hwp_words.specs.declared.Pte.TheVariants as ptes
 use Rattle.hwp_words.specs.Frames.{lock_of, poison_of, handled_of, kernel_of, count_of, owner_of, cycle_of, is_kernel, is_handled, is_poisoned}
@@ -21,6 +22,7 @@ use Rattle.hwp_rule.specs.declared.view.Spoiled.{Spoiled}
 use Rattle.hwp_rule.specs.Lists.{Homes, EachMember, EachListed, SomeMember}
 use Rattle.hwp_rule.specs.Views.{refs_on, locks_on}
 use Rattle.hwp_rule.specs.Words.{free_bit}
+use Rattle.hwp_rule.specs.parts.Bodies.{BodiesAtHome, Holder, IsAtHome}
 use Rattle.hwp_rule.specs.parts.Counter.{CounterAgrees}
 use Rattle.hwp_rule.specs.parts.Counts.{CountsBalance, named}
 use Rattle.hwp_rule.specs.parts.Handled.{HandledIsPoisoned, IsOutOfUse}
@@ -45,7 +47,7 @@ like-self w = record { poison = refl; handled = refl; kernel = refl; owner = ref
 pub like-fields : (w u lock' count' : ℕ) → FieldsAre u lock' (poison_of w) (handled_of w) (kernel_of w) count' (owner_of w) (cycle_of w) → IsLike w u
 like-fields w u lock' count' are = record { poison = are.poison; handled = are.handled; kernel = are.kernel; owner = are.owner; cycle = are.cycle }
 
-bare-like : (w u : ℕ) → IsLike w u → lock_of u ≡ lock_of w → IsBare w → IsBare u
+pub bare-like : (w u : ℕ) → IsLike w u → lock_of u ≡ lock_of w → IsBare w → IsBare u
 bare-like w u like lock bare = record { unowned = like.owner ∙ bare.unowned; unlocked = lock ∙ bare.unlocked; unhandled = like.handled ∙ bare.unhandled }
 
 -- the word w of frame f becomes u
@@ -137,6 +139,24 @@ module _ (frames : List ℕ) (f w u : ℕ) (there : slice_get frames f ≡ Some 
         was.2.poison ∙ h.sound g was.0 was.1;
     unspoiled = h.unspoiled;
     no_failure = h.no_failure;
+  }
+
+  pub like-bodies : lock_of u ≡ lock_of w → (layout : Layout) (caches pages : List ℕ) (homes : Homes) (held : List Holder) → BodiesAtHome layout frames caches pages homes held → BodiesAtHome layout (set frames f u) caches pages homes held
+  like-bodies lock layout caches pages homes held h = record {
+    frame_home = λ g x a free. elim (at_set frames f g u x a) [
+      | inl t ↦
+          let free_before : lock_of w ≡ 0 = sym lock ∙ ap lock_of t.1 ∙ free in
+          subst (λ (p : ℕ × ℕ). IsAtHome homes p.0 p.1) (λ i. (sym t.0 i, (sym like.owner ∙ ap owner_of t.1) i)) (h.frame_home f w there free_before)
+      | inr t ↦ h.frame_home g x t.1 free
+    ];
+    frame_out = λ g x a locked. elim (at_set frames f g u x a) [
+      | inl t ↦ ap (slice_get homes) t.0 ∙ h.frame_out f w there (sym lock ∙ ap lock_of t.1 ∙ locked)
+      | inr t ↦ h.frame_out g x t.1 locked
+    ];
+    shelf_home = h.shelf_home;
+    shelf_out = h.shelf_out;
+    one = h.one;
+    in_hand = h.in_hand;
   }
 
   -- a listed lock is still known

@@ -8,3 +8,4 @@ pub mod Sights
 pub mod Refs
 pub mod FrameWord
 pub mod RefBounds
+pub mod Referring
