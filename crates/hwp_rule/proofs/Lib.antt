@@ -9,3 +9,5 @@ pub mod Refs
 pub mod FrameWord
 pub mod RefBounds
 pub mod Referring
+pub mod Locking
+pub mod Slots
