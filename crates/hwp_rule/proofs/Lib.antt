@@ -11,3 +11,4 @@ pub mod RefBounds
 pub mod Referring
 pub mod Locking
 pub mod Slots
+pub mod LockFrame

@@ -41,7 +41,7 @@ use Rattle.hwp_rule.proofs.Lists.{change, keep, at_map, map-was, at_set, set_her
 use Rattle.hwp_rule.proofs.FrameWord.{IsLike, word-was, like-translations, like-caches, like-handled, like-counter, like-marks, like-unpoisoned, like-locked, placed-again, counted-again, locked-again}
 use Rattle.hwp_rule.proofs.Kept
 
-abbrev all_bodies : List View → List (List Held)
+abbrev pub all_bodies : List View → List (List Held)
 all_bodies views = map (λ (v : View). v.bodies) views
 
 -- The word of frame f becomes `now`, its slot y; of a view v with references to the frame the locks, the page locks, the
