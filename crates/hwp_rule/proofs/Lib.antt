@@ -10,5 +10,5 @@ pub mod FrameWord
 pub mod RefBounds
 pub mod Referring
 pub mod Locking
-pub mod Slots
+pub mod TakenBodies
 pub mod LockFrame

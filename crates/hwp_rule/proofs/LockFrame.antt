@@ -44,7 +44,7 @@ use Rattle.hwp_rule.proofs.FrameWord.{IsLike, like-fields, like-locked}
 use Rattle.hwp_rule.proofs.Given.{Given, Keeps, IsShaped}
 use Rattle.hwp_rule.proofs.Locking.{Locking, all_bodies, keeps-locking}
 use Rattle.hwp_rule.proofs.Referring.{word-there}
-use Rattle.hwp_rule.proofs.Slots.{sum-empty, each-empty, sum-taken, each-taken, only-at-home}
+use Rattle.hwp_rule.proofs.TakenBodies.{sum-empty, each-empty, sum-taken, each-taken, only-at-home}
 
 -- a bit that is set stays so
 or-odd : (w : ℕ) → w % 2 ≡ 1 → bit_or w 1 ≡ w
