@@ -5,3 +5,5 @@ pub mod Noted
 pub mod Given
 pub mod Reserving
 pub mod Sights
+pub mod Bits
+pub mod Hands
