@@ -1,7 +1,9 @@
 -- Free bits under a step that sets or clears one of them.
 use Rattle.std.proofs.Common.{◌≡◌, ◌≢◌, ℕ, zero, suc, ◌+◌, ◌*◌, ◌/◌, ◌%◌, ◌^◌, ◌<◌, ◌≤◌, List, length, set, get_or, bit_and, bit_or, w64, inl, inr, refl, sym, ap, ◌∙◌, arith}
-use Rattle.std.specs.Int.{bit_not}
-use Rattle.std.proofs.lemmas.List.{get_or-set_same, get_or-set_other}
+use Rattle.std.specs.Int.{bit_not, bit_at}
+use Rattle.std.proofs.lemmas.List.{get_or-set_same, get_or-set_other, set-get_or}
+use Rattle.std.proofs.lemmas.Nat.Bits.{same_from_bits_below}
+use Rattle.std.proofs.lemmas.Nat.{and_le_l}
 use Rattle.hwp_words.proofs.OtherSteps.{field-set_same, field-set_other, field-clear_same, field-clear_other}
 use Rattle.hwp_rule.specs.Words.{free_bit, sum_below}
 use Rattle.hwp_rule.proofs.Lists.{same-or}
@@ -93,3 +95,15 @@ module _ (frees : List ℕ) (frame : ℕ) (within : frame / 64 < length frees) w
   pub free_bit-raised_other : (f : ℕ) → f ≢ frame → free_bit raised f ≡ free_bit frees f
   free_bit-raised_other f other =
       free_bit-other frees frame (bit_or found mask) f within (λ i less n. field-set_other found (frame % 64) (omega arith) i n) other
+
+  -- a bit that is not set is not cleared
+  pub cleared-none : found < 2 ^ 64 → free_bit frees frame ≡ 0 → cleared ≡ frees
+  cleared-none fits none =
+      let below : bit_and found (bit_not w64 mask) ≤ found = and_le_l found (bit_not w64 mask) in
+      ap (set frees (frame / 64)) (same_from_bits_below 64 (bit_and found (bit_not w64 mask)) found (omega arith) fits bits) ∙ set-get_or frees (frame / 64) 0
+    where
+      bits : (i : ℕ) → i < 64 → bit_at (bit_and found (bit_not w64 mask)) i ≡ bit_at found i
+      bits i less = elim (same-or i (frame % 64)) [
+          | inl here ↦ ap (bit_at (bit_and found (bit_not w64 mask))) here ∙ field-clear_same found (frame % 64) (omega arith) ∙ sym none ∙ ap (bit_at found) (sym here)
+          | inr else ↦ field-clear_other found (frame % 64) (omega arith) i less else
+        ]

@@ -7,3 +7,5 @@ pub mod Reserving
 pub mod Sights
 pub mod Bits
 pub mod Hands
+pub mod Taking
+pub mod Unreached
