@@ -9,3 +9,5 @@ pub mod Bits
 pub mod Hands
 pub mod Taking
 pub mod Unreached
+pub mod Refs
+pub mod FrameWord
