@@ -1,9 +1,10 @@
 -- The parts of the rule under a change of a frame's word that leaves its poison, owner and cycle: references and the lock.
-use Rattle.std.proofs.Common.{◌≡◌, ◌≢◌, ℕ, ◌+◌, ◌<◌, ◌≤◌, ◌==◌, ◌⊎◌, ◌^◌, nat_lt, min, Bool, true, false, cond, List, Some, map, set, slice_get, inl, inr, refl, sym, ap, ◌∙◌, subst, arith}
+use Rattle.std.proofs.Common.{◌≡◌, ◌≢◌, ℕ, ◌+◌, ◌<◌, ◌≤◌, ◌==◌, ◌⊎◌, ◌^◌, nat_lt, min, Bool, true, false, cond, List, Some, map, length, set, slice_get, inl, inr, refl, sym, ap, ◌∙◌, subst, arith}
 use Rattle.std.proofs.lemmas.Option.{same_Some}
 use Rattle.std.specs.Int.{from_bool}
 use Rattle.std.specs.List.{sum_by}
 use Rattle.hwp_geom.specs.declared.Frame.{Frame}
+use Rattle.hwp_geom.specs.declared.Layout.{Layout}
 use Rattle.hwp_geom.specs.declared.TransDecl.{TransDecl}
 use Rattle.hwp_words.specs.declared.Pte.TheVariants as ptes
 use Rattle.hwp_words.specs.Frames.{lock_of, poison_of, handled_of, kernel_of, count_of, owner_of, cycle_of, is_kernel, is_handled, is_poisoned}
@@ -21,6 +22,7 @@ use Rattle.hwp_rule.specs.declared.view.Spoiled.{Spoiled}
 use Rattle.hwp_rule.specs.Lists.{Homes, EachMember, EachListed, SomeMember}
 use Rattle.hwp_rule.specs.Views.{refs_on, locks_on}
 use Rattle.hwp_rule.specs.Words.{free_bit}
+use Rattle.hwp_rule.specs.parts.Bodies.{BodiesAtHome, Holder, IsAtHome}
 use Rattle.hwp_rule.specs.parts.Counter.{CounterAgrees}
 use Rattle.hwp_rule.specs.parts.Counts.{CountsBalance, named}
 use Rattle.hwp_rule.specs.parts.Handled.{HandledIsPoisoned, IsOutOfUse}
@@ -45,7 +47,7 @@ like-self w = record { poison = refl; handled = refl; kernel = refl; owner = ref
 pub like-fields : (w u lock' count' : ℕ) → FieldsAre u lock' (poison_of w) (handled_of w) (kernel_of w) count' (owner_of w) (cycle_of w) → IsLike w u
 like-fields w u lock' count' are = record { poison = are.poison; handled = are.handled; kernel = are.kernel; owner = are.owner; cycle = are.cycle }
 
-bare-like : (w u : ℕ) → IsLike w u → lock_of u ≡ lock_of w → IsBare w → IsBare u
+pub bare-like : (w u : ℕ) → IsLike w u → lock_of u ≡ lock_of w → IsBare w → IsBare u
 bare-like w u like lock bare = record { unowned = like.owner ∙ bare.unowned; unlocked = lock ∙ bare.unlocked; unhandled = like.handled ∙ bare.unhandled }
 
 -- the word w of frame f becomes u
@@ -104,15 +106,12 @@ module _ (frames : List ℕ) (f w u : ℕ) (there : slice_get frames f ≡ Some 
     poisoned =
         let changed : sum_by poison_of (set frames f u) + poison_of w ≡ sum_by poison_of frames + poison_of u = sum-set poison_of frames f w u there in
         let poison : poison_of u ≡ poison_of w = like.poison in
-        let same : sum_by poison_of frames ≡ sum_by poison_of (set frames f u) = omega arith in
-        subst (λ (n : ℕ). Poisoned n) same h.poisoned;
+        let before : biased_poisoned_of counter + sum_by (λ (d : Debts × List Mark). d.0.counts + d.0.hardware) debts ≡ 2 ^ 31 + sum_by poison_of frames + sum_by (λ (d : Debts × List Mark). d.0.uncounts) debts = h.poisoned in
+        omega arith;
     hardware = h.hardware;
     covered = h.covered;
     shown = h.shown;
   }
-    where
-      abbrev Poisoned : ℕ → Type 0
-      Poisoned n = (biased_poisoned_of counter + sum_by (λ (d : Debts × List Mark). d.0.counts + d.0.hardware) debts ≡ 2 ^ 31 + n + sum_by (λ (d : Debts × List Mark). d.0.uncounts) debts)
 
   pub like-marks : (marks : List (List Mark)) (sights : List (List Sight)) → MarksAlternate frames marks sights → MarksAlternate (set frames f u) marks sights
   like-marks marks sights h = record {
@@ -142,6 +141,24 @@ module _ (frames : List ℕ) (f w u : ℕ) (there : slice_get frames f ≡ Some 
     no_failure = h.no_failure;
   }
 
+  pub like-bodies : lock_of u ≡ lock_of w → (layout : Layout) (caches pages : List ℕ) (homes : Homes) (held : List Holder) → BodiesAtHome layout frames caches pages homes held → BodiesAtHome layout (set frames f u) caches pages homes held
+  like-bodies lock layout caches pages homes held h = record {
+    frame_home = λ g x a free. elim (at_set frames f g u x a) [
+      | inl t ↦
+          let free_before : lock_of w ≡ 0 = sym lock ∙ ap lock_of t.1 ∙ free in
+          subst (λ (p : ℕ × ℕ). IsAtHome homes p.0 p.1) (λ i. (sym t.0 i, (sym like.owner ∙ ap owner_of t.1) i)) (h.frame_home f w there free_before)
+      | inr t ↦ h.frame_home g x t.1 free
+    ];
+    frame_out = λ g x a locked. elim (at_set frames f g u x a) [
+      | inl t ↦ ap (slice_get homes) t.0 ∙ h.frame_out f w there (sym lock ∙ ap lock_of t.1 ∙ locked)
+      | inr t ↦ h.frame_out g x t.1 locked
+    ];
+    shelf_home = h.shelf_home;
+    shelf_out = h.shelf_out;
+    one = h.one;
+    in_hand = h.in_hand;
+  }
+
   -- a listed lock is still known
   pub like-locked : (refs now : List Ref) (l : FrameLock) → 0 < refs_on l.frame.0 now → IsLocked frames refs l → IsLocked (set frames f u) now l
   like-locked refs now l some known = record {
@@ -161,8 +178,9 @@ module _ (frames : List ℕ) (f w u : ℕ) (there : slice_get frames f ≡ Some 
       → ((g : ℕ) → g ≢ f → in_hand g now ≡ in_hand g hands)
       → (is_kernel w ≡ false → free_bit frees f + in_hand f now + min (count_of u) 1 ≡ 1)
       → (0 < free_bit frees f + in_hand f now → IsBare u)
+      → EachListed (λ (h : Frame). h.0 < length kernel) now
       → HasOnePlace kernel frames frees hands → HasOnePlace kernel (set frames f u) frees now
-  placed-again kernel frees hands now counted others here idle h = record {
+  placed-again kernel frees hands now counted others here idle handed h = record {
     declared = λ g x k a b.
         let was : (y : ℕ) × (slice_get frames g ≡ Some y) × IsLike y x = word-was g x a in
         ap (λ (n : ℕ). n == 1) was.2.kernel ∙ h.declared g was.0 k was.1 b;
@@ -188,6 +206,7 @@ module _ (frames : List ℕ) (f w u : ℕ) (there : slice_get frames f ≡ Some 
           let apart : IsApart frees hands g x = h.kernels g x t.1 is in
           record { bare = apart.bare; uncounted = apart.uncounted; taken = apart.taken; unhanded = others g t.0 ∙ apart.unhanded }
     ];
+    handed = handed;
   }
 
   -- the counts, where one view's references change

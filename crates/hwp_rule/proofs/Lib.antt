@@ -9,5 +9,6 @@ pub mod Bits
 pub mod Hands
 pub mod Taking
 pub mod Unreached
+pub mod Slots
 pub mod Refs
 pub mod FrameWord
