@@ -10,5 +10,6 @@ pub mod Hands
 pub mod Taking
 pub mod Unreached
 pub mod Slots
+pub mod Adopting
 pub mod Refs
 pub mod FrameWord
