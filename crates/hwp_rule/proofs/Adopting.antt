@@ -31,32 +31,13 @@ use Rattle.hwp_rule.specs.parts.Owners.{CacheWordsOwned, HoldsBoth}
 use Rattle.hwp_rule.specs.parts.Places.{HasOnePlace, IsApart, IsBare, in_hand}
 use Rattle.hwp_rule.proofs.Lists.{change, keep, at_map, at_set, set_here, set_else, set-set, each-set, each-push, each-weaken, some-set, some-push, term-le, same-or, same-number}
 use Rattle.hwp_rule.proofs.FrameWord.{IsLike, like-fields, word-was, like-translations, like-caches, like-handled, like-counter, like-marks, like-unpoisoned, like-locked, counted-again, locked-again}
+use Rattle.hwp_rule.proofs.Holders.{locks-push, both-push, holding-push}
 use Rattle.hwp_rule.proofs.Hands.{not-both, from_bool-same, from_bool-other, each-without, length-without, in_hand-mine, in_hand-without}
 use Rattle.hwp_rule.proofs.Refs.{refs-with, refs-with-other, length-with}
 use Rattle.hwp_rule.proofs.Sights.{keeps-sight, explained-frame}
-use Rattle.hwp_rule.proofs.Slots.{is_bodiless, bodies-sum, slot-entries, slot-endings, slot-losses, slot-fits, slot-unpoisoned}
+use Rattle.hwp_rule.proofs.Slots.{is_bodiless, bodiless-name, bodies-sum, slot-entries, slot-endings, slot-losses, slot-fits, slot-unpoisoned}
 use Rattle.hwp_rule.proofs.Given.{Given, IsShaped, Keeps}
 use Rattle.hwp_rule.proofs.Kept
-
--- what is of no page is no body
-bodiless-name : (content : Option Log) → content_name content ≡ 0 → is_bodiless (Some content) ≡ true
-bodiless-name None e = refl
-bodiless-name (Some log) e = absurd (omega arith)
-
--- one lock more on a list
-pub locks-push : (f : ℕ) (locks : List FrameLock) (lock : FrameLock) → locks_on f (locks ++ lock ∷ []) ≡ locks_on f locks + from_bool (lock.frame.0 == f)
-locks-push f locks lock = sum_by_push (λ (l : FrameLock). from_bool (l.frame.0 == f)) locks lock
-
--- a view that holds both locks, or one for a body in hand, still does with a frame lock more
-pub both-push : (f q : ℕ) (locks : List FrameLock) (pages : List PageLock) (lock : FrameLock) → HoldsBoth f q (locks, pages) → HoldsBoth f q (locks ++ lock ∷ [], pages)
-both-push f q locks pages lock both = record { frame = omega (arith, both.frame, locks-push f locks lock); page = both.page }
-
-pub holding-push : (q : ℕ) (locks : List FrameLock) (pages : List PageLock) (bodies : List Held) (lock : FrameLock)
-    → IsHolding q (record { locks = locks; pages = pages; bodies = bodies }) → IsHolding q (record { locks = locks ++ lock ∷ []; pages = pages; bodies = bodies })
-holding-push q locks pages bodies lock holding = elim holding [
-    | inl page ↦ inl page
-    | inr frame ↦ inr (some-push (λ (l : FrameLock). l.owner ≡ q + 1) locks lock frame)
-  ]
 
 module _ (layout : Layout) (w : Words) (homes : Homes) (views : List View) (seat : ℕ) (v : View) (me : slice_get views seat ≡ Some v) (h : FrameRule layout w homes views)
     (frame : Frame) (inside : frame.0 < layout.frames) (shaped : IsShaped layout w homes) (has : HasInHand v frame) where

@@ -33,14 +33,6 @@ sum-below-change f g k (suc n) less same =
         omega arith
     ]
 
--- a sum of bits is at most their number
-pub sum-below-bits : (f : ℕ → ℕ) (n : ℕ) → ((i : ℕ) → f i < 2) → sum_below f n ≤ n
-sum-below-bits f zero small = omega arith
-sum-below-bits f (suc n) small =
-    let last : f n < 2 = small n in
-    let rest : sum_below f n ≤ n = sum-below-bits f n small in
-    omega arith
-
 -- ---- the free bits after another free word
 
 module _ (frees : List ℕ) (frame word : ℕ) (within : frame / 64 < length frees) where
@@ -76,10 +68,10 @@ module _ (frees : List ℕ) (frame : ℕ) (within : frame / 64 < length frees) w
   mask = 1 * 2 ^ (frame % 64) % 2 ^ 64
 
   -- the free words with the bit of the frame cleared, and set
-  abbrev pub cleared : List ℕ
+  abbrev cleared : List ℕ
   cleared = set frees (frame / 64) (bit_and found (bit_not w64 mask))
 
-  abbrev pub raised : List ℕ
+  abbrev raised : List ℕ
   raised = set frees (frame / 64) (bit_or found mask)
 
   pub free_bit-cleared : free_bit cleared frame ≡ 0

@@ -10,6 +10,7 @@ pub mod Hands
 pub mod Taking
 pub mod Unreached
 pub mod Slots
+pub mod Holders
 pub mod Adopting
 pub mod Refs
 pub mod FrameWord

@@ -15,6 +15,7 @@ use Rattle.hwp_rule.specs.declared.view.Sight.{Sight}
 use Rattle.hwp_rule.specs.declared.view.Spoiled.{Spoiled}
 use Rattle.hwp_rule.specs.Lists.{Homes, EachBody, EachMember, SomeMember, IsNotLater, of_home, sum_all, sum_bodies}
 use Rattle.hwp_rule.specs.Logs.{has_ending, is_ending, losses_of}
+use Rattle.hwp_rule.specs.parts.Bodies.{content_name}
 use Rattle.hwp_rule.specs.parts.Endings.{EndingsAgree, ShowsEnding}
 use Rattle.hwp_rule.specs.parts.Entries.{EntriesListed, weigh}
 use Rattle.hwp_rule.specs.parts.Fits.{PageFits}
@@ -33,6 +34,11 @@ bodiless-none : (f : Log → ℕ) (slot : Option (Option Log)) → is_bodiless s
 bodiless-none f None is = refl
 bodiless-none f (Some None) is = refl
 bodiless-none f (Some (Some log)) is = absurd (not-both false is refl)
+
+-- what is of no page is no body
+pub bodiless-name : (content : Option Log) → content_name content ≡ 0 → is_bodiless (Some content) ≡ true
+bodiless-name None e = refl
+bodiless-name (Some log) e = absurd (omega arith)
 
 module _ (homes : Homes) (slot : ℕ) (was now : Option (Option Log)) (there : slice_get homes slot ≡ Some was) (empty : is_bodiless was ≡ true) (still : is_bodiless now ≡ true) where
   abbrev after : Homes
