@@ -1,42 +1,39 @@
 -- A frame in hand that gets its first reference and is locked keeps the frame rule.
-use Rattle.std.proofs.Common.{◌≡◌, ◌≢◌, ◌⊎◌, ℕ, ◌+◌, ◌-◌, ◌*◌, ◌/◌, ◌%◌, ◌^◌, ◌<◌, ◌≤◌, ◌==◌, min, Bool, true, false, cond, List, [], ◌∷◌, ◌++◌, Option, Some, None, map, length, set, get_or, slice_get, inl, inr, refl, sym, ap, ◌∙◌, subst, arith}
+use Rattle.std.proofs.Common.{◌≡◌, ◌≢◌, ℕ, ◌+◌, ◌%◌, ◌^◌, ◌<◌, ◌≤◌, ◌==◌, min, Bool, true, false, cond, List, [], ◌∷◌, ◌++◌, Some, None, map, length, set, get_or, slice_get, inl, inr, refl, sym, ap, ◌∙◌, subst, arith}
 use Rattle.std.specs.Int.{from_bool}
 use Rattle.std.specs.List.{sum_by}
 use Rattle.std.proofs.lemmas.List.{length-append}
-use Rattle.std.proofs.lemmas.List.Sums.{sum_by_push}
 use Rattle.std.proofs.lemmas.Option.{slice_get-get_or}
 use Rattle.hwp_geom.specs.declared.Frame.{Frame}
 use Rattle.hwp_geom.specs.declared.Layout.{Layout}
-use Rattle.hwp_geom.specs.Layout.{IsSound}
-use Rattle.hwp_words.specs.Frames.{count_of, owner_of, lock_of, handled_of, poison_of, kernel_of, cycle_of, is_kernel, is_handled, is_poisoned}
+use Rattle.hwp_words.specs.Frames.{count_of, owner_of, lock_of, handled_of, poison_of, kernel_of, cycle_of, is_kernel}
 use Rattle.hwp_words.proofs.FrameSteps.{FieldsAre, fields-adopt}
 use Rattle.hwp_rule.specs.declared.log.Log.{Log}
 use Rattle.hwp_rule.specs.declared.place.Place.TheVariants as places
 use Rattle.hwp_rule.specs.declared.step.Step.TheVariants as steps
 use Rattle.hwp_rule.specs.declared.view.FrameLock.{FrameLock}
 use Rattle.hwp_rule.specs.declared.view.Held.{Held}
-use Rattle.hwp_rule.specs.declared.view.PageLock.{PageLock}
 use Rattle.hwp_rule.specs.declared.view.Ref.{Ref}
 use Rattle.hwp_rule.specs.declared.view.View.{View}
 use Rattle.hwp_rule.specs.Asks.{HasInHand}
-use Rattle.hwp_rule.specs.Lists.{Homes, EachMember, EachListed, SomeMember, sum_bodies}
+use Rattle.hwp_rule.specs.Lists.{Homes, EachMember, sum_bodies}
 use Rattle.hwp_rule.specs.Rule.{FrameRule, holder_of, holdings_of, losing_of}
-use Rattle.hwp_rule.specs.Views.{without, is_frame, with_refs, refs_on, locks_on, page_locks_on, lock_found, sighted, stamp_of}
+use Rattle.hwp_rule.specs.Views.{without, is_frame, with_refs, refs_on, lock_found, sighted, stamp_of}
 use Rattle.hwp_rule.specs.Words.{Words, free_bit}
-use Rattle.hwp_rule.specs.parts.Bodies.{BodiesAtHome, Holder, IsAtHome, IsHolding, content_name}
+use Rattle.hwp_rule.specs.parts.Bodies.{BodiesAtHome, Holder, IsAtHome, IsHolding}
 use Rattle.hwp_rule.specs.parts.Counts.{CountsBalance, named}
-use Rattle.hwp_rule.specs.parts.Holdings.{AreOwn, Holdings, IsBounded, HoldingsBounded}
+use Rattle.hwp_rule.specs.parts.Holdings.{AreOwn, IsBounded, HoldingsBounded}
 use Rattle.hwp_rule.specs.parts.Locks.{FrameLocksHeld, PageLocksHeld, IsLocked}
 use Rattle.hwp_rule.specs.parts.Owners.{CacheWordsOwned, HoldsBoth}
 use Rattle.hwp_rule.specs.parts.Places.{HasOnePlace, IsApart, IsBare, in_hand}
-use Rattle.hwp_rule.proofs.Lists.{change, keep, at_map, at_set, set_here, set_else, set-set, each-set, each-push, each-weaken, some-set, some-push, term-le, same-or, same-number}
+use Rattle.hwp_rule.proofs.Lists.{change, keep, at_map, at_set, set_here, set_else, set-set, each-set, each-push, each-weaken, some-set, term-le, same-or, same-number}
 use Rattle.hwp_rule.proofs.FrameWord.{IsLike, like-fields, word-was, like-translations, like-caches, like-handled, like-counter, like-marks, like-unpoisoned, like-locked, counted-again, locked-again}
 use Rattle.hwp_rule.proofs.Holders.{locks-push, both-push, holding-push}
 use Rattle.hwp_rule.proofs.Hands.{not-both, from_bool-same, from_bool-other, each-without, length-without, in_hand-mine, in_hand-without}
 use Rattle.hwp_rule.proofs.Refs.{refs-with, refs-with-other, length-with}
 use Rattle.hwp_rule.proofs.Sights.{keeps-sight, explained-frame}
 use Rattle.hwp_rule.proofs.Slots.{is_bodiless, bodiless-name, bodies-sum, slot-entries, slot-endings, slot-losses, slot-fits, slot-unpoisoned}
-use Rattle.hwp_rule.proofs.Given.{Given, IsShaped, Keeps}
+use Rattle.hwp_rule.proofs.Given.{IsShaped, Keeps}
 use Rattle.hwp_rule.proofs.Kept
 
 module _ (layout : Layout) (w : Words) (homes : Homes) (views : List View) (seat : ℕ) (v : View) (me : slice_get views seat ≡ Some v) (h : FrameRule layout w homes views)
@@ -117,24 +114,24 @@ module _ (layout : Layout) (w : Words) (homes : Homes) (views : List View) (seat
           let was : (y : ℕ) × (slice_get w.frames g ≡ Some y) × IsLike y x = word-was w.frames frame.0 word new there like g x a in
           ap (λ (n : ℕ). n == 1) was.2.kernel ∙ h.places.declared g was.0 k was.1 b;
       placed = λ g x a usable. elim (at_set w.frames frame.0 g new x a) [
-          | inl t ↦ subst (λ (p : ℕ × ℕ). free_bit w.frees p.0 + in_hand p.0 (set hands seat u.hands) + min (count_of p.1) 1 ≡ 1) (λ i. (sym t.0 i, t.1 i)) here
-          | inr t ↦
+        | inl t ↦ subst (λ (p : ℕ × ℕ). free_bit w.frees p.0 + in_hand p.0 (set hands seat u.hands) + min (count_of p.1) 1 ≡ 1) (λ i. (sym t.0 i, t.1 i)) here
+        | inr t ↦
             let was : free_bit w.frees g + in_hand g hands + min (count_of x) 1 ≡ 1 = h.places.placed g x t.1 usable in
             let same : in_hand g (set hands seat u.hands) ≡ in_hand g hands = others g t.0 in
             omega arith
-        ];
+      ];
       idle = λ g x a more. elim (at_set w.frames frame.0 g new x a) [
-          | inl t ↦
+        | inl t ↦
             let none : free_bit w.frees g + in_hand g (set hands seat u.hands) ≡ 0 = subst (λ (n : ℕ). free_bit w.frees n + in_hand n (set hands seat u.hands) ≡ 0) (sym t.0) nowhere in
             absurd (omega (arith, more))
-          | inr t ↦ h.places.idle g x t.1 (subst (λ (n : ℕ). 0 < free_bit w.frees g + n) (others g t.0) more)
-        ];
+        | inr t ↦ h.places.idle g x t.1 (subst (λ (n : ℕ). 0 < free_bit w.frees g + n) (others g t.0) more)
+      ];
       kernels = λ g x a is. elim (at_set w.frames frame.0 g new x a) [
-          | inl t ↦ absurd (not-both (is_kernel word) (ap (λ (n : ℕ). n == 1) (sym like.kernel) ∙ ap is_kernel t.1 ∙ is) user)
-          | inr t ↦
+        | inl t ↦ absurd (not-both (is_kernel word) (ap (λ (n : ℕ). n == 1) (sym like.kernel) ∙ ap is_kernel t.1 ∙ is) user)
+        | inr t ↦
             let apart : IsApart w.frees hands g x = h.places.kernels g x t.1 is in
             record { bare = apart.bare; uncounted = apart.uncounted; taken = apart.taken; unhanded = others g t.0 ∙ apart.unhanded }
-        ];
+      ];
       handed = each-set (EachMember (λ (h : Frame). h.0 < length layout.kernel)) hands seat u.hands
           (each-without (λ (h : Frame). h.0 < length layout.kernel) (is_frame frame) v.hands (h.places.handed seat v.hands my-hands)) h.places.handed;
     }
@@ -159,8 +156,8 @@ module _ (layout : Layout) (w : Words) (homes : Homes) (views : List View) (seat
         (omega (arith, are.lock, bare.unlocked, locks-push frame.0 v.locks (lock_found frame word), from_bool-same frame.0 frame.0 refl))
         (λ g other. omega (arith, locks-push g v.locks (lock_found frame word), from_bool-other frame.0 g (λ e. other (sym e))))
         (each-push (IsLocked frames u.refs) v.locks (lock_found frame word) found
-            (each-weaken (IsLocked w.frames v.refs) (IsLocked frames u.refs) v.locks (λ l k. like-locked w.frames frame.0 word new there like v.refs u.refs l (more l.frame.0 k.referenced) k)
-                (h.frame_locks.known seat (v.refs, v.locks) held)))
+        (each-weaken (IsLocked w.frames v.refs) (IsLocked frames u.refs) v.locks (λ l k. like-locked w.frames frame.0 word new there like v.refs u.refs l (more l.frame.0 k.referenced) k)
+        (h.frame_locks.known seat (v.refs, v.locks) held)))
         h.frame_locks
       where
         held : slice_get {X = List Ref × List FrameLock} (map (λ (v : View). (v.refs, v.locks)) views) seat ≡ Some (v.refs, v.locks)
@@ -168,9 +165,9 @@ module _ (layout : Layout) (w : Words) (homes : Homes) (views : List View) (seat
 
         more : (f : ℕ) → 0 < refs_on f v.refs → 0 < refs_on f u.refs
         more f before = elim (same-or f frame.0) [
-            | inl same ↦ subst (λ (n : ℕ). 0 < refs_on n u.refs) (sym same) (omega (arith, refs-with frame 1 v.refs))
-            | inr other ↦ omega (arith, refs-with-other frame 1 f v.refs other, before)
-          ]
+          | inl same ↦ subst (λ (n : ℕ). 0 < refs_on n u.refs) (sym same) (omega (arith, refs-with frame 1 v.refs))
+          | inr other ↦ omega (arith, refs-with-other frame 1 f v.refs other, before)
+        ]
 
         found : IsLocked frames u.refs (lock_found frame word)
         found = record {
@@ -186,10 +183,10 @@ module _ (layout : Layout) (w : Words) (homes : Homes) (views : List View) (seat
     caches-adopted = record {
       owned = still.owned;
       named = λ g x q a owner. elim (still.named g x q a owner) [
-          | inl cached ↦ inl cached
-          | inr held ↦ inr (some-set (HoldsBoth g q) (map (λ (v : View). (v.locks, v.pages)) views) seat (v.locks, v.pages) (u.locks, v.pages) (at_map (λ (v : View). (v.locks, v.pages)) views seat v me)
-                (both-push g q v.locks v.pages (lock_found frame word)) held)
-        ];
+        | inl cached ↦ inl cached
+        | inr held ↦ inr (some-set (HoldsBoth g q) (map (λ (v : View). (v.locks, v.pages)) views) seat (v.locks, v.pages) (u.locks, v.pages) (at_map (λ (v : View). (v.locks, v.pages)) views seat v me)
+            (both-push g q v.locks v.pages (lock_found frame word)) held)
+      ];
     }
       where
         still : CacheWordsOwned frames w.caches (map (λ (v : View). (v.locks, v.pages)) views)
@@ -205,20 +202,20 @@ module _ (layout : Layout) (w : Words) (homes : Homes) (views : List View) (seat
     bodies-adopted : BodiesAtHome layout frames w.caches w.pages out (set (map holder_of views) seat (holder_of u))
     bodies-adopted = record {
       frame_home = λ g x a free. elim (at_set w.frames frame.0 g new x a) [
-          | inl t ↦ let locked : lock_of x ≡ 1 = ap lock_of (sym t.1) ∙ are.lock in absurd (omega (arith, free))
-          | inr t ↦ at-home g (owner_of x) t.0 (h.bodies.frame_home g x t.1 free)
-        ];
+        | inl t ↦ let locked : lock_of x ≡ 1 = ap lock_of (sym t.1) ∙ are.lock in absurd (omega (arith, free))
+        | inr t ↦ at-home g (owner_of x) t.0 (h.bodies.frame_home g x t.1 free)
+      ];
       frame_out = λ g x a locked. elim (at_set w.frames frame.0 g new x a) [
-          | inl t ↦ ap (slice_get out) t.0 ∙ set_here homes frame.0 None (Some slot.content) slot.there
-          | inr t ↦ set_else homes frame.0 g None t.0 ∙ h.bodies.frame_out g x t.1 locked
-        ];
+        | inl t ↦ ap (slice_get out) t.0 ∙ set_here homes frame.0 None (Some slot.content) slot.there
+        | inr t ↦ set_else homes frame.0 g None t.0 ∙ h.bodies.frame_out g x t.1 locked
+      ];
       shelf_home = λ q x c a b free. at-home (layout.frames + q) (cond (c == 0) (q + 1) 0) (λ e. absurd (omega (arith, inside))) (h.bodies.shelf_home q x c a b free);
       shelf_out = λ q x a locked. set_else homes frame.0 (layout.frames + q) None (λ e. absurd (omega (arith, inside))) ∙ h.bodies.shelf_out q x a locked;
       one = λ q less. keep (λ (o : Holder). o.bodies) (λ l. sum_bodies (λ (log : Log). from_bool (log.page.0 == q)) out l ≡ 1) (map holder_of views) seat (holder_of v) (holder_of u) holder refl
           (bodies-sum homes frame.0 (Some slot.content) None slot.there empty refl (λ (log : Log). from_bool (log.page.0 == q)) (map (λ (o : Holder). o.bodies) (map holder_of views)) ∙ h.bodies.one q less);
       in_hand = each-set (λ (o : Holder). EachMember (λ (b : Held). IsHolding b.log.page.0 o) o.bodies) (map holder_of views) seat (holder_of u)
           (each-weaken (λ (b : Held). IsHolding b.log.page.0 (holder_of v)) (λ (b : Held). IsHolding b.log.page.0 (holder_of u)) v.bodies
-              (λ b holding. holding-push b.log.page.0 v.locks v.pages v.bodies (lock_found frame word) holding) (h.bodies.in_hand seat (holder_of v) holder))
+          (λ b holding. holding-push b.log.page.0 v.locks v.pages v.bodies (lock_found frame word) holding) (h.bodies.in_hand seat (holder_of v) holder))
           h.bodies.in_hand;
     }
       where
@@ -237,9 +234,9 @@ module _ (layout : Layout) (w : Words) (homes : Homes) (views : List View) (seat
           few = omega (arith, was.few);
           none = λ alone. let held : v.reserved + length v.hands + length v.refs ≡ 0 = was.none alone in absurd (omega arith);
           shares = λ f. elim (same-or f frame.0) [
-              | inl same ↦ subst (λ (n : ℕ). refs_on n u.refs ≤ length layout.trans + 2) (sym same) (omega (arith, refs-with frame 1 v.refs, unreferenced))
-              | inr other ↦ omega (arith, refs-with-other frame 1 f v.refs other, was.shares f)
-            ];
+            | inl same ↦ subst (λ (n : ℕ). refs_on n u.refs ≤ length layout.trans + 2) (sym same) (omega (arith, refs-with frame 1 v.refs, unreferenced))
+            | inr other ↦ omega (arith, refs-with-other frame 1 f v.refs other, was.shares f)
+          ];
         }
 
     adopted : length v.locks < 2 → FrameRule layout (record w { frames = frames }) out (set views seat u)
@@ -277,7 +274,7 @@ module _ (layout : Layout) (w : Words) (homes : Homes) (views : List View) (seat
       commands = Kept.kept-commands views seat v u me (record { made = own.made; marks = own.marks; sights = own.sights; lengths = own.lengths; settings = own.settings; stops = own.stops }) h.commands;
       unpoisoned = Kept.kept-unpoisoned views seat v u me frames out refl refl
           (slot-unpoisoned homes frame.0 (Some slot.content) None slot.there empty refl frames (map (λ (v : View). v.spoiled) views) (map (λ (v : View). v.bodies) views)
-              (like-unpoisoned w.frames frame.0 word new there like (map (λ (v : View). v.spoiled) views) homes (map (λ (v : View). v.bodies) views) h.unpoisoned));
+          (like-unpoisoned w.frames frame.0 word new there like (map (λ (v : View). v.spoiled) views) homes (map (λ (v : View). v.bodies) views) h.unpoisoned));
     }
       where
         own : AreOwn v
@@ -286,7 +283,7 @@ module _ (layout : Layout) (w : Words) (homes : Homes) (views : List View) (seat
 pub keeps-adopt : (frame : Frame) → Keeps (steps.Adopt frame)
 keeps-adopt frame layout w homes views seat v who content given =
     subst (FrameRule layout (record w { frames = set w.frames frame.0 ((read + 17) % 2 ^ 64) }) (set homes frame.0 None)) (set-set views seat shown u)
-        (adopted layout w homes (set views seat shown) seat shown (set_here views seat shown v given.me) rule frame given.place given.shaped given.asks.0 given.fits given.asks.1)
+    (adopted layout w homes (set views seat shown) seat shown (set_here views seat shown v given.me) rule frame given.place given.shaped given.asks.0 given.fits given.asks.1)
   where
     read : ℕ
     read = get_or w.frames frame.0 0

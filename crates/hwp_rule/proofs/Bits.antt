@@ -23,14 +23,14 @@ sum-below-change f g k zero less same = absurd (omega arith)
 sum-below-change f g k (suc n) less same =
     elim (same-or n k) [
       | inl last ↦
-        let rest : sum_below f n ≡ sum_below g n = sum-below-same f g n (λ i below. same i (λ e. absurd (omega arith))) in
-        let here : f n ≡ f k = ap f last in
-        let there : g n ≡ g k = ap g last in
-        omega arith
+          let rest : sum_below f n ≡ sum_below g n = sum-below-same f g n (λ i below. same i (λ e. absurd (omega arith))) in
+          let here : f n ≡ f k = ap f last in
+          let there : g n ≡ g k = ap g last in
+          omega arith
       | inr before ↦
-        let rest : sum_below f n + g k ≡ sum_below g n + f k = sum-below-change f g k n (omega arith) same in
-        let last : f n ≡ g n = same n before in
-        omega arith
+          let rest : sum_below f n + g k ≡ sum_below g n + f k = sum-below-change f g k n (omega arith) same in
+          let last : f n ≡ g n = same n before in
+          omega arith
     ]
 
 -- ---- the free bits after another free word
@@ -55,8 +55,8 @@ pub free_bit-other : (frees : List ℕ) (frame word f : ℕ) → frame / 64 < le
 free_bit-other frees frame word f within same other =
     elim (same-or (f / 64) (frame / 64)) [
       | inl here ↦
-        free_bit-here frees frame word within f here ∙ same (f % 64) (omega arith) (λ e. other (omega arith))
-            ∙ sym (ap (λ (i : ℕ). get_or frees i 0 / 2 ^ (f % 64) % 2) here)
+          free_bit-here frees frame word within f here ∙ same (f % 64) (omega arith) (λ e. other (omega arith))
+          ∙ sym (ap (λ (i : ℕ). get_or frees i 0 / 2 ^ (f % 64) % 2) here)
       | inr else ↦ free_bit-else frees frame word within f else
     ]
 
@@ -96,6 +96,6 @@ module _ (frees : List ℕ) (frame : ℕ) (within : frame / 64 < length frees) w
     where
       bits : (i : ℕ) → i < 64 → bit_at (bit_and found (bit_not w64 mask)) i ≡ bit_at found i
       bits i less = elim (same-or i (frame % 64)) [
-          | inl here ↦ ap (bit_at (bit_and found (bit_not w64 mask))) here ∙ field-clear_same found (frame % 64) (omega arith) ∙ sym none ∙ ap (bit_at found) (sym here)
-          | inr else ↦ field-clear_other found (frame % 64) (omega arith) i less else
-        ]
+        | inl here ↦ ap (bit_at (bit_and found (bit_not w64 mask))) here ∙ field-clear_same found (frame % 64) (omega arith) ∙ sym none ∙ ap (bit_at found) (sym here)
+        | inr else ↦ field-clear_other found (frame % 64) (omega arith) i less else
+      ]

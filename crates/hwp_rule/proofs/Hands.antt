@@ -1,15 +1,15 @@
 -- Lists that lose one member that a test finds, and frames in hand.
-use Rattle.std.proofs.Common.{◌≡◌, ◌≢◌, ℕ, zero, suc, ◌+◌, ◌<◌, ◌≤◌, ◌==◌, Bool, true, false, cond, List, [], ◌∷◌, ◌++◌, Option, Some, None, length, slice_get, set, refl, sym, ap, ◌∙◌, subst, arith}
+use Rattle.std.proofs.Common.{◌≡◌, ◌≢◌, ℕ, zero, suc, ◌+◌, ◌≤◌, ◌==◌, Bool, true, false, cond, List, [], ◌∷◌, ◌++◌, Some, length, slice_get, set, refl, sym, ap, ◌∙◌, arith}
 use Rattle.std.specs.List.{sum_by}
 use Rattle.std.specs.Int.{from_bool}
-use Rattle.std.proofs.lemmas.Bool.{eqb-true, eqb-false}
+use Rattle.std.proofs.lemmas.Bool.{eqb-true}
 use Rattle.std.proofs.lemmas.List.Sums.{sum_by-cons, sum_by_push}
 use Rattle.std.proofs.lemmas.Option.{none-some, same_Some}
 use Rattle.hwp_geom.specs.declared.Frame.{Frame}
-use Rattle.hwp_rule.specs.Lists.{EachMember, EachListed, sum_all}
+use Rattle.hwp_rule.specs.Lists.{EachMember}
 use Rattle.hwp_rule.specs.Views.{without, is_frame}
 use Rattle.hwp_rule.specs.parts.Places.{in_hand}
-use Rattle.hwp_rule.proofs.Lists.{sum-set, term-le, same-number, each-set}
+use Rattle.hwp_rule.proofs.Lists.{sum-set, term-le, same-number}
 
 -- a test that two numbers are the same, by what they are
 pub from_bool-same : (n m : ℕ) → n ≡ m → from_bool (n == m) ≡ 1

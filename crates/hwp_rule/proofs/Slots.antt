@@ -1,10 +1,7 @@
 -- A slot that has no body leaves its home or comes home empty: no body is elsewhere than before.
-use Rattle.std.proofs.Common.{◌≡◌, ◌≢◌, ℕ, ◌+◌, ◌<◌, ◌≤◌, ◌==◌, Bool, true, false, List, Option, Some, None, length, set, slice_get, inl, inr, refl, sym, ap, ◌∙◌, subst, arith}
+use Rattle.std.proofs.Common.{◌≡◌, ℕ, ◌+◌, ◌≤◌, Bool, true, false, List, Option, Some, None, length, set, slice_get, inl, inr, refl, sym, ap, ◌∙◌, arith}
 use Rattle.std.specs.List.{sum_by, list_any}
-use Rattle.hwp_geom.specs.declared.FileNo.{FileNo}
 use Rattle.hwp_geom.specs.declared.Layout.{Layout}
-use Rattle.hwp_geom.specs.declared.Page.{Page}
-use Rattle.hwp_geom.specs.declared.Proc.{Proc}
 use Rattle.hwp_page.specs.declared.Entry.{Entry}
 use Rattle.hwp_rule.specs.declared.log.Log.{Log}
 use Rattle.hwp_rule.specs.declared.view.Held.{Held}
@@ -13,15 +10,15 @@ use Rattle.hwp_rule.specs.declared.view.Made.{Made}
 use Rattle.hwp_rule.specs.declared.view.PageLock.{PageLock}
 use Rattle.hwp_rule.specs.declared.view.Sight.{Sight}
 use Rattle.hwp_rule.specs.declared.view.Spoiled.{Spoiled}
-use Rattle.hwp_rule.specs.Lists.{Homes, EachBody, EachMember, SomeMember, IsNotLater, of_home, sum_all, sum_bodies}
+use Rattle.hwp_rule.specs.Lists.{Homes, EachBody, SomeMember, IsNotLater, of_home, sum_all, sum_bodies}
 use Rattle.hwp_rule.specs.Logs.{has_ending, is_ending, losses_of}
 use Rattle.hwp_rule.specs.parts.Bodies.{content_name}
-use Rattle.hwp_rule.specs.parts.Endings.{EndingsAgree, ShowsEnding}
+use Rattle.hwp_rule.specs.parts.Endings.{EndingsAgree}
 use Rattle.hwp_rule.specs.parts.Entries.{EntriesListed, weigh}
 use Rattle.hwp_rule.specs.parts.Fits.{PageFits}
 use Rattle.hwp_rule.specs.parts.Losses.{LossesBalance, Losing}
 use Rattle.hwp_rule.specs.parts.Unpoisoned.{NothingPoisonedYet, is_failure}
-use Rattle.hwp_rule.proofs.Lists.{at_set, each-weaken, sum-set}
+use Rattle.hwp_rule.proofs.Lists.{at_set, sum-set}
 use Rattle.hwp_rule.proofs.Hands.{not-both}
 
 -- a slot that is out, or empty
@@ -47,9 +44,9 @@ module _ (homes : Homes) (slot : ℕ) (was now : Option (Option Log)) (there : s
   -- a body at home was there before
   pub home-was : (i : ℕ) (log : Log) → slice_get after i ≡ Some (Some (Some log)) → slice_get homes i ≡ Some (Some (Some log))
   home-was i log at = elim (at_set homes slot i now (Some (Some log)) at) [
-      | inl t ↦ absurd (not-both (is_bodiless now) still (ap is_bodiless t.1))
-      | inr t ↦ t.1
-    ]
+    | inl t ↦ absurd (not-both (is_bodiless now) still (ap is_bodiless t.1))
+    | inr t ↦ t.1
+  ]
 
   pub bodies-each : (P : Log → Type 0) (bodies : List (List Held)) → EachBody P homes bodies → EachBody P after bodies
   bodies-each P bodies each = record { at_home = λ i log at. each.at_home i log (home-was i log at); in_hand = each.in_hand }

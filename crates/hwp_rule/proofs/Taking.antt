@@ -1,15 +1,13 @@
 -- A free frame taken in hand, and a frame in hand made free again, keep the frame rule.
-use Rattle.std.proofs.Common.{◌≡◌, ◌≢◌, ℕ, ◌+◌, ◌-◌, ◌*◌, ◌/◌, ◌%◌, ◌^◌, ◌<◌, ◌≤◌, ◌==◌, min, Bool, true, false, cond, List, [], ◌∷◌, ◌++◌, Option, Some, None, map, length, set, get_or, slice_get, bit_and, bit_or, w64, inl, inr, refl, sym, ap, ◌∙◌, subst, arith}
+use Rattle.std.proofs.Common.{◌≡◌, ℕ, ◌+◌, ◌-◌, ◌*◌, ◌/◌, ◌%◌, ◌^◌, ◌<◌, ◌≤◌, ◌==◌, min, Bool, true, false, cond, List, [], ◌∷◌, ◌++◌, Some, map, length, set, get_or, slice_get, bit_and, bit_or, w64, inl, inr, refl, sym, ap, ◌∙◌, subst, arith}
 use Rattle.std.specs.Int.{bit_not, from_bool}
 use Rattle.std.specs.List.{sum_by}
-use Rattle.std.proofs.lemmas.Bool.{eqb-true, eqb-false}
+use Rattle.std.proofs.lemmas.Bool.{eqb-true}
 use Rattle.std.proofs.lemmas.List.{length-append}
 use Rattle.std.proofs.lemmas.Option.{slice_get-get_or}
 use Rattle.hwp_geom.specs.declared.Frame.{Frame}
 use Rattle.hwp_geom.specs.declared.Layout.{Layout}
-use Rattle.hwp_geom.specs.declared.Who.{Who}
 use Rattle.hwp_words.specs.Frames.{count_of, is_kernel}
-use Rattle.hwp_rule.specs.declared.log.Log.{Log}
 use Rattle.hwp_rule.specs.declared.step.Step.TheVariants as steps
 use Rattle.hwp_rule.specs.declared.view.View.{View}
 use Rattle.hwp_rule.specs.Asks.{HasInHand}
@@ -19,13 +17,13 @@ use Rattle.hwp_rule.specs.Steps.{place_of, goes}
 use Rattle.hwp_rule.specs.Views.{without, is_frame, sighted, stamp_of}
 use Rattle.hwp_rule.specs.Words.{Words, free_bit, sum_below}
 use Rattle.hwp_rule.specs.parts.Free.{FreeBitsAgree}
-use Rattle.hwp_rule.specs.parts.Holdings.{AreOwn, Holdings, IsBounded, HoldingsBounded}
+use Rattle.hwp_rule.specs.parts.Holdings.{AreOwn, IsBounded, HoldingsBounded}
 use Rattle.hwp_rule.specs.parts.Places.{in_hand, HasOnePlace, IsApart}
 use Rattle.hwp_rule.proofs.Lists.{change, at_map, each-set, each-push, sum-set, same-or, same-number}
-use Rattle.hwp_rule.proofs.Bits.{sum-below-same, sum-below-change, free_bit-cleared, free_bit-cleared_other, free_bit-raised, free_bit-raised_other, cleared-none}
+use Rattle.hwp_rule.proofs.Bits.{sum-below-change, free_bit-cleared, free_bit-cleared_other, free_bit-raised, free_bit-raised_other, cleared-none}
 use Rattle.hwp_rule.proofs.Hands.{not-both, from_bool-same, from_bool-other, each-without, length-without, in_hand-push, in_hand-without, in_hand-mine}
 use Rattle.hwp_rule.proofs.Sights.{keeps-sight, explained-free}
-use Rattle.hwp_rule.proofs.Given.{Given, Keeps, After}
+use Rattle.hwp_rule.proofs.Given.{Keeps}
 use Rattle.hwp_rule.proofs.Kept
 
 -- frames go between free bits and hands: of each frame both together are as many as before
@@ -128,29 +126,29 @@ module _ (layout : Layout) (w : Words) (homes : Homes) (views : List View) (seat
       where
         inside : frame.0 < layout.frames
         inside = elim (same-or (layout.frames - frame.0) 0) [
-            | inl past ↦ let none : free_bit w.frees frame.0 ≡ 0 = h.free.within frame.0 (omega arith) in absurd (omega (arith, bit))
-            | inr before ↦ omega arith
-          ]
+          | inl past ↦ let none : free_bit w.frees frame.0 ≡ 0 = h.free.within frame.0 (omega arith) in absurd (omega (arith, bit))
+          | inr before ↦ omega arith
+        ]
 
         both : (f : ℕ) → free_bit cleared f + in_hand f (set hands seat (v.hands ++ frame ∷ [])) ≡ free_bit w.frees f + in_hand f hands
         both f =
             let more : in_hand f (set hands seat (v.hands ++ frame ∷ [])) ≡ in_hand f hands + from_bool (frame.0 == f) = in_hand-push hands seat v.hands frame my-hands f in
             elim (same-or f frame.0) [
               | inl same ↦
-                let now : free_bit cleared f ≡ 0 = ap (free_bit cleared) same ∙ free_bit-cleared w.frees frame.0 within in
-                let was : free_bit w.frees f ≡ 1 = ap (free_bit w.frees) same ∙ bit in
-                let one : from_bool (frame.0 == f) ≡ 1 = from_bool-same frame.0 f (sym same) in
-                omega arith
+                  let now : free_bit cleared f ≡ 0 = ap (free_bit cleared) same ∙ free_bit-cleared w.frees frame.0 within in
+                  let was : free_bit w.frees f ≡ 1 = ap (free_bit w.frees) same ∙ bit in
+                  let one : from_bool (frame.0 == f) ≡ 1 = from_bool-same frame.0 f (sym same) in
+                  omega arith
               | inr other ↦
-                let stays : free_bit cleared f ≡ free_bit w.frees f = free_bit-cleared_other w.frees frame.0 within f other in
-                let none : from_bool (frame.0 == f) ≡ 0 = from_bool-other frame.0 f (λ e. other (sym e)) in
-                omega arith
+                  let stays : free_bit cleared f ≡ free_bit w.frees f = free_bit-cleared_other w.frees frame.0 within f other in
+                  let none : from_bool (frame.0 == f) ≡ 0 = from_bool-other frame.0 f (λ e. other (sym e)) in
+                  omega arith
             ]
 
         places : HasOnePlace layout.kernel w.frames cleared (set hands seat (v.hands ++ frame ∷ []))
         places = places-moved layout.kernel w.frames w.frees cleared hands (set hands seat (v.hands ++ frame ∷ [])) both
             (each-set (EachMember (λ (h : Frame). h.0 < length layout.kernel)) hands seat (v.hands ++ frame ∷ [])
-                (each-push (λ (h : Frame). h.0 < length layout.kernel) v.hands frame (omega (arith, inside, kernel)) (h.places.handed seat v.hands my-hands)) h.places.handed)
+            (each-push (λ (h : Frame). h.0 < length layout.kernel) v.hands frame (omega (arith, inside, kernel)) (h.places.handed seat v.hands my-hands)) h.places.handed)
             h.places
 
         free : FreeBitsAgree layout.frames cleared w.available (set reserved seat (v.reserved - 1))
@@ -197,20 +195,20 @@ module _ (layout : Layout) (w : Words) (homes : Homes) (views : List View) (seat
             let less : in_hand f (set hands seat (without (is_frame frame) v.hands)) + from_bool (frame.0 == f) ≡ in_hand f hands = in_hand-without hands seat v.hands frame my-hands f has.0 mine in
             elim (same-or f frame.0) [
               | inl same ↦
-                let now : free_bit raised f ≡ 1 = ap (free_bit raised) same ∙ free_bit-raised w.frees frame.0 within in
-                let before : free_bit w.frees f ≡ 0 = ap (free_bit w.frees) same ∙ was in
-                let one : from_bool (frame.0 == f) ≡ 1 = from_bool-same frame.0 f (sym same) in
-                omega arith
+                  let now : free_bit raised f ≡ 1 = ap (free_bit raised) same ∙ free_bit-raised w.frees frame.0 within in
+                  let before : free_bit w.frees f ≡ 0 = ap (free_bit w.frees) same ∙ was in
+                  let one : from_bool (frame.0 == f) ≡ 1 = from_bool-same frame.0 f (sym same) in
+                  omega arith
               | inr other ↦
-                let stays : free_bit raised f ≡ free_bit w.frees f = free_bit-raised_other w.frees frame.0 within f other in
-                let none : from_bool (frame.0 == f) ≡ 0 = from_bool-other frame.0 f (λ e. other (sym e)) in
-                omega arith
+                  let stays : free_bit raised f ≡ free_bit w.frees f = free_bit-raised_other w.frees frame.0 within f other in
+                  let none : from_bool (frame.0 == f) ≡ 0 = from_bool-other frame.0 f (λ e. other (sym e)) in
+                  omega arith
             ]
 
         places : HasOnePlace layout.kernel w.frames raised (set hands seat (without (is_frame frame) v.hands))
         places = places-moved layout.kernel w.frames w.frees raised hands (set hands seat (without (is_frame frame) v.hands)) both
             (each-set (EachMember (λ (h : Frame). h.0 < length layout.kernel)) hands seat (without (is_frame frame) v.hands)
-                (each-without (λ (h : Frame). h.0 < length layout.kernel) (is_frame frame) v.hands (h.places.handed seat v.hands my-hands)) h.places.handed)
+            (each-without (λ (h : Frame). h.0 < length layout.kernel) (is_frame frame) v.hands (h.places.handed seat v.hands my-hands)) h.places.handed)
             h.places
 
         free : FreeBitsAgree layout.frames raised w.available (set reserved seat (v.reserved + 1))
@@ -239,17 +237,17 @@ keeps-take_bit frame layout w homes views seat v who content given = which (goes
 
     which : (b : Bool) → goes (steps.TakeBit frame) word ≡ b
         → FrameRule layout (record w { frees = left }) homes
-            (set views seat (cond b (record v { reserved = v.reserved - 1; hands = v.hands ++ frame ∷ [] }) (sighted who (place_of (steps.TakeBit frame)) word v)))
+        (set views seat (cond b (record v { reserved = v.reserved - 1; hands = v.hands ++ frame ∷ [] }) (sighted who (place_of (steps.TakeBit frame)) word v)))
     which true is = taken layout w homes views seat v given.me given.rule frame within given.sound.kernel given.shaped.frames given.asks (eqb-true (word / 2 ^ (frame.0 % 64) % 2) 1 is)
     which false isnt =
         subst (λ (frees : List ℕ). FrameRule layout (record w { frees = frees }) homes (set views seat (sighted who (place_of (steps.TakeBit frame)) word v))) (sym same)
-            (keeps-sight layout w homes views seat v who (place_of (steps.TakeBit frame)) word given.me given.past (explained-free layout w homes views (stamp_of who v) (frame.0 / 64) word) given.rule)
+        (keeps-sight layout w homes views seat v who (place_of (steps.TakeBit frame)) word given.me given.past (explained-free layout w homes views (stamp_of who v) (frame.0 / 64) word) given.rule)
       where
         none : free_bit w.frees frame.0 ≡ 0
         none = elim (same-or (word / 2 ^ (frame.0 % 64) % 2) 1) [
-            | inl set ↦ absurd (not-both (word / 2 ^ (frame.0 % 64) % 2 == 1) (same-number (word / 2 ^ (frame.0 % 64) % 2) 1 set) isnt)
-            | inr clear ↦ omega arith
-          ]
+          | inl set ↦ absurd (not-both (word / 2 ^ (frame.0 % 64) % 2 == 1) (same-number (word / 2 ^ (frame.0 % 64) % 2) 1 set) isnt)
+          | inr clear ↦ omega arith
+        ]
 
         same : left ≡ w.frees
         same = cleared-none w.frees frame.0 within given.fits none
