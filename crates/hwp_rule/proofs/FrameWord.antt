@@ -1,5 +1,5 @@
 -- The parts of the rule under a change of a frame's word that leaves its poison, owner and cycle: references and the lock.
-use Rattle.std.proofs.Common.{◌≡◌, ◌≢◌, ℕ, ◌+◌, ◌<◌, ◌≤◌, ◌==◌, ◌⊎◌, ◌^◌, nat_lt, min, Bool, true, false, cond, List, Some, map, set, slice_get, inl, inr, refl, sym, ap, ◌∙◌, subst, arith}
+use Rattle.std.proofs.Common.{◌≡◌, ◌≢◌, ℕ, ◌+◌, ◌<◌, ◌≤◌, ◌==◌, ◌⊎◌, ◌^◌, nat_lt, min, Bool, true, false, cond, List, Some, map, length, set, slice_get, inl, inr, refl, sym, ap, ◌∙◌, subst, arith}
 use Rattle.std.proofs.lemmas.Option.{same_Some}
 use Rattle.std.specs.Int.{from_bool}
 use Rattle.std.specs.List.{sum_by}
@@ -178,8 +178,9 @@ module _ (frames : List ℕ) (f w u : ℕ) (there : slice_get frames f ≡ Some 
       → ((g : ℕ) → g ≢ f → in_hand g now ≡ in_hand g hands)
       → (is_kernel w ≡ false → free_bit frees f + in_hand f now + min (count_of u) 1 ≡ 1)
       → (0 < free_bit frees f + in_hand f now → IsBare u)
+      → EachListed (λ (h : Frame). h.0 < length kernel) now
       → HasOnePlace kernel frames frees hands → HasOnePlace kernel (set frames f u) frees now
-  placed-again kernel frees hands now counted others here idle h = record {
+  placed-again kernel frees hands now counted others here idle handed h = record {
     declared = λ g x k a b.
         let was : (y : ℕ) × (slice_get frames g ≡ Some y) × IsLike y x = word-was g x a in
         ap (λ (n : ℕ). n == 1) was.2.kernel ∙ h.declared g was.0 k was.1 b;
@@ -205,6 +206,7 @@ module _ (frames : List ℕ) (f w u : ℕ) (there : slice_get frames f ≡ Some 
           let apart : IsApart frees hands g x = h.kernels g x t.1 is in
           record { bare = apart.bare; uncounted = apart.uncounted; taken = apart.taken; unhanded = others g t.0 ∙ apart.unhanded }
     ];
+    handed = handed;
   }
 
   -- the counts, where one view's references change

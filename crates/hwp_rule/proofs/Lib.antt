@@ -5,6 +5,13 @@ pub mod Noted
 pub mod Given
 pub mod Reserving
 pub mod Sights
+pub mod Bits
+pub mod Hands
+pub mod Taking
+pub mod Unreached
+pub mod Slots
+pub mod Holders
+pub mod Adopting
 pub mod Refs
 pub mod FrameWord
 pub mod RefBounds
