@@ -16,3 +16,17 @@ pub mod Reserve
 pub mod Turns
 pub mod Shown
 pub mod Knowing
+pub mod Bits
+pub mod Hands
+pub mod Taking
+pub mod Unreached
+pub mod Slots
+pub mod Holders
+pub mod Adopting
+pub mod Refs
+pub mod FrameWord
+pub mod RefBounds
+pub mod Referring
+pub mod Locking
+pub mod TakenBodies
+pub mod LockFrame
