@@ -4,3 +4,4 @@ pub mod Kept
 pub mod Noted
 pub mod Given
 pub mod Reserving
+pub mod Turns
