@@ -3,9 +3,15 @@
 #![tactic(auto)]
 
 mod ops;
+mod pin;
+mod release;
+mod take;
 mod task;
 mod turn;
 
 pub use ops::Ops;
+pub use pin::{Pin, PinAnswer};
+pub use release::{Release, ReleaseAnswer};
+pub use take::{Take, TakeAnswer};
 pub use task::Task;
 pub use turn::{Tried, Turn};

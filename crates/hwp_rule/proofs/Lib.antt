@@ -30,3 +30,4 @@ pub mod Referring
 pub mod Locking
 pub mod TakenBodies
 pub mod LockFrame
+pub mod KeptTurns
