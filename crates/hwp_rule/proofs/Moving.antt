@@ -17,7 +17,7 @@ use Rattle.hwp_rule.specs.Words.{Words, words_of, read, put, index, size, segmen
 use Rattle.hwp_rule.proofs.AsksNoted.{asks-noted}
 use Rattle.hwp_rule.proofs.Given.{Given, IsShaped, Keeps}
 use Rattle.hwp_rule.proofs.Lists.{set_here, set-set}
-use Rattle.hwp_rule.proofs.Noted.{keeps-noted, past-now}
+use Rattle.hwp_rule.proofs.Noted.{keeps-noted, past-now, turn-noted}
 use Rattle.hwp_rule.proofs.Split.{words-read, words-put}
 
 length-segment : (from count : ℕ) (ws : List ℕ) → from + count ≤ length ws → length (segment from count ws) ≡ count
@@ -86,6 +86,7 @@ rule-moved layout seat r a b keeps h m =
           shaped = shaped layout a h;
           me = set_here a.views seat (noted r m.view) m.view m.me;
           past = past-now r m.view m.asks.turn;
+          turn = turn-noted r m.view m.asks.turn;
           place = m.asks.place;
           asks = asks-noted layout r.who r m.view r.step m.content m.asks.kind;
           fits = subst (λ (n : ℕ). n < 2 ^ 64) (sym known) m.fits;

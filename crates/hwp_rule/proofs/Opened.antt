@@ -435,6 +435,7 @@ module _ (layout : Layout) (sound : IsSound layout) (w : Words) (o : AreOpening 
             taken = ap (λ (l : List ℕ). free_bit l f) o.frees ∙ Opening.free-bit-opened layout f true (inside f x there) ((frame f x there).1 ∙ ap (λ (b : Bool). Some b) k);
             unhanded = no-sum (λ (v : View). v.hands) (sum_by (λ (h : Frame). from_bool (h.0 == f))) (λ c. refl);
           };
+      handed = unlisted (λ (v : View). v.hands) (λ (h : Frame). h.0 < length layout.kernel) (λ c. refl);
     };
     frame_locks = record {
       one = λ f x there. no-sum (λ (v : View). (v.refs, v.locks)) (λ (h : List Ref × List FrameLock). locks_on f h.1) (λ c. refl) ∙ sym (frame f x there).2.lock;
