@@ -19,3 +19,5 @@ pub mod Referring
 pub mod Locking
 pub mod TakenBodies
 pub mod LockFrame
+pub mod Without
+pub mod UnlockFrame

@@ -107,7 +107,7 @@ module _ (layout : Layout) (w : Words) (homes : Homes) (views : List View) (seat
     places-locking : HasOnePlace layout.kernel frames w.frees (map (λ (v : View). v.hands) views)
     places-locking = placed-again w.frames f word now there x.like layout.kernel w.frees (map (λ (v : View). v.hands) views) (map (λ (v : View). v.hands) views) counted (λ g differs. refl)
         (λ usable. subst (λ (n : ℕ). free_bit w.frees f + in_hand f (map (λ (v : View). v.hands) views) + min n 1 ≡ 1) (sym x.count) (h.places.placed f word there usable))
-        (λ idle. absurd (not-idle idle)) h.places
+        (λ idle. absurd (not-idle idle)) h.places.handed h.places
 
     page-locks-locking : PageLocksHeld w.pages (set (map (λ (v : View). v.pages) views) seat pages) (set (map (λ (v : View). v.locks) views) seat locks)
     page-locks-locking = record {

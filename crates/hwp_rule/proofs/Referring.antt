@@ -29,7 +29,7 @@ use Rattle.hwp_rule.specs.parts.Holdings.{AreOwn, Holdings, IsBounded, HoldingsB
 use Rattle.hwp_rule.specs.parts.Locks.{FrameLocksHeld, IsLocked}
 use Rattle.hwp_rule.specs.parts.Owners.{HoldsBoth}
 use Rattle.hwp_rule.specs.parts.Places.{HasOnePlace, IsBare, in_hand}
-use Rattle.hwp_rule.proofs.Lists.{change, keep, at_map, map-was, same-or, same-number, set_again, sum-set, term-le, terms-le, each-set, each-weaken}
+use Rattle.hwp_rule.proofs.Lists.{change, keep, at_map, map-was, same-or, same-number, set_again, sum-set, term-le, terms-le, each-set, each-push, each-weaken}
 use Rattle.hwp_rule.proofs.Given.{Given, Keeps, IsShaped}
 use Rattle.hwp_rule.proofs.FrameWord.{IsLike, bare-like, like-fields, like-translations, like-caches, like-handled, like-counter, like-marks, like-unpoisoned, like-locked, like-bodies, placed-again, counted-again, locked-again}
 use Rattle.hwp_rule.proofs.RefBounds.{count-fits}
@@ -199,7 +199,7 @@ keeps-get_ref frame seen count layout w homes views seat v who content given = w
                   let count_is : count_of now ≡ count_of found + count = are.count in
                   omega (arith, counted))
                 (λ some. bare-like found now like are.lock (h.places.idle frame.0 found there some))
-                h.places)
+                h.places.handed h.places)
 
         referenced : EachMember (λ (l : FrameLock). 0 < refs_on l.frame.0 (with_refs frame count v.refs)) v.locks
         referenced i l e' =
@@ -387,6 +387,10 @@ keeps-put_ref frame count layout w homes views seat v who content given =
           let one : from_bool (frame.0 == frame.0) ≡ 1 = ap from_bool (same-number frame.0 frame.0 refl) in
           omega (arith, hand-moved frame.0 (v.hands ++ frame ∷ []), pushed frame.0, some))
         (λ one. bare-like found now like are.lock (bare (eqb-true (count_of (slice_index w.frames frame.0)) count e)))
+        (each-set (EachMember (λ (x : Frame). x.0 < length layout.kernel)) hands seat (v.hands ++ frame ∷ [])
+            (each-push (λ (x : Frame). x.0 < length layout.kernel) v.hands frame (subst (λ (n : ℕ). frame.0 < n) (sym given.sound.kernel) given.place)
+                (h.places.handed seat v.hands (at_map (λ (v : View). v.hands) views seat v given.me)))
+            h.places.handed)
         h.places
     placed-at false e = subst (HasOnePlace layout.kernel (set w.frames frame.0 now) w.frees) (sym (set_again hands seat v.hands (at_map (λ (v : View). v.hands) views seat v given.me)))
         (placed-again w.frames frame.0 found now there like layout.kernel w.frees hands hands (omega (arith, some, enough)) (λ g differs. refl)
@@ -396,7 +400,7 @@ keeps-put_ref frame count layout w homes views seat v who content given =
               let not_last : count_of (slice_index w.frames frame.0) ≢ count = eqb-false (count_of (slice_index w.frames frame.0)) count e in
               omega (arith, some, enough))
             (λ one. bare-like found now like are.lock (h.places.idle frame.0 found there one))
-            h.places)
+            h.places.handed h.places)
 
     placed : HasOnePlace layout.kernel (set w.frames frame.0 now) w.frees (set (map (λ (v : View). v.hands) views) seat (cond (is_last count (slice_index w.frames frame.0)) (v.hands ++ frame ∷ []) v.hands))
     placed = placed-at (is_last count (slice_index w.frames frame.0)) refl
