@@ -21,3 +21,5 @@ pub mod TakenBodies
 pub mod LockFrame
 pub mod Without
 pub mod UnlockFrame
+pub mod Listing
+pub mod Listed

@@ -173,6 +173,7 @@ module _ (layout : Layout) (w : Words) (homes : Homes) (views : List View) (seat
     in_hand = each-weaken (λ (b : Held). IsHolding b.log.page.0 (holder_of v)) (λ (b : Held). IsHolding b.log.page.0 (holder v.pages v.bodies)) v.bodies (λ b holds. holding-more b.log.page.0 v.pages v.bodies refl holds) old-in_hand;
     reached = h.entries.lengths_reached seat v.lengths (at_map (λ (v : View). v.lengths) views seat v me);
     before = h.endings.ended_before seat v.bodies my_bodies;
+    taken = h.endings.taken seat v.bodies my_bodies;
     killed = h.stops.killed seat v.bodies my_bodies;
     fits = h.fits.in_hand seat (v.pages, v.bodies) my_fit;
     knows = h.fits.known seat (v.pages, v.bodies) my_fit;
@@ -312,6 +313,7 @@ module _ (layout : Layout) (w : Words) (homes : Homes) (views : List View) (seat
           (h.entries.lengths_reached seat v.lengths (at_map (λ (v : View). v.lengths) views seat v me));
       before = each-push (λ (b : Held). AreEnded layout w.processes (take b.since b.log.entries)) v.bodies body
           (subst (AreEnded layout w.processes) (sym (take-length log.entries)) (h.endings.ended frame.0 log inside)) (h.endings.ended_before seat v.bodies my_bodies);
+      taken = each-push (λ (b : Held). b.since ≤ length b.log.entries) v.bodies body (omega arith) (h.endings.taken seat v.bodies my_bodies);
       killed = each-push (λ (b : Held). EachMember (λ (p : Proc). (x : ℕ) → slice_get w.processes p.0 ≡ Some x → x ≢ 0) b.killed) v.bodies body (λ i p e. absurd (none-some p e)) (h.stops.killed seat v.bodies my_bodies);
       fits = each-push (λ (b : Held). page_locks_on b.log.page.0 pages ≡ 0 → Fits layout w.trans w.caches b.log) v.bodies body (λ none. fits-home)
           (each-weaken (λ (b : Held). page_locks_on b.log.page.0 v.pages ≡ 0 → Fits layout w.trans w.caches b.log) (λ (b : Held). page_locks_on b.log.page.0 pages ≡ 0 → Fits layout w.trans w.caches b.log) v.bodies

@@ -156,6 +156,7 @@ module _ (layout : Layout) (w : Words) (homes : Homes) (views : List View) (seat
         (λ b holds. holding-still b.log.page.0 v.pages v.bodies refl (λ e. absurd (omega (arith, e, unowned))) holds) old-in_hand;
     reached = h.entries.lengths_reached seat v.lengths (at_map (λ (v : View). v.lengths) views seat v me);
     before = h.endings.ended_before seat v.bodies my_bodies;
+    taken = h.endings.taken seat v.bodies my_bodies;
     killed = h.stops.killed seat v.bodies my_bodies;
     fits = h.fits.in_hand seat (v.pages, v.bodies) my_fit;
     knows = h.fits.known seat (v.pages, v.bodies) my_fit;
@@ -277,6 +278,7 @@ module _ (layout : Layout) (w : Words) (homes : Homes) (views : List View) (seat
           holding-still b.log.page.0 pages bodies (page_locks b.log.page.0) (λ e. other (omega (arith, e, named))) was;
       reached = h.entries.lengths_reached seat v.lengths (at_map (λ (v : View). v.lengths) views seat v me);
       before = each-without (λ (b : Held). AreEnded layout w.processes (take b.since b.log.entries)) (is_body_of log.page) v.bodies (h.endings.ended_before seat v.bodies my_bodies);
+      taken = each-without (λ (b : Held). b.since ≤ length b.log.entries) (is_body_of log.page) v.bodies (h.endings.taken seat v.bodies my_bodies);
       killed = each-without (λ (b : Held). EachMember (λ (p : Proc). (x : ℕ) → slice_get w.processes p.0 ≡ Some x → x ≢ 0) b.killed) (is_body_of log.page) v.bodies (h.stops.killed seat v.bodies my_bodies);
       fits = each-weaken (λ (b : Held). page_locks_on b.log.page.0 v.pages ≡ 0 → Fits layout w.trans w.caches b.log) (λ (b : Held). page_locks_on b.log.page.0 pages ≡ 0 → Fits layout w.trans w.caches b.log) bodies
           (λ b fits none. fits (sym (page_locks b.log.page.0) ∙ none))
