@@ -23,3 +23,4 @@ pub mod Without
 pub mod UnlockFrame
 pub mod Listing
 pub mod Listed
+pub mod Unlocking

@@ -64,13 +64,13 @@ module _ (layout : Layout) (w : Words) (homes : Homes) (views : List View) (seat
       let word : known.word ≡ found = same_Some known.word found (sym known.there ∙ ap (slice_get w.frames) same ∙ there) in
       ap owner_of (sym word) ∙ known.owner
 
-  owner : owner_of found ≡ lock.owner
+  pub owner : owner_of found ≡ lock.owner
   owner = owner-of place lock listed number
 
   pub referenced : 0 < refs_on frame.0 v.refs
   referenced = subst (λ (n : ℕ). 0 < refs_on n v.refs) number (all-known place lock listed).referenced
 
-  fewer : (g : ℕ) → locks_on g locks + from_bool (frame.0 == g) ≡ locks_on g v.locks
+  pub fewer : (g : ℕ) → locks_on g locks + from_bool (frame.0 == g) ≡ locks_on g v.locks
   fewer g = sum-without (λ (l : FrameLock). from_bool (l.frame.0 == g)) (is_lock_of frame) (from_bool (frame.0 == g)) v.locks place lock listed test
       (λ l is. ap (λ (n : ℕ). from_bool (n == g)) (eqb-true l.frame.0 frame.0 is))
 
@@ -128,6 +128,14 @@ module _ (layout : Layout) (w : Words) (homes : Homes) (views : List View) (seat
 
   old-in_hand : EachMember (λ (b : Held). IsHolding b.log.page.0 (holder_of v)) v.bodies
   old-in_hand = h.bodies.in_hand seat (holder_of v) (at_map holder_of views seat v me)
+
+  -- what the page's lock lists of the owner's cache word
+  pub both-cached : ((l : PageLock) → slice_get v.pages 0 ≡ Some l → lock.owner ≡ l.page.0 + 1 → l.cache ≡ Some (frame.0 + 1)) → (q : ℕ) → owner_of found ≡ q + 1 → HoldsBoth frame.0 q (v.locks, v.pages) → slice_get w.caches q ≡ Some (frame.0 + 1)
+  both-cached cache q is both =
+      let few : length v.pages ≤ 1 = h.page_locks.page_once seat v.pages (at_map (λ (v : View). v.pages) views seat v me) in
+      let first : (l : PageLock) × (slice_get v.pages 0 ≡ Some l) × (l.page.0 ≡ q) = first-lock q v.pages few both.page in
+      let lists : first.0.cache ≡ Some (frame.0 + 1) = cache first.0 first.1 (sym owner ∙ is ∙ ap (λ (n : ℕ). n + 1) (sym first.2)) in
+      ap (slice_get w.caches) (sym first.2) ∙ (h.fits.known seat (v.pages, v.bodies) my_fit 0 first.0 first.1).cache (frame.0 + 1) lists
 
   -- an empty slot, of a frame without owner
   pub keeps-unlock-empty : lock.owner ≡ 0 → FrameRule layout (record w { frames = set w.frames frame.0 now }) (set homes frame.0 (Some None)) (set views seat (record v { locks = locks }))
@@ -223,13 +231,6 @@ module _ (layout : Layout) (w : Words) (homes : Homes) (views : List View) (seat
       in_hand = each-set (EachMember (λ (b : Held). P b.log)) (all_bodies views) seat bodies (each-without (λ (b : Held). P b.log) (is_body_of log.page) v.bodies (each.in_hand seat v.bodies my_bodies)) each.in_hand;
     }
 
-    both-cached : (q : ℕ) → owner_of found ≡ q + 1 → HoldsBoth frame.0 q (v.locks, v.pages) → slice_get w.caches q ≡ Some (frame.0 + 1)
-    both-cached q is both =
-        let few : length v.pages ≤ 1 = h.page_locks.page_once seat v.pages (at_map (λ (v : View). v.pages) views seat v me) in
-        let first : (l : PageLock) × (slice_get v.pages 0 ≡ Some l) × (l.page.0 ≡ q) = first-lock q v.pages few both.page in
-        let lists : first.0.cache ≡ Some (frame.0 + 1) = cache first.0 first.1 (sym owner ∙ is ∙ ap (λ (n : ℕ). n + 1) (sym first.2)) in
-        ap (slice_get w.caches) (sym first.2) ∙ (h.fits.known seat (v.pages, v.bodies) my_fit 0 first.0 first.1).cache (frame.0 + 1) lists
-
     own-still : (b : Held) → is_body_of log.page b ≡ false → (0 < page_locks_on b.log.page.0 v.pages → KnowsOwn v.pages b) → 0 < page_locks_on b.log.page.0 pages → KnowsOwn pages b
     own-still b other knows some = record { lock = own.lock; there = at; cache = own.cache; cache_is = own.cache_is; trans = own.trans; trans_is = own.trans_is }
       where
@@ -267,7 +268,7 @@ module _ (layout : Layout) (w : Words) (homes : Homes) (views : List View) (seat
       cached = λ g x q at is both. elim (same-or g frame.0) [
         | inl this ↦
             let word : x ≡ found = same_Some x found (sym at ∙ ap (slice_get w.frames) this ∙ there) in
-            inl (both-cached q (ap owner_of (sym word) ∙ is) (subst (λ (n : ℕ). HoldsBoth n q (v.locks, v.pages)) this both) ∙ ap (λ (n : ℕ). Some (n + 1)) (sym this))
+            inl (both-cached cache q (ap owner_of (sym word) ∙ is) (subst (λ (n : ℕ). HoldsBoth n q (v.locks, v.pages)) this both) ∙ ap (λ (n : ℕ). Some (n + 1)) (sym this))
         | inr differs ↦ inr (both-still g q differs both)
       ];
       free_home = λ free. record { content = Some log; there = set_here homes frame.0 (Some (Some log)) None out; named = named ∙ sym (like.owner ∙ owner) };
