@@ -6,7 +6,7 @@ use Rattle.hwp_geom.specs.Layout.{IsSound}
 use Rattle.hwp_rule.specs.declared.log.Log.{Log}
 use Rattle.hwp_rule.specs.declared.step.Step.{Step}
 use Rattle.hwp_rule.specs.declared.view.View.{View}
-use Rattle.hwp_rule.specs.Asks.{AsksOf}
+use Rattle.hwp_rule.specs.Asks.{AsksOf, IsTurnOf}
 use Rattle.hwp_rule.specs.Lists.{Homes}
 use Rattle.hwp_rule.specs.Moves.{Meets}
 use Rattle.hwp_rule.specs.Rule.{FrameRule}
@@ -35,6 +35,7 @@ pub record Given (layout : Layout) (w : Words) (homes : Homes) (views : List Vie
   pub shaped : IsShaped layout w homes
   pub me : slice_get views seat ≡ Some v
   pub past : IsPast v.parts who
+  pub turn : IsTurnOf v who
   pub place : IsPlace layout (place_of step)
   pub asks : AsksOf layout who step content v
   pub fits : read (place_of step) w < 2 ^ 64

@@ -4,7 +4,18 @@ pub mod Kept
 pub mod Noted
 pub mod Given
 pub mod Reserving
+pub mod AsksNoted
+pub mod Moving
+pub mod Opening
+pub mod Opened
 pub mod Sights
+pub mod Counting
+pub mod Exhausted
+pub mod Loading
+pub mod Reserve
+pub mod Turns
+pub mod Shown
+pub mod Knowing
 pub mod Bits
 pub mod Hands
 pub mod Taking
@@ -19,6 +30,7 @@ pub mod Referring
 pub mod Locking
 pub mod TakenBodies
 pub mod LockFrame
+pub mod KeptTurns
 pub mod Without
 pub mod UnlockFrame
 pub mod Listing

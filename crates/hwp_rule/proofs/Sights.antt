@@ -238,35 +238,35 @@ shown_number (places.Policy thread) = thread.0
 shown_number _ = 0
 
 module _ (layout : Layout) (w : Words) (homes : Homes) (views : List View) (s : Sight) where
-  other : (place : Place) (n : ℕ) → shown_place s.place ≡ n → n ≢ shown_place place → s.place ≡ place → ⊥
-  other place n is differs e = differs (sym is ∙ ap shown_place e)
+  pub elsewhere : (place : Place) (n : ℕ) → shown_place s.place ≡ n → n ≢ shown_place place → s.place ≡ place → ⊥
+  elsewhere place n is differs e = differs (sym is ∙ ap shown_place e)
 
   -- a sight of a word that no part reads in sights: of a translation, a cache word, a page's lock, a free word, a loss
   pub explained-quiet : shown_place s.place ≡ 0 → IsExplained layout w homes views s
   explained-quiet is = record {
-    counter = λ e. absurd (other places.Counter 0 is (λ n. omega arith) e);
-    bad = λ frame word there e. absurd (other (places.Bad frame) 0 is (λ n. omega arith) e);
-    weak = λ frame word there e. absurd (other (places.Weak frame) 0 is (λ n. omega arith) e);
-    ending = λ process e. absurd (other (places.Process process) 0 is (λ n. omega arith) e);
-    mark = λ frame word there e. absurd (other (places.Frame frame) 0 is (λ n. omega arith) e);
-    policy = λ thread d word declared there i y this of e. absurd (other (places.Policy thread) 0 is (λ n. omega arith) e);
-    exhaustion = λ e. absurd (other places.Available 0 is (λ n. omega arith) e);
-    ended = λ process word there e. absurd (other (places.Process process) 0 is (λ n. omega arith) e);
-    stop = λ e. absurd (other places.Stop 0 is (λ n. omega arith) e);
+    counter = λ e. absurd (elsewhere places.Counter 0 is (λ n. omega arith) e);
+    bad = λ frame word there e. absurd (elsewhere (places.Bad frame) 0 is (λ n. omega arith) e);
+    weak = λ frame word there e. absurd (elsewhere (places.Weak frame) 0 is (λ n. omega arith) e);
+    ending = λ process e. absurd (elsewhere (places.Process process) 0 is (λ n. omega arith) e);
+    mark = λ frame word there e. absurd (elsewhere (places.Frame frame) 0 is (λ n. omega arith) e);
+    policy = λ thread d word declared there i y this of e. absurd (elsewhere (places.Policy thread) 0 is (λ n. omega arith) e);
+    exhaustion = λ e. absurd (elsewhere places.Available 0 is (λ n. omega arith) e);
+    ended = λ process word there e. absurd (elsewhere (places.Process process) 0 is (λ n. omega arith) e);
+    stop = λ e. absurd (elsewhere places.Stop 0 is (λ n. omega arith) e);
   }
 
   -- a sight of a frame's word, where the word that stands is of no earlier cycle, and of the same one with no poison less
   pub explained-before : (frame : Frame) → s.place ≡ places.Frame frame → ((word : ℕ) → slice_get w.frames frame.0 ≡ Some word → IsBefore word s) → IsExplained layout w homes views s
   explained-before frame is before = record {
-    counter = λ e. absurd (other places.Counter 1 frames (λ n. omega arith) e);
-    bad = λ f word there e. absurd (other (places.Bad f) 1 frames (λ n. omega arith) e);
-    weak = λ f word there e. absurd (other (places.Weak f) 1 frames (λ n. omega arith) e);
-    ending = λ process e. absurd (other (places.Process process) 1 frames (λ n. omega arith) e);
+    counter = λ e. absurd (elsewhere places.Counter 1 frames (λ n. omega arith) e);
+    bad = λ f word there e. absurd (elsewhere (places.Bad f) 1 frames (λ n. omega arith) e);
+    weak = λ f word there e. absurd (elsewhere (places.Weak f) 1 frames (λ n. omega arith) e);
+    ending = λ process e. absurd (elsewhere (places.Process process) 1 frames (λ n. omega arith) e);
     mark = λ f word there e. before word (subst (λ (n : ℕ). slice_get w.frames n ≡ Some word) (ap shown_number (sym e ∙ is)) there);
-    policy = λ thread d word declared there i y this of e. absurd (other (places.Policy thread) 1 frames (λ n. omega arith) e);
-    exhaustion = λ e. absurd (other places.Available 1 frames (λ n. omega arith) e);
-    ended = λ process word there e. absurd (other (places.Process process) 1 frames (λ n. omega arith) e);
-    stop = λ e. absurd (other places.Stop 1 frames (λ n. omega arith) e);
+    policy = λ thread d word declared there i y this of e. absurd (elsewhere (places.Policy thread) 1 frames (λ n. omega arith) e);
+    exhaustion = λ e. absurd (elsewhere places.Available 1 frames (λ n. omega arith) e);
+    ended = λ process word there e. absurd (elsewhere (places.Process process) 1 frames (λ n. omega arith) e);
+    stop = λ e. absurd (elsewhere places.Stop 1 frames (λ n. omega arith) e);
   }
     where
       frames : shown_place s.place ≡ 1
@@ -277,15 +277,15 @@ module _ (layout : Layout) (w : Words) (homes : Homes) (views : List View) (s : 
       → (s.word ≡ 0 → sum_below (usable layout) layout.frames ≤ sum_below (is_marked layout (map (λ (v : View). v.marks) views)) layout.frames + length layout.pages + 2 * layout.cpus)
       → IsExplained layout w homes views s
   explained-exhausted is why = record {
-    counter = λ e. absurd (other places.Counter 2 available (λ n. omega arith) e);
-    bad = λ f word there e. absurd (other (places.Bad f) 2 available (λ n. omega arith) e);
-    weak = λ f word there e. absurd (other (places.Weak f) 2 available (λ n. omega arith) e);
-    ending = λ process e. absurd (other (places.Process process) 2 available (λ n. omega arith) e);
-    mark = λ f word there e. absurd (other (places.Frame f) 2 available (λ n. omega arith) e);
-    policy = λ thread d word declared there i y this of e. absurd (other (places.Policy thread) 2 available (λ n. omega arith) e);
+    counter = λ e. absurd (elsewhere places.Counter 2 available (λ n. omega arith) e);
+    bad = λ f word there e. absurd (elsewhere (places.Bad f) 2 available (λ n. omega arith) e);
+    weak = λ f word there e. absurd (elsewhere (places.Weak f) 2 available (λ n. omega arith) e);
+    ending = λ process e. absurd (elsewhere (places.Process process) 2 available (λ n. omega arith) e);
+    mark = λ f word there e. absurd (elsewhere (places.Frame f) 2 available (λ n. omega arith) e);
+    policy = λ thread d word declared there i y this of e. absurd (elsewhere (places.Policy thread) 2 available (λ n. omega arith) e);
     exhaustion = λ e. why;
-    ended = λ process word there e. absurd (other (places.Process process) 2 available (λ n. omega arith) e);
-    stop = λ e. absurd (other places.Stop 2 available (λ n. omega arith) e);
+    ended = λ process word there e. absurd (elsewhere (places.Process process) 2 available (λ n. omega arith) e);
+    stop = λ e. absurd (elsewhere places.Stop 2 available (λ n. omega arith) e);
   }
     where
       available : shown_place s.place ≡ 2

@@ -1,0 +1,143 @@
+-- What a view lists of its page's lock may change while the lock stays: the frame rule stays where the lists are right.
+use Rattle.std.proofs.Common.{◌≡◌, ℕ, ◌+◌, ◌<◌, ◌≤◌, ◌==◌, Bool, true, List, Some, map, set, length, slice_get, inl, inr, ◌⊎◌, refl, sym, ap, ◌∙◌, subst, arith}
+use Rattle.std.specs.Int.{from_bool}
+use Rattle.std.specs.List.{sum_by}
+use Rattle.hwp_geom.specs.declared.Layout.{Layout}
+use Rattle.hwp_geom.specs.declared.Page.{Page}
+use Rattle.hwp_rule.specs.declared.log.Log.{Log}
+use Rattle.hwp_rule.specs.declared.view.FrameLock.{FrameLock}
+use Rattle.hwp_rule.specs.declared.view.Held.{Held}
+use Rattle.hwp_rule.specs.declared.view.PageLock.{PageLock}
+use Rattle.hwp_rule.specs.declared.view.View.{View}
+use Rattle.hwp_rule.specs.Lists.{Homes, EachMember, SomeMember, sum_bodies}
+use Rattle.hwp_rule.specs.Rule.{FrameRule, holder_of}
+use Rattle.hwp_rule.specs.Views.{changed, page_locks_on}
+use Rattle.hwp_rule.specs.Words.{Words}
+use Rattle.hwp_rule.specs.parts.Bodies.{Holder, IsHolding, BodiesAtHome}
+use Rattle.hwp_rule.specs.parts.Fits.{Fits, KnowsWords, KnowsOwn, PageFits}
+use Rattle.hwp_rule.specs.parts.Holdings.{AreOwn}
+use Rattle.hwp_rule.specs.parts.Locks.{PageLocksHeld}
+use Rattle.hwp_rule.specs.parts.Owners.{CacheWordsOwned, HoldsBoth}
+use Rattle.hwp_rule.proofs.Lists.{change, keep, at_map, each-set, each-weaken, each-changed, some-set, sum-set, sum-changed, length-changed}
+use Rattle.hwp_rule.proofs.Kept
+
+-- a change of locks that leaves their pages
+module _ (test : PageLock → Bool) (to : PageLock → PageLock) (same : (l : PageLock) → (to l).page ≡ l.page) where
+  pub same-locks : (locks : List PageLock) (q : ℕ) → page_locks_on q (changed test to locks) ≡ page_locks_on q locks
+  same-locks locks q = sum-changed (λ (l : PageLock). from_bool (l.page.0 == q)) test to locks (λ l. ap (λ (p : Page). from_bool (p.0 == q)) (same l))
+
+module _ (layout : Layout) (w : Words) (homes : Homes) (views : List View) (seat : ℕ) (v : View) (me : slice_get views seat ≡ Some v) (h : FrameRule layout w homes views)
+    (test : PageLock → Bool) (to : PageLock → PageLock) (same : (l : PageLock) → (to l).page ≡ l.page) where
+  abbrev listing : View
+  listing = record v { pages = changed test to v.pages }
+
+  abbrev pages : List (List PageLock)
+  pages = map (λ (v : View). v.pages) views
+
+  abbrev both : List (List FrameLock × List PageLock)
+  both = map (λ (v : View). (v.locks, v.pages)) views
+
+  abbrev holders : List Holder
+  holders = map holder_of views
+
+  abbrev fitting : List (List PageLock × List Held)
+  fitting = map (λ (v : View). (v.pages, v.bodies)) views
+
+  locks-listed : PageLocksHeld w.pages (set pages seat listing.pages) (map (λ (v : View). v.locks) views)
+  locks-listed = record {
+    one = λ q word there.
+        let total : sum_by (page_locks_on q) (set pages seat listing.pages) + page_locks_on q v.pages ≡ sum_by (page_locks_on q) pages + page_locks_on q listing.pages =
+        sum-set (page_locks_on q) pages seat v.pages listing.pages (at_map (λ (v : View). v.pages) views seat v me) in
+        let kept : page_locks_on q listing.pages ≡ page_locks_on q v.pages = same-locks test to same v.pages q in
+        let before : sum_by (page_locks_on q) pages ≡ sum_by (page_locks_on q) pages = refl in
+        let gone : sum_by (page_locks_on q) (set pages seat listing.pages) ≡ sum_by (page_locks_on q) pages = omega arith in
+        gone ∙ h.page_locks.one q word there;
+    page_once = each-set (λ (l : List PageLock). length l ≤ 1) pages seat listing.pages
+        (let wide : length listing.pages ≡ length v.pages = length-changed test to v.pages in
+        let once : length v.pages ≤ 1 = h.page_locks.page_once seat v.pages (at_map (λ (v : View). v.pages) views seat v me) in
+        omega arith) h.page_locks.page_once;
+    frames_twice = h.page_locks.frames_twice;
+  }
+
+  caches-listed : CacheWordsOwned w.frames w.caches (set both seat (v.locks, listing.pages))
+  caches-listed = record {
+    owned = h.caches.owned;
+    named = λ f word q there owner. elim (h.caches.named f word q there owner) [
+        | inl cached ↦ inl cached
+        | inr some ↦ inr (some-set (HoldsBoth f q) both seat (v.locks, v.pages) (v.locks, listing.pages) (at_map (λ (v : View). (v.locks, v.pages)) views seat v me)
+            (λ holds. record { frame = holds.frame; page = subst (λ (n : ℕ). 0 < n) (sym (same-locks test to same v.pages q)) holds.page }) some)
+      ];
+  }
+
+  still-holding : (q : ℕ) → IsHolding q (holder_of v) → IsHolding q (holder_of listing)
+  still-holding q (inl locked) = inl (subst (λ (n : ℕ). 0 < n) (sym (same-locks test to same v.pages q)) locked)
+  still-holding q (inr some) = inr some
+
+  bodies-listed : BodiesAtHome layout w.frames w.caches w.pages homes (set holders seat (holder_of listing))
+  bodies-listed = record {
+    frame_home = h.bodies.frame_home;
+    frame_out = h.bodies.frame_out;
+    shelf_home = h.bodies.shelf_home;
+    shelf_out = h.bodies.shelf_out;
+    one = λ q declared.
+        keep (λ (x : Holder). x.bodies) (λ l. OneBody q l) holders seat (holder_of v) (holder_of listing) there refl (h.bodies.one q declared);
+    in_hand = each-set (λ (x : Holder). EachMember (λ (b : Held). IsHolding b.log.page.0 x) x.bodies) holders seat (holder_of listing)
+        (each-weaken (λ (b : Held). IsHolding b.log.page.0 (holder_of v)) (λ (b : Held). IsHolding b.log.page.0 (holder_of listing)) v.bodies (λ b holding. still-holding b.log.page.0 holding)
+            (h.bodies.in_hand seat (holder_of v) there)) h.bodies.in_hand;
+  }
+    where
+      OneBody : ℕ → List (List Held) → Type 0
+      OneBody q l = sum_bodies (λ (log : Log). from_bool (log.page.0 == q)) homes l ≡ 1
+
+      there : slice_get holders seat ≡ Some (holder_of v)
+      there = at_map holder_of views seat v me
+
+  fits-listed : EachMember (KnowsWords layout w.trans w.caches) listing.pages → ((b : Held) → KnowsOwn v.pages b → KnowsOwn listing.pages b) → PageFits layout w.trans w.caches homes (set fitting seat (listing.pages, v.bodies))
+  fits-listed knows own = record {
+    at_home = h.fits.at_home;
+    in_hand = each-set (λ (x : List PageLock × List Held). EachMember (λ (b : Held). page_locks_on b.log.page.0 x.0 ≡ 0 → Fits layout w.trans w.caches b.log) x.1) fitting seat (listing.pages, v.bodies)
+        (each-weaken (λ (b : Held). page_locks_on b.log.page.0 v.pages ≡ 0 → Fits layout w.trans w.caches b.log) (λ (b : Held). page_locks_on b.log.page.0 listing.pages ≡ 0 → Fits layout w.trans w.caches b.log) v.bodies
+            (λ b fits none. fits (sym (same-locks test to same v.pages b.log.page.0) ∙ none)) (h.fits.in_hand seat (v.pages, v.bodies) there)) h.fits.in_hand;
+    known = each-set (λ (x : List PageLock × List Held). EachMember (KnowsWords layout w.trans w.caches) x.0) fitting seat (listing.pages, v.bodies) knows h.fits.known;
+    own = each-set (λ (x : List PageLock × List Held). EachMember (λ (b : Held). 0 < page_locks_on b.log.page.0 x.0 → KnowsOwn x.0 b) x.1) fitting seat (listing.pages, v.bodies)
+        (each-weaken (λ (b : Held). 0 < page_locks_on b.log.page.0 v.pages → KnowsOwn v.pages b) (λ (b : Held). 0 < page_locks_on b.log.page.0 listing.pages → KnowsOwn listing.pages b) v.bodies
+            (λ b knows some. own b (knows (subst (λ (n : ℕ). 0 < n) (same-locks test to same v.pages b.log.page.0) some))) (h.fits.own seat (v.pages, v.bodies) there)) h.fits.own;
+  }
+    where
+      there : slice_get fitting seat ≡ Some (v.pages, v.bodies)
+      there = at_map (λ (v : View). (v.pages, v.bodies)) views seat v me
+
+  -- the view may list so of its page's lock
+  pub keeps-listing : EachMember (KnowsWords layout w.trans w.caches) listing.pages → ((b : Held) → KnowsOwn v.pages b → KnowsOwn listing.pages b) → FrameRule layout w homes (set views seat listing)
+  keeps-listing knows own = record {
+    counts = Kept.kept-counts views seat v u me w.frames w.trans w.caches refl h.counts;
+    places = Kept.kept-places views seat v u me layout.kernel w.frames w.frees refl h.places;
+    frame_locks = Kept.kept-frame-locks views seat v u me w.frames refl refl h.frame_locks;
+    page_locks = keep (λ (v : View). v.locks) (λ l. PageLocksHeld w.pages (map (λ (v : View). v.pages) (set views seat u)) l) views seat v u me refl
+        (change (λ (v : View). v.pages) (λ l. PageLocksHeld w.pages l (map (λ (v : View). v.locks) views)) views seat u locks-listed);
+    translations = h.translations;
+    caches = change (λ (v : View). (v.locks, v.pages)) (CacheWordsOwned w.frames w.caches) views seat u caches-listed;
+    bodies = change holder_of (BodiesAtHome layout w.frames w.caches w.pages homes) views seat u bodies-listed;
+    handled = h.handled;
+    counter = Kept.kept-counter views seat v u me w.frames w.counter refl refl refl h.counter;
+    free = Kept.kept-free views seat v u me layout.frames w.frees w.available refl h.free;
+    damage = Kept.kept-damage views seat v u me w.bads w.weaks refl refl h.damage;
+    entries = Kept.kept-entries views seat v u me homes refl refl refl refl h.entries;
+    endings = Kept.kept-endings views seat v u me layout w.processes homes refl refl h.endings;
+    marks = Kept.kept-marks views seat v u me w.frames refl refl h.marks;
+    holdings = Kept.kept-holdings views seat v u me layout refl h.holdings;
+    losses = Kept.kept-losses views seat v u me layout w.losses homes refl refl h.losses;
+    policies = Kept.kept-policies views seat v u me layout.threads w.policies refl refl refl h.policies;
+    exhaustion = Kept.kept-exhaustion views seat v u me layout refl refl h.exhaustion;
+    stops = Kept.kept-stops views seat v u me w.processes w.stop refl refl refl h.stops;
+    fits = change (λ (v : View). (v.pages, v.bodies)) (PageFits layout w.trans w.caches homes) views seat u (fits-listed knows own);
+    processors = Kept.kept-processors views seat v u me layout refl h.processors;
+    commands = Kept.kept-commands views seat v u me (record { made = mine.made; marks = mine.marks; sights = mine.sights; lengths = mine.lengths; settings = mine.settings; stops = mine.stops }) h.commands;
+    unpoisoned = Kept.kept-unpoisoned views seat v u me w.frames homes refl refl h.unpoisoned;
+  }
+    where
+      u : View
+      u = listing
+
+      mine : AreOwn v
+      mine = h.commands.own seat v me

@@ -1,0 +1,184 @@
+-- A load keeps the frame rule: it changes no word, and what it shows is explained.
+use Rattle.std.proofs.Common.{◌≡◌, ℕ, ◌<◌, ◌==◌, eqb-true, Bool, true, false, cond, List, Some, length, set, slice_get, slice_index, refl, sym, ap, ◌∙◌, subst, arith}
+use Rattle.std.proofs.lemmas.List.{set-get_or}
+use Rattle.std.proofs.lemmas.Option.{slice_get-get_or}
+use Rattle.hwp_geom.specs.declared.Frame.{Frame}
+use Rattle.hwp_geom.specs.declared.Layout.{Layout}
+use Rattle.hwp_geom.specs.declared.Page.{Page}
+use Rattle.hwp_geom.specs.declared.Proc.{Proc}
+use Rattle.hwp_geom.specs.declared.Thread.{Thread}
+use Rattle.hwp_geom.specs.declared.VSlot.{VSlot}
+use Rattle.hwp_geom.specs.declared.Who.{Who}
+use Rattle.hwp_rule.specs.declared.place.Place.{Place}
+use Rattle.hwp_rule.specs.declared.place.Place.TheVariants as places
+use Rattle.hwp_rule.specs.declared.step.Step.TheVariants as steps
+use Rattle.hwp_rule.specs.declared.view.Held.{Held}
+use Rattle.hwp_rule.specs.declared.view.PageLock.{PageLock}
+use Rattle.hwp_rule.specs.declared.view.View.{View}
+use Rattle.hwp_rule.specs.Lists.{Homes, EachMember}
+use Rattle.hwp_rule.specs.Rule.{FrameRule}
+use Rattle.hwp_rule.specs.Views.{sighted, stamp_of, changed, is_page_lock_of}
+use Rattle.hwp_rule.specs.Words.{Words, read, put}
+use Rattle.hwp_rule.specs.parts.Fits.{KnowsWords, KnowsOwn}
+use Rattle.hwp_rule.specs.parts.Holdings.{IsPast}
+use Rattle.hwp_rule.proofs.Exhausted.{explained-available}
+use Rattle.hwp_rule.proofs.Given.{Given, Keeps}
+use Rattle.hwp_rule.proofs.Knowing.{keeps-listing}
+use Rattle.hwp_rule.proofs.Lists.{at_map, set_here, set-set, each-changed}
+use Rattle.hwp_rule.proofs.Shown.{explained-bad, explained-weak, explained-stop, explained-policy, explained-counter, explained-process}
+use Rattle.hwp_rule.proofs.Sights.{IsExplained, keeps-sight, explained-frame, explained-free, explained-quiet}
+
+-- the word of a place written to it again
+pub same-put : (place : Place) (w : Words) → put place (read place w) w ≡ w
+same-put (places.Frame frame) w = λ i. record w { frames = set-get_or w.frames frame.0 0 i }
+same-put (places.Trans slot) w = λ i. record w { trans = set-get_or w.trans slot.0 0 i }
+same-put (places.Cache page) w = λ i. record w { caches = set-get_or w.caches page.0 0 i }
+same-put (places.Page page) w = λ i. record w { pages = set-get_or w.pages page.0 0 i }
+same-put (places.Free number) w = λ i. record w { frees = set-get_or w.frees number 0 i }
+same-put places.Available w = refl
+same-put (places.Bad frame) w = λ i. record w { bads = set-get_or w.bads frame.0 0 i }
+same-put (places.Weak frame) w = λ i. record w { weaks = set-get_or w.weaks frame.0 0 i }
+same-put places.Counter w = refl
+same-put (places.Process process) w = λ i. record w { processes = set-get_or w.processes process.0 0 i }
+same-put (places.Policy thread) w = λ i. record w { policies = set-get_or w.policies thread.0 0 i }
+same-put (places.Loss file) w = λ i. record w { losses = set-get_or w.losses file.0 0 i }
+same-put places.Stop w = refl
+
+-- a step that leaves the word of a place as it was, and shows it
+pub keeps-shown : (layout : Layout) (w : Words) (homes : Homes) (views : List View) (seat : ℕ) (v : View) (who : Who) (place : Place)
+    → slice_get views seat ≡ Some v → IsPast v.parts who
+    → IsExplained layout w homes views (record { stamp = stamp_of who v; place = place; word = read place w })
+    → FrameRule layout w homes views → FrameRule layout (put place (read place w) w) homes (set views seat (sighted who place (read place w) v))
+keeps-shown layout w homes views seat v who place me past x h =
+    subst (λ (other : Words). FrameRule layout other homes (set views seat (sighted who place (read place w) v))) (sym (same-put place w))
+        (keeps-sight layout w homes views seat v who place (read place w) me past x h)
+
+-- a word of its kind is one of the board
+pub word-there : (words : List ℕ) (number count : ℕ) → length words ≡ count → number < count → slice_get words number ≡ Some (slice_index words number)
+word-there words number count wide inside = slice_get-get_or words number 0 (omega arith)
+
+pub keeps-load-frame : (frame : Frame) → Keeps (steps.Load (places.Frame frame))
+keeps-load-frame frame layout w homes views seat v who content given =
+    keeps-shown layout w homes views seat v who (places.Frame frame) given.me given.past
+        (explained-frame layout w homes views (stamp_of who v) frame (slice_index w.frames frame.0) (word-there w.frames frame.0 layout.frames given.shaped.frames given.place)) given.rule
+
+pub keeps-load-available : Keeps (steps.Load places.Available)
+keeps-load-available layout w homes views seat v who content given =
+    keeps-shown layout w homes views seat v who places.Available given.me given.past
+        (explained-available layout w homes views (stamp_of who v) given.sound given.shaped given.rule) given.rule
+
+pub keeps-load-free : (number : ℕ) → Keeps (steps.Load (places.Free number))
+keeps-load-free number layout w homes views seat v who content given =
+    keeps-shown layout w homes views seat v who (places.Free number) given.me given.past
+        (explained-free layout w homes views (stamp_of who v) number (slice_index w.frees number)) given.rule
+
+pub keeps-load-trans : (slot : VSlot) → Keeps (steps.Load (places.Trans slot))
+keeps-load-trans slot layout w homes views seat v who content given =
+    keeps-shown layout w homes views seat v who (places.Trans slot) given.me given.past
+        (explained-quiet layout w homes views (record { stamp = stamp_of who v; place = places.Trans slot; word = slice_index w.trans slot.0 }) refl) given.rule
+
+pub keeps-load-bad : (frame : Frame) → Keeps (steps.Load (places.Bad frame))
+keeps-load-bad frame layout w homes views seat v who content given =
+    keeps-shown layout w homes views seat v who (places.Bad frame) given.me given.past
+        (explained-bad layout w homes views (stamp_of who v) frame (slice_index w.bads frame.0) (word-there w.bads frame.0 layout.frames given.shaped.bads given.place)) given.rule
+
+pub keeps-load-weak : (frame : Frame) → Keeps (steps.Load (places.Weak frame))
+keeps-load-weak frame layout w homes views seat v who content given =
+    keeps-shown layout w homes views seat v who (places.Weak frame) given.me given.past
+        (explained-weak layout w homes views (stamp_of who v) frame (slice_index w.weaks frame.0) (word-there w.weaks frame.0 layout.frames given.shaped.weaks given.place)) given.rule
+
+pub keeps-load-counter : Keeps (steps.Load places.Counter)
+keeps-load-counter layout w homes views seat v who content given =
+    keeps-shown layout w homes views seat v who places.Counter given.me given.past
+        (explained-counter layout w homes views seat v (stamp_of who v) given.me given.turn given.rule) given.rule
+
+pub keeps-load-process : (process : Proc) → Keeps (steps.Load (places.Process process))
+keeps-load-process process layout w homes views seat v who content given =
+    keeps-shown layout w homes views seat v who (places.Process process) given.me given.past
+        (explained-process layout w homes views seat v (stamp_of who v) given.me given.turn given.rule process (slice_index w.processes process.0)
+            (word-there w.processes process.0 layout.procs given.shaped.processes given.place)) given.rule
+
+pub keeps-load-policy : (thread : Thread) → Keeps (steps.Load (places.Policy thread))
+keeps-load-policy thread layout w homes views seat v who content given =
+    keeps-shown layout w homes views seat v who (places.Policy thread) given.me given.past
+        (explained-policy layout w homes views (stamp_of who v) given.rule thread (slice_index w.policies thread.0)
+            (word-there w.policies thread.0 (length layout.threads) given.shaped.policies given.place)) given.rule
+
+pub keeps-load-stop : Keeps (steps.Load places.Stop)
+keeps-load-stop layout w homes views seat v who content given =
+    keeps-shown layout w homes views seat v who places.Stop given.me given.past (explained-stop layout w homes views (stamp_of who v)) given.rule
+
+pub keeps-load-cache : (page : Page) → Keeps (steps.Load (places.Cache page))
+keeps-load-cache page layout w homes views seat v who content given =
+    subst (λ (x : Words). FrameRule layout x homes (set views seat u)) (sym (same-put (places.Cache page) w))
+        (subst (FrameRule layout w homes) (set-set views seat seen u) (keeps-listing layout w homes (set views seat seen) seat seen (set_here views seat seen v given.me) rule test to (λ l. refl) knows own))
+  where
+    word : ℕ
+    word = slice_index w.caches page.0
+
+    there : slice_get w.caches page.0 ≡ Some word
+    there = word-there w.caches page.0 (length layout.pages) given.shaped.caches given.place
+
+    test : PageLock → Bool
+    test l = is_page_lock_of page l
+
+    to : PageLock → PageLock
+    to l = record l { cache = Some word }
+
+    seen : View
+    seen = sighted who (places.Cache page) word v
+
+    u : View
+    u = record seen { pages = changed test to v.pages }
+
+    rule : FrameRule layout w homes (set views seat seen)
+    rule = keeps-sight layout w homes views seat v who (places.Cache page) word given.me given.past
+        (explained-quiet layout w homes views (record { stamp = stamp_of who v; place = places.Cache page; word = word }) refl) given.rule
+
+    knows : EachMember (KnowsWords layout w.trans w.caches) u.pages
+    knows = each-changed (KnowsWords layout w.trans w.caches) test to v.pages
+        (λ l is k. record {
+          resident = k.resident;
+          cache = λ c e.
+              let one : slice_get w.caches l.page.0 ≡ Some word = ap (slice_get w.caches) (eqb-true l.page.0 page.0 is) ∙ there in
+              one ∙ e;
+          words = k.words;
+        })
+        (given.rule.fits.known seat (v.pages, v.bodies) (at_map (λ (v : View). (v.pages, v.bodies)) views seat v given.me))
+
+    own : (b : Held) → KnowsOwn v.pages b → KnowsOwn u.pages b
+    own b k = which (test k.lock) refl
+      where
+        which : (c : Bool) → test k.lock ≡ c → KnowsOwn u.pages b
+        which true is = record {
+          lock = to k.lock;
+          there = at_map (λ (l : PageLock). cond (test l) (to l) l) v.pages 0 k.lock k.there ∙ ap (λ (c : Bool). Some (cond c (to k.lock) k.lock)) is;
+          cache = word;
+          cache_is = refl;
+          trans = k.trans;
+          trans_is = k.trans_is;
+        }
+        which false is = record {
+          lock = k.lock;
+          there = at_map (λ (l : PageLock). cond (test l) (to l) l) v.pages 0 k.lock k.there ∙ ap (λ (c : Bool). Some (cond c (to k.lock) k.lock)) is;
+          cache = k.cache;
+          cache_is = k.cache_is;
+          trans = k.trans;
+          trans_is = k.trans_is;
+        }
+
+-- every load
+pub keeps-load : (place : Place) → Keeps (steps.Load place)
+keeps-load (places.Frame frame) = keeps-load-frame frame
+keeps-load (places.Trans slot) = keeps-load-trans slot
+keeps-load (places.Cache page) = keeps-load-cache page
+keeps-load (places.Page page) = λ layout w homes views seat v who content given. absurd given.asks
+keeps-load (places.Free number) = keeps-load-free number
+keeps-load places.Available = keeps-load-available
+keeps-load (places.Bad frame) = keeps-load-bad frame
+keeps-load (places.Weak frame) = keeps-load-weak frame
+keeps-load places.Counter = keeps-load-counter
+keeps-load (places.Process process) = keeps-load-process process
+keeps-load (places.Policy thread) = keeps-load-policy thread
+keeps-load (places.Loss file) = λ layout w homes views seat v who content given. absurd given.asks
+keeps-load places.Stop = keeps-load-stop
