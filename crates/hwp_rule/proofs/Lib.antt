@@ -27,8 +27,11 @@ pub mod Refs
 pub mod FrameWord
 pub mod RefBounds
 pub mod Referring
+pub mod Getting
+pub mod Putting
 pub mod Locking
 pub mod TakenBodies
+pub mod PageLocks
 pub mod LockFrame
 pub mod KeptTurns
 pub mod Without

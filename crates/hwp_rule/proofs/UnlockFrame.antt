@@ -30,7 +30,7 @@ use Rattle.hwp_rule.specs.parts.Owners.{HoldsBoth}
 use Rattle.hwp_rule.proofs.Lists.{at_map, at_set, same-or, same-number, set_again, set_here, sum-set, term-le, each-set, each-weaken, each-changed, sum-changed, length-changed}
 use Rattle.hwp_rule.proofs.FrameWord.{IsLike, like-fields, like-locked}
 use Rattle.hwp_rule.proofs.Hands.{sum-without, length-without, each-without, not-both}
-use Rattle.hwp_rule.proofs.LockFrame.{first-lock}
+use Rattle.hwp_rule.proofs.PageLocks.{first-lock}
 use Rattle.hwp_rule.proofs.Locking.{Locking, all_bodies, keeps-locking}
 use Rattle.hwp_rule.proofs.TakenBodies.{sum-empty, each-empty}
 use Rattle.hwp_rule.proofs.Without.{some-without, others-unfound, sum-without-one}

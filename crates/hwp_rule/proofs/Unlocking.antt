@@ -31,7 +31,7 @@ use Rattle.hwp_rule.specs.parts.Owners.{HoldsBoth}
 use Rattle.hwp_rule.proofs.Given.{Given, Keeps, IsShaped}
 use Rattle.hwp_rule.proofs.Listed
 use Rattle.hwp_rule.proofs.Lists.{at_map, map-was, same-or, same-number, set_here, set-set, terms-le}
-use Rattle.hwp_rule.proofs.LockFrame.{first-lock, same-page}
+use Rattle.hwp_rule.proofs.PageLocks.{first-lock, same-page}
 use Rattle.hwp_rule.proofs.Referring.{word-there}
 use Rattle.hwp_rule.proofs.UnlockFrame
 use Rattle.hwp_rule.proofs.Without.{find-is, changed-at}
