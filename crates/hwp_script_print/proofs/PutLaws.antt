@@ -63,6 +63,13 @@ put_command form_of front old now new xs i d x l e f is =
     ap (map form_of) (take_more xs i d l) ∙ map_push form_of (take i xs) (get_or xs i d) ∙ ap (λ y. map form_of (take i xs) ++ form_of y ∷ []) (sym is) in
     put_one old now new (front ∷ map form_of (take i xs)) (form_of x) e f ∙ ap (λ fs. old ++ forms_text (front ∷ fs)) (sym more)
 
+forms_text-one : (f : Form) → forms_text (f ∷ []) ≡ line (form_words f)
+forms_text-one f = append-nil (line (form_words f))
+
+text_parts : (a b c d e f g h i j : List Form) (z : Form) → forms_text (a ++ b ++ c ++ d ++ e ++ f ++ g ++ h ++ i ++ j ++ z ∷ [])
+    ≡ forms_text a ++ forms_text b ++ forms_text c ++ forms_text d ++ forms_text e ++ forms_text f ++ forms_text g ++ forms_text h ++ forms_text i ++ forms_text j ++ line (form_words z)
+text_parts a b c d e f g h i j z = simp (forms_text-append, forms_text-one)
+
 -- the text of a script, part by part
 pub script_parts : (s : Script) (a b c d e f g h i j k l : List ℕ) → a ≡ []
     → b ≡ a ++ forms_text (head_forms s.layout.cpus s.layout.frames)
@@ -77,16 +84,9 @@ pub script_parts : (s : Script) (a b c d e f g h i j k l : List ℕ) → a ≡ [
     → k ≡ j ++ forms_text (counted (go_row s.go) (rows_of (length s.go)))
     → l ≡ k ++ line (form_words forms.End) → l ≡ script_text s
 script_parts s a b c d e f g h i j k l ea eb ec ed ee ef eg eh ei ej ek el =
-    let z1 : c ≡ a ++ forms_text (head_forms s.layout.cpus s.layout.frames ++ numbered kernel_forms 0 s.layout.kernel) = put_more a b c (head_forms s.layout.cpus s.layout.frames) (numbered kernel_forms 0 s.layout.kernel) eb ec in
-    let z2 : d ≡ a ++ forms_text (head_forms s.layout.cpus s.layout.frames ++ numbered kernel_forms 0 s.layout.kernel ++ setting_forms s.layout.recovery s.layout.early) = put_more a c d (head_forms s.layout.cpus s.layout.frames ++ numbered kernel_forms 0 s.layout.kernel) (setting_forms s.layout.recovery s.layout.early) z1 ed in
-    let z3 : e ≡ a ++ forms_text (head_forms s.layout.cpus s.layout.frames ++ numbered kernel_forms 0 s.layout.kernel ++ setting_forms s.layout.recovery s.layout.early ++ counted file_form s.layout.files) = put_more a d e (head_forms s.layout.cpus s.layout.frames ++ numbered kernel_forms 0 s.layout.kernel ++ setting_forms s.layout.recovery s.layout.early) (counted file_form s.layout.files) z2 ee in
-    let z4 : f ≡ a ++ forms_text (head_forms s.layout.cpus s.layout.frames ++ numbered kernel_forms 0 s.layout.kernel ++ setting_forms s.layout.recovery s.layout.early ++ counted file_form s.layout.files ++ counted proc_form s.layout.procs) = put_more a e f (head_forms s.layout.cpus s.layout.frames ++ numbered kernel_forms 0 s.layout.kernel ++ setting_forms s.layout.recovery s.layout.early ++ counted file_form s.layout.files) (counted proc_form s.layout.procs) z3 ef in
-    let z5 : g ≡ a ++ forms_text (head_forms s.layout.cpus s.layout.frames ++ numbered kernel_forms 0 s.layout.kernel ++ setting_forms s.layout.recovery s.layout.early ++ counted file_form s.layout.files ++ counted proc_form s.layout.procs ++ numbered thread_forms 0 s.layout.threads) = put_more a f g (head_forms s.layout.cpus s.layout.frames ++ numbered kernel_forms 0 s.layout.kernel ++ setting_forms s.layout.recovery s.layout.early ++ counted file_form s.layout.files ++ counted proc_form s.layout.procs) (numbered thread_forms 0 s.layout.threads) z4 eg in
-    let z6 : h ≡ a ++ forms_text (head_forms s.layout.cpus s.layout.frames ++ numbered kernel_forms 0 s.layout.kernel ++ setting_forms s.layout.recovery s.layout.early ++ counted file_form s.layout.files ++ counted proc_form s.layout.procs ++ numbered thread_forms 0 s.layout.threads ++ numbered page_forms 0 s.layout.pages) = put_more a g h (head_forms s.layout.cpus s.layout.frames ++ numbered kernel_forms 0 s.layout.kernel ++ setting_forms s.layout.recovery s.layout.early ++ counted file_form s.layout.files ++ counted proc_form s.layout.procs ++ numbered thread_forms 0 s.layout.threads) (numbered page_forms 0 s.layout.pages) z5 eh in
-    let z7 : i ≡ a ++ forms_text (head_forms s.layout.cpus s.layout.frames ++ numbered kernel_forms 0 s.layout.kernel ++ setting_forms s.layout.recovery s.layout.early ++ counted file_form s.layout.files ++ counted proc_form s.layout.procs ++ numbered thread_forms 0 s.layout.threads ++ numbered page_forms 0 s.layout.pages ++ numbered trans_forms 0 s.layout.trans) = put_more a h i (head_forms s.layout.cpus s.layout.frames ++ numbered kernel_forms 0 s.layout.kernel ++ setting_forms s.layout.recovery s.layout.early ++ counted file_form s.layout.files ++ counted proc_form s.layout.procs ++ numbered thread_forms 0 s.layout.threads ++ numbered page_forms 0 s.layout.pages) (numbered trans_forms 0 s.layout.trans) z6 ei in
-    let z8 : j ≡ a ++ forms_text (head_forms s.layout.cpus s.layout.frames ++ numbered kernel_forms 0 s.layout.kernel ++ setting_forms s.layout.recovery s.layout.early ++ counted file_form s.layout.files ++ counted proc_form s.layout.procs ++ numbered thread_forms 0 s.layout.threads ++ numbered page_forms 0 s.layout.pages ++ numbered trans_forms 0 s.layout.trans ++ numbered list_forms 0 s.lists) = put_more a i j (head_forms s.layout.cpus s.layout.frames ++ numbered kernel_forms 0 s.layout.kernel ++ setting_forms s.layout.recovery s.layout.early ++ counted file_form s.layout.files ++ counted proc_form s.layout.procs ++ numbered thread_forms 0 s.layout.threads ++ numbered page_forms 0 s.layout.pages ++ numbered trans_forms 0 s.layout.trans) (numbered list_forms 0 s.lists) z7 ej in
-    let z9 : k ≡ a ++ forms_text (head_forms s.layout.cpus s.layout.frames ++ numbered kernel_forms 0 s.layout.kernel ++ setting_forms s.layout.recovery s.layout.early ++ counted file_form s.layout.files ++ counted proc_form s.layout.procs ++ numbered thread_forms 0 s.layout.threads ++ numbered page_forms 0 s.layout.pages ++ numbered trans_forms 0 s.layout.trans ++ numbered list_forms 0 s.lists ++ counted (go_row s.go) (rows_of (length s.go))) = put_more a j k (head_forms s.layout.cpus s.layout.frames ++ numbered kernel_forms 0 s.layout.kernel ++ setting_forms s.layout.recovery s.layout.early ++ counted file_form s.layout.files ++ counted proc_form s.layout.procs ++ numbered thread_forms 0 s.layout.threads ++ numbered page_forms 0 s.layout.pages ++ numbered trans_forms 0 s.layout.trans ++ numbered list_forms 0 s.lists) (counted (go_row s.go) (rows_of (length s.go))) z8 ek in
-    let whole : l ≡ a ++ script_text s = put_one a k l (head_forms s.layout.cpus s.layout.frames ++ numbered kernel_forms 0 s.layout.kernel ++ setting_forms s.layout.recovery s.layout.early ++ counted file_form s.layout.files ++ counted proc_form s.layout.procs ++ numbered thread_forms 0 s.layout.threads ++ numbered page_forms 0 s.layout.pages ++ numbered trans_forms 0 s.layout.trans ++ numbered list_forms 0 s.lists ++ counted (go_row s.go) (rows_of (length s.go))) forms.End z9 el in whole ∙ ap (λ t. t ++ script_text s) ea
+    el ∙ rw (ek, ej, ei, eh, eg, ef, ee, ed, ec, eb, ea) (sym (text_parts (head_forms s.layout.cpus s.layout.frames) (numbered kernel_forms 0 s.layout.kernel)
+    (setting_forms s.layout.recovery s.layout.early) (counted file_form s.layout.files) (counted proc_form s.layout.procs) (numbered thread_forms 0 s.layout.threads)
+    (numbered page_forms 0 s.layout.pages) (numbered trans_forms 0 s.layout.trans) (numbered list_forms 0 s.lists) (counted (go_row s.go) (rows_of (length s.go))) forms.End))
 
 -- the words from one place to another, where 50 or fewer follow
 pub row_words : {A : Type 0} (xs : List A) (start end : ℕ) → start ≤ length xs

@@ -2,6 +2,9 @@ ghost use Rattle.std.specs.Prelude.{◌≡◌, ◌∷◌, ◌++◌, [], Bool, On
 ghost use Rattle.hwp_geom.specs.Words.{line};
 ghost use Rattle.hwp_form.specs.Grammar.{form_words};
 ghost use Rattle.hwp_form.specs.Printed.{forms_text};
+ghost use Rattle.hwp_script.specs.Limits.{script_limit};
+ghost use Rattle.hwp_script.specs.Valid.{IsValid};
+ghost use Rattle.hwp_script_print.specs.Round.{IsTextOf};
 ghost use Rattle.hwp_script_print.specs.Text.{backing_of, turn_of, head_forms, kernel_forms, setting_forms, thread_forms, page_forms, trans_forms, list_forms, go_row, numbered, counted, file_form, proc_form, rows_of, script_text};
 
 use crate::commands::order;
@@ -13,9 +16,11 @@ use std::alloc::Global;
 /// How many words of the schedule stand on a line.
 const WORDS_ON_A_LINE: usize = 50;
 
-/// The one text of a script.
+/// The one text of a script. Where the script is valid, as each that `read` gives is, and its text has at most
+/// `MAX_SCRIPT` bytes, `read` takes the text for this script, and for no other.
 pub fn print(alloc: Global, script: &Script) -> Result<Text, OutOfMemory>
-    ensures { IfOk result (λ text. text ≡ script_text script.now) }
+    ensures text { IfOk result (λ text. text ≡ script_text script.now) }
+    ensures read { IfOk result (λ text. IsValid script.now → length text ≤ script_limit → IsTextOf text script.now) }
 {
     let layout = &script.layout;
     let mut out = String::new(alloc);
