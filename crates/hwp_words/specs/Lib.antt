@@ -1,0 +1,7 @@
+pub mod Fields
+pub mod Names
+pub mod Frames
+pub mod Translations
+pub mod Counters
+pub mod Policies
+pub mod Stops
