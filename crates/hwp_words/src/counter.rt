@@ -18,7 +18,7 @@ impl CounterWord {
         ensures word { result ≡ counter_word self }
         ensures back { counter_reading result ≡ self }
     {
-        (u64::from(self.hardware) << 32).wrapping_add(self.poisoned as i64 as u64)
+        (u64::from(self.hardware) << 32).wrapping_add(i64::from(self.poisoned).cast_unsigned())
     }
 
     /// What a word says.
@@ -28,7 +28,7 @@ impl CounterWord {
     {
         CounterWord {
             hardware: (word.wrapping_add(1 << 31) >> 32) as u32,
-            poisoned: (word % (1 << 32)) as u32 as i32,
+            poisoned: ((word % (1 << 32)) as u32).cast_signed(),
         }
     }
 }
