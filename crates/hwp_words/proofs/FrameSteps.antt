@@ -111,7 +111,7 @@ fields-set_owner w a b owned fits =
     let k = bit_xor a b * 2 ^ 24 in
     let small : bit_xor a b < 2 ^ 20 = xor_lt 20 a b (omega arith) fits in
     let turned : bit_xor (owner_of w) (bit_xor a b) ≡ b =
-        ap (λ x. bit_xor x (bit_xor a b)) owned ∙ sym (xor_assoc a a b) ∙ ap (λ x. bit_xor x b) (xor_self a) in
+    ap (λ x. bit_xor x (bit_xor a b)) owned ∙ sym (xor_assoc a a b) ∙ ap (λ x. bit_xor x b) (xor_self a) in
     let operand : field owner_field k ≡ bit_xor a b = omega arith in
     record {
       lock = field-xor_other lock_bit w k (omega arith);

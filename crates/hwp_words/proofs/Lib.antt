@@ -1,3 +1,4 @@
 pub mod FieldLaws
 pub mod FrameSteps
 pub mod Packed
+pub mod OtherSteps

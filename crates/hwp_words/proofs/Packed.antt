@@ -90,7 +90,7 @@ pub fields-frame_word : (x : FrameWord) → x.count < 2 ^ 20 → page_name x.own
     → FieldsAre (frame_word x) (from_bool x.locked) (from_bool x.poisoned) (from_bool x.handled) (from_bool x.kernel) x.count (page_name x.owner) x.cycle
 fields-frame_word x count owner cycle =
     let e = fields-packed frame_fields (frame_values x) refl
-        (from_bool-lt x.locked, (from_bool-lt x.poisoned, (from_bool-lt x.handled, (from_bool-lt x.kernel, (count, (owner, (cycle, tt))))))) in
+    (from_bool-lt x.locked, (from_bool-lt x.poisoned, (from_bool-lt x.handled, (from_bool-lt x.kernel, (count, (owner, (cycle, tt))))))) in
     record { lock = cc; poison = cc; handled = cc; kernel = cc; count = cc; owner = cc; cycle = cc }
 
 pub frame_reading-frame_word : (x : FrameWord) → x.count < 2 ^ 20 → IfSome x.owner (λ q. q.0 < 2 ^ 16) → x.cycle < 2 ^ 20 → frame_reading (frame_word x) ≡ x
@@ -109,8 +109,14 @@ frame_reading-frame_word x count owner cycle =
 -- every word is the packed word of what it says, but for an owner that is no page number
 pub frame_word-frame_reading : (w : ℕ) → w < 2 ^ 64 → owner_of w ≤ 2 ^ 16 → frame_word (frame_reading w) ≡ w
 frame_word-frame_reading w fits owner =
-    omega (arith, from_bool-test (lock_of w) (omega arith), from_bool-test (poison_of w) (omega arith), from_bool-test (handled_of w) (omega arith),
-    from_bool-test (kernel_of w) (omega arith), page_name-page_named (owner_of w) owner)
+    omega (
+      arith,
+      from_bool-test (lock_of w) (omega arith),
+      from_bool-test (poison_of w) (omega arith),
+      from_bool-test (handled_of w) (omega arith),
+      from_bool-test (kernel_of w) (omega arith),
+      page_name-page_named (owner_of w) owner,
+    )
 
 pub pte_reading-pte_word : (p : Pte) → IfAt p (λ f. f.0 < 2 ^ 16) → pte_reading (pte_word p) ≡ p
 pte_reading-pte_word ptes.Empty fits = refl

@@ -1,5 +1,5 @@
 -- Words in fields: how a 64-bit word of the shared memory holds several values.
-use Rattle.std.specs.Prelude.{ℕ, ◌+◌, ◌*◌, ◌/◌, ◌%◌, ◌^◌, ◌<◌, ◌≤◌, ◌⊎◌, Bool, true, ◌&&◌, nat_le, List, [], ◌∷◌}
+use Rattle.std.specs.Prelude.{◌≡◌, ℕ, ◌+◌, ◌*◌, ◌/◌, ◌%◌, ◌^◌, ◌<◌, ◌≤◌, ◌⊎◌, Bool, true, ◌&&◌, nat_le, List, [], ◌∷◌}
 use Rattle.hwp_geom.specs.Pairs.{Pairs}
 
 -- a field of a word: its lowest bit, and how many bits it has
@@ -33,3 +33,9 @@ are_rising low (f ∷ fs) = nat_le low f.shift && are_rising (f.shift + f.width)
 -- the fields share no bit
 abbrev pub IsApart : Field → Field → Type 0
 IsApart f g = (f.shift + f.width ≤ g.shift) ⊎ (g.shift + g.width ≤ f.shift)
+
+-- bit k is the lowest bit that is set
+pub record IsLowestBit (w k : ℕ) : Type 0 where
+  pub within : k < 64
+  pub set : field (bit k) w ≡ 1
+  pub below : (i : ℕ) → i < k → field (bit i) w ≡ 0

@@ -1,11 +1,12 @@
-ghost use Rattle.std.specs.Prelude.{◌≡◌, ◌==◌};
+ghost use Rattle.std.specs.Prelude.{◌≡◌, ◌↔◌, IsNone, IfSome};
 ghost use Rattle.std.specs.Int.{from_bool};
+ghost use Rattle.hwp_words.specs.Fields.{IsLowestBit};
 ghost use Rattle.hwp_words.specs.Frames.{is_locked};
 ghost use Rattle.hwp_words.specs.Names.{frame_name, frame_named, page_name, page_named};
 
-use crate::field::field;
+use crate::field::{field, lowest_bit};
 use crate::names::{frame_name, frame_named, page_name, page_named};
-use hwp_geom::{Frame, Mask, Page};
+use hwp_geom::{Frame, Line, Mask, Page};
 
 /// The word of a page (this project's rule).
 #[derive(Clone, Copy, Debug, PartialEq, Eq)]
@@ -107,6 +108,14 @@ impl FreeWord {
     {
         FreeWord { frames: word }
     }
+
+    /// The place in the word of its lowest free frame. It is `None` exactly where none of the 64 is free.
+    pub fn lowest(self) -> Option<u32>
+        ensures none { IsNone result ↔ (self.frames ≡ 0) }
+        ensures lowest { IfSome result (IsLowestBit self.frames) }
+    {
+        lowest_bit(self.frames)
+    }
 }
 
 /// The word of the free frames that nobody has reserved (this project's rule).
@@ -152,6 +161,17 @@ impl DamageWord {
         ensures { result.lines.0 ≡ word }
     {
         DamageWord { lines: Mask(word) }
+    }
+
+    /// The lowest damaged line. It is `None` exactly where no line is damaged.
+    pub fn lowest(self) -> Option<Line>
+        ensures none { IsNone result ↔ (self.lines.0 ≡ 0) }
+        ensures lowest { IfSome result (IsLowestBit self.lines.0) }
+    {
+        match lowest_bit(self.lines.0) {
+            Some(n) => Line::new(n as u8),
+            None => None,
+        }
     }
 }
 
