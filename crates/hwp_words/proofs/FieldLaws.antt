@@ -1,12 +1,11 @@
 -- Laws of fields: what is packed is read again, and what is done to one field changes no other.
-use Rattle.std.proofs.Common.{◌≡◌, ℕ, zero, suc, ◌+◌, ◌-◌, ◌*◌, ◌/◌, ◌%◌, ◌^◌, ◌<◌, ◌≤◌, Bool, true, ◌&&◌, ◌⊎◌, nat_le, List, [], ◌∷◌, map, bit_and, bit_or, bit_xor, arith, refl, sym, ap, subst, ◌∙◌}
+use Rattle.std.proofs.Common.{◌≡◌, ℕ, zero, suc, ◌+◌, ◌-◌, ◌*◌, ◌/◌, ◌%◌, ◌^◌, ◌<◌, ◌≤◌, true, nat_le, List, [], ◌∷◌, map, bit_and, bit_or, bit_xor, arith, refl, ap, subst, ◌∙◌}
 use Rattle.std.proofs.lemmas.Nat.{pow_pos, pow-add, shr_high, mod_low, and_mask, mod_below, mul-add-lt, and_shr, and_mod, or_shr, or_mod, xor_shr, xor_mod}
 use lib.Pow.{pow_mono}
 use Rattle.std.specs.Int.Bits.{or_zero_r, xor_zero_r}
 use Rattle.std.proofs.Math.Nat.{mod-eq_of_lt}
 use Rattle.std.proofs.lemmas.Bool.{and_parts}
 use Rattle.std.proofs.lemmas.Bool.Decides.{nat_tests}
-use Rattle.hwp_geom.specs.Pairs.{Pairs}
 use Rattle.hwp_words.specs.Fields.{Field, field, packed, Fit, are_rising}
 
 -- ---- the value of a field, by what lies above and below it

@@ -1,5 +1,5 @@
 -- How each atomic step on a frame word reads in the word's fields.
-use Rattle.std.proofs.Common.{◌≡◌, ℕ, ◌+◌, ◌-◌, ◌*◌, ◌/◌, ◌%◌, ◌^◌, ◌<◌, ◌≤◌, bit_and, bit_or, bit_xor, arith, refl, ap, ◌∙◌, sym}
+use Rattle.std.proofs.Common.{◌≡◌, ℕ, ◌+◌, ◌-◌, ◌*◌, ◌%◌, ◌^◌, ◌<◌, ◌≤◌, bit_and, bit_or, bit_xor, arith, refl, ap, ◌∙◌, sym}
 use Rattle.std.specs.Int.Bits.{and_zero_r, xor_assoc, xor_self}
 use Rattle.std.proofs.lemmas.Nat.{xor_lt}
 use Rattle.hwp_words.specs.Fields.{field}
@@ -105,10 +105,9 @@ fields-retire w locked open_still = record {
 }
 
 -- the owner a becomes b
-pub fields-set_owner : (w a b : ℕ) → owner_of w ≡ a → b < 2 ^ 20
-    → FieldsAre (bit_xor w (bit_xor a b * 2 ^ 24)) (lock_of w) (poison_of w) (handled_of w) (kernel_of w) (count_of w) b (cycle_of w)
-fields-set_owner w a b owned fits =
-    let k = bit_xor a b * 2 ^ 24 in
+pub fields-set_owner : (w k a b : ℕ) → k ≡ bit_xor a b * 2 ^ 24 → owner_of w ≡ a → b < 2 ^ 20
+    → FieldsAre (bit_xor w k) (lock_of w) (poison_of w) (handled_of w) (kernel_of w) (count_of w) b (cycle_of w)
+fields-set_owner w k a b e owned fits =
     let small : bit_xor a b < 2 ^ 20 = xor_lt 20 a b (omega arith) fits in
     let turned : bit_xor (owner_of w) (bit_xor a b) ≡ b =
     ap (λ x. bit_xor x (bit_xor a b)) owned ∙ sym (xor_assoc a a b) ∙ ap (λ x. bit_xor x b) (xor_self a) in

@@ -1,8 +1,8 @@
 -- Each kind of word: what is packed is read again, by the one law of fields, and what is read packs again.
-use Rattle.std.proofs.Common.{◌≡◌, ℕ, zero, suc, ◌+◌, ◌-◌, ◌*◌, ◌/◌, ◌%◌, ◌^◌, ◌<◌, ◌≤◌, Bool, true, false, ◌==◌, Option, Some, None, IfSome, FitsSigned, ℤ, pos, ◌+ℤ◌, List, [], ◌∷◌, if◌then◌else◌, w32, arith, refl, ap, ◌∙◌, sym}
+use Rattle.std.proofs.Common.{◌≡◌, ℕ, zero, suc, ◌+◌, ◌^◌, ◌<◌, ◌≤◌, Bool, true, false, ◌==◌, ◌⊎◌, Option, Some, None, IfSome, FitsSigned, pos, ◌+ℤ◌, [], ◌∷◌, if◌then◌else◌, w32, arith, refl, ap, ◌∙◌, sym}
+use mathlib.Core.Logic.{⊎_elim}
 use Rattle.std.specs.Int.{from_bool}
 use Rattle.std.proofs.lemmas.Int.{ints}
-use Rattle.std.proofs.Math.Nat.{mod-eq_of_lt}
 use Rattle.hwp_geom.specs.declared.numbers.Cpu.{Cpu}
 use Rattle.hwp_geom.specs.declared.numbers.Frame.{Frame}
 use Rattle.hwp_geom.specs.declared.numbers.Page.{Page}
@@ -61,6 +61,10 @@ policy_code-lt policies.Late = omega arith
 policy_code-lt policies.Early = omega arith
 policy_code-lt policies.Default = omega arith
 
+pub frame_name-frame_named : (n : ℕ) → n ≤ 2 ^ 16 → frame_name (frame_named n) ≡ n
+frame_name-frame_named zero fits = refl
+frame_name-frame_named (suc n) fits = grind arith
+
 pub page_name-page_named : (n : ℕ) → n ≤ 2 ^ 16 → page_name (page_named n) ≡ n
 page_name-page_named zero fits = refl
 page_name-page_named (suc n) fits = grind arith
@@ -118,6 +122,14 @@ frame_word-frame_reading w fits owner =
       page_name-page_named (owner_of w) owner,
     )
 
+-- an entry that leads to frame f is f + 1
+pub pte_word-at : (f : Frame) → pte_word (ptes.At f) ≡ f.0 + 1
+pte_word-at f = omega arith
+
+pte_word-leading : (f : Option Frame) → pte_word (leading f) ≡ frame_name f
+pte_word-leading None = refl
+pte_word-leading (Some f) = pte_word-at f
+
 pub pte_reading-pte_word : (p : Pte) → IfAt p (λ f. f.0 < 2 ^ 16) → pte_reading (pte_word p) ≡ p
 pte_reading-pte_word ptes.Empty fits = refl
 pte_reading-pte_word (ptes.At f) fits =
@@ -126,6 +138,20 @@ pte_reading-pte_word (ptes.At f) fits =
     let poison : field pte_poison_bit (pte_word (ptes.At f)) ≡ 0 = cc in
     (λ i. if poison i == 1 then ptes.Poison else leading (frame_named (frame i))) ∙ ap leading (frame_named-frame_name (Some f) fits)
 pte_reading-pte_word ptes.Poison fits = refl
+
+-- a name of a frame, and a poison entry, are words of what they say
+pub pte_word-pte_reading : (w : ℕ) → (w ≤ 2 ^ 16) ⊎ (w ≡ 2 ^ 63) → pte_word (pte_reading w) ≡ w
+pte_word-pte_reading w form = ⊎_elim named poison form
+  where
+    poison : w ≡ 2 ^ 63 → pte_word (pte_reading w) ≡ w
+    poison e = ap (λ n. pte_word (pte_reading n)) e ∙ sym e
+
+    named : w ≤ 2 ^ 16 → pte_word (pte_reading w) ≡ w
+    named le =
+        let poison : field pte_poison_bit w ≡ 0 = omega arith in
+        let frame : field pte_frame_field w ≡ w = omega arith in
+        let reading : pte_reading w ≡ leading (frame_named w) = λ i. if poison i == 1 then ptes.Poison else leading (frame_named (frame i)) in
+        ap pte_word reading ∙ pte_word-leading (frame_named w) ∙ frame_name-frame_named w le
 
 pub policy_reading-policy_word : (x : PolicyWord) → x.settings < 2 ^ 62 → policy_reading (policy_word x) ≡ x
 policy_reading-policy_word x settings =

@@ -1,5 +1,5 @@
 -- The translation word: a page-table entry.
-use Rattle.std.specs.Prelude.{ℕ, Bool, ◌==◌, List, [], ◌∷◌, Option, Some, None, if◌then◌else◌}
+use Rattle.std.specs.Prelude.{ℕ, ◌==◌, List, [], ◌∷◌, Option, Some, None, if◌then◌else◌}
 use Rattle.hwp_geom.specs.declared.numbers.Frame.{Frame}
 use Rattle.hwp_words.specs.declared.translation.Pte.{Pte}
 use Rattle.hwp_words.specs.declared.translation.Pte.TheVariants as ptes

@@ -34,8 +34,9 @@ pub struct FrameWord {
 }
 
 impl FrameWord {
-    ghost use Rattle.std.specs.Prelude.{◌≡◌, ◌^◌, ◌<◌};
+    ghost use Rattle.std.specs.Prelude.{◌≡◌, ◌*◌, ◌^◌, ◌<◌, bit_xor};
     ghost use Rattle.hwp_words.specs.Frames.{frame_reading, frame_word};
+    ghost use Rattle.hwp_words.specs.Names.{page_name};
 
     /// The word of these values.
     pub fn pack(self) -> u64
@@ -44,11 +45,11 @@ impl FrameWord {
         ensures word { result ≡ frame_word self }
         ensures back { frame_reading result ≡ self }
     {
-        u64::from(self.locked)
-            + (u64::from(self.poisoned) << 1)
-            + (u64::from(self.handled) << 2)
-            + (u64::from(self.kernel) << 3)
-            + (u64::from(self.count) << 4)
+        u64::from(self.locked) * LOCK
+            + u64::from(self.poisoned) * POISON
+            + u64::from(self.handled) * HANDLED
+            + u64::from(self.kernel) * KERNEL
+            + u64::from(self.count) * REFERENCE
             + (page_name(self.owner) << 24)
             + (u64::from(self.cycle) << 44)
     }
@@ -66,5 +67,11 @@ impl FrameWord {
             owner: page_named(field(word, 24, 20)),
             cycle: field(word, 44, 20) as u32,
         }
+    }
+    /// The bits to turn in a frame's word, by an exclusive or, so that its owner becomes another.
+    pub fn owner_change(old: Option<Page>, new: Option<Page>) -> u64
+        ensures { result ≡ bit_xor (page_name old) (page_name new) * 2 ^ 24 }
+    {
+        (page_name(old) ^ page_name(new)) << 24
     }
 }

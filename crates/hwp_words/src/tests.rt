@@ -1,7 +1,7 @@
 //! The words by their layout, and the edges of each field.
 use super::{
-    CacheWord, CounterWord, DamageWord, FrameWord, FreeWord, PageWord, PolicyWord, ProcessWord,
-    Pte, StopWord,
+    AvailableWord, CacheWord, CounterWord, DamageWord, FrameWord, FreeWord, LossWord, PageWord,
+    PolicyWord, ProcessWord, Pte, StopWord,
 };
 use hwp_geom::{Cpu, Frame, Line, Mask, Page};
 use hwp_kill::Policy;
@@ -139,6 +139,10 @@ fn words_of_one_value(rt: HostRuntime) -> Result<(), Fail> {
         assert_eq!(rt; ProcessWord::unpack(word), ProcessWord { ended_by });
         assert_eq!(rt; ProcessWord { ended_by }.pack(), word);
     }
+    assert_eq!(rt; AvailableWord::unpack(7), AvailableWord { frames: 7 });
+    assert_eq!(rt; AvailableWord { frames: 7 }.pack(), 7);
+    assert_eq!(rt; LossWord::unpack(3), LossWord { lost: 3 });
+    assert_eq!(rt; LossWord { lost: 3 }.pack(), 3);
     for (word, lowest) in [(0, None), (0b1100, Some(2)), (1 << 63, Some(63))] {
         assert_eq!(rt; FreeWord::unpack(word).lowest(), lowest);
     }

@@ -1,4 +1,4 @@
-use Rattle.std.proofs.Common.{◌<◌, w64, arith}
+use Rattle.std.proofs.Common.{w64, arith}
 use Rattle.std.proofs.lemmas.Nat.Bits.{bit_at-trailing_zeros}
 use Rattle.hwp_words.proofs.field.lowest_bit.Goals as goal
 
