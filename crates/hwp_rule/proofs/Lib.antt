@@ -12,3 +12,4 @@ pub mod Reserve
 pub mod Turns
 pub mod Shown
 pub mod Knowing
+pub mod Stopping
