@@ -13,3 +13,4 @@ pub mod Turns
 pub mod Shown
 pub mod Knowing
 pub mod Stopping
+pub mod Settings
