@@ -14,3 +14,4 @@ pub mod Shown
 pub mod Knowing
 pub mod Stopping
 pub mod Settings
+pub mod Reporting
