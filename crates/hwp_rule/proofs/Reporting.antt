@@ -1,10 +1,9 @@
 -- Losses that are reported and set to 0 keep the frame rule.
-use Rattle.std.proofs.Common.{◌≡◌, ◌≢◌, ℕ, ◌+◌, ◌≤◌, ◌==◌, eq-eqb, ne_eqb, Bool, true, false, cond, List, [], ◌∷◌, ◌++◌, Some, map, set, length, slice_get, slice_index, inl, inr, refl, sym, ap, ◌∙◌, subst, arith}
+use Rattle.std.proofs.Common.{◌≡◌, ℕ, ◌+◌, ◌==◌, eq-eqb, ne_eqb, Bool, cond, List, [], ◌∷◌, ◌++◌, Some, map, set, slice_get, slice_index, inl, inr, refl, sym, ap, subst, arith}
 use Rattle.std.specs.Int.{from_bool}
 use Rattle.std.specs.List.{sum_by}
 use Rattle.std.proofs.lemmas.List.Sums.{sum_by_push}
 use Rattle.hwp_geom.specs.declared.FileNo.{FileNo}
-use Rattle.hwp_geom.specs.declared.Layout.{Layout}
 use Rattle.hwp_rule.specs.declared.place.Place.TheVariants as places
 use Rattle.hwp_rule.specs.declared.step.Step.TheVariants as steps
 use Rattle.hwp_rule.specs.declared.view.Held.{Held}
@@ -16,7 +15,7 @@ use Rattle.hwp_rule.specs.Rule.{FrameRule, losing_of}
 use Rattle.hwp_rule.specs.Views.{sighted, stamp_of}
 use Rattle.hwp_rule.specs.parts.Holdings.{AreOwn}
 use Rattle.hwp_rule.specs.parts.Losses.{Losing, IsPoisonLoss, LossesBalance}
-use Rattle.hwp_rule.proofs.Given.{Given, Keeps}
+use Rattle.hwp_rule.proofs.Given.{Keeps}
 use Rattle.hwp_rule.proofs.Lists.{change, keep, at_map, at_set, set_here, set-set, each-set, sum-set}
 use Rattle.hwp_rule.proofs.Loading.{word-there}
 use Rattle.hwp_rule.proofs.Sights.{keeps-sight, explained-quiet}

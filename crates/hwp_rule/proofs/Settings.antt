@@ -1,11 +1,8 @@
 -- A policy that is set keeps the frame rule.
 use Rattle.std.proofs.Common.{◌≡◌, ◌≢◌, ℕ, ◌+◌, ◌*◌, ◌<◌, ◌≤◌, ◌==◌, eq-eqb, ne_eqb, Bool, true, false, cond, List, [], ◌∷◌, ◌++◌, Some, map, set, take, length, append-nil, slice_get, slice_index, inl, inr, refl, sym, ap, ◌∙◌, subst, arith}
-use Rattle.std.specs.List.{filter}
 use Rattle.std.proofs.lemmas.List.{length-append, take-append-le}
 use Rattle.std.proofs.lemmas.List.Elements.{filter-append}
 use Rattle.std.proofs.lemmas.Option.{same_Some}
-use Rattle.hwp_geom.specs.declared.Cpu.{Cpu}
-use Rattle.hwp_geom.specs.declared.Layout.{Layout}
 use Rattle.hwp_geom.specs.declared.Thread.{Thread}
 use Rattle.hwp_geom.specs.declared.ThreadDecl.{ThreadDecl}
 use Rattle.hwp_kill.specs.declared.Policy.{Policy}
@@ -17,12 +14,12 @@ use Rattle.hwp_rule.specs.declared.view.Part.{Part}
 use Rattle.hwp_rule.specs.declared.view.Setting.{Setting}
 use Rattle.hwp_rule.specs.declared.view.Sight.{Sight}
 use Rattle.hwp_rule.specs.declared.view.View.{View}
-use Rattle.hwp_rule.specs.Lists.{EachMember, EachListed}
+use Rattle.hwp_rule.specs.Lists.{EachMember}
 use Rattle.hwp_rule.specs.Rule.{FrameRule}
 use Rattle.hwp_rule.specs.Views.{stamp_of}
 use Rattle.hwp_rule.specs.parts.Holdings.{AreOwn, IsPast}
 use Rattle.hwp_rule.specs.parts.Policies.{PoliciesListed, PolicyAgrees, IsOf, settings_of, last_policy, policy_after}
-use Rattle.hwp_rule.proofs.Given.{Given, Keeps}
+use Rattle.hwp_rule.proofs.Given.{Keeps}
 use Rattle.hwp_rule.proofs.Lists.{change, keep, at_map, at_set, map-was, each-push, each-weaken}
 use Rattle.hwp_rule.proofs.Loading.{word-there}
 use Rattle.hwp_rule.proofs.Turns.{one-view}
@@ -122,12 +119,12 @@ keeps-set-policy thread policy settings layout w homes views seat v who content 
     now =
         let was : PolicyAgrees thread (slice_index w.policies thread.0) sights (settings_of thread v.settings) =
         h.policies.agrees thread given.asks.decl (slice_index w.policies thread.0) given.asks.declared (word-there w.policies thread.0 (length layout.threads) given.shaped.policies given.place) seat (v.parts, v.settings)
-            (at_map (λ (v : View). (v.parts, v.settings)) views seat v me) (given.past.0, given.past.1, given.past.2, given.past.3.0 ∙ sym given.asks.own) in
+        (at_map (λ (v : View). (v.parts, v.settings)) views seat v me) (given.past.0, given.past.1, given.past.2, given.past.3.0 ∙ sym given.asks.own) in
         let number : settings ≡ length (settings_of thread v.settings) = given.asks.number in
         let few : settings < 4096 = given.asks.few in
         subst (λ (l : List Setting). PolicyAgrees thread word sights l) (sym (set-own thread v.settings new refl))
-            (subst (λ (n : ℕ). PolicyAgrees thread ((n + 1) * 4 + policy_code policy) sights (settings_of thread v.settings ++ new ∷ [])) (sym number)
-                (agrees-more thread (slice_index w.policies thread.0) sights (settings_of thread v.settings) new (omega arith) was))
+        (subst (λ (n : ℕ). PolicyAgrees thread ((n + 1) * 4 + policy_code policy) sights (settings_of thread v.settings ++ new ∷ [])) (sym number)
+        (agrees-more thread (slice_index w.policies thread.0) sights (settings_of thread v.settings) new (omega arith) was))
 
     -- the thread's processor is part of no other view
     one_seat : (d : ThreadDecl) (i : ℕ) (y : List Part × List Setting) → slice_get layout.threads thread.0 ≡ Some d → slice_get lists i ≡ Some y → IsOf d.cpu y.0 → i ≡ seat
@@ -136,23 +133,23 @@ keeps-set-policy thread policy settings layout w homes views seat v who content 
         let decl : d ≡ given.asks.decl = same_Some d given.asks.decl (sym declared ∙ given.asks.declared) in
         let cpus : of.1.cpu ≡ given.past.1.cpu = of.3 ∙ ap (λ (d : ThreadDecl). d.cpu) decl ∙ given.asks.own ∙ sym given.past.3.0 in
         one-view layout parts h.processors i seat of.0 given.past.0 y.0 v.parts of.1 given.past.1
-            (subst (λ (z : List Part × List Setting). slice_get parts i ≡ Some z.0) was.2 (at_map (λ (v : View). v.parts) views i was.0 was.1))
-            (at_map (λ (v : View). v.parts) views seat v me) of.2 given.past.2 cpus
+        (subst (λ (z : List Part × List Setting). slice_get parts i ≡ Some z.0) was.2 (at_map (λ (v : View). v.parts) views i was.0 was.1))
+        (at_map (λ (v : View). v.parts) views seat v me) of.2 given.past.2 cpus
 
     agrees : (t : Thread) (d : ThreadDecl) (x : ℕ) → slice_get layout.threads t.0 ≡ Some d → slice_get (set w.policies thread.0 word) t.0 ≡ Some x
         → EachMember (λ (y : List Part × List Setting). IsOf d.cpu y.0 → PolicyAgrees t x sights (settings_of t y.1)) (set lists seat (v.parts, u.settings))
     agrees t d x declared there i y is of = elim (at_set w.policies thread.0 t.0 word x there) [
-        | inl this ↦ elim (at_set lists seat i (v.parts, u.settings) y is) [
-            | inl mine ↦ subst (λ (z : List Part × List Setting). PolicyAgrees t x sights (settings_of t z.1)) mine.1
-                (subst (λ (n : ℕ). PolicyAgrees t n sights (settings_of t u.settings)) this.1
-                    (subst (λ (t : Thread). PolicyAgrees t word sights (settings_of t u.settings)) (λ k. record { 0 = sym this.0 k }) now))
-            | inr theirs ↦ absurd (theirs.0 (one_seat d i y (subst (λ (n : ℕ). slice_get layout.threads n ≡ Some d) this.0 declared) theirs.1 of))
-          ]
-        | inr another ↦ elim (at_set lists seat i (v.parts, u.settings) y is) [
-            | inl mine ↦ subst (λ (z : List Part × List Setting). PolicyAgrees t x sights (settings_of t z.1)) mine.1
-                (subst (λ (l : List Setting). PolicyAgrees t x sights l) (sym (set-other t v.settings new (λ e. another.0 (sym e))))
-                    (h.policies.agrees t d x declared another.1 seat (v.parts, v.settings) (at_map (λ (v : View). (v.parts, v.settings)) views seat v me)
-                        (subst (λ (z : List Part × List Setting). IsOf d.cpu z.0) (sym mine.1) of)))
-            | inr theirs ↦ h.policies.agrees t d x declared another.1 i y theirs.1 of
-          ]
+      | inl this ↦ elim (at_set lists seat i (v.parts, u.settings) y is) [
+        | inl mine ↦ subst (λ (z : List Part × List Setting). PolicyAgrees t x sights (settings_of t z.1)) mine.1
+            (subst (λ (n : ℕ). PolicyAgrees t n sights (settings_of t u.settings)) this.1
+            (subst (λ (t : Thread). PolicyAgrees t word sights (settings_of t u.settings)) (λ k. record { 0 = sym this.0 k }) now))
+        | inr theirs ↦ absurd (theirs.0 (one_seat d i y (subst (λ (n : ℕ). slice_get layout.threads n ≡ Some d) this.0 declared) theirs.1 of))
       ]
+      | inr another ↦ elim (at_set lists seat i (v.parts, u.settings) y is) [
+        | inl mine ↦ subst (λ (z : List Part × List Setting). PolicyAgrees t x sights (settings_of t z.1)) mine.1
+            (subst (λ (l : List Setting). PolicyAgrees t x sights l) (sym (set-other t v.settings new (λ e. another.0 (sym e))))
+            (h.policies.agrees t d x declared another.1 seat (v.parts, v.settings) (at_map (λ (v : View). (v.parts, v.settings)) views seat v me)
+            (subst (λ (z : List Part × List Setting). IsOf d.cpu z.0) (sym mine.1) of)))
+        | inr theirs ↦ h.policies.agrees t d x declared another.1 i y theirs.1 of
+      ]
+    ]

@@ -1,10 +1,9 @@
 -- The stop of the machine and a processor that gives up keep the frame rule.
-use Rattle.std.proofs.Common.{◌≡◌, ◌≢◌, ℕ, ◌+◌, ◌<◌, ◌≤◌, ◌==◌, ◌^◌, min, eqb-true, Bool, true, false, cond, List, [], ◌∷◌, ◌++◌, Some, map, set, length, slice_get, bit_or, refl, sym, ap, ◌∙◌, subst, arith}
+use Rattle.std.proofs.Common.{◌≡◌, ℕ, ◌+◌, ◌<◌, ◌≤◌, ◌==◌, ◌^◌, min, eqb-true, Bool, true, false, cond, List, [], ◌∷◌, ◌++◌, Some, map, set, length, slice_get, bit_or, refl, sym, ap, ◌∙◌, subst, arith}
 use Rattle.std.specs.List.{sum_by}
 use Rattle.std.proofs.lemmas.List.{length-append}
 use prog.Atomic.{either}
 use Rattle.hwp_geom.specs.declared.Cpu.{Cpu}
-use Rattle.hwp_geom.specs.declared.Layout.{Layout}
 use Rattle.hwp_geom.specs.declared.Who.{Who}
 use Rattle.hwp_words.specs.Stops.{stopper_of}
 use Rattle.hwp_words.proofs.OtherSteps.{stopper_of-stop, stopper_of-give_up}
@@ -14,12 +13,12 @@ use Rattle.hwp_rule.specs.declared.view.Held.{Held}
 use Rattle.hwp_rule.specs.declared.view.Sight.{Sight}
 use Rattle.hwp_rule.specs.declared.view.View.{View}
 use Rattle.hwp_rule.specs.Lists.{EachMember, EachListed}
-use Rattle.hwp_rule.specs.Rule.{FrameRule, holdings_of}
+use Rattle.hwp_rule.specs.Rule.{FrameRule}
 use Rattle.hwp_rule.specs.Views.{sighted, stamp_of}
 use Rattle.hwp_rule.specs.parts.Holdings.{AreOwn, IsPast}
 use Rattle.hwp_rule.specs.parts.Stops.{EndingsAndStopsStay}
-use Rattle.hwp_rule.proofs.Given.{Given, Keeps}
-use Rattle.hwp_rule.proofs.Lists.{change, keep, at_map, each-set, each-push, each-weaken, sum-set, set_again}
+use Rattle.hwp_rule.proofs.Given.{Keeps}
+use Rattle.hwp_rule.proofs.Lists.{change, keep, at_map, each-set, each-push, sum-set, set_again}
 use Rattle.hwp_rule.proofs.Shown.{explained-stop}
 use Rattle.hwp_rule.proofs.Sights.{keeps-sight}
 use Rattle.hwp_rule.proofs.Kept
@@ -104,7 +103,7 @@ keeps-stop cpu layout w homes views seat v who content given = arm (w.stop == 0)
       exhaustion = Kept.kept-exhaustion views seat v u me layout refl refl h.exhaustion;
       stops = keep (λ (v : View). v.bodies) (λ l. EndingsAndStopsStay w.processes (cpu.0 + 1) l (map (λ (v : View). v.sights) (set views seat u)) (map (λ (v : View). v.stops) (set views seat u))) views seat v u me refl
           (keep (λ (v : View). v.sights) (λ l. EndingsAndStopsStay w.processes (cpu.0 + 1) bodies l (map (λ (v : View). v.stops) (set views seat u))) views seat v u me refl
-              (change (λ (v : View). v.stops) (EndingsAndStopsStay w.processes (cpu.0 + 1) bodies sights) views seat u (stopped (eqb-true w.stop 0 met))));
+          (change (λ (v : View). v.stops) (EndingsAndStopsStay w.processes (cpu.0 + 1) bodies sights) views seat u (stopped (eqb-true w.stop 0 met))));
       fits = Kept.kept-fits views seat v u me layout w.trans w.caches homes refl refl h.fits;
       processors = Kept.kept-processors views seat v u me layout refl h.processors;
       commands = Kept.kept-commands views seat v u me (record { made = own.made; marks = own.marks; sights = own.sights; lengths = own.lengths; settings = own.settings; stops = each-push (IsPast v.parts) v.stops who given.past own.stops }) h.commands;

@@ -37,13 +37,13 @@ pub one-view : (layout : Layout) (parts : List (List Part)) → ProcessorsApart 
     → p.cpu ≡ q.cpu → i ≡ j
 one-view layout parts apart i j k l a b p q there here listed noted same =
     elim (same-or i j) [
-    | inl views_same ↦ views_same
-    | inr differ ↦
-        let in_a : count p ≤ sum_by count a = term-le count a k p listed in
-        let in_b : count q ≤ sum_by count b = term-le count b l q noted in
-        let two : sum_by count a + sum_by count b ≤ sum_by (sum_by count) parts = terms-le (sum_by count) parts i j a b differ there here in
-        absurd (omega (arith, once, first, second))
-  ]
+      | inl views_same ↦ views_same
+      | inr differ ↦
+          let in_a : count p ≤ sum_by count a = term-le count a k p listed in
+          let in_b : count q ≤ sum_by count b = term-le count b l q noted in
+          let two : sum_by count a + sum_by count b ≤ sum_by (sum_by count) parts = terms-le (sum_by count) parts i j a b differ there here in
+          absurd (omega (arith, once, first, second))
+    ]
   where
     count : Part → ℕ
     count x = from_bool (x.cpu.0 == q.cpu.0)
@@ -63,12 +63,12 @@ one-part : (layout : Layout) (parts : List (List Part)) → ProcessorsApart layo
     → p.cpu ≡ q.cpu → p ≡ q
 one-part layout parts apart i j k l a b p q there here listed noted same =
     elim (same-or k l) [
-    | inl places_same ↦ same_Some p q (sym listed_b ∙ ap (slice_get b) places_same ∙ noted)
-    | inr differ ↦
-        let two : count p + count q ≤ sum_by count b = terms-le count b k l p q differ listed_b noted in
-        let all : sum_by count b ≤ sum_by (sum_by count) parts = term-le (sum_by count) parts j b here in
-        absurd (omega (arith, once, first, second))
-  ]
+      | inl places_same ↦ same_Some p q (sym listed_b ∙ ap (slice_get b) places_same ∙ noted)
+      | inr differ ↦
+          let two : count p + count q ≤ sum_by count b = terms-le count b k l p q differ listed_b noted in
+          let all : sum_by count b ≤ sum_by (sum_by count) parts = term-le (sum_by count) parts j b here in
+          absurd (omega (arith, once, first, second))
+    ]
   where
     count : Part → ℕ
     count x = from_bool (x.cpu.0 == q.cpu.0)
