@@ -9,7 +9,7 @@ pub mod Counting
 pub mod Exhausted
 pub mod Loading
 pub mod Reserve
-pub mod Turns
+pub mod Latest
 pub mod Shown
 pub mod Knowing
 pub mod Stopping
