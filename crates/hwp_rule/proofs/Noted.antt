@@ -79,6 +79,13 @@ turn-now r v turn = record { right = turn.right; part = (turn.part.0, later r.wh
     below : max p.latest r.who.seq ≤ r.who.seq
     below = let latest : p.latest ≤ r.who.seq = turn.part.3.1 in omega arith
 
+-- and it is still that processor's turn
+pub turn-noted : (r : Rec) (v : View) → IsTurnOf v r.who → IsTurnOf (noted r v) r.who
+turn-noted r v turn = record {
+  right = turn.right;
+  part = some-changed (λ (p : Part). (p.cpu ≡ r.who.cpu) × (p.latest ≤ r.who.seq)) (is_part r.who) (later r.who) v.parts (λ p is h. let below : p.latest ≤ r.who.seq = h.1 in (h.0, omega arith)) turn.part;
+}
+
 cpu-kept : (who : Who) (b : Bool) (p : Part) → p.cpu ≡ (cond b (later who p) p).cpu
 cpu-kept who true p = refl
 cpu-kept who false p = refl

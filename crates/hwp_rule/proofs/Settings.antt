@@ -22,7 +22,7 @@ use Rattle.hwp_rule.specs.parts.Policies.{PoliciesListed, PolicyAgrees, IsOf, se
 use Rattle.hwp_rule.proofs.Given.{Keeps}
 use Rattle.hwp_rule.proofs.Lists.{change, keep, at_map, at_set, map-was, each-push, each-weaken}
 use Rattle.hwp_rule.proofs.Loading.{word-there}
-use Rattle.hwp_rule.proofs.Latest.{one-view}
+use Rattle.hwp_rule.proofs.Turns.{one-view}
 use Rattle.hwp_rule.proofs.Kept
 
 -- the last policy is the one that was set last

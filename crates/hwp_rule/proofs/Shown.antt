@@ -27,7 +27,7 @@ use Rattle.hwp_rule.specs.parts.Policies.{PolicyAgrees, settings_of, policy_afte
 use Rattle.hwp_rule.proofs.Counting.{some-term}
 use Rattle.hwp_rule.proofs.Lists.{map-was}
 use Rattle.hwp_rule.proofs.Sights.{IsExplained, elsewhere, shown_number}
-use Rattle.hwp_rule.proofs.Latest.{not-later, entries-not-later}
+use Rattle.hwp_rule.proofs.Turns.{not-later, entries-not-later}
 
 module _ (layout : Layout) (w : Words) (homes : Homes) (views : List View) (stamp : Stamp) where
   pub explained-bad : (frame : Frame) (word : ℕ) → slice_get w.bads frame.0 ≡ Some word → IsExplained layout w homes views (record { stamp = stamp; place = places.Bad frame; word = word })

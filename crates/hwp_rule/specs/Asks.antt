@@ -18,7 +18,6 @@ use Rattle.hwp_words.specs.declared.Pte.{Pte}
 use Rattle.hwp_words.specs.declared.Pte.TheVariants as ptes
 use Rattle.hwp_words.specs.Frames.{count_of, owner_of, lock_of, handled_of}
 use Rattle.hwp_rule.specs.declared.log.Log.{Log}
-use Rattle.hwp_rule.specs.declared.record.Rec.{Rec}
 use Rattle.hwp_rule.specs.declared.step.Step.{Step}
 use Rattle.hwp_rule.specs.declared.step.Step.TheVariants as steps
 use Rattle.hwp_rule.specs.declared.view.View.{View}
@@ -265,7 +264,7 @@ AsksOf layout who (steps.Lose file log) content v = CanLose layout who v file lo
 AsksOf layout who (steps.ReportLost file) content v = Unit {0}
 
 -- the step's condition: the seat's turn, names of the layout, and what its kind asks
-pub record Asks (layout : Layout) (r : Rec) (content : Option Log) (v : View) : Type 0 where
-  pub turn : IsTurnOf v r.who
-  pub place : IsPlace layout (place_of r.step)
-  pub kind : AsksOf layout r.who r.step content v
+pub record Asks (layout : Layout) (who : Who) (step : Step) (content : Option Log) (v : View) : Type 0 where
+  pub turn : IsTurnOf v who
+  pub place : IsPlace layout (place_of step)
+  pub kind : AsksOf layout who step content v

@@ -7,3 +7,4 @@ pub mod parts
 pub mod Rule
 pub mod Asks
 pub mod Moves
+pub mod Opening

@@ -9,6 +9,7 @@ use Rattle.hwp_rule.specs.declared.step.Step.TheVariants as steps
 use Rattle.hwp_rule.specs.declared.view.View.{View}
 use Rattle.hwp_rule.specs.Asks.{Asks}
 use Rattle.hwp_rule.specs.Lists.{Homes}
+use Rattle.hwp_rule.specs.Rule.{Holds}
 use Rattle.hwp_rule.specs.Steps.{place_of, word_after, goes}
 use Rattle.hwp_rule.specs.Views.{view_after, homes_after, frame_slot, shelf_slot}
 use Rattle.hwp_rule.specs.Words.{index}
@@ -37,7 +38,7 @@ pub record Move (layout : Layout) (seat : ℕ) (r : Rec) (a b : State) : Type 0 
   pub view : View
   pub content : Option Log
   pub me : slice_get a.views seat ≡ Some view
-  pub asks : Asks layout r content view
+  pub asks : Asks layout r.who r.step content view
   pub fits : r.found < 2 ^ 64
   pub met : r.found ≡ slice_index a.words (index layout (place_of r.step))
   pub slot : Meets layout a.homes r.step r.found content
@@ -47,3 +48,15 @@ pub record Move (layout : Layout) (seat : ℕ) (r : Rec) (a b : State) : Type 0 
 abbrev pub Run : Layout → State → List (ℕ × Rec) → State → Type 0
 Run layout opening [] s = s ≡ opening
 Run layout opening (r ∷ rs) s = (t : State) × Run layout opening rs t × Move layout r.0 r.1 t s
+
+-- What a step tells its seat: it met a word and a content on some board that keeps the rule and on which the seat knew
+-- what it knew, and the seat's view is that of the step.
+pub record Told (layout : Layout) (r : Rec) (content : Option Log) (old new : View) : Type 0 where
+  pub board : State
+  pub rule : Holds layout board
+  pub seat : ℕ
+  pub me : slice_get board.views seat ≡ Some old
+  pub fits : r.found < 2 ^ 64
+  pub met : r.found ≡ slice_index board.words (index layout (place_of r.step))
+  pub slot : Meets layout board.homes r.step r.found content
+  pub next : new ≡ view_after layout r content old

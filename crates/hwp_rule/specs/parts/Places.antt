@@ -1,10 +1,10 @@
 -- Where a frame is.
-use Rattle.std.specs.Prelude.{◌≡◌, ℕ, ◌+◌, ◌<◌, ◌==◌, min, Bool, true, false, List, Some, slice_get}
+use Rattle.std.specs.Prelude.{◌≡◌, ℕ, ◌+◌, ◌<◌, ◌==◌, min, Bool, true, false, List, Some, length, slice_get}
 use Rattle.std.specs.List.{sum_by}
 use Rattle.std.specs.Int.{from_bool}
 use Rattle.hwp_geom.specs.declared.Frame.{Frame}
 use Rattle.hwp_words.specs.Frames.{count_of, owner_of, lock_of, handled_of, is_kernel}
-use Rattle.hwp_rule.specs.Lists.{sum_all}
+use Rattle.hwp_rule.specs.Lists.{EachListed, sum_all}
 use Rattle.hwp_rule.specs.Words.{free_bit}
 
 -- how many times the frame is in a hand
@@ -25,10 +25,12 @@ pub record IsApart (frees : List ℕ) (hands : List (List Frame)) (f word : ℕ)
   pub unhanded : in_hand f hands ≡ 0
 
 -- A frame that is not the kernel's is in exactly one of three places: its free bit is set, it is in the hand of one view,
--- or its count is above 0. In the first two it is bare. Broken by: `give_bit` of a frame that is not in hand; `put_ref` of
--- the last reference that doesn't take the frame in hand; a reference to a free frame.
+-- or its count is above 0. In the first two it is bare. Each frame in a hand is one of the layout. Broken by: `give_bit`
+-- of a frame that is not in hand; `put_ref` of the last reference that doesn't take the frame in hand; a reference to a
+-- free frame.
 pub record HasOnePlace (kernel : List Bool) (frames frees : List ℕ) (hands : List (List Frame)) : Type 0 where
   pub declared : (f w : ℕ) (k : Bool) → slice_get frames f ≡ Some w → slice_get kernel f ≡ Some k → is_kernel w ≡ k
   pub placed : (f w : ℕ) → slice_get frames f ≡ Some w → is_kernel w ≡ false → free_bit frees f + in_hand f hands + min (count_of w) 1 ≡ 1
   pub idle : (f w : ℕ) → slice_get frames f ≡ Some w → 0 < free_bit frees f + in_hand f hands → IsBare w
   pub kernels : (f w : ℕ) → slice_get frames f ≡ Some w → is_kernel w ≡ true → IsApart frees hands f w
+  pub handed : EachListed (λ (h : Frame). h.0 < length kernel) hands

@@ -1,0 +1,5 @@
+pub mod Calls
+pub mod Turns
+pub mod Pins
+pub mod Releases
+pub mod Takes

@@ -1,0 +1,39 @@
+-- What a turn of a task comes to.
+use Rattle.std.specs.Prelude.{◌≡◌, ℕ, Bool, cond, Option, Some, None}
+use Rattle.hwp_geom.specs.declared.Layout.{Layout}
+use Rattle.hwp_geom.specs.declared.Who.{Who}
+use Rattle.hwp_rule.specs.declared.Log.{Log}
+use Rattle.hwp_rule.specs.declared.Rec.{Rec}
+use Rattle.hwp_rule.specs.declared.Step.{Step}
+use Rattle.hwp_rule.specs.declared.View.{View}
+use Rattle.hwp_rule.specs.Asks.{IsTurnOf}
+use Rattle.hwp_core.specs.declared.turn.Turn.{Turn}
+use Rattle.hwp_core.specs.declared.turn.Turn.TheVariants.{Finished}
+use Rattle.hwp_core.specs.Calls.{Slots, Steps, IsLater}
+
+-- the turn was one step, which met a word: the task is the next one, and the turn's answer is that of the word
+pub record StepTaken {S : Type 0} (layout : Layout) (who : Who) (step : Step) (next : ℕ → S) (answer : ℕ → Turn) (old new : View) (was now : Slots) (moves : Rec → Option Log → Type 0) (after : S) (result : Turn) : Type 0 where
+  pub found : ℕ
+  pub steps : Steps layout who step old new was now moves found
+  pub next_is : after ≡ next found
+  pub answered : result ≡ answer found
+
+-- the turn made no step, because the task is over: nothing changed
+pub record IsOver {S : Type 0} (board_stays : Type 0) (before after : S) (result : Turn) : Type 0 where
+  pub board : board_stays
+  pub task : after ≡ before
+  pub finished : result ≡ Finished
+
+-- a turn makes the planned step, or none where none is planned
+abbrev pub Advances : {S : Type 0} → Layout → Who → Option Step → (ℕ → S) → (ℕ → Turn) → View → View → Slots → Slots → (Rec → Option Log → Type 0) → Type 0 → S → S → Turn → Type 0
+Advances layout who None next answer old new was now moves board_stays before after result = IsOver board_stays before after result
+Advances layout who (Some step) next answer old new was now moves board_stays before after result = StepTaken layout who step next answer old new was now moves after result
+
+-- the processor may make steps of its command
+pub record IsOnTurn (view : View) (who : Who) : Type 0 where
+  pub turn : IsTurnOf view who
+  pub later : IsLater view who who.seq
+
+-- 1 where the test is not passed, as a part of a cost
+abbrev pub stale : Bool → ℕ
+stale test = cond test 0 4096

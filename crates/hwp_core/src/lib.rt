@@ -1,0 +1,17 @@
+//! The step interface: what a processor can do to the shared words, one atomic step a call, and the tasks that are
+//! made of such steps.
+#![tactic(auto)]
+
+mod ops;
+mod pin;
+mod release;
+mod take;
+mod task;
+mod turn;
+
+pub use ops::Ops;
+pub use pin::{Pin, PinAnswer};
+pub use release::{Release, ReleaseAnswer};
+pub use take::{Take, TakeAnswer};
+pub use task::Task;
+pub use turn::{Tried, Turn};

@@ -1,0 +1,161 @@
+ghost use Rattle.std.specs.Prelude.{◌≡◌, ◌<◌, is_some, is_none};
+
+use crate::ops::Ops;
+use crate::task::Task;
+use crate::turn::{Tried, Turn};
+use hwp_geom::{Frame, Layout, Who};
+use hwp_words::FrameWord;
+
+/// Takes a free frame, the lowest that it is shown: it then has one reference, and the processor has its lock (Linux
+/// alloc_page).
+#[derive(Clone, Copy, Debug, PartialEq, Eq)]
+pub struct Take {
+    who: Who,
+    at: TakeAt,
+}
+
+#[derive(Clone, Copy, Debug, PartialEq, Eq)]
+enum TakeAt {
+    Available,
+    Reserve { seen: u64 },
+    Scan { number: u32 },
+    TakeBit { frame: Frame },
+    Adopt { frame: Frame },
+    Done { frame: Option<Frame> },
+}
+
+/// What a `Take` came to (this project's rule).
+#[derive(Clone, Copy, Debug, PartialEq, Eq)]
+pub enum TakeAnswer {
+    /// The frame is taken.
+    Taken(Frame),
+    /// No frame was available.
+    NoFrame,
+}
+
+impl Take {
+    ghost use Rattle.hwp_rule.specs.Words.{free_words};
+    ghost use Rattle.hwp_core.specs.Takes.{begin, plan, answer, at_available, after_word, class};
+
+    /// The command takes a free frame.
+    pub fn new(who: Who) -> Take
+        ensures { result ≡ begin who }
+    {
+        Take { who, at: TakeAt::Available }
+    }
+
+    /// What the task came to; `None` until it is over.
+    pub fn answer(&self) -> Option<TakeAnswer>
+        ensures answer { result ≡ answer self.now }
+        ensures over { is_some result ≡ is_none (plan self.now) }
+    {
+        match self.at {
+            TakeAt::Done { frame: Some(frame) } => Some(TakeAnswer::Taken(frame)),
+            TakeAt::Done { frame: None } => Some(TakeAnswer::NoFrame),
+            _ => None,
+        }
+    }
+
+    fn at_available(word: u64) -> TakeAt
+        ensures { result ≡ at_available word }
+    {
+        if word == 0 {
+            TakeAt::Done { frame: None }
+        } else {
+            TakeAt::Reserve { seen: word }
+        }
+    }
+
+    fn after_word(layout: &Layout, number: u32) -> u32
+        requires { number < free_words layout.now }
+        ensures { result ≡ after_word layout.now number }
+    {
+        let words = (u32::from(layout.frames) + 63) / 64;
+        if number + 1 < words { number + 1 } else { 0 }
+    }
+}
+
+impl Task for Take {
+    ghost use Rattle.std.specs.Prelude.{false, None};
+    ghost use Rattle.hwp_core.specs.Takes.{plan, next, turn, Fits, class, cost};
+
+    ghost who = { λ t. t.who };
+
+    ghost plan = { λ t. plan t };
+
+    ghost next = { λ layout t found. next layout t found };
+
+    ghost answer = { λ t found. turn t found };
+
+    ghost fits = { λ layout view slots t. Fits layout view t };
+
+    ghost class_of = { λ t. class t };
+
+    ghost cost = { λ t words. cost t words };
+
+    ghost aborts = { λ t. false };
+
+    ghost claims = { λ t. None };
+
+    fn advance<O: Ops>(&mut self, o: &mut O) -> Turn {
+        match self.at {
+            TakeAt::Available => {
+                o.at(self.who.seq);
+                self.at = Take::at_available(o.load_avail());
+                Turn::Moved
+            }
+            TakeAt::Reserve { seen } => {
+                o.at(self.who.seq);
+                match o.reserve(seen) {
+                    Tried::Got(()) => {
+                        self.at = TakeAt::Scan { number: 0 };
+                        Turn::Moved
+                    }
+                    Tried::Busy(word) | Tried::Changed(word) => {
+                        self.at = Take::at_available(word);
+                        Turn::Changed(word)
+                    }
+                }
+            }
+            TakeAt::Scan { number } => {
+                o.at(self.who.seq);
+                let word = o.load_free(number);
+                self.at = if word == 0 {
+                    TakeAt::Scan { number: Take::after_word(o.layout(), number) }
+                } else {
+                    TakeAt::TakeBit { frame: Frame((number * 64 + word.trailing_zeros()) as u16) }
+                };
+                Turn::Moved
+            }
+            TakeAt::TakeBit { frame } => {
+                o.at(self.who.seq);
+                match o.take_bit(frame) {
+                    Tried::Got(()) => {
+                        self.at = TakeAt::Adopt { frame };
+                        Turn::Moved
+                    }
+                    Tried::Busy(word) | Tried::Changed(word) => {
+                        self.at = TakeAt::Scan { number: u32::from(frame.0) / 64 };
+                        Turn::Changed(word)
+                    }
+                }
+            }
+            TakeAt::Adopt { frame } => {
+                o.at(self.who.seq);
+                if FrameWord::unpack(o.adopt(frame)).poisoned {
+                    unreachable!()
+                }
+                self.at = TakeAt::Done { frame: Some(frame) };
+                Turn::Moved
+            }
+            TakeAt::Done { .. } => Turn::Finished,
+        }
+    }
+
+    fn class(&self) -> u8 {
+        match self.at {
+            TakeAt::Available | TakeAt::Reserve { .. } | TakeAt::Done { frame: None } => 4,
+            TakeAt::Scan { .. } | TakeAt::TakeBit { .. } | TakeAt::Adopt { .. } | TakeAt::Done { frame: Some(_) } => 1,
+        }
+    }
+}

@@ -1,0 +1,358 @@
+-- A frame's lock taken keeps the frame rule.
+use Rattle.std.proofs.Common.{◌≡◌, ◌≢◌, ℕ, zero, suc, ◌+◌, ◌*◌, ◌/◌, ◌%◌, ◌^◌, ◌<◌, ◌≤◌, ◌==◌, ◌⊎◌, Bool, true, false, not, cond, List, [], ◌∷◌, ◌++◌, Option, Some, None, map, set, take, length, slice_get, slice_index, slice_set, bit_or, length-append, inl, inr, refl, sym, ap, ◌∙◌, subst, arith}
+use Rattle.std.proofs.lemmas.Bool.{eqb-true, eqb-false, ne_eqb}
+use Rattle.std.proofs.lemmas.List.Sums.{sum_by_push, sum_by-cons}
+use Rattle.std.proofs.lemmas.Nat.{or_mod, or_shr}
+use Rattle.std.proofs.lemmas.Option.{none-some, same_Some, slice_get_within, slice_get-get_or}
+use Rattle.std.proofs.Math.Seq.{take-length}
+use Rattle.std.specs.Int.Bits.{or_zero_r}
+use Rattle.std.specs.Int.{from_bool}
+use Rattle.std.specs.List.{sum_by}
+use Rattle.hwp_geom.specs.declared.Frame.{Frame}
+use Rattle.hwp_geom.specs.declared.Layout.{Layout}
+use Rattle.hwp_geom.specs.declared.Page.{Page}
+use Rattle.hwp_geom.specs.declared.Proc.{Proc}
+use Rattle.hwp_geom.specs.declared.TransDecl.{TransDecl}
+use Rattle.hwp_geom.specs.declared.Who.{Who}
+use Rattle.hwp_page.specs.declared.PageState.{PageState}
+use Rattle.hwp_words.specs.Frames.{lock_of, poison_of, handled_of, kernel_of, count_of, owner_of, cycle_of, is_locked, is_handled, is_poisoned}
+use Rattle.hwp_words.proofs.FieldLaws.{or_one}
+use Rattle.hwp_words.proofs.FrameSteps.{FieldsAre, fields-lock}
+use Rattle.hwp_rule.specs.declared.log.Log.{Log}
+use Rattle.hwp_rule.specs.declared.step.Step.TheVariants as steps
+use Rattle.hwp_rule.specs.declared.view.FrameLock.{FrameLock}
+use Rattle.hwp_rule.specs.declared.view.Held.{Held}
+use Rattle.hwp_rule.specs.declared.view.Length.{Length}
+use Rattle.hwp_rule.specs.declared.view.PageLock.{PageLock}
+use Rattle.hwp_rule.specs.declared.view.Ref.{Ref}
+use Rattle.hwp_rule.specs.declared.view.View.{View}
+use Rattle.hwp_rule.specs.Asks.{CanLockFrame}
+use Rattle.hwp_rule.specs.Lists.{Homes, EachBody, EachMember, SomeMember, sum_bodies}
+use Rattle.hwp_rule.specs.Logs.{state_of, fitting, fitting_from, fitting_word}
+use Rattle.hwp_rule.specs.Moves.{IsIn}
+use Rattle.hwp_rule.specs.Rule.{FrameRule, holder_of}
+use Rattle.hwp_rule.specs.Views.{refs_on, locks_on, page_locks_on, lock_found, taken, knowing, changed, is_page_lock_of, stamp_of}
+use Rattle.hwp_rule.specs.Words.{Words}
+use Rattle.hwp_rule.specs.parts.Bodies.{Holder, IsAtHome, IsHolding, content_name}
+use Rattle.hwp_rule.specs.parts.Endings.{AreEnded}
+use Rattle.hwp_rule.specs.parts.Fits.{Fits, FitsWords, KnowsWords, KnowsOwn}
+use Rattle.hwp_rule.specs.parts.Holdings.{IsPast}
+use Rattle.hwp_rule.specs.parts.Locks.{IsLocked}
+use Rattle.hwp_rule.specs.parts.Owners.{HoldsBoth}
+use Rattle.hwp_rule.proofs.Lists.{at_map, map-was, same-or, same-number, set_again, set_here, term-le, each-set, each-push, each-weaken, each-changed, some-push, some-last, sum-changed, length-changed}
+use Rattle.hwp_rule.proofs.FrameWord.{IsLike, like-fields, like-locked}
+use Rattle.hwp_rule.proofs.Given.{Given, Keeps, IsShaped}
+use Rattle.hwp_rule.proofs.Locking.{Locking, all_bodies, keeps-locking}
+use Rattle.hwp_rule.proofs.Referring.{word-there}
+use Rattle.hwp_rule.proofs.TakenBodies.{sum-empty, each-empty, sum-taken, each-taken, only-at-home}
+
+-- a bit that is set stays so
+or-odd : (w : ℕ) → w % 2 ≡ 1 → bit_or w 1 ≡ w
+or-odd w odd =
+    let high : bit_or w 1 / 2 ^ 1 ≡ w / 2 ^ 1 = or_shr w 1 1 ∙ or_zero_r (w / 2 ^ 1) in
+    let low : bit_or w 1 % 2 ^ 1 ≡ 1 = or_mod w 1 1 ∙ or_one (w % 2 ^ 1) (omega arith) in
+    omega arith
+
+pub same-page : (p q : Page) → p.0 ≡ q.0 → p ≡ q
+same-page p q e = λ i. record { 0 = e i }
+
+-- the words that fit a state, one for each translation
+pub fitting-at : (page : Page) (s : PageState) (cache slot : ℕ) (ts : List TransDecl) (n : ℕ) (t : TransDecl) → slice_get ts n ≡ Some t → t.page ≡ page
+    → slice_get (fitting_from page s cache slot ts) n ≡ Some (fitting_word s cache (slot + n))
+fitting-at page s cache slot [] n t e is = absurd (none-some t e)
+fitting-at page s cache slot (x ∷ xs) zero t e is =
+    let test : (x.page.0 == page.0) ≡ true = same-number x.page.0 page.0 (ap (λ (d : TransDecl). d.page.0) (same_Some x t e) ∙ ap (λ (p : Page). p.0) is) in
+    let first : slot ≡ slot + 0 = omega arith in
+    ap (λ (b : Bool). Some (cond b (fitting_word s cache slot) 0)) test ∙ ap (λ (k : ℕ). Some (fitting_word s cache k)) first
+fitting-at page s cache slot (x ∷ xs) (suc n) t e is =
+    let next : suc slot + n ≡ slot + suc n = omega arith in
+    fitting-at page s cache (suc slot) xs n t e is ∙ ap (λ (k : ℕ). Some (fitting_word s cache k)) next
+
+-- the one page lock that a view lists, where it lists the page's
+pub first-lock : (q : ℕ) (pages : List PageLock) → length pages ≤ 1 → 0 < page_locks_on q pages → (l : PageLock) × (slice_get pages 0 ≡ Some l) × (l.page.0 ≡ q)
+first-lock q [] few some = absurd (omega arith)
+first-lock q (l ∷ []) few some = which (l.page.0 == q) refl
+  where
+    which : (b : Bool) → (l.page.0 == q) ≡ b → (m : PageLock) × (slice_get (l ∷ []) 0 ≡ Some m) × (m.page.0 ≡ q)
+    which true e = (l, refl, eqb-true l.page.0 q e)
+    which false e =
+        let all : page_locks_on q (l ∷ []) ≡ from_bool (l.page.0 == q) + page_locks_on q [] = sum_by-cons (λ (l : PageLock). from_bool (l.page.0 == q)) l [] in
+        let none : from_bool (l.page.0 == q) ≡ 0 = ap from_bool e in
+        let rest : page_locks_on q [] ≡ 0 = refl in
+        absurd (omega (arith, some))
+first-lock q (l ∷ m ∷ ms) few some = absurd (omega (arith, few))
+
+-- a free lock that is taken, of the frame that the view has a reference to
+module _ (layout : Layout) (w : Words) (homes : Homes) (views : List View) (seat : ℕ) (v : View) (who : Who) (frame : Frame) (found : ℕ)
+    (shaped : IsShaped layout w homes) (me : slice_get views seat ≡ Some v) (past : IsPast v.parts who) (less : frame.0 < layout.frames) (can : CanLockFrame v frame)
+    (there : slice_get w.frames frame.0 ≡ Some found) (free : lock_of found ≡ 0) (h : FrameRule layout w homes views) where
+  abbrev now : ℕ
+  now = bit_or found 1
+
+  abbrev lock : FrameLock
+  lock = lock_found frame found
+
+  abbrev locks : List FrameLock
+  locks = v.locks ++ lock ∷ []
+
+  like : IsLike found now
+  like = like-fields found now 1 (count_of found) (fields-lock found)
+
+  pushed : (g : ℕ) → locks_on g locks ≡ locks_on g v.locks + from_bool (frame.0 == g)
+  pushed g = sum_by_push (λ (l : FrameLock). from_bool (l.frame.0 == g)) v.locks lock
+
+  here : lock_of now + locks_on frame.0 v.locks ≡ lock_of found + locks_on frame.0 locks
+  here =
+      let one : from_bool (frame.0 == frame.0) ≡ 1 = ap from_bool (same-number frame.0 frame.0 refl) in
+      omega (arith, pushed frame.0, (fields-lock found).lock, free)
+
+  others : (g : ℕ) → g ≢ frame.0 → locks_on g locks ≡ locks_on g v.locks
+  others g differs = omega (arith, pushed g, ap from_bool (ne_eqb frame.0 g (λ e. differs (sym e))))
+
+  known : EachMember (IsLocked (set w.frames frame.0 now) v.refs) locks
+  known = each-push (IsLocked (set w.frames frame.0 now) v.refs) v.locks lock (record {
+        word = now;
+        there = set_here w.frames frame.0 now found there;
+        owner = like.owner;
+        handled = ap (λ (n : ℕ). n == 1) like.handled;
+        poisoned = λ e. ap (λ (n : ℕ). n == 1) like.poison ∙ e;
+        referenced = can.referenced;
+      })
+      (each-weaken (IsLocked w.frames v.refs) (IsLocked (set w.frames frame.0 now) v.refs) v.locks
+          (λ l k. like-locked w.frames frame.0 found now there like v.refs v.refs l k.referenced k)
+          (h.frame_locks.known seat (v.refs, v.locks) (at_map (λ (v : View). (v.refs, v.locks)) views seat v me)))
+
+  twice : length locks ≤ 2
+  twice = omega (arith, can.second, length-append v.locks (lock ∷ []))
+
+  both-more : (g q : ℕ) → HoldsBoth g q (v.locks, v.pages) → HoldsBoth g q (locks, v.pages)
+  both-more g q both = record { frame = omega (arith, both.frame, pushed g); page = both.page }
+
+  locked-now : lock_of now ≡ 0 → ⊥
+  locked-now none = omega (arith, none, (fields-lock found).lock)
+
+  abbrev holder : List PageLock → List Held → Holder
+  holder pages bodies = record { locks = locks; pages = pages; bodies = bodies }
+
+  -- what a view holds it still holds
+  holding-more : (q : ℕ) (pages : List PageLock) (bodies : List Held) → page_locks_on q pages ≡ page_locks_on q v.pages → IsHolding q (holder_of v) → IsHolding q (holder pages bodies)
+  holding-more q pages bodies same holds = elim holds [
+      | inl page ↦ inl (subst (λ (n : ℕ). 0 < n) (sym same) page)
+      | inr some ↦ inr (some-push (λ (l : FrameLock). l.owner ≡ q + 1) v.locks lock some)
+    ]
+
+  my_bodies : slice_get (all_bodies views) seat ≡ Some v.bodies
+  my_bodies = at_map (λ (v : View). v.bodies) views seat v me
+
+  abbrev my_fits : List (List PageLock × List Held)
+  my_fits = map (λ (v : View). (v.pages, v.bodies)) views
+
+  my_fit : slice_get {X = List PageLock × List Held} (map (λ (v : View). (v.pages, v.bodies)) views) seat ≡ Some (v.pages, v.bodies)
+  my_fit = at_map (λ (v : View). (v.pages, v.bodies)) views seat v me
+
+  old-in_hand : EachMember (λ (b : Held). IsHolding b.log.page.0 (holder_of v)) v.bodies
+  old-in_hand = h.bodies.in_hand seat (holder_of v) (at_map holder_of views seat v me)
+
+  pub keeps-lock-empty : IsIn homes frame.0 None → FrameRule layout (record w { frames = set w.frames frame.0 now }) (set homes frame.0 None) (set views seat (record v { locks = locks }))
+  keeps-lock-empty empty = keeps-locking layout w homes views seat v frame.0 found now None locks v.pages v.bodies v.lengths me h there can.referenced (record {
+    like = like;
+    count = (fields-lock found).count;
+    sums = λ g. subst (λ (l : List (List Held)). sum_bodies g (set homes frame.0 None) l ≡ sum_bodies g homes (all_bodies views)) (sym same)
+        (sum-empty g homes (all_bodies views) frame.0 (Some None) None empty refl);
+    eachs = λ P each. subst (λ (l : List (List Held)). EachBody P (set homes frame.0 None) l) (sym same) (each-empty P homes (all_bodies views) frame.0 None (λ log e. none-some (Some log) e) each);
+    home = λ log e. absurd (none-some (Some log) e);
+    here = here;
+    others = others;
+    known = known;
+    twice = twice;
+    page_locks = λ q. refl;
+    page_once = refl;
+    cached = λ g x q at owner both. inr (both-more g q both);
+    free_home = λ none. absurd (locked-now none);
+    out = λ locked. set_here homes frame.0 None (Some None) empty;
+    in_hand = each-weaken (λ (b : Held). IsHolding b.log.page.0 (holder_of v)) (λ (b : Held). IsHolding b.log.page.0 (holder v.pages v.bodies)) v.bodies (λ b holds. holding-more b.log.page.0 v.pages v.bodies refl holds) old-in_hand;
+    reached = h.entries.lengths_reached seat v.lengths (at_map (λ (v : View). v.lengths) views seat v me);
+    before = h.endings.ended_before seat v.bodies my_bodies;
+    killed = h.stops.killed seat v.bodies my_bodies;
+    fits = h.fits.in_hand seat (v.pages, v.bodies) my_fit;
+    knows = h.fits.known seat (v.pages, v.bodies) my_fit;
+    own = h.fits.own seat (v.pages, v.bodies) my_fit;
+    past = (h.commands.own seat v me).lengths;
+  }) less
+    where
+      same : set (all_bodies views) seat v.bodies ≡ all_bodies views
+      same = set_again (all_bodies views) seat v.bodies my_bodies
+
+  -- ---- with the owner's body
+  module _ (log : Log) (inside : IsIn homes frame.0 (Some log)) where
+    abbrev body : Held
+    body = record { log = log; since = length log.entries; frame = Some frame; from = length v.sights; killed = [] }
+
+    abbrev bodies : List Held
+    bodies = v.bodies ++ body ∷ []
+
+    abbrev seen : Length
+    seen = record { stamp = stamp_of who (record v { locks = locks }); page = log.page; entries = length log.entries }
+
+    abbrev pages : List PageLock
+    pages = changed (is_page_lock_of log.page) (knowing layout log (Some frame)) v.pages
+
+    owner : owner_of found ≡ log.page.0 + 1
+    owner =
+        let home : IsAtHome homes frame.0 (owner_of found) = h.bodies.frame_home frame.0 found there free in
+        let same : home.content ≡ Some log = same_Some home.content (Some log) (same_Some (Some home.content) (Some (Some log)) (sym home.there ∙ inside)) in
+        sym home.named ∙ ap content_name same
+
+    cached : slice_get w.caches log.page.0 ≡ Some (frame.0 + 1)
+    cached = elim (h.caches.named frame.0 found log.page.0 there owner) [
+        | inl named ↦ named
+        | inr both ↦
+            let was : (x : View) × (slice_get views both.0 ≡ Some x) × ((x.locks, x.pages) ≡ both.1) = map-was (λ (v : View). (v.locks, v.pages)) views both.0 both.1 both.2 in
+            let holds : HoldsBoth frame.0 log.page.0 (was.0.locks, was.0.pages) = subst (HoldsBoth frame.0 log.page.0) (sym was.2) both.3 in
+            let one : sum_by (λ (o : List Ref × List FrameLock). locks_on frame.0 o.1) (map (λ (v : View). (v.refs, v.locks)) views) ≡ lock_of found = h.frame_locks.one frame.0 found there in
+            let term : locks_on frame.0 was.0.locks ≤ sum_by (λ (o : List Ref × List FrameLock). locks_on frame.0 o.1) (map (λ (v : View). (v.refs, v.locks)) views) =
+            term-le (λ (o : List Ref × List FrameLock). locks_on frame.0 o.1) (map (λ (v : View). (v.refs, v.locks)) views) both.0 (was.0.refs, was.0.locks) (at_map (λ (v : View). (v.refs, v.locks)) views both.0 was.0 was.1) in
+            absurd (omega (arith, holds.frame, free))
+      ]
+
+    within : log.page.0 < length layout.pages
+    within = subst (λ (n : ℕ). log.page.0 < n) shaped.caches (slice_get_within w.caches log.page.0 (frame.0 + 1) cached)
+
+    page_locks : (q : ℕ) → page_locks_on q pages ≡ page_locks_on q v.pages
+    page_locks q = sum-changed (λ (l : PageLock). from_bool (l.page.0 == q)) (is_page_lock_of log.page) (knowing layout log (Some frame)) v.pages (λ l. refl)
+
+    map-map : (views : List View) → map (λ (o : Holder). o.bodies) (map holder_of views) ≡ all_bodies views
+    map-map [] = refl
+    map-map (v ∷ vs) = ap (λ (l : List (List Held)). v.bodies ∷ l) (map-map vs)
+
+    -- the page has no other body
+    alone : EachBody (λ (x : Log). from_bool (x.page.0 == log.page.0) ≡ 1 → x ≡ log) homes (all_bodies views)
+    alone = only-at-home (λ (x : Log). from_bool (x.page.0 == log.page.0)) homes (all_bodies views) frame.0 log inside
+        (subst (λ (l : List (List Held)). sum_bodies (λ (x : Log). from_bool (x.page.0 == log.page.0)) homes l ≡ 1) (map-map views) (h.bodies.one log.page.0 within))
+        (ap from_bool (same-number log.page.0 log.page.0 refl))
+
+    reached-now : EachBody (λ (x : Log). x.page ≡ log.page → length log.entries ≤ length x.entries) homes (all_bodies views)
+    reached-now = record {
+      at_home = λ i x e page. longer x (alone.at_home i x e) page;
+      in_hand = λ i list at j b e page. longer b.log (alone.in_hand i list at j b e) page;
+    }
+      where
+        longer : (x : Log) → (from_bool (x.page.0 == log.page.0) ≡ 1 → x ≡ log) → x.page ≡ log.page → length log.entries ≤ length x.entries
+        longer x only page =
+            let same : x ≡ log = only (ap from_bool (same-number x.page.0 log.page.0 (ap (λ (p : Page). p.0) page))) in
+            subst (λ (y : Log). length log.entries ≤ length y.entries) (sym same) (omega arith)
+
+    fits-home : Fits layout w.trans w.caches log
+    fits-home = h.fits.at_home frame.0 log inside
+
+    knows-new : (l : PageLock) → is_page_lock_of log.page l ≡ true → KnowsWords layout w.trans w.caches l → KnowsWords layout w.trans w.caches (knowing layout log (Some frame) l)
+    knows-new l is knows = record {
+      resident = knows.resident;
+      cache = λ c e. subst (λ (k : ℕ). slice_get w.caches l.page.0 ≡ Some k) (same_Some (frame.0 + 1) c e) (ap (slice_get w.caches) number ∙ cached);
+      words = λ ws e n t decl page.
+          let own : t.page ≡ log.page = page ∙ same-page l.page log.page number in
+          let fit : slice_get (fitting layout log.page (state_of layout log) (frame.0 + 1)) n ≡ Some (fitting_word (state_of layout log) (frame.0 + 1) n) =
+          fitting-at log.page (state_of layout log) (frame.0 + 1) 0 layout.trans n t decl own ∙ ap (λ (k : ℕ). Some (fitting_word (state_of layout log) (frame.0 + 1) k)) (omega arith) in
+          let inside_it : n < length w.trans = subst (λ (k : ℕ). n < k) (sym shaped.trans) (slice_get_within layout.trans n t decl) in
+          let stands : slice_get w.trans n ≡ Some (slice_index w.trans n) = slice_get-get_or w.trans n 0 inside_it in
+          let used : slice_index w.trans n ≡ fitting_word (state_of layout log) (frame.0 + 1) n = (fits-home (frame.0 + 1) cached).used n (slice_index w.trans n) t decl own stands in
+          ap (λ (list : List ℕ). slice_get list n) (sym (same_Some (fitting layout log.page (state_of layout log) (frame.0 + 1)) ws e)) ∙ fit ∙ ap (λ (k : ℕ). Some k) (sym used) ∙ sym stands;
+    }
+      where
+        number : l.page.0 ≡ log.page.0
+        number = eqb-true l.page.0 log.page.0 is
+
+    own-changed : (b : Held) → KnowsOwn v.pages b → KnowsOwn pages b
+    own-changed b own = which (is_page_lock_of log.page own.lock)
+      where
+        at : slice_get pages 0 ≡ Some (cond (is_page_lock_of log.page own.lock) (knowing layout log (Some frame) own.lock) own.lock)
+        at = at_map (λ (l : PageLock). cond (is_page_lock_of log.page l) (knowing layout log (Some frame) l) l) v.pages 0 own.lock own.there
+
+        at-is : (b : Bool) → is_page_lock_of log.page own.lock ≡ b → slice_get pages 0 ≡ Some (cond b (knowing layout log (Some frame) own.lock) own.lock)
+        at-is b e = at ∙ ap (λ (b : Bool). Some (cond b (knowing layout log (Some frame) own.lock) own.lock)) e
+
+        by : (b' : Bool) → is_page_lock_of log.page own.lock ≡ b' → KnowsOwn pages b
+        by true e = record { lock = knowing layout log (Some frame) own.lock; there = at-is true e; cache = frame.0 + 1; cache_is = refl; trans = fitting layout log.page (state_of layout log) (frame.0 + 1); trans_is = refl }
+        by false e = record { lock = own.lock; there = at-is false e; cache = own.cache; cache_is = own.cache_is; trans = own.trans; trans_is = own.trans_is }
+
+        which : Bool → KnowsOwn pages b
+        which b' = by (is_page_lock_of log.page own.lock) refl
+
+    own-new : 0 < page_locks_on log.page.0 pages → KnowsOwn pages body
+    own-new some = record { lock = knowing layout log (Some frame) first.0; there = at; cache = frame.0 + 1; cache_is = refl; trans = fitting layout log.page (state_of layout log) (frame.0 + 1); trans_is = refl }
+      where
+        first : (l : PageLock) × (slice_get v.pages 0 ≡ Some l) × (l.page.0 ≡ log.page.0)
+        first = first-lock log.page.0 v.pages (h.page_locks.page_once seat v.pages (at_map (λ (v : View). v.pages) views seat v me)) (subst (λ (n : ℕ). 0 < n) (page_locks log.page.0) some)
+
+        at : slice_get pages 0 ≡ Some (knowing layout log (Some frame) first.0)
+        at = at_map (λ (l : PageLock). cond (is_page_lock_of log.page l) (knowing layout log (Some frame) l) l) v.pages 0 first.0 first.1
+            ∙ ap (λ (b : Bool). Some (cond b (knowing layout log (Some frame) first.0) first.0)) (same-number first.0.page.0 log.page.0 first.2)
+
+    pub keeps-lock-body : FrameRule layout (record w { frames = set w.frames frame.0 now }) (set homes frame.0 None) (set views seat (taken layout who (Some frame) (Some log) (record v { locks = locks })))
+    keeps-lock-body = keeps-locking layout w homes views seat v frame.0 found now None locks pages bodies (v.lengths ++ seen ∷ []) me h there can.referenced (record {
+      like = like;
+      count = (fields-lock found).count;
+      sums = sum-taken homes (all_bodies views) frame.0 seat log v.bodies body inside my_bodies refl;
+      eachs = each-taken homes (all_bodies views) frame.0 seat log v.bodies body inside my_bodies refl;
+      home = λ x e. absurd (none-some (Some x) e);
+      here = here;
+      others = others;
+      known = known;
+      twice = twice;
+      page_locks = page_locks;
+      page_once = length-changed (is_page_lock_of log.page) (knowing layout log (Some frame)) v.pages;
+      cached = λ g x q at is both. inr (both-more g q both);
+      free_home = λ none. absurd (locked-now none);
+      out = λ locked. set_here homes frame.0 None (Some (Some log)) inside;
+      in_hand = each-push (λ (b : Held). IsHolding b.log.page.0 (holder pages bodies)) v.bodies body
+          (inr (some-last (λ (l : FrameLock). l.owner ≡ log.page.0 + 1) v.locks lock owner))
+          (each-weaken (λ (b : Held). IsHolding b.log.page.0 (holder_of v)) (λ (b : Held). IsHolding b.log.page.0 (holder pages bodies)) v.bodies
+              (λ b holds. holding-more b.log.page.0 pages bodies (page_locks b.log.page.0) holds) old-in_hand);
+      reached = each-push (λ (l : Length). EachBody (λ (x : Log). x.page ≡ l.page → l.entries ≤ length x.entries) homes (all_bodies views)) v.lengths seen reached-now
+          (h.entries.lengths_reached seat v.lengths (at_map (λ (v : View). v.lengths) views seat v me));
+      before = each-push (λ (b : Held). AreEnded layout w.processes (take b.since b.log.entries)) v.bodies body
+          (subst (AreEnded layout w.processes) (sym (take-length log.entries)) (h.endings.ended frame.0 log inside)) (h.endings.ended_before seat v.bodies my_bodies);
+      killed = each-push (λ (b : Held). EachMember (λ (p : Proc). (x : ℕ) → slice_get w.processes p.0 ≡ Some x → x ≢ 0) b.killed) v.bodies body (λ i p e. absurd (none-some p e)) (h.stops.killed seat v.bodies my_bodies);
+      fits = each-push (λ (b : Held). page_locks_on b.log.page.0 pages ≡ 0 → Fits layout w.trans w.caches b.log) v.bodies body (λ none. fits-home)
+          (each-weaken (λ (b : Held). page_locks_on b.log.page.0 v.pages ≡ 0 → Fits layout w.trans w.caches b.log) (λ (b : Held). page_locks_on b.log.page.0 pages ≡ 0 → Fits layout w.trans w.caches b.log) v.bodies
+              (λ b fits none. fits (sym (page_locks b.log.page.0) ∙ none)) (h.fits.in_hand seat (v.pages, v.bodies) my_fit));
+      knows = each-changed (KnowsWords layout w.trans w.caches) (is_page_lock_of log.page) (knowing layout log (Some frame)) v.pages knows-new (h.fits.known seat (v.pages, v.bodies) my_fit);
+      own = each-push (λ (b : Held). 0 < page_locks_on b.log.page.0 pages → KnowsOwn pages b) v.bodies body own-new
+          (each-weaken (λ (b : Held). 0 < page_locks_on b.log.page.0 v.pages → KnowsOwn v.pages b) (λ (b : Held). 0 < page_locks_on b.log.page.0 pages → KnowsOwn pages b) v.bodies
+              (λ b own some. own-changed b (own (subst (λ (n : ℕ). 0 < n) (page_locks b.log.page.0) some))) (h.fits.own seat (v.pages, v.bodies) my_fit));
+      past = each-push (λ (l : Length). IsPast v.parts l.stamp.who) v.lengths seen past (h.commands.own seat v me).lengths;
+    }) less
+
+pub keeps-lock_frame : (frame : Frame) → Keeps (steps.LockFrame frame)
+keeps-lock_frame frame layout w homes views seat v who content given = which (not (is_locked (slice_index w.frames frame.0))) refl
+  where
+    there : slice_get w.frames frame.0 ≡ Some (slice_index w.frames frame.0)
+    there = word-there layout w homes frame.0 given.shaped given.place
+
+    -- another has the lock: nothing changes
+    busy : (slice_index w.frames frame.0 % 2 ≡ 1) → FrameRule layout (record w { frames = set w.frames frame.0 (bit_or (slice_index w.frames frame.0) 1) }) homes (set views seat v)
+    busy odd =
+        let words : set w.frames frame.0 (bit_or (slice_index w.frames frame.0) 1) ≡ w.frames = ap (set w.frames frame.0) (or-odd (slice_index w.frames frame.0) odd) ∙ set_again w.frames frame.0 (slice_index w.frames frame.0) there in
+        subst (λ (l : List ℕ). FrameRule layout (record w { frames = l }) homes (set views seat v)) (sym words)
+            (subst (FrameRule layout w homes) (sym (set_again views seat v given.me)) given.rule)
+
+    free-at : (is_locked (slice_index w.frames frame.0) ≡ false) → (content : Option Log) → IsIn homes frame.0 content
+        → FrameRule layout (record w { frames = set w.frames frame.0 (bit_or (slice_index w.frames frame.0) 1) }) (set homes frame.0 None)
+            (set views seat (taken layout who (Some frame) content (record v { locks = v.locks ++ lock_found frame (slice_index w.frames frame.0) ∷ [] })))
+    free-at e None inside = keeps-lock-empty layout w homes views seat v who frame (slice_index w.frames frame.0) given.shaped given.me given.past given.place given.asks there
+        (let unset : lock_of (slice_index w.frames frame.0) ≢ 1 = eqb-false (lock_of (slice_index w.frames frame.0)) 1 e in omega arith) given.rule inside
+    free-at e (Some log) inside = keeps-lock-body layout w homes views seat v who frame (slice_index w.frames frame.0) given.shaped given.me given.past given.place given.asks there
+        (let unset : lock_of (slice_index w.frames frame.0) ≢ 1 = eqb-false (lock_of (slice_index w.frames frame.0)) 1 e in omega arith) given.rule log inside
+
+    locked-is : (b : Bool) → not (is_locked (slice_index w.frames frame.0)) ≡ b → is_locked (slice_index w.frames frame.0) ≡ not b
+    locked-is b e = by (is_locked (slice_index w.frames frame.0)) e
+      where
+        by : (c : Bool) → not c ≡ b → c ≡ not b
+        by true e = ap not e
+        by false e = ap not e
+
+    which : (b : Bool) → not (is_locked (slice_index w.frames frame.0)) ≡ b
+        → FrameRule layout (record w { frames = slice_set w.frames frame.0 (bit_or (slice_index w.frames frame.0) 1) }) (cond b (slice_set homes frame.0 None) homes)
+            (set views seat (cond b (taken layout who (Some frame) content (record v { locks = v.locks ++ lock_found frame (slice_index w.frames frame.0) ∷ [] })) v))
+    which false e = busy (let set_it : lock_of (slice_index w.frames frame.0) ≡ 1 = eqb-true (lock_of (slice_index w.frames frame.0)) 1 (locked-is false e) in omega arith)
+    which true e = free-at (locked-is true e) content (given.meets e)

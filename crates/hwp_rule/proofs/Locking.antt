@@ -1,0 +1,281 @@
+-- A step on a frame's lock keeps the frame rule: what is to be known of the locks, of the slot and of the bodies in hand.
+use Rattle.std.proofs.Common.{◌≡◌, ◌≢◌, ℕ, ◌+◌, ◌^◌, ◌<◌, ◌≤◌, ◌==◌, ◌⊎◌, min, Bool, true, false, cond, List, [], ◌∷◌, ◌++◌, Option, Some, None, map, set, take, length, slice_get, inl, inr, refl, sym, ap, ◌∙◌, subst, arith}
+use Rattle.std.proofs.lemmas.List.{map-set}
+use Rattle.std.proofs.lemmas.Option.{none-some, same_Some}
+use Rattle.std.specs.Int.{from_bool}
+use Rattle.std.specs.List.{sum_by, list_any}
+use Rattle.hwp_geom.specs.declared.FileNo.{FileNo}
+use Rattle.hwp_geom.specs.declared.Frame.{Frame}
+use Rattle.hwp_geom.specs.declared.Layout.{Layout}
+use Rattle.hwp_geom.specs.declared.Proc.{Proc}
+use Rattle.hwp_geom.specs.declared.Who.{Who}
+use Rattle.hwp_page.specs.declared.Entry.{Entry}
+use Rattle.hwp_words.specs.Frames.{lock_of, count_of, owner_of, handled_of, is_kernel}
+use Rattle.hwp_rule.specs.declared.log.Log.{Log}
+use Rattle.hwp_rule.specs.declared.view.FrameLock.{FrameLock}
+use Rattle.hwp_rule.specs.declared.view.Held.{Held}
+use Rattle.hwp_rule.specs.declared.view.Length.{Length}
+use Rattle.hwp_rule.specs.declared.view.Made.{Made}
+use Rattle.hwp_rule.specs.declared.view.PageLock.{PageLock}
+use Rattle.hwp_rule.specs.declared.view.Ref.{Ref}
+use Rattle.hwp_rule.specs.declared.view.Sight.{Sight}
+use Rattle.hwp_rule.specs.declared.view.View.{View}
+use Rattle.hwp_rule.specs.Lists.{Homes, EachBody, EachMember, EachListed, SomeMember, IsNotLater, of_home, sum_bodies}
+use Rattle.hwp_rule.specs.Logs.{has_ending, is_ending, losses_of}
+use Rattle.hwp_rule.specs.Rule.{FrameRule, holder_of, holdings_of, losing_of}
+use Rattle.hwp_rule.specs.Views.{refs_on, locks_on, page_locks_on}
+use Rattle.hwp_rule.specs.Words.{Words, free_bit}
+use Rattle.hwp_rule.specs.parts.Bodies.{BodiesAtHome, Holder, IsAtHome, IsHolding}
+use Rattle.hwp_rule.specs.parts.Counts.{CountsBalance, named}
+use Rattle.hwp_rule.specs.parts.Endings.{EndingsAgree, AreEnded, ShowsEnding}
+use Rattle.hwp_rule.specs.parts.Entries.{EntriesListed, weigh}
+use Rattle.hwp_rule.specs.parts.Fits.{PageFits, Fits, KnowsWords, KnowsOwn}
+use Rattle.hwp_rule.specs.parts.Holdings.{AreOwn, IsPast}
+use Rattle.hwp_rule.specs.parts.Locks.{FrameLocksHeld, PageLocksHeld, IsLocked}
+use Rattle.hwp_rule.specs.parts.Losses.{LossesBalance}
+use Rattle.hwp_rule.specs.parts.Owners.{CacheWordsOwned, HoldsBoth}
+use Rattle.hwp_rule.specs.parts.Places.{HasOnePlace, IsBare, in_hand}
+use Rattle.hwp_rule.specs.parts.Stops.{EndingsAndStopsStay}
+use Rattle.hwp_rule.specs.parts.Unpoisoned.{NothingPoisonedYet, is_failure}
+use Rattle.hwp_rule.proofs.Lists.{change, keep, at_map, map-was, at_set, set_here, set_else, same-or, set_again, sum-set, term-le, each-set, each-map, each-weaken}
+use Rattle.hwp_rule.proofs.FrameWord.{IsLike, word-was, like-translations, like-caches, like-handled, like-counter, like-marks, like-unpoisoned, like-locked, placed-again, counted-again, locked-again}
+use Rattle.hwp_rule.proofs.Kept
+
+abbrev pub all_bodies : List View → List (List Held)
+all_bodies views = map (λ (v : View). v.bodies) views
+
+-- The word of frame f becomes `now`, its slot y; of a view v with references to the frame the locks, the page locks, the
+-- bodies in hand and the lengths become these. Of y, and of each new member, what the parts ask of it.
+pub record Locking (layout : Layout) (w : Words) (homes : Homes) (views : List View) (seat : ℕ) (v : View) (f word now : ℕ) (y : Option (Option Log)) (locks : List FrameLock) (pages : List PageLock) (bodies : List Held) (lengths : List Length) : Type 1 where
+  pub like : IsLike word now
+  pub count : count_of now ≡ count_of word
+  -- the bodies are the same, wherever they are
+  pub sums : (g : Log → ℕ) → sum_bodies g (set homes f y) (set (all_bodies views) seat bodies) ≡ sum_bodies g homes (all_bodies views)
+  pub eachs : (P : Log → Type 0) → EachBody P homes (all_bodies views) → EachBody P (set homes f y) (set (all_bodies views) seat bodies)
+  pub home : (log : Log) → y ≡ Some (Some log) → AreEnded layout w.processes log.entries × Fits layout w.trans w.caches log
+  -- the locks
+  pub here : lock_of now + locks_on f v.locks ≡ lock_of word + locks_on f locks
+  pub others : (g : ℕ) → g ≢ f → locks_on g locks ≡ locks_on g v.locks
+  pub known : EachMember (IsLocked (set w.frames f now) v.refs) locks
+  pub twice : length locks ≤ 2
+  pub page_locks : (q : ℕ) → page_locks_on q pages ≡ page_locks_on q v.pages
+  pub page_once : length pages ≡ length v.pages
+  pub cached : (g x q : ℕ) → slice_get w.frames g ≡ Some x → owner_of x ≡ q + 1 → HoldsBoth g q (v.locks, v.pages) → (slice_get w.caches q ≡ Some (g + 1)) ⊎ HoldsBoth g q (locks, v.pages)
+  -- the slot
+  pub free_home : lock_of now ≡ 0 → IsAtHome (set homes f y) f (owner_of now)
+  pub out : lock_of now ≡ 1 → slice_get (set homes f y) f ≡ Some None
+  -- the bodies in hand
+  pub in_hand : EachMember (λ (b : Held). IsHolding b.log.page.0 (record { locks = locks; pages = pages; bodies = bodies })) bodies
+  pub reached : EachMember (λ (l : Length). EachBody (λ (log : Log). log.page ≡ l.page → l.entries ≤ length log.entries) homes (all_bodies views)) lengths
+  pub before : EachMember (λ (b : Held). AreEnded layout w.processes (take b.since b.log.entries)) bodies
+  pub killed : EachMember (λ (b : Held). EachMember (λ (p : Proc). (x : ℕ) → slice_get w.processes p.0 ≡ Some x → x ≢ 0) b.killed) bodies
+  pub fits : EachMember (λ (b : Held). page_locks_on b.log.page.0 pages ≡ 0 → Fits layout w.trans w.caches b.log) bodies
+  pub knows : EachMember (KnowsWords layout w.trans w.caches) pages
+  pub own : EachMember (λ (b : Held). 0 < page_locks_on b.log.page.0 pages → KnowsOwn pages b) bodies
+  pub past : EachMember (λ (l : Length). IsPast v.parts l.stamp.who) lengths
+
+module _ (layout : Layout) (w : Words) (homes : Homes) (views : List View) (seat : ℕ) (v : View) (f word now : ℕ) (y : Option (Option Log)) (locks : List FrameLock) (pages : List PageLock) (bodies : List Held) (lengths : List Length) where
+  abbrev u : View
+  u = record v { locks = locks; pages = pages; bodies = bodies; lengths = lengths }
+
+  abbrev frames : List ℕ
+  frames = set w.frames f now
+
+  module _ (me : slice_get views seat ≡ Some v) (h : FrameRule layout w homes views) (there : slice_get w.frames f ≡ Some word) (some : 0 < refs_on f v.refs)
+      (x : Locking layout w homes views seat v f word now y locks pages bodies lengths) where
+    -- the frame is counted, so it is in none of the other places
+    counted : 0 < count_of word
+    counted =
+        let balance : count_of word ≡ named f w.trans + named f w.caches + sum_by (refs_on f) (map (λ (v : View). v.refs) views) + handled_of word = h.counts.balance f word there in
+        let mine : refs_on f v.refs ≤ sum_by (refs_on f) (map (λ (v : View). v.refs) views) = term-le (refs_on f) (map (λ (v : View). v.refs) views) seat v.refs (at_map (λ (v : View). v.refs) views seat v me) in
+        omega (arith, some)
+
+    not-idle : 0 < free_bit w.frees f + in_hand f (map (λ (v : View). v.hands) views) → ⊥
+    not-idle idle = which (is_kernel word) refl
+      where
+        which : (b : Bool) → is_kernel word ≡ b → ⊥
+        which true e = omega (arith, counted, (h.places.kernels f word there e).uncounted)
+        which false e = omega (arith, counted, idle, h.places.placed f word there e)
+
+    counts-locking : CountsBalance frames w.trans w.caches (map (λ (v : View). v.refs) views)
+    counts-locking = subst (CountsBalance frames w.trans w.caches) (set_again (map (λ (v : View). v.refs) views) seat v.refs my_refs)
+        (counted-again w.frames f word now there x.like w.trans w.caches (map (λ (v : View). v.refs) views) seat v.refs v.refs my_refs (ap (λ (n : ℕ). n + refs_on f v.refs) x.count) (λ g differs. refl) h.counts)
+      where
+        my_refs : slice_get (map (λ (v : View). v.refs) views) seat ≡ Some v.refs
+        my_refs = at_map (λ (v : View). v.refs) views seat v me
+
+    places-locking : HasOnePlace layout.kernel frames w.frees (map (λ (v : View). v.hands) views)
+    places-locking = placed-again w.frames f word now there x.like layout.kernel w.frees (map (λ (v : View). v.hands) views) (map (λ (v : View). v.hands) views) counted (λ g differs. refl)
+        (λ usable. subst (λ (n : ℕ). free_bit w.frees f + in_hand f (map (λ (v : View). v.hands) views) + min n 1 ≡ 1) (sym x.count) (h.places.placed f word there usable))
+        (λ idle. absurd (not-idle idle)) h.places.handed h.places
+
+    page-locks-locking : PageLocksHeld w.pages (set (map (λ (v : View). v.pages) views) seat pages) (set (map (λ (v : View). v.locks) views) seat locks)
+    page-locks-locking = record {
+      one = λ q p there'.
+          let was : sum_by (page_locks_on q) (map (λ (v : View). v.pages) views) ≡ lock_of p = h.page_locks.one q p there' in
+          let moved : sum_by (page_locks_on q) (set (map (λ (v : View). v.pages) views) seat pages) + page_locks_on q v.pages ≡ sum_by (page_locks_on q) (map (λ (v : View). v.pages) views) + page_locks_on q pages =
+          sum-set (page_locks_on q) (map (λ (v : View). v.pages) views) seat v.pages pages (at_map (λ (v : View). v.pages) views seat v me) in
+          let same : page_locks_on q pages ≡ page_locks_on q v.pages = x.page_locks q in
+          omega arith;
+      page_once = each-set (λ (l : List PageLock). length l ≤ 1) (map (λ (v : View). v.pages) views) seat pages
+          (subst (λ (n : ℕ). n ≤ 1) (sym x.page_once) (h.page_locks.page_once seat v.pages (at_map (λ (v : View). v.pages) views seat v me))) h.page_locks.page_once;
+      frames_twice = each-set (λ (l : List FrameLock). length l ≤ 2) (map (λ (v : View). v.locks) views) seat locks x.twice h.page_locks.frames_twice;
+    }
+
+    caches-locking : CacheWordsOwned frames w.caches (set (map (λ (v : View). (v.locks, v.pages)) views) seat (locks, pages))
+    caches-locking = record {
+      owned = (like-caches w.frames f word now there x.like w.caches (map (λ (v : View). (v.locks, v.pages)) views) h.caches).owned;
+      named = λ g z q at owner.
+          let was : (a : ℕ) × (slice_get w.frames g ≡ Some a) × IsLike a z = word-was w.frames f word now there x.like g z at in
+          let owned : owner_of was.0 ≡ q + 1 = sym was.2.owner ∙ owner in
+          elim (h.caches.named g was.0 q was.1 owned) [
+            | inl cached ↦ inl cached
+            | inr both ↦ elim (same-or both.0 seat) [
+                | inl same ↦
+                    let mine : both.1 ≡ (v.locks, v.pages) = same_Some both.1 (v.locks, v.pages) (sym both.2 ∙ ap (slice_get (map (λ (v : View). (v.locks, v.pages)) views)) same ∙ my_locks) in
+                    elim (x.cached g was.0 q was.1 owned (subst (HoldsBoth g q) mine both.3)) [
+                      | inl cached ↦ inl cached
+                      | inr holds ↦ inr (seat, (locks, pages), set_here (map (λ (v : View). (v.locks, v.pages)) views) seat (locks, pages) (v.locks, v.pages) my_locks,
+                          record { frame = holds.frame; page = subst (λ (n : ℕ). 0 < n) (sym (x.page_locks q)) holds.page })
+                    ]
+                | inr differs ↦ inr (both.0, both.1, set_else (map (λ (v : View). (v.locks, v.pages)) views) seat both.0 (locks, pages) differs ∙ both.2, both.3)
+              ]
+          ];
+    }
+      where
+        my_locks : slice_get {X = List FrameLock × List PageLock} (map (λ (v : View). (v.locks, v.pages)) views) seat ≡ Some (v.locks, v.pages)
+        my_locks = at_map (λ (v : View). (v.locks, v.pages)) views seat v me
+
+    bodies-locking : f < layout.frames → BodiesAtHome layout frames w.caches w.pages (set homes f y) (set (map holder_of views) seat (holder_of u))
+    bodies-locking less = record {
+      frame_home = λ g z at free. elim (at_set w.frames f g now z at) [
+        | inl t ↦ subst (λ (p : ℕ × ℕ). IsAtHome (set homes f y) p.0 (owner_of p.1)) (λ i. (sym t.0 i, t.1 i)) (x.free_home (ap lock_of t.1 ∙ free))
+        | inr t ↦
+            let was : IsAtHome homes g (owner_of z) = h.bodies.frame_home g z t.1 free in
+            record { content = was.content; there = set_else homes f g y t.0 ∙ was.there; named = was.named }
+      ];
+      frame_out = λ g z at locked. elim (at_set w.frames f g now z at) [
+        | inl t ↦ ap (slice_get (set homes f y)) t.0 ∙ x.out (ap lock_of t.1 ∙ locked)
+        | inr t ↦ set_else homes f g y t.0 ∙ h.bodies.frame_out g z t.1 locked
+      ];
+      shelf_home = λ q p c at cache free.
+          let was : IsAtHome homes (layout.frames + q) (cond (c == 0) (q + 1) 0) = h.bodies.shelf_home q p c at cache free in
+          record { content = was.content; there = set_else homes f (layout.frames + q) y (λ e. absurd (omega (arith, less, e))) ∙ was.there; named = was.named };
+      shelf_out = λ q p at locked. set_else homes f (layout.frames + q) y (λ e. absurd (omega (arith, less, e))) ∙ h.bodies.shelf_out q p at locked;
+      one = λ q within.
+          let lists : map (λ (o : Holder). o.bodies) (set (map holder_of views) seat (holder_of u)) ≡ set (all_bodies views) seat bodies =
+          map-set (λ (o : Holder). o.bodies) (map holder_of views) seat (holder_of u) ∙ ap (λ (l : List (List Held)). set l seat bodies) (map-map views) in
+          let was : sum_bodies (λ (log : Log). from_bool (log.page.0 == q)) homes (all_bodies views) ≡ 1 =
+          subst (λ (l : List (List Held)). sum_bodies (λ (log : Log). from_bool (log.page.0 == q)) homes l ≡ 1) (map-map views) (h.bodies.one q within) in
+          subst (λ (l : List (List Held)). sum_bodies (λ (log : Log). from_bool (log.page.0 == q)) (set homes f y) l ≡ 1) (sym lists) (x.sums (λ (log : Log). from_bool (log.page.0 == q)) ∙ was);
+      in_hand = each-set (λ (o : Holder). EachMember (λ (b : Held). IsHolding b.log.page.0 o) o.bodies) (map holder_of views) seat (holder_of u) x.in_hand h.bodies.in_hand;
+    }
+      where
+        map-map : (views : List View) → map (λ (o : Holder). o.bodies) (map holder_of views) ≡ all_bodies views
+        map-map [] = refl
+        map-map (v ∷ vs) = ap (λ (l : List (List Held)). v.bodies ∷ l) (map-map vs)
+
+    entries-locking : EntriesListed (set homes f y) (set (all_bodies views) seat bodies) (map (λ (v : View). (v.made, v.sights)) views) (set (map (λ (v : View). v.lengths) views) seat lengths)
+    entries-locking = record {
+      balance = λ g. x.sums (weigh g) ∙ h.entries.balance g;
+      shown = h.entries.shown;
+      lengths_reached = each-set (EachMember Reached) (map (λ (v : View). v.lengths) views) seat lengths (again lengths x.reached)
+          (each-weaken (EachMember Was) (EachMember Reached) (map (λ (v : View). v.lengths) views) (λ list each. again list each) h.entries.lengths_reached);
+    }
+      where
+        Was : Length → Type 0
+        Was l = EachBody (λ (log : Log). log.page ≡ l.page → l.entries ≤ length log.entries) homes (all_bodies views)
+
+        Reached : Length → Type 0
+        Reached l = EachBody (λ (log : Log). log.page ≡ l.page → l.entries ≤ length log.entries) (set homes f y) (set (all_bodies views) seat bodies)
+
+        again : (list : List Length) → EachMember Was list → EachMember Reached list
+        again list each i l e = x.eachs (λ (log : Log). log.page ≡ l.page → l.entries ≤ length log.entries) (each i l e)
+
+    endings-locking : EndingsAgree layout w.processes (set homes f y) (set (all_bodies views) seat bodies) (map (λ (v : View). v.sights) views)
+    endings-locking = record {
+      caused = λ process p at. x.eachs (λ (log : Log). p ≡ log.page.0 + 1 → has_ending layout process log.entries ≡ true) (h.endings.caused process p at);
+      ended = λ i log at. elim (at_set homes f i y (Some (Some log)) at) [
+        | inl t ↦ (x.home log t.1).0
+        | inr t ↦ h.endings.ended i log t.1
+      ];
+      ended_before = each-set (EachMember (λ (b : Held). AreEnded layout w.processes (take b.since b.log.entries))) (all_bodies views) seat bodies x.before h.endings.ended_before;
+      shown = λ i list at j s is process place.
+          x.eachs (λ (log : Log). s.word ≡ log.page.0 + 1 → SomeMember (λ (e : Entry). (is_ending layout process e.what ≡ true) × IsNotLater e.who s.stamp.who) log.entries)
+              (h.endings.shown i list at j s is process place);
+    }
+
+    losses-locking : LossesBalance layout w.losses (set homes f y) (set (all_bodies views) seat bodies) (map losing_of views)
+    losses-locking = record {
+      balance = λ file p at. h.losses.balance file p at ∙ sym (x.sums (losses_of layout file));
+      poisoned = h.losses.poisoned;
+    }
+
+    stops-locking : EndingsAndStopsStay w.processes w.stop (set (all_bodies views) seat bodies) (map (λ (v : View). v.sights) views) (map (λ (v : View). v.stops) views)
+    stops-locking = record {
+      killed = each-set (EachMember (λ (b : Held). EachMember (λ (p : Proc). (x : ℕ) → slice_get w.processes p.0 ≡ Some x → x ≢ 0) b.killed)) (all_bodies views) seat bodies x.killed h.stops.killed;
+      ended_stays = h.stops.ended_stays;
+      stop_stays = h.stops.stop_stays;
+      one = h.stops.one;
+      named = h.stops.named;
+    }
+
+    fits-locking : PageFits layout w.trans w.caches (set homes f y) (set (map (λ (v : View). (v.pages, v.bodies)) views) seat (pages, bodies))
+    fits-locking = record {
+      at_home = λ i log at. elim (at_set homes f i y (Some (Some log)) at) [
+        | inl t ↦ (x.home log t.1).1
+        | inr t ↦ h.fits.at_home i log t.1
+      ];
+      in_hand = each-set (λ (o : List PageLock × List Held). EachMember (λ (b : Held). page_locks_on b.log.page.0 o.0 ≡ 0 → Fits layout w.trans w.caches b.log) o.1) (map (λ (v : View). (v.pages, v.bodies)) views) seat (pages, bodies) x.fits h.fits.in_hand;
+      known = each-set (λ (o : List PageLock × List Held). EachMember (KnowsWords layout w.trans w.caches) o.0) (map (λ (v : View). (v.pages, v.bodies)) views) seat (pages, bodies) x.knows h.fits.known;
+      own = each-set (λ (o : List PageLock × List Held). EachMember (λ (b : Held). 0 < page_locks_on b.log.page.0 o.0 → KnowsOwn o.0 b) o.1) (map (λ (v : View). (v.pages, v.bodies)) views) seat (pages, bodies) x.own h.fits.own;
+    }
+
+    unpoisoned-locking : NothingPoisonedYet frames (map (λ (v : View). v.spoiled) views) (set homes f y) (set (all_bodies views) seat bodies)
+    unpoisoned-locking = record {
+      sound = (like-unpoisoned w.frames f word now there x.like (map (λ (v : View). v.spoiled) views) homes (all_bodies views) h.unpoisoned).sound;
+      unspoiled = h.unpoisoned.unspoiled;
+      no_failure = x.eachs (λ (log : Log). list_any (λ (e : Entry). is_failure e.what) log.entries ≡ false) h.unpoisoned.no_failure;
+    }
+
+    own-locking : AreOwn u
+    own-locking = record { made = own.made; marks = own.marks; sights = own.sights; lengths = x.past; settings = own.settings; stops = own.stops }
+      where
+        own : AreOwn v
+        own = h.commands.own seat v me
+
+    pub keeps-locking : f < layout.frames → FrameRule layout (record w { frames = set w.frames f now }) (set homes f y) (set views seat u)
+    keeps-locking less = record {
+      counts = Kept.kept-counts views seat v u me frames w.trans w.caches refl counts-locking;
+      places = Kept.kept-places views seat v u me layout.kernel frames w.frees refl places-locking;
+      frame_locks = change (λ (v : View). (v.refs, v.locks)) (FrameLocksHeld frames) views seat u
+          (locked-again w.frames f word now there x.like (map (λ (v : View). (v.refs, v.locks)) views) seat (v.refs, v.locks) (v.refs, locks) (at_map (λ (v : View). (v.refs, v.locks)) views seat v me) x.here x.others x.known h.frame_locks);
+      page_locks = change (λ (v : View). v.locks) (PageLocksHeld w.pages (map (λ (v : View). v.pages) (set views seat u))) views seat u
+          (change (λ (v : View). v.pages) (λ l. PageLocksHeld w.pages l (set (map (λ (v : View). v.locks) views) seat locks)) views seat u page-locks-locking);
+      translations = like-translations w.frames f word now there x.like layout.trans w.trans h.translations;
+      caches = change (λ (v : View). (v.locks, v.pages)) (CacheWordsOwned frames w.caches) views seat u caches-locking;
+      bodies = change holder_of (BodiesAtHome layout frames w.caches w.pages (set homes f y)) views seat u (bodies-locking less);
+      handled = like-handled w.frames f word now there x.like h.handled;
+      counter = Kept.kept-counter views seat v u me frames w.counter refl refl refl (like-counter w.frames f word now there x.like w.counter (map (λ (v : View). (v.owed, v.marks)) views) (map (λ (v : View). v.sights) views) h.counter);
+      free = Kept.kept-free views seat v u me layout.frames w.frees w.available refl h.free;
+      damage = Kept.kept-damage views seat v u me w.bads w.weaks refl refl h.damage;
+      entries = change (λ (v : View). v.lengths) (λ l. EntriesListed (set homes f y) (map (λ (v : View). v.bodies) (set views seat u)) (map (λ (v : View). (v.made, v.sights)) (set views seat u)) l) views seat u
+          (keep (λ (v : View). (v.made, v.sights)) (λ l. EntriesListed (set homes f y) (map (λ (v : View). v.bodies) (set views seat u)) l (set (map (λ (v : View). v.lengths) views) seat lengths)) views seat v u me refl
+              (change (λ (v : View). v.bodies) (λ l. EntriesListed (set homes f y) l (map (λ (v : View). (v.made, v.sights)) views) (set (map (λ (v : View). v.lengths) views) seat lengths)) views seat u entries-locking));
+      endings = keep (λ (v : View). v.sights) (λ l. EndingsAgree layout w.processes (set homes f y) (map (λ (v : View). v.bodies) (set views seat u)) l) views seat v u me refl
+          (change (λ (v : View). v.bodies) (λ l. EndingsAgree layout w.processes (set homes f y) l (map (λ (v : View). v.sights) views)) views seat u endings-locking);
+      marks = Kept.kept-marks views seat v u me frames refl refl (like-marks w.frames f word now there x.like (map (λ (v : View). v.marks) views) (map (λ (v : View). v.sights) views) h.marks);
+      holdings = Kept.kept-holdings views seat v u me layout refl h.holdings;
+      losses = keep losing_of (λ l. LossesBalance layout w.losses (set homes f y) (map (λ (v : View). v.bodies) (set views seat u)) l) views seat v u me refl
+          (change (λ (v : View). v.bodies) (λ l. LossesBalance layout w.losses (set homes f y) l (map losing_of views)) views seat u losses-locking);
+      policies = Kept.kept-policies views seat v u me layout.threads w.policies refl refl refl h.policies;
+      exhaustion = Kept.kept-exhaustion views seat v u me layout refl refl h.exhaustion;
+      stops = keep (λ (v : View). v.stops) (λ l. EndingsAndStopsStay w.processes w.stop (map (λ (v : View). v.bodies) (set views seat u)) (map (λ (v : View). v.sights) (set views seat u)) l) views seat v u me refl
+          (keep (λ (v : View). v.sights) (λ l. EndingsAndStopsStay w.processes w.stop (map (λ (v : View). v.bodies) (set views seat u)) l (map (λ (v : View). v.stops) views)) views seat v u me refl
+              (change (λ (v : View). v.bodies) (λ l. EndingsAndStopsStay w.processes w.stop l (map (λ (v : View). v.sights) views) (map (λ (v : View). v.stops) views)) views seat u stops-locking));
+      fits = change (λ (v : View). (v.pages, v.bodies)) (PageFits layout w.trans w.caches (set homes f y)) views seat u fits-locking;
+      processors = Kept.kept-processors views seat v u me layout refl h.processors;
+      commands = Kept.kept-commands views seat v u me own-locking h.commands;
+      unpoisoned = change (λ (v : View). v.bodies) (λ l. NothingPoisonedYet frames (map (λ (v : View). v.spoiled) (set views seat u)) (set homes f y) l) views seat u
+          (keep (λ (v : View). v.spoiled) (λ l. NothingPoisonedYet frames l (set homes f y) (set (all_bodies views) seat bodies)) views seat v u me refl unpoisoned-locking);
+    }

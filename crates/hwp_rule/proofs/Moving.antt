@@ -1,0 +1,114 @@
+-- A move keeps the frame rule, where its kind of step does.
+use Rattle.std.proofs.Common.{◌≡◌, ℕ, zero, suc, ◌+◌, ◌-◌, min, ◌^◌, ◌<◌, ◌≤◌, Bool, true, false, cond, List, [], ◌∷◌, Option, Some, None, map, set, length, take, drop, slice_get, slice_index, refl, sym, ap, ◌∙◌, subst, arith}
+use Rattle.std.proofs.lemmas.List.{length-set, length-take, length-drop}
+use Rattle.hwp_geom.specs.declared.Layout.{Layout}
+use Rattle.hwp_rule.specs.declared.log.Log.{Log}
+use Rattle.hwp_rule.specs.declared.record.Rec.{Rec}
+use Rattle.hwp_rule.specs.declared.record.State.{State}
+use Rattle.hwp_rule.specs.declared.step.Step.{Step}
+use Rattle.hwp_rule.specs.declared.step.Step.TheVariants as steps
+use Rattle.hwp_rule.specs.declared.view.View.{View}
+use Rattle.hwp_rule.specs.Lists.{Homes}
+use Rattle.hwp_rule.specs.Moves.{Move, Meets, moved}
+use Rattle.hwp_rule.specs.Rule.{FrameRule, Holds}
+use Rattle.hwp_rule.specs.Steps.{place_of, word_after, goes}
+use Rattle.hwp_rule.specs.Views.{noted, view_by, homes_after, frame_slot, shelf_slot}
+use Rattle.hwp_rule.specs.Words.{Words, words_of, read, put, index, size, segment, IsPlace, free_words, trans_from, caches_from, pages_from, frees_from, available_at, bads_from, weaks_from, counter_at, processes_from, policies_from, losses_from, stop_at}
+use Rattle.hwp_rule.proofs.AsksNoted.{asks-noted}
+use Rattle.hwp_rule.proofs.Given.{Given, IsShaped, Keeps}
+use Rattle.hwp_rule.proofs.Lists.{set_here, set-set}
+use Rattle.hwp_rule.proofs.Noted.{keeps-noted, past-now, turn-noted}
+use Rattle.hwp_rule.proofs.Split.{words-read, words-put}
+
+length-segment : (from count : ℕ) (ws : List ℕ) → from + count ≤ length ws → length (segment from count ws) ≡ count
+length-segment from count ws fits =
+    let rest : length (drop from ws) ≡ length ws - from = length-drop from ws in
+    let both : length (segment from count ws) ≡ min count (length (drop from ws)) = length-take count (drop from ws) in
+    omega arith
+
+-- a board that holds has a word for everything
+pub shaped : (layout : Layout) (s : State) → Holds layout s → IsShaped layout (words_of layout s.words) s.homes
+shaped layout s h =
+    let all : length s.words ≡ size layout = h.words in
+    record {
+      frames = length-segment 0 layout.frames s.words (omega arith);
+      trans = length-segment (trans_from layout) (length layout.trans) s.words (omega arith);
+      caches = length-segment (caches_from layout) (length layout.pages) s.words (omega arith);
+      pages = length-segment (pages_from layout) (length layout.pages) s.words (omega arith);
+      frees = length-segment (frees_from layout) (free_words layout) s.words (omega arith);
+      bads = length-segment (bads_from layout) layout.frames s.words (omega arith);
+      weaks = length-segment (weaks_from layout) layout.frames s.words (omega arith);
+      processes = length-segment (processes_from layout) layout.procs s.words (omega arith);
+      policies = length-segment (policies_from layout) (length layout.threads) s.words (omega arith);
+      losses = length-segment (losses_from layout) layout.files s.words (omega arith);
+      slots = h.slots;
+    }
+
+length-cond : (b : Bool) (l m : Homes) (n : ℕ) → length l ≡ n → length m ≡ n → length (cond b l m) ≡ n
+length-cond true l m n p q = p
+length-cond false l m n p q = q
+
+-- no step makes or takes away a slot
+pub length-homes : (layout : Layout) (step : Step) (found : ℕ) (content : Option Log) (homes : Homes) → length (homes_after layout step found content homes) ≡ length homes
+length-homes layout (steps.Load place) found content homes = refl
+length-homes layout (steps.Reserve seen) found content homes = refl
+length-homes layout (steps.TakeBit frame) found content homes = refl
+length-homes layout (steps.GiveBit frame) found content homes = refl
+length-homes layout steps.Unreserve found content homes = refl
+length-homes layout (steps.Adopt frame) found content homes = length-set homes (frame_slot frame) None
+length-homes layout (steps.GetRef frame seen count) found content homes = refl
+length-homes layout (steps.PutRef frame count) found content homes = refl
+length-homes layout (steps.LockFrame frame) found content homes = length-cond (goes (steps.LockFrame frame) found) (set homes (frame_slot frame) None) homes (length homes) (length-set homes (frame_slot frame) None) refl
+length-homes layout (steps.UnlockFrame frame) found content homes = length-set homes (frame_slot frame) (Some content)
+length-homes layout (steps.Retire frame) found content homes = length-set homes (frame_slot frame) (Some content)
+length-homes layout (steps.Revive frame seen) found content homes = refl
+length-homes layout (steps.SetOwner frame page owned) found content homes = refl
+length-homes layout (steps.LockPage page) found content homes = length-cond (goes (steps.LockPage page) found) (set homes (shelf_slot layout page) None) homes (length homes) (length-set homes (shelf_slot layout page) None) refl
+length-homes layout (steps.UnlockPage page) found content homes = length-set homes (shelf_slot layout page) (Some content)
+length-homes layout (steps.SetPte slot pte) found content homes = refl
+length-homes layout (steps.SetCache page frame) found content homes = refl
+length-homes layout (steps.Poison frame hardware) found content homes = refl
+length-homes layout (steps.CountPoison hardware) found content homes = refl
+length-homes layout steps.Uncount found content homes = refl
+length-homes layout (steps.Spoil frame line damage) found content homes = refl
+length-homes layout (steps.Stop cpu) found content homes = refl
+length-homes layout steps.GiveUp found content homes = refl
+length-homes layout (steps.Kill process log) found content homes = refl
+length-homes layout (steps.SetPolicy thread policy settings) found content homes = refl
+length-homes layout (steps.Lose file log) found content homes = refl
+length-homes layout (steps.ReportLost file) found content homes = refl
+
+rule-moved : (layout : Layout) (seat : ℕ) (r : Rec) (a b : State) → Keeps r.step → Holds layout a → (m : Move layout seat r a b) → FrameRule layout (words_of layout (moved layout seat r m.content m.view a).words) (moved layout seat r m.content m.view a).homes (moved layout seat r m.content m.view a).views
+rule-moved layout seat r a b keeps h m =
+    let known : read (place_of r.step) w ≡ r.found = words-read layout a.words (place_of r.step) m.asks.place ∙ sym m.met in
+    let given : Given layout w a.homes noted-views seat (noted r m.view) r.who r.step m.content = record {
+          sound = h.sound;
+          shaped = shaped layout a h;
+          me = set_here a.views seat (noted r m.view) m.view m.me;
+          past = past-now r m.view m.asks.turn;
+          turn = turn-noted r m.view m.asks.turn;
+          place = m.asks.place;
+          asks = asks-noted layout r.who r m.view r.step m.content m.asks.kind;
+          fits = subst (λ (n : ℕ). n < 2 ^ 64) (sym known) m.fits;
+          meets = subst (λ (n : ℕ). Meets layout a.homes r.step n m.content) (sym known) m.slot;
+          rule = keeps-noted layout w a.homes a.views seat m.view r m.me h.rule;
+        } in
+    let after = keeps layout w a.homes noted-views seat (noted r m.view) r.who m.content given in
+    let there = subst (λ (n : ℕ). FrameRule layout (put (place_of r.step) (word_after r.step n) w) (homes_after layout r.step n m.content a.homes) (set noted-views seat (view_by layout r.who r.step n m.content (noted r m.view)))) known after in
+    subst (λ (ws : Words). FrameRule layout ws (homes_after layout r.step r.found m.content a.homes) (set a.views seat (view_by layout r.who r.step r.found m.content (noted r m.view)))) (sym (words-put layout a.words (place_of r.step) (word_after r.step r.found) h.words m.asks.place))
+        (subst (λ (vs : List View). FrameRule layout (put (place_of r.step) (word_after r.step r.found) w) (homes_after layout r.step r.found m.content a.homes) vs) (set-set a.views seat (noted r m.view) (view_by layout r.who r.step r.found m.content (noted r m.view))) there)
+  where
+    w : Words
+    w = words_of layout a.words
+
+    noted-views : List View
+    noted-views = set a.views seat (noted r m.view)
+
+-- a move whose kind of step keeps the rule
+pub holds-moved : (layout : Layout) (seat : ℕ) (r : Rec) (a b : State) → Keeps r.step → Holds layout a → Move layout seat r a b → Holds layout b
+holds-moved layout seat r a b keeps h m = subst (Holds layout) (sym m.next) (record {
+  sound = h.sound;
+  words = length-set a.words (index layout (place_of r.step)) (word_after r.step r.found) ∙ h.words;
+  slots = length-homes layout r.step r.found m.content a.homes ∙ h.slots;
+  rule = rule-moved layout seat r a b keeps h m;
+})

@@ -1,0 +1,70 @@
+-- Bodies that go from a slot into the hand and back: sums over all bodies, and what each body is.
+use Rattle.std.proofs.Common.{◌≡◌, ◌≢◌, ℕ, zero, suc, ◌+◌, ◌<◌, ◌≤◌, ◌==◌, ◌⊎◌, Bool, true, false, cond, List, [], ◌∷◌, ◌++◌, Option, Some, None, map, set, length, slice_get, inl, inr, refl, sym, ap, ◌∙◌, subst, arith}
+use Rattle.std.proofs.lemmas.List.Sums.{sum_by_push, sum_by-cons}
+use Rattle.std.proofs.lemmas.Option.{none-some, same_Some}
+use Rattle.std.specs.Int.{from_bool}
+use Rattle.std.specs.List.{sum_by}
+use Rattle.hwp_rule.specs.declared.log.Log.{Log}
+use Rattle.hwp_rule.specs.declared.view.Held.{Held}
+use Rattle.hwp_rule.specs.Lists.{Homes, EachBody, EachMember, EachListed, of_home, sum_bodies, sum_all}
+use Rattle.hwp_rule.proofs.Lists.{at_set, same-or, set_again, sum-set, term-le, terms-le, each-set, each-push, same-number}
+
+-- ---- a slot without a body
+
+-- the slot x becomes y, and neither has a body
+pub sum-empty : (g : Log → ℕ) (homes : Homes) (bodies : List (List Held)) (f : ℕ) (x y : Option (Option Log)) → slice_get homes f ≡ Some x → of_home g x ≡ of_home g y
+    → sum_bodies g (set homes f y) bodies ≡ sum_bodies g homes bodies
+sum-empty g homes bodies f x y there same =
+    let moved : sum_by (of_home g) (set homes f y) + of_home g x ≡ sum_by (of_home g) homes + of_home g y = sum-set (of_home g) homes f x y there in
+    omega arith
+
+pub each-empty : (P : Log → Type 0) (homes : Homes) (bodies : List (List Held)) (f : ℕ) (y : Option (Option Log)) → ((log : Log) → y ≡ Some (Some log) → ⊥)
+    → EachBody P homes bodies → EachBody P (set homes f y) bodies
+each-empty P homes bodies f y empty each = record {
+  at_home = λ i log e. elim (at_set homes f i y (Some (Some log)) e) [
+    | inl t ↦ absurd (empty log t.1)
+    | inr t ↦ each.at_home i log t.1
+  ];
+  in_hand = each.in_hand;
+}
+
+-- ---- a body taken
+
+module _ (homes : Homes) (bodies : List (List Held)) (f seat : ℕ) (log : Log) (mine : List Held) (b : Held) (there : slice_get homes f ≡ Some (Some (Some log))) (me : slice_get bodies seat ≡ Some mine) (is : b.log ≡ log) where
+  pub sum-taken : (g : Log → ℕ) → sum_bodies g (set homes f None) (set bodies seat (mine ++ b ∷ [])) ≡ sum_bodies g homes bodies
+  sum-taken g =
+      let out : sum_by (of_home g) (set homes f None) + g log ≡ sum_by (of_home g) homes + 0 = sum-set (of_home g) homes f (Some (Some log)) None there in
+      let in_hand : sum_all (λ (b : Held). g b.log) (set bodies seat (mine ++ b ∷ [])) + sum_by (λ (b : Held). g b.log) mine ≡ sum_all (λ (b : Held). g b.log) bodies + sum_by (λ (b : Held). g b.log) (mine ++ b ∷ []) =
+      sum-set (sum_by (λ (b : Held). g b.log)) bodies seat mine (mine ++ b ∷ []) me in
+      let pushed : sum_by (λ (b : Held). g b.log) (mine ++ b ∷ []) ≡ sum_by (λ (b : Held). g b.log) mine + g b.log = sum_by_push (λ (b : Held). g b.log) mine b in
+      let same : g b.log ≡ g log = ap g is in
+      omega arith
+
+  pub each-taken : (P : Log → Type 0) → EachBody P homes bodies → EachBody P (set homes f None) (set bodies seat (mine ++ b ∷ []))
+  each-taken P each = record {
+    at_home = λ i x e. elim (at_set homes f i None (Some (Some x)) e) [
+      | inl t ↦ absurd (none-some (Some x) t.1)
+      | inr t ↦ each.at_home i x t.1
+    ];
+    in_hand = each-set (EachMember (λ (b : Held). P b.log)) bodies seat (mine ++ b ∷ [])
+        (each-push (λ (b : Held). P b.log) mine b (subst P (sym is) (each.at_home f log there)) (each.in_hand seat mine me)) each.in_hand;
+  }
+
+-- where all bodies together count one, a second one that counts is no other than the first
+pub only-at-home : (g : Log → ℕ) (homes : Homes) (bodies : List (List Held)) (f : ℕ) (log : Log) → slice_get homes f ≡ Some (Some (Some log)) → sum_bodies g homes bodies ≡ 1 → g log ≡ 1
+    → EachBody (λ (x : Log). g x ≡ 1 → x ≡ log) homes bodies
+only-at-home g homes bodies f log there one counts = record {
+  at_home = λ i x e is. elim (same-or i f) [
+    | inl same ↦
+        let equal : Some (Some x) ≡ Some (Some log) = same_Some (Some (Some x)) (Some (Some log)) (sym e ∙ ap (slice_get homes) same ∙ there) in
+        same_Some x log (same_Some (Some x) (Some log) equal)
+    | inr differs ↦
+        let two : g x + g log ≤ sum_by (of_home g) homes = terms-le (of_home g) homes i f (Some (Some x)) (Some (Some log)) differs e there in
+        absurd (omega (arith, one, counts, is))
+  ];
+  in_hand = λ i list at j b e is.
+      let home : g log ≤ sum_by (of_home g) homes = term-le (of_home g) homes f (Some (Some log)) there in
+      let inner : g b.log ≤ sum_by (λ (b : Held). g b.log) list = term-le (λ (b : Held). g b.log) list j b e in
+      let outer : sum_by (λ (b : Held). g b.log) list ≤ sum_all (λ (b : Held). g b.log) bodies = term-le (sum_by (λ (b : Held). g b.log)) bodies i list at in
+      absurd (omega (arith, one, counts, is));
+}

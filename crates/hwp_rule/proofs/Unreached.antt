@@ -1,0 +1,67 @@
+-- Kinds of step that no board makes until memory failure is served, since no frame has POISON.
+use Rattle.std.proofs.Common.{◌≡◌, ℕ, ◌==◌, Bool, true, false, cond, List, Some, set, get_or, slice_get, refl, sym, ap, ◌∙◌, subst, arith}
+use prog.Atomic.{either}
+use Rattle.std.proofs.lemmas.Bool.{eqb-true}
+use Rattle.std.proofs.lemmas.List.{set-get_or}
+use Rattle.std.proofs.lemmas.Option.{slice_get-get_or}
+use Rattle.hwp_geom.specs.declared.Frame.{Frame}
+use Rattle.hwp_words.specs.Frames.{poison_of, handled_of}
+use Rattle.hwp_rule.specs.declared.place.Place.TheVariants as places
+use Rattle.hwp_rule.specs.declared.step.Step.TheVariants as steps
+use Rattle.hwp_rule.specs.declared.view.FrameLock.{FrameLock}
+use Rattle.hwp_rule.specs.declared.view.View.{View}
+use Rattle.hwp_rule.specs.Asks.{CanRetire, CanRevive}
+use Rattle.hwp_rule.specs.Rule.{FrameRule}
+use Rattle.hwp_rule.specs.Steps.{revived}
+use Rattle.hwp_rule.specs.Views.{sighted, revived_by, stamp_of}
+use Rattle.hwp_rule.specs.parts.Handled.{IsOutOfUse}
+use Rattle.hwp_rule.specs.parts.Locks.{IsLocked}
+use Rattle.hwp_rule.proofs.Lists.{at_map}
+use Rattle.hwp_rule.proofs.Sights.{keeps-sight, explained-frame}
+use Rattle.hwp_rule.proofs.Given.{Keeps}
+
+-- a locked frame would be poisoned
+pub keeps-retire : (frame : Frame) → Keeps (steps.Retire frame)
+keeps-retire frame layout w homes views seat v who content given = absurd (omega (arith, poisoned, sound))
+  where
+    can : CanRetire v frame content
+    can = given.asks
+
+    lock : FrameLock
+    lock = can.has.lock
+
+    listed : slice_get v.locks can.has.listed.0 ≡ Some lock
+    listed = can.has.listed.2 ∙ ap (λ (l : FrameLock). Some l) can.has.listed.3
+
+    known : IsLocked w.frames v.refs lock
+    known = given.rule.frame_locks.known seat (v.refs, v.locks) (at_map (λ (v : View). (v.refs, v.locks)) views seat v given.me) can.has.listed.0 lock listed
+
+    poisoned : poison_of known.word ≡ 1
+    poisoned = eqb-true (poison_of known.word) 1 (known.poisoned can.poisoned)
+
+    sound : poison_of known.word ≡ 0
+    sound = given.rule.unpoisoned.sound lock.frame.0 known.word known.there
+
+-- a frame that was handled would be poisoned; else the word is shown
+pub keeps-revive : (frame : Frame) (seen : ℕ) → Keeps (steps.Revive frame seen)
+keeps-revive frame seen layout w homes views seat v who content given = which (word == seen) refl
+  where
+    word : ℕ
+    word = get_or w.frames frame.0 0
+
+    there : slice_get w.frames frame.0 ≡ Some word
+    there = slice_get-get_or w.frames frame.0 0 (omega (arith, given.place, given.shaped.frames))
+
+    can : CanRevive v who.cpu seen
+    can = given.asks
+
+    which : (b : Bool) → (word == seen) ≡ b
+        → FrameRule layout (record w { frames = set w.frames frame.0 (either b (revived seen) word) }) homes
+        (set views seat (cond b (revived_by who frame word v) (sighted who (places.Frame frame) word v)))
+    which true is = absurd (omega (arith, out.poisoned, given.rule.unpoisoned.sound frame.0 word there))
+      where
+        out : IsOutOfUse word
+        out = given.rule.handled.out frame.0 word there (ap handled_of (eqb-true word seen is) ∙ can.handled)
+    which false isnt =
+        subst (λ (frames : List ℕ). FrameRule layout (record w { frames = frames }) homes (set views seat (sighted who (places.Frame frame) word v))) (sym (set-get_or w.frames frame.0 0))
+        (keeps-sight layout w homes views seat v who (places.Frame frame) word given.me given.past (explained-frame layout w homes views (stamp_of who v) frame word there) given.rule)
