@@ -34,3 +34,4 @@ pub mod Locking
 pub mod TakenBodies
 pub mod LockFrame
 pub mod KeptTurns
+pub mod Owning
