@@ -35,3 +35,4 @@ pub mod TakenBodies
 pub mod LockFrame
 pub mod KeptTurns
 pub mod Owning
+pub mod SetOwner
