@@ -43,44 +43,9 @@ use Rattle.hwp_rule.proofs.Lists.{at_map, map-was, same-or, same-number, set_aga
 use Rattle.hwp_rule.proofs.FrameWord.{IsLike, like-fields, like-locked}
 use Rattle.hwp_rule.proofs.Given.{Given, Keeps, IsShaped}
 use Rattle.hwp_rule.proofs.Locking.{Locking, all_bodies, keeps-locking}
+use Rattle.hwp_rule.proofs.PageLocks.{or-odd, same-page, fitting-at, first-lock}
 use Rattle.hwp_rule.proofs.Referring.{word-there}
 use Rattle.hwp_rule.proofs.TakenBodies.{sum-empty, each-empty, sum-taken, each-taken, only-at-home}
-
--- a bit that is set stays so
-or-odd : (w : ℕ) → w % 2 ≡ 1 → bit_or w 1 ≡ w
-or-odd w odd =
-    let high : bit_or w 1 / 2 ^ 1 ≡ w / 2 ^ 1 = or_shr w 1 1 ∙ or_zero_r (w / 2 ^ 1) in
-    let low : bit_or w 1 % 2 ^ 1 ≡ 1 = or_mod w 1 1 ∙ or_one (w % 2 ^ 1) (omega arith) in
-    omega arith
-
-pub same-page : (p q : Page) → p.0 ≡ q.0 → p ≡ q
-same-page p q e = λ i. record { 0 = e i }
-
--- the words that fit a state, one for each translation
-pub fitting-at : (page : Page) (s : PageState) (cache slot : ℕ) (ts : List TransDecl) (n : ℕ) (t : TransDecl) → slice_get ts n ≡ Some t → t.page ≡ page
-    → slice_get (fitting_from page s cache slot ts) n ≡ Some (fitting_word s cache (slot + n))
-fitting-at page s cache slot [] n t e is = absurd (none-some t e)
-fitting-at page s cache slot (x ∷ xs) zero t e is =
-    let test : (x.page.0 == page.0) ≡ true = same-number x.page.0 page.0 (ap (λ (d : TransDecl). d.page.0) (same_Some x t e) ∙ ap (λ (p : Page). p.0) is) in
-    let first : slot ≡ slot + 0 = omega arith in
-    ap (λ (b : Bool). Some (cond b (fitting_word s cache slot) 0)) test ∙ ap (λ (k : ℕ). Some (fitting_word s cache k)) first
-fitting-at page s cache slot (x ∷ xs) (suc n) t e is =
-    let next : suc slot + n ≡ slot + suc n = omega arith in
-    fitting-at page s cache (suc slot) xs n t e is ∙ ap (λ (k : ℕ). Some (fitting_word s cache k)) next
-
--- the one page lock that a view lists, where it lists the page's
-pub first-lock : (q : ℕ) (pages : List PageLock) → length pages ≤ 1 → 0 < page_locks_on q pages → (l : PageLock) × (slice_get pages 0 ≡ Some l) × (l.page.0 ≡ q)
-first-lock q [] few some = absurd (omega arith)
-first-lock q (l ∷ []) few some = which (l.page.0 == q) refl
-  where
-    which : (b : Bool) → (l.page.0 == q) ≡ b → (m : PageLock) × (slice_get (l ∷ []) 0 ≡ Some m) × (m.page.0 ≡ q)
-    which true e = (l, refl, eqb-true l.page.0 q e)
-    which false e =
-        let all : page_locks_on q (l ∷ []) ≡ from_bool (l.page.0 == q) + page_locks_on q [] = sum_by-cons (λ (l : PageLock). from_bool (l.page.0 == q)) l [] in
-        let none : from_bool (l.page.0 == q) ≡ 0 = ap from_bool e in
-        let rest : page_locks_on q [] ≡ 0 = refl in
-        absurd (omega (arith, some))
-first-lock q (l ∷ m ∷ ms) few some = absurd (omega (arith, few))
 
 -- a free lock that is taken, of the frame that the view has a reference to
 module _ (layout : Layout) (w : Words) (homes : Homes) (views : List View) (seat : ℕ) (v : View) (who : Who) (frame : Frame) (found : ℕ)
@@ -173,6 +138,7 @@ module _ (layout : Layout) (w : Words) (homes : Homes) (views : List View) (seat
     in_hand = each-weaken (λ (b : Held). IsHolding b.log.page.0 (holder_of v)) (λ (b : Held). IsHolding b.log.page.0 (holder v.pages v.bodies)) v.bodies (λ b holds. holding-more b.log.page.0 v.pages v.bodies refl holds) old-in_hand;
     reached = h.entries.lengths_reached seat v.lengths (at_map (λ (v : View). v.lengths) views seat v me);
     before = h.endings.ended_before seat v.bodies my_bodies;
+    taken = h.endings.taken seat v.bodies my_bodies;
     killed = h.stops.killed seat v.bodies my_bodies;
     fits = h.fits.in_hand seat (v.pages, v.bodies) my_fit;
     knows = h.fits.known seat (v.pages, v.bodies) my_fit;
@@ -312,6 +278,7 @@ module _ (layout : Layout) (w : Words) (homes : Homes) (views : List View) (seat
           (h.entries.lengths_reached seat v.lengths (at_map (λ (v : View). v.lengths) views seat v me));
       before = each-push (λ (b : Held). AreEnded layout w.processes (take b.since b.log.entries)) v.bodies body
           (subst (AreEnded layout w.processes) (sym (take-length log.entries)) (h.endings.ended frame.0 log inside)) (h.endings.ended_before seat v.bodies my_bodies);
+      taken = each-push (λ (b : Held). b.since ≤ length b.log.entries) v.bodies body (omega arith) (h.endings.taken seat v.bodies my_bodies);
       killed = each-push (λ (b : Held). EachMember (λ (p : Proc). (x : ℕ) → slice_get w.processes p.0 ≡ Some x → x ≢ 0) b.killed) v.bodies body (λ i p e. absurd (none-some p e)) (h.stops.killed seat v.bodies my_bodies);
       fits = each-push (λ (b : Held). page_locks_on b.log.page.0 pages ≡ 0 → Fits layout w.trans w.caches b.log) v.bodies body (λ none. fits-home)
           (each-weaken (λ (b : Held). page_locks_on b.log.page.0 v.pages ≡ 0 → Fits layout w.trans w.caches b.log) (λ (b : Held). page_locks_on b.log.page.0 pages ≡ 0 → Fits layout w.trans w.caches b.log) v.bodies

@@ -68,6 +68,7 @@ pub record Locking (layout : Layout) (w : Words) (homes : Homes) (views : List V
   pub in_hand : EachMember (λ (b : Held). IsHolding b.log.page.0 (record { locks = locks; pages = pages; bodies = bodies })) bodies
   pub reached : EachMember (λ (l : Length). EachBody (λ (log : Log). log.page ≡ l.page → l.entries ≤ length log.entries) homes (all_bodies views)) lengths
   pub before : EachMember (λ (b : Held). AreEnded layout w.processes (take b.since b.log.entries)) bodies
+  pub taken : EachMember (λ (b : Held). b.since ≤ length b.log.entries) bodies
   pub killed : EachMember (λ (b : Held). EachMember (λ (p : Proc). (x : ℕ) → slice_get w.processes p.0 ≡ Some x → x ≢ 0) b.killed) bodies
   pub fits : EachMember (λ (b : Held). page_locks_on b.log.page.0 pages ≡ 0 → Fits layout w.trans w.caches b.log) bodies
   pub knows : EachMember (KnowsWords layout w.trans w.caches) pages
@@ -200,6 +201,7 @@ module _ (layout : Layout) (w : Words) (homes : Homes) (views : List View) (seat
         | inr t ↦ h.endings.ended i log t.1
       ];
       ended_before = each-set (EachMember (λ (b : Held). AreEnded layout w.processes (take b.since b.log.entries))) (all_bodies views) seat bodies x.before h.endings.ended_before;
+      taken = each-set (EachMember (λ (b : Held). b.since ≤ length b.log.entries)) (all_bodies views) seat bodies x.taken h.endings.taken;
       shown = λ i list at j s is process place.
           x.eachs (λ (log : Log). s.word ≡ log.page.0 + 1 → SomeMember (λ (e : Entry). (is_ending layout process e.what ≡ true) × IsNotLater e.who s.stamp.who) log.entries)
               (h.endings.shown i list at j s is process place);

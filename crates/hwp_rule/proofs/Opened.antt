@@ -316,6 +316,7 @@ module _ (layout : Layout) (sound : IsSound layout) (w : Words) (o : AreOpening 
         (λ q less is. let none : x ≡ 0 = is-zero w.processes layout.procs process.0 x o.processes there in absurd (let one : x ≡ q + 1 = is in omega arith));
     ended = no-entry layout (λ (log : Log). AreEnded layout w.processes log.entries) (λ q less process x there is. absurd (true≢false (sym is)));
     ended_before = unlisted (λ (v : View). v.bodies) (λ (b : Held). AreEnded layout w.processes (take b.since b.log.entries)) (λ c. refl);
+    taken = unlisted (λ (v : View). v.bodies) (λ (b : Held). b.since ≤ length b.log.entries) (λ c. refl);
     shown = unlisted (λ (v : View). v.sights) (ShowsEnding layout (opening_homes layout) (map (λ (v : View). v.bodies) (opening_views layout))) (λ c. refl);
   }
 

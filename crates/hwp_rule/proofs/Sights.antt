@@ -168,6 +168,7 @@ module _ (layout : Layout) (w : Words) (homes : Homes) (views : List View) (seat
             caused = h.endings.caused;
             ended = h.endings.ended;
             ended_before = h.endings.ended_before;
+            taken = h.endings.taken;
             shown = each-sight (ShowsEnding layout homes (map (λ (v : View). v.bodies) views)) me x.ending h.endings.shown;
           }));
       marks = keep (λ (v : View). v.marks) (λ l. MarksAlternate w.frames l (map (λ (v : View). v.sights) (set views seat u))) views seat v u me refl

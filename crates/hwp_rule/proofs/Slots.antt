@@ -71,6 +71,7 @@ module _ (homes : Homes) (slot : ℕ) (was now : Option (Option Log)) (there : s
     caused = λ process word there. bodies-each (λ (log : Log). word ≡ log.page.0 + 1 → has_ending layout process log.entries ≡ true) bodies (h.caused process word there);
     ended = λ i log at. h.ended i log (home-was i log at);
     ended_before = h.ended_before;
+    taken = h.taken;
     shown = λ i list at j s is process e.
         bodies-each (λ (log : Log). s.word ≡ log.page.0 + 1 → SomeMember (λ (e : Entry). (is_ending layout process e.what ≡ true) × IsNotLater e.who s.stamp.who) log.entries) bodies (h.shown i list at j s is process e);
   }

@@ -1,5 +1,5 @@
 -- Processes that a signal ended.
-use Rattle.std.specs.Prelude.{◌≡◌, ◌≢◌, ℕ, ◌+◌, ◌<◌, true, List, Some, take, slice_get}
+use Rattle.std.specs.Prelude.{◌≡◌, ◌≢◌, ℕ, ◌+◌, ◌<◌, ◌≤◌, true, List, Some, length, take, slice_get}
 use Rattle.hwp_geom.specs.declared.Layout.{Layout}
 use Rattle.hwp_geom.specs.declared.Proc.{Proc}
 use Rattle.hwp_page.specs.declared.Entry.{Entry}
@@ -22,10 +22,12 @@ ShowsEnding layout homes bodies s =
     → EachBody (λ (log : Log). s.word ≡ log.page.0 + 1 → SomeMember (λ (e : Entry). (is_ending layout process e.what ≡ true) × IsNotLater e.who s.stamp.who) log.entries) homes bodies
 
 -- A process word that names a page has an ending signal of the process in that page's body; a process with an ending
--- signal, in a body at home or in what a body in hand had when it was taken, has a word that is not 0. Broken by: a `kill`
--- of a body without the signal; a body put home with an ending signal and no `kill`; a process word set back to 0.
+-- signal, in a body at home or in what a body in hand had when it was taken, has a word that is not 0. A body in hand has
+-- all entries that it was taken with. Broken by: a `kill` of a body without the signal; a body put home with an ending
+-- signal and no `kill`; a process word set back to 0.
 pub record EndingsAgree (layout : Layout) (processes : List ℕ) (homes : Homes) (bodies : List (List Held)) (sights : List (List Sight)) : Type 0 where
   pub caused : (process : Proc) (w : ℕ) → slice_get processes process.0 ≡ Some w → EachBody (λ (log : Log). w ≡ log.page.0 + 1 → has_ending layout process log.entries ≡ true) homes bodies
   pub ended : (i : ℕ) (log : Log) → slice_get homes i ≡ Some (Some (Some log)) → AreEnded layout processes log.entries
   pub ended_before : EachListed (λ (b : Held). AreEnded layout processes (take b.since b.log.entries)) bodies
+  pub taken : EachListed (λ (b : Held). b.since ≤ length b.log.entries) bodies
   pub shown : EachListed (ShowsEnding layout homes bodies) sights

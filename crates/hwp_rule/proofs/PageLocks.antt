@@ -1,0 +1,78 @@
+-- What a page's lock lists, the words that fit a page's state, and a bit that is set already.
+use Rattle.std.proofs.Common.{◌≡◌, ◌≢◌, ℕ, zero, suc, ◌+◌, ◌*◌, ◌/◌, ◌%◌, ◌^◌, ◌<◌, ◌≤◌, ◌==◌, ◌⊎◌, Bool, true, false, not, cond, List, [], ◌∷◌, ◌++◌, Option, Some, None, map, set, take, length, slice_get, slice_index, slice_set, bit_or, length-append, inl, inr, refl, sym, ap, ◌∙◌, subst, arith}
+use Rattle.std.proofs.lemmas.Bool.{eqb-true, eqb-false, ne_eqb}
+use Rattle.std.proofs.lemmas.List.Sums.{sum_by_push, sum_by-cons}
+use Rattle.std.proofs.lemmas.Nat.{or_mod, or_shr}
+use Rattle.std.proofs.lemmas.Option.{none-some, same_Some, slice_get_within, slice_get-get_or}
+use Rattle.std.proofs.Math.Seq.{take-length}
+use Rattle.std.specs.Int.Bits.{or_zero_r}
+use Rattle.std.specs.Int.{from_bool}
+use Rattle.std.specs.List.{sum_by}
+use Rattle.hwp_geom.specs.declared.Frame.{Frame}
+use Rattle.hwp_geom.specs.declared.Layout.{Layout}
+use Rattle.hwp_geom.specs.declared.Page.{Page}
+use Rattle.hwp_geom.specs.declared.Proc.{Proc}
+use Rattle.hwp_geom.specs.declared.TransDecl.{TransDecl}
+use Rattle.hwp_geom.specs.declared.Who.{Who}
+use Rattle.hwp_page.specs.declared.PageState.{PageState}
+use Rattle.hwp_words.specs.Frames.{lock_of, poison_of, handled_of, kernel_of, count_of, owner_of, cycle_of, is_locked, is_handled, is_poisoned}
+use Rattle.hwp_words.proofs.FieldLaws.{or_one}
+use Rattle.hwp_words.proofs.FrameSteps.{FieldsAre, fields-lock}
+use Rattle.hwp_rule.specs.declared.log.Log.{Log}
+use Rattle.hwp_rule.specs.declared.step.Step.TheVariants as steps
+use Rattle.hwp_rule.specs.declared.view.FrameLock.{FrameLock}
+use Rattle.hwp_rule.specs.declared.view.Held.{Held}
+use Rattle.hwp_rule.specs.declared.view.Length.{Length}
+use Rattle.hwp_rule.specs.declared.view.PageLock.{PageLock}
+use Rattle.hwp_rule.specs.declared.view.Ref.{Ref}
+use Rattle.hwp_rule.specs.declared.view.View.{View}
+use Rattle.hwp_rule.specs.Asks.{CanLockFrame}
+use Rattle.hwp_rule.specs.Lists.{Homes, EachBody, EachMember, SomeMember, sum_bodies}
+use Rattle.hwp_rule.specs.Logs.{state_of, fitting, fitting_from, fitting_word}
+use Rattle.hwp_rule.specs.Moves.{IsIn}
+use Rattle.hwp_rule.specs.Rule.{FrameRule, holder_of}
+use Rattle.hwp_rule.specs.Views.{refs_on, locks_on, page_locks_on, lock_found, taken, knowing, changed, is_page_lock_of, stamp_of}
+use Rattle.hwp_rule.specs.Words.{Words}
+use Rattle.hwp_rule.specs.parts.Bodies.{Holder, IsAtHome, IsHolding, content_name}
+use Rattle.hwp_rule.specs.parts.Endings.{AreEnded}
+use Rattle.hwp_rule.specs.parts.Fits.{Fits, FitsWords, KnowsWords, KnowsOwn}
+use Rattle.hwp_rule.specs.parts.Holdings.{IsPast}
+use Rattle.hwp_rule.specs.parts.Locks.{IsLocked}
+use Rattle.hwp_rule.specs.parts.Owners.{HoldsBoth}
+use Rattle.hwp_rule.proofs.Lists.{at_map, map-was, same-or, same-number, set_again, set_here, term-le, each-set, each-push, each-weaken, each-changed, some-push, some-last, sum-changed, length-changed}
+
+-- a bit that is set stays so
+pub or-odd : (w : ℕ) → w % 2 ≡ 1 → bit_or w 1 ≡ w
+or-odd w odd =
+    let high : bit_or w 1 / 2 ^ 1 ≡ w / 2 ^ 1 = or_shr w 1 1 ∙ or_zero_r (w / 2 ^ 1) in
+    let low : bit_or w 1 % 2 ^ 1 ≡ 1 = or_mod w 1 1 ∙ or_one (w % 2 ^ 1) (omega arith) in
+    omega arith
+
+pub same-page : (p q : Page) → p.0 ≡ q.0 → p ≡ q
+same-page p q e = λ i. record { 0 = e i }
+
+-- the words that fit a state, one for each translation
+pub fitting-at : (page : Page) (s : PageState) (cache slot : ℕ) (ts : List TransDecl) (n : ℕ) (t : TransDecl) → slice_get ts n ≡ Some t → t.page ≡ page
+    → slice_get (fitting_from page s cache slot ts) n ≡ Some (fitting_word s cache (slot + n))
+fitting-at page s cache slot [] n t e is = absurd (none-some t e)
+fitting-at page s cache slot (x ∷ xs) zero t e is =
+    let test : (x.page.0 == page.0) ≡ true = same-number x.page.0 page.0 (ap (λ (d : TransDecl). d.page.0) (same_Some x t e) ∙ ap (λ (p : Page). p.0) is) in
+    let first : slot ≡ slot + 0 = omega arith in
+    ap (λ (b : Bool). Some (cond b (fitting_word s cache slot) 0)) test ∙ ap (λ (k : ℕ). Some (fitting_word s cache k)) first
+fitting-at page s cache slot (x ∷ xs) (suc n) t e is =
+    let next : suc slot + n ≡ slot + suc n = omega arith in
+    fitting-at page s cache (suc slot) xs n t e is ∙ ap (λ (k : ℕ). Some (fitting_word s cache k)) next
+
+-- the one page lock that a view lists, where it lists the page's
+pub first-lock : (q : ℕ) (pages : List PageLock) → length pages ≤ 1 → 0 < page_locks_on q pages → (l : PageLock) × (slice_get pages 0 ≡ Some l) × (l.page.0 ≡ q)
+first-lock q [] few some = absurd (omega arith)
+first-lock q (l ∷ []) few some = which (l.page.0 == q) refl
+  where
+    which : (b : Bool) → (l.page.0 == q) ≡ b → (m : PageLock) × (slice_get (l ∷ []) 0 ≡ Some m) × (m.page.0 ≡ q)
+    which true e = (l, refl, eqb-true l.page.0 q e)
+    which false e =
+        let all : page_locks_on q (l ∷ []) ≡ from_bool (l.page.0 == q) + page_locks_on q [] = sum_by-cons (λ (l : PageLock). from_bool (l.page.0 == q)) l [] in
+        let none : from_bool (l.page.0 == q) ≡ 0 = ap from_bool e in
+        let rest : page_locks_on q [] ≡ 0 = refl in
+        absurd (omega (arith, some))
+first-lock q (l ∷ m ∷ ms) few some = absurd (omega (arith, few))
