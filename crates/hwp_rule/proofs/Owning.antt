@@ -6,7 +6,6 @@ use Rattle.std.proofs.lemmas.Bool.{eqb-false}
 use Rattle.std.proofs.lemmas.Option.{same_Some}
 use Rattle.hwp_geom.specs.declared.Frame.{Frame}
 use Rattle.hwp_geom.specs.declared.Layout.{Layout}
-use Rattle.hwp_words.specs.Counters.{biased_poisoned_of}
 use Rattle.hwp_words.specs.Frames.{lock_of, poison_of, handled_of, kernel_of, count_of, owner_of, cycle_of, is_kernel}
 use Rattle.hwp_words.proofs.FrameSteps.{FieldsAre}
 use Rattle.hwp_rule.specs.declared.log.Log.{Log}
@@ -14,11 +13,9 @@ use Rattle.hwp_rule.specs.declared.view.Debts.{Debts}
 use Rattle.hwp_rule.specs.declared.view.FrameLock.{FrameLock}
 use Rattle.hwp_rule.specs.declared.view.Held.{Held}
 use Rattle.hwp_rule.specs.declared.view.Mark.{Mark}
-use Rattle.hwp_rule.specs.declared.view.PageLock.{PageLock}
 use Rattle.hwp_rule.specs.declared.view.Ref.{Ref}
-use Rattle.hwp_rule.specs.declared.view.Sight.{Sight}
 use Rattle.hwp_rule.specs.declared.view.View.{View}
-use Rattle.hwp_rule.specs.Lists.{Homes, EachMember, SomeMember, sum_bodies}
+use Rattle.hwp_rule.specs.Lists.{Homes, EachMember, sum_bodies}
 use Rattle.hwp_rule.specs.Rule.{FrameRule, holder_of}
 use Rattle.hwp_rule.specs.Views.{changed, is_lock_of, refs_on, locks_on}
 use Rattle.hwp_rule.specs.Words.{Words, free_bit}
@@ -32,8 +29,7 @@ use Rattle.hwp_rule.specs.parts.Marks.{MarksAlternate, IsBefore, poisonings, rev
 use Rattle.hwp_rule.specs.parts.Owners.{TranslationsOwned, CacheWordsOwned}
 use Rattle.hwp_rule.specs.parts.Places.{HasOnePlace, IsApart, IsBare, in_hand}
 use Rattle.hwp_rule.specs.parts.Unpoisoned.{NothingPoisonedYet}
-use Rattle.hwp_rule.proofs.Counting.{some-term}
-use Rattle.hwp_rule.proofs.Lists.{change, keep, at_map, at_set, map-was, same-or, same-number, set_here, set_else, each-set, each-changed, length-changed, sum-changed, sum-set, term-le, terms-le}
+use Rattle.hwp_rule.proofs.Lists.{change, keep, at_map, at_set, map-was, same-number, set_here, set_else, each-set, length-changed, sum-changed, sum-set, term-le, terms-le}
 use Rattle.hwp_rule.proofs.Kept
 
 module _ (layout : Layout) (w : Words) (homes : Homes) (views : List View) (seat : ℕ) (v : View) (frame : Frame) (word now b : ℕ) where
@@ -122,9 +118,9 @@ module _ (layout : Layout) (w : Words) (homes : Homes) (views : List View) (seat
       one = at-frame (λ g x. sum_by (λ (x : List Ref × List FrameLock). locks_on g x.1) (set held seat (v.refs, owning.locks)) ≡ lock_of x)
           (total frame.0 ∙ h.frame_locks.one frame.0 word there ∙ sym are.lock) (λ g x differs at. total g ∙ h.frame_locks.one g x at);
       known = λ i x is j l at. elim (at_set held seat i (v.refs, owning.locks) x is) [
-          | inl t ↦ subst (λ (x : List Ref × List FrameLock). IsLocked frames x.0 l) t.1 (own j l (subst (λ (x : List Ref × List FrameLock). slice_get x.1 j ≡ Some l) (sym t.1) at))
-          | inr t ↦ still-locked x.0 l (λ same. another i x t.0 t.1 j l at same) (h.frame_locks.known i x t.1 j l at)
-        ];
+        | inl t ↦ subst (λ (x : List Ref × List FrameLock). IsLocked frames x.0 l) t.1 (own j l (subst (λ (x : List Ref × List FrameLock). slice_get x.1 j ≡ Some l) (sym t.1) at))
+        | inr t ↦ still-locked x.0 l (λ same. another i x t.0 t.1 j l at same) (h.frame_locks.known i x t.1 j l at)
+      ];
     }
       where
         here : slice_get held seat ≡ Some (v.refs, v.locks)
@@ -196,14 +192,14 @@ module _ (layout : Layout) (w : Words) (homes : Homes) (views : List View) (seat
           (h.marks.revived frame.0 word cycle there ∙ ap (λ (c : ℕ). from_bool (nat_lt cycle c)) (sym are.cycle)) (λ g x differs at. h.marks.revived g x cycle at) g x at;
       few = h.marks.few;
       shown = λ g x at. elim (at_set w.frames frame.0 g.0 now x at) [
-          | inl t ↦ λ i list is j s listed place.
-              let before : IsBefore word s = h.marks.shown g word (ap (slice_get w.frames) t.0 ∙ there) i list is j s listed place in
-              subst (λ (n : ℕ). IsBefore n s) t.1 (record {
-                cycle = subst (λ (c : ℕ). cycle_of s.word ≤ c) (sym are.cycle) before.cycle;
-                poison = λ e. subst (λ (p : ℕ). poison_of s.word ≤ p) (sym are.poison) (before.poison (e ∙ are.cycle));
-              })
-          | inr t ↦ h.marks.shown g x t.1
-        ];
+        | inl t ↦ λ i list is j s listed place.
+            let before : IsBefore word s = h.marks.shown g word (ap (slice_get w.frames) t.0 ∙ there) i list is j s listed place in
+            subst (λ (n : ℕ). IsBefore n s) t.1 (record {
+              cycle = subst (λ (c : ℕ). cycle_of s.word ≤ c) (sym are.cycle) before.cycle;
+              poison = λ e. subst (λ (p : ℕ). poison_of s.word ≤ p) (sym are.poison) (before.poison (e ∙ are.cycle));
+            })
+        | inr t ↦ h.marks.shown g x t.1
+      ];
     }
       where
         marks : List (List Mark)

@@ -1,5 +1,5 @@
 -- A page that becomes the owner of a frame, or gives it up, keeps the frame rule.
-use Rattle.std.proofs.Common.{◌≡◌, ◌≢◌, ℕ, ◌+◌, ◌*◌, ◌^◌, ◌<◌, ◌≤◌, ◌==◌, bit_xor, eqb-true, eq-eqb, ne_eqb, Bool, true, false, cond, List, Option, Some, None, map, set, length, slice_get, slice_index, inl, inr, ◌⊎◌, refl, sym, ap, ◌∙◌, subst, arith}
+use Rattle.std.proofs.Common.{◌≡◌, ◌≢◌, ℕ, ◌+◌, ◌*◌, ◌^◌, ◌<◌, ◌≤◌, ◌==◌, bit_xor, eq-eqb, ne_eqb, Bool, true, false, cond, List, Some, map, set, length, slice_get, slice_index, inl, inr, refl, sym, ap, ◌∙◌, subst, arith}
 use Rattle.std.specs.Int.{from_bool}
 use Rattle.std.specs.Int.Bits.{xor_zero_l, xor_zero_r}
 use Rattle.std.proofs.lemmas.Option.{same_Some}
@@ -14,8 +14,8 @@ use Rattle.hwp_rule.specs.declared.view.FrameLock.{FrameLock}
 use Rattle.hwp_rule.specs.declared.view.Held.{Held}
 use Rattle.hwp_rule.specs.declared.view.PageLock.{PageLock}
 use Rattle.hwp_rule.specs.declared.view.View.{View}
-use Rattle.hwp_rule.specs.Asks.{HasLock, HasPage, HasPageLock, CanOwn, CanDisown}
-use Rattle.hwp_rule.specs.Lists.{Homes, EachMember, SomeMember}
+use Rattle.hwp_rule.specs.Asks.{HasLock, HasPageLock, CanOwn, CanDisown}
+use Rattle.hwp_rule.specs.Lists.{Homes, EachMember}
 use Rattle.hwp_rule.specs.Rule.{FrameRule, holder_of}
 use Rattle.hwp_rule.specs.Views.{is_lock_of, locks_on, page_locks_on}
 use Rattle.hwp_rule.specs.Words.{Words}
@@ -23,7 +23,7 @@ use Rattle.hwp_rule.specs.parts.Bodies.{IsHolding}
 use Rattle.hwp_rule.specs.parts.Fits.{KnowsWords}
 use Rattle.hwp_rule.specs.parts.Locks.{IsLocked}
 use Rattle.hwp_rule.specs.parts.Owners.{TranslationsOwned, CacheWordsOwned, NamesOwn, HoldsBoth}
-use Rattle.hwp_rule.proofs.Given.{Given, Keeps}
+use Rattle.hwp_rule.proofs.Given.{Keeps}
 use Rattle.hwp_rule.proofs.Lists.{at_map, at_set, same-or, set_here, set_else, each-weaken, some-set, term-le}
 use Rattle.hwp_rule.proofs.Loading.{word-there}
 use Rattle.hwp_rule.proofs.Owning.{owning, same-locks, kept-owning}
@@ -94,22 +94,26 @@ module _ (layout : Layout) (w : Words) (homes : Homes) (views : List View) (seat
   translations-owning never = record {
     owned = λ s x t at declared. elim (h.translations.owned s x t at declared) [
       | inl none ↦ inl none
-      | inr some ↦ elim some [ | inl poison ↦ inr (inl poison) | inr names ↦ inr (inr (names-other t.page.0 x (never s x t at declared) names)) ]
+      | inr some ↦ elim some [ inl poison ↦ inr (inl poison) | inr names ↦ inr (inr (names-other t.page.0 x (never s x t at declared) names)) ]
     ];
   }
 
   caches-owning : ((q x : ℕ) → slice_get w.caches q ≡ Some x → owner_of word ≡ q + 1 → x ≡ frame.0 + 1 → ⊥) → ((q : ℕ) → owner_of now ≡ q + 1 → HoldsBoth frame.0 q (u.locks, v.pages))
       → CacheWordsOwned frames w.caches (set both seat (u.locks, v.pages))
   caches-owning never holds = record {
-    owned = λ q x at. elim (h.caches.owned q x at) [ | inl none ↦ inl none | inr names ↦ inr (names-other q x (never q x at) names) ];
+    owned = λ q x at. elim (h.caches.owned q x at) [ inl none ↦ inl none | inr names ↦ inr (names-other q x (never q x at) names) ];
     named = λ g x q at owner. elim (at_set w.frames frame.0 g now x at) [
-      | inl t ↦ inr (seat, (u.locks, v.pages), set_here both seat (u.locks, v.pages) (v.locks, v.pages) here,
-          subst (λ (n : ℕ). HoldsBoth n q (u.locks, v.pages)) (sym t.0) (holds q (ap owner_of t.1 ∙ owner)))
+      | inl t ↦ inr (
+        seat,
+        (u.locks, v.pages),
+        set_here both seat (u.locks, v.pages) (v.locks, v.pages) here,
+        subst (λ (n : ℕ). HoldsBoth n q (u.locks, v.pages)) (sym t.0) (holds q (ap owner_of t.1 ∙ owner)),
+      )
       | inr t ↦ elim (h.caches.named g x q t.1 owner) [
-          | inl cached ↦ inl cached
-          | inr some ↦ inr (some-set (HoldsBoth g q) both seat (v.locks, v.pages) (u.locks, v.pages) here
-              (λ x. record { frame = subst (λ (n : ℕ). 0 < n) (sym (same-locks layout w homes views seat v frame word now b g)) x.frame; page = x.page }) some)
-        ]
+        | inl cached ↦ inl cached
+        | inr some ↦ inr (some-set (HoldsBoth g q) both seat (v.locks, v.pages) (u.locks, v.pages) here
+            (λ x. record { frame = subst (λ (n : ℕ). 0 < n) (sym (same-locks layout w homes views seat v frame word now b g)) x.frame; page = x.page }) some)
+      ]
     ];
   }
     where
@@ -124,17 +128,21 @@ module _ (layout : Layout) (w : Words) (homes : Homes) (views : List View) (seat
       still q (inl page_lock) = inl page_lock
       still q (inr some) = elim (same-or some.1.frame.0 frame.0) [
         | inl same ↦ inl (by_page q ((locked some.0 some.1 some.2 same).0 ∙ some.3))
-        | inr differs ↦ inr (some.0, some.1,
-            at_map (λ (l : FrameLock). cond (is_lock_of frame l) (record l { owner = b }) l) v.locks some.0 some.1 some.2
-                ∙ ap (λ (c : Bool). Some (cond c (record some.1 { owner = b }) some.1)) (ne_eqb some.1.frame.0 frame.0 differs), some.3)
+        | inr differs ↦ inr (
+          some.0,
+          some.1,
+          at_map (λ (l : FrameLock). cond (is_lock_of frame l) (record l { owner = b }) l) v.locks some.0 some.1 some.2
+              ∙ ap (λ (c : Bool). Some (cond c (record some.1 { owner = b }) some.1)) (ne_eqb some.1.frame.0 frame.0 differs),
+          some.3,
+        )
       ]
 
 pub keeps-owned : (frame : Frame) (page : Page) → Keeps (steps.SetOwner frame page true)
 keeps-owned frame page layout w homes views seat v who content given =
     kept-owning layout w homes views seat v frame word now (page.0 + 1) me h there are (lock-listed layout w homes views seat v frame page word now (page.0 + 1) me h there can.has) unhandled
-        (translations-owning layout w homes views seat v frame page word now (page.0 + 1) me h there (λ s x t at declared owner names. no-owner t.page.0 owner))
-        (caches-owning layout w homes views seat v frame page word now (page.0 + 1) me h there (λ q x at owner names. no-owner q owner) holds)
-        (holding-owning layout w homes views seat v frame page word now (page.0 + 1) me h there (λ q owner. absurd (no-owner q owner)))
+    (translations-owning layout w homes views seat v frame page word now (page.0 + 1) me h there (λ s x t at declared owner names. no-owner t.page.0 owner))
+    (caches-owning layout w homes views seat v frame page word now (page.0 + 1) me h there (λ q x at owner names. no-owner q owner) holds)
+    (holding-owning layout w homes views seat v frame page word now (page.0 + 1) me h there (λ q owner. absurd (no-owner q owner)))
   where
     word : ℕ
     word = slice_index w.frames frame.0
@@ -184,10 +192,10 @@ keeps-owned frame page layout w homes views seat v who content given =
 pub keeps-disowned : (frame : Frame) (page : Page) → Keeps (steps.SetOwner frame page false)
 keeps-disowned frame page layout w homes views seat v who content given =
     kept-owning layout w homes views seat v frame word now 0 me h there are (lock-listed layout w homes views seat v frame page word now 0 me h there can.has) unhandled
-        (translations-owning layout w homes views seat v frame page word now 0 me h there unmapped)
-        (caches-owning layout w homes views seat v frame page word now 0 me h there uncached (λ q owner. absurd (omega (arith, owner, are.owner))))
-        (holding-owning layout w homes views seat v frame page word now 0 me h there
-            (λ q owner. subst (λ (n : ℕ). 0 < page_locks_on n v.pages) (the-page q owner) (page-listed layout w homes views seat v frame page word now 0 me h there can.page_held.lock)))
+    (translations-owning layout w homes views seat v frame page word now 0 me h there unmapped)
+    (caches-owning layout w homes views seat v frame page word now 0 me h there uncached (λ q owner. absurd (omega (arith, owner, are.owner))))
+    (holding-owning layout w homes views seat v frame page word now 0 me h there
+    (λ q owner. subst (λ (n : ℕ). 0 < page_locks_on n v.pages) (the-page q owner) (page-listed layout w homes views seat v frame page word now 0 me h there can.page_held.lock)))
   where
     word : ℕ
     word = slice_index w.frames frame.0
@@ -232,7 +240,7 @@ keeps-disowned frame page layout w homes views seat v who content given =
     unmapped s x t at declared owner names =
         let of_page : t.page ≡ page = λ i. record { 0 = sym (the-page t.page.0 owner) i } in
         can.unmapped s t declared of_page
-            (knows.words can.page_held.trans can.page_held.trans_is s t declared (of_page ∙ sym can.page_held.lock.page_is) ∙ at ∙ ap (λ (n : ℕ). Some n) names)
+        (knows.words can.page_held.trans can.page_held.trans_is s t declared (of_page ∙ sym can.page_held.lock.page_is) ∙ at ∙ ap (λ (n : ℕ). Some n) names)
 
     uncached : (q x : ℕ) → slice_get w.caches q ≡ Some x → owner_of word ≡ q + 1 → x ≡ frame.0 + 1 → ⊥
     uncached q x at owner names =
