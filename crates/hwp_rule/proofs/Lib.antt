@@ -10,15 +10,7 @@ pub mod Opening
 pub mod Opened
 pub mod Sights
 pub mod Counting
-pub mod Exhausted
-pub mod Loading
-pub mod Reserve
 pub mod Turns
-pub mod Shown
-pub mod Knowing
-pub mod Stopping
-pub mod Settings
-pub mod Reporting
 pub mod Bits
 pub mod Hands
 pub mod Taking
@@ -37,10 +29,9 @@ pub mod TakenBodies
 pub mod PageLocks
 pub mod LockFrame
 pub mod KeptTurns
-pub mod Owning
-pub mod SetOwner
 pub mod Without
 pub mod UnlockFrame
 pub mod Listing
 pub mod Listed
 pub mod Unlocking
+pub mod steps

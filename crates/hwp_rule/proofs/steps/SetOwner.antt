@@ -25,8 +25,8 @@ use Rattle.hwp_rule.specs.parts.Locks.{IsLocked}
 use Rattle.hwp_rule.specs.parts.Owners.{TranslationsOwned, CacheWordsOwned, NamesOwn, HoldsBoth}
 use Rattle.hwp_rule.proofs.Given.{Keeps}
 use Rattle.hwp_rule.proofs.Lists.{at_map, at_set, same-or, set_here, set_else, each-weaken, some-set, term-le}
-use Rattle.hwp_rule.proofs.Loading.{word-there}
-use Rattle.hwp_rule.proofs.Owning.{owning, same-locks, kept-owning}
+use Rattle.hwp_rule.proofs.steps.Loading.{word-there}
+use Rattle.hwp_rule.proofs.steps.Owning.{owning, same-locks, kept-owning}
 
 unhandled-word : (word : ℕ) → is_handled word ≡ false → handled_of word ≡ 0
 unhandled-word word is = which (handled_of word) refl

@@ -21,7 +21,7 @@ use Rattle.hwp_rule.specs.parts.Holdings.{AreOwn, IsPast}
 use Rattle.hwp_rule.specs.parts.Policies.{PoliciesListed, PolicyAgrees, IsOf, settings_of, last_policy, policy_after}
 use Rattle.hwp_rule.proofs.Given.{Keeps}
 use Rattle.hwp_rule.proofs.Lists.{change, keep, at_map, at_set, map-was, each-push, each-weaken}
-use Rattle.hwp_rule.proofs.Loading.{word-there}
+use Rattle.hwp_rule.proofs.steps.Loading.{word-there}
 use Rattle.hwp_rule.proofs.Turns.{one-view}
 use Rattle.hwp_rule.proofs.Kept
 

@@ -21,11 +21,11 @@ use Rattle.hwp_rule.specs.Views.{sighted, stamp_of, changed, is_page_lock_of}
 use Rattle.hwp_rule.specs.Words.{Words, read, put}
 use Rattle.hwp_rule.specs.parts.Fits.{KnowsWords, KnowsOwn}
 use Rattle.hwp_rule.specs.parts.Holdings.{IsPast}
-use Rattle.hwp_rule.proofs.Exhausted.{explained-available}
+use Rattle.hwp_rule.proofs.steps.Exhausted.{explained-available}
 use Rattle.hwp_rule.proofs.Given.{Keeps}
-use Rattle.hwp_rule.proofs.Knowing.{keeps-listing}
+use Rattle.hwp_rule.proofs.steps.Knowing.{keeps-listing}
 use Rattle.hwp_rule.proofs.Lists.{at_map, set_here, set-set, each-changed}
-use Rattle.hwp_rule.proofs.Shown.{explained-bad, explained-weak, explained-stop, explained-policy, explained-counter, explained-process}
+use Rattle.hwp_rule.proofs.steps.Shown.{explained-bad, explained-weak, explained-stop, explained-policy, explained-counter, explained-process}
 use Rattle.hwp_rule.proofs.Sights.{IsExplained, keeps-sight, explained-frame, explained-free, explained-quiet}
 
 -- the word of a place written to it again

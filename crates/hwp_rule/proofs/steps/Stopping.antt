@@ -19,7 +19,7 @@ use Rattle.hwp_rule.specs.parts.Holdings.{AreOwn, IsPast}
 use Rattle.hwp_rule.specs.parts.Stops.{EndingsAndStopsStay}
 use Rattle.hwp_rule.proofs.Given.{Keeps}
 use Rattle.hwp_rule.proofs.Lists.{change, keep, at_map, each-set, each-push, sum-set, set_again}
-use Rattle.hwp_rule.proofs.Shown.{explained-stop}
+use Rattle.hwp_rule.proofs.steps.Shown.{explained-stop}
 use Rattle.hwp_rule.proofs.Sights.{keeps-sight}
 use Rattle.hwp_rule.proofs.Kept
 

@@ -11,7 +11,7 @@ use Rattle.hwp_rule.specs.Views.{sighted, stamp_of}
 use Rattle.hwp_rule.specs.Words.{free_bit, sum_below}
 use Rattle.hwp_rule.specs.parts.Free.{FreeBitsAgree}
 use Rattle.hwp_rule.specs.parts.Holdings.{AreOwn, IsBounded, HoldingsBounded}
-use Rattle.hwp_rule.proofs.Exhausted.{explained-available}
+use Rattle.hwp_rule.proofs.steps.Exhausted.{explained-available}
 use Rattle.hwp_rule.proofs.Given.{Keeps}
 use Rattle.hwp_rule.proofs.Lists.{change, at_map, each-set, sum-set}
 use Rattle.hwp_rule.proofs.Sights.{keeps-sight}
