@@ -1,9 +1,8 @@
 -- Counting below a number: sums of terms, and how often the members of lists fall on each number.
-use Rattle.std.proofs.Common.{◌≡◌, ◌≢◌, ℕ, suc, zero, ◌+◌, ◌*◌, ◌<◌, ◌≤◌, ◌==◌, eq-eqb, ne_eqb, Bool, true, false, cond, List, [], ◌∷◌, Option, Some, None, length, slice_get, inl, inr, ◌⊎◌, refl, sym, ap, ◌∙◌, subst, arith}
+use Rattle.std.proofs.Common.{◌≡◌, ◌≢◌, ℕ, suc, zero, ◌+◌, ◌<◌, ◌≤◌, ◌==◌, eq-eqb, ne_eqb, List, [], ◌∷◌, length, inl, inr, refl, sym, ap, ◌∙◌, arith}
 use Rattle.std.specs.Int.{from_bool}
 use Rattle.std.specs.List.{sum_by}
 use Rattle.std.proofs.lemmas.List.Sums.{sum_by-cons}
-use Rattle.std.proofs.lemmas.Option.{none-some, same_Some}
 use Rattle.hwp_rule.specs.Lists.{EachMember, EachListed, SomeMember, sum_all}
 use Rattle.hwp_rule.specs.Words.{sum_below}
 use Rattle.hwp_rule.proofs.Lists.{same-or}
@@ -40,28 +39,28 @@ below-swap {A} g (x ∷ xs) n =
 pub hit-one : (a : ℕ) (at : ℕ → ℕ) (n : ℕ) → ((i j : ℕ) → i < j → at i ≢ at j) → sum_below (λ i. from_bool (a == at i)) n ≤ 1
 hit-one a at zero apart = omega arith
 hit-one a at (suc n) apart = elim (same-or a (at n)) [
-    | inl same ↦
-        let last : from_bool (a == at n) ≡ 1 = ap from_bool (eq-eqb a (at n) same) in
-        let rest : sum_below (λ i. from_bool (a == at i)) n ≡ 0 = below-zero (λ i. from_bool (a == at i)) n (λ i before. ap from_bool (ne_eqb a (at i) (λ e. apart i n before (sym e ∙ same)))) in
-        omega arith
-    | inr other ↦
-        let last : from_bool (a == at n) ≡ 0 = ap from_bool (ne_eqb a (at n) other) in
-        let rest : sum_below (λ i. from_bool (a == at i)) n ≤ 1 = hit-one a at n apart in
-        omega arith
-  ]
+  | inl same ↦
+      let last : from_bool (a == at n) ≡ 1 = ap from_bool (eq-eqb a (at n) same) in
+      let rest : sum_below (λ i. from_bool (a == at i)) n ≡ 0 = below-zero (λ i. from_bool (a == at i)) n (λ i before. ap from_bool (ne_eqb a (at i) (λ e. apart i n before (sym e ∙ same)))) in
+      omega arith
+  | inr other ↦
+      let last : from_bool (a == at n) ≡ 0 = ap from_bool (ne_eqb a (at n) other) in
+      let rest : sum_below (λ i. from_bool (a == at i)) n ≤ 1 = hit-one a at n apart in
+      omega arith
+]
 
 pub hit-itself : (a n : ℕ) → a < n → sum_below (λ i. from_bool (a == i)) n ≡ 1
 hit-itself a zero before = absurd (omega arith)
 hit-itself a (suc n) before = elim (same-or a n) [
-    | inl same ↦
-        let last : from_bool (a == n) ≡ 1 = ap from_bool (eq-eqb a n same) in
-        let rest : sum_below (λ i. from_bool (a == i)) n ≡ 0 = below-zero (λ i. from_bool (a == i)) n (λ i less. ap from_bool (ne_eqb a i (λ e. let e : a ≡ i = e in omega arith))) in
-        omega arith
-    | inr other ↦
-        let last : from_bool (a == n) ≡ 0 = ap from_bool (ne_eqb a n other) in
-        let rest : sum_below (λ i. from_bool (a == i)) n ≡ 1 = hit-itself a n (omega arith) in
-        omega arith
-  ]
+  | inl same ↦
+      let last : from_bool (a == n) ≡ 1 = ap from_bool (eq-eqb a n same) in
+      let rest : sum_below (λ i. from_bool (a == i)) n ≡ 0 = below-zero (λ i. from_bool (a == i)) n (λ i less. ap from_bool (ne_eqb a i (λ e. let e : a ≡ i = e in omega arith))) in
+      omega arith
+  | inr other ↦
+      let last : from_bool (a == n) ≡ 0 = ap from_bool (ne_eqb a n other) in
+      let rest : sum_below (λ i. from_bool (a == i)) n ≡ 1 = hit-itself a n (omega arith) in
+      omega arith
+]
 
 module _ {A : Type 0} where
   -- sums of members that are each no more than those of another
@@ -94,12 +93,12 @@ module _ {A : Type 0} where
   pub some-term : (f : A → ℕ) (l : List A) → 0 < sum_by f l → SomeMember (λ (x : A). 0 < f x) l
   some-term f [] above = absurd (omega arith)
   some-term f (x ∷ xs) above = elim (same-or (f x) 0) [
-      | inl none ↦
-          let all : sum_by f (x ∷ xs) ≡ f x + sum_by f xs = sum_by-cons f x xs in
-          let rest : SomeMember (λ (x : A). 0 < f x) xs = some-term f xs (omega arith) in
-          (suc rest.0, rest.1, rest.2, rest.3)
-      | inr some ↦ (0, x, refl, omega arith)
-    ]
+    | inl none ↦
+        let all : sum_by f (x ∷ xs) ≡ f x + sum_by f xs = sum_by-cons f x xs in
+        let rest : SomeMember (λ (x : A). 0 < f x) xs = some-term f xs (omega arith) in
+        (suc rest.0, rest.1, rest.2, rest.3)
+    | inr some ↦ (0, x, refl, omega arith)
+  ]
 
 module _ {A : Type 0} where
   -- the members of a list fall on the numbers below n, each on one at most

@@ -10,12 +10,7 @@ pub mod Opening
 pub mod Opened
 pub mod Sights
 pub mod Counting
-pub mod Exhausted
-pub mod Loading
-pub mod Reserve
 pub mod Turns
-pub mod Shown
-pub mod Knowing
 pub mod Bits
 pub mod Hands
 pub mod Taking
@@ -39,3 +34,4 @@ pub mod UnlockFrame
 pub mod Listing
 pub mod Listed
 pub mod Unlocking
+pub mod steps

@@ -3,17 +3,13 @@ use Rattle.std.proofs.Common.{◌≡◌, ◌≢◌, ℕ, ◌+◌, ◌*◌, ◌<�
 use Rattle.std.specs.Int.{bit_at}
 use Rattle.std.specs.List.{sum_by}
 use Rattle.std.proofs.lemmas.Option.{same_Some}
-use Rattle.hwp_geom.specs.declared.Cpu.{Cpu}
 use Rattle.hwp_geom.specs.declared.Frame.{Frame}
 use Rattle.hwp_geom.specs.declared.Layout.{Layout}
-use Rattle.hwp_geom.specs.declared.Page.{Page}
 use Rattle.hwp_geom.specs.declared.Proc.{Proc}
 use Rattle.hwp_geom.specs.declared.Thread.{Thread}
 use Rattle.hwp_geom.specs.declared.ThreadDecl.{ThreadDecl}
 use Rattle.hwp_geom.specs.declared.Who.{Who}
-use Rattle.hwp_kill.specs.declared.Seen.{Seen}
-use Rattle.hwp_page.specs.declared.Entry.{Entry}
-use Rattle.hwp_page.specs.declared.Met.TheVariants.{Word, Sigbus}
+use Rattle.hwp_page.specs.declared.Met.TheVariants.{Word}
 use Rattle.hwp_page.specs.declared.What.{What}
 use Rattle.hwp_page.specs.declared.What.TheVariants as entries
 use Rattle.hwp_words.specs.Counters.{hardware_of}
@@ -35,7 +31,7 @@ use Rattle.hwp_rule.specs.Words.{Words, sum_below}
 use Rattle.hwp_rule.specs.parts.Counter.{CounterAgrees, SomeHardware}
 use Rattle.hwp_rule.specs.parts.Damage.{DamageListed}
 use Rattle.hwp_rule.specs.parts.Endings.{EndingsAgree, ShowsEnding}
-use Rattle.hwp_rule.specs.parts.Entries.{EntriesListed, HasSight, HasMask, HasPolicy, HasSeen}
+use Rattle.hwp_rule.specs.parts.Entries.{EntriesListed, HasMask, HasPolicy, HasSeen}
 use Rattle.hwp_rule.specs.parts.Exhaustion.{ExhaustionExplained, usable, is_marked}
 use Rattle.hwp_rule.specs.parts.Holdings.{AreOwn, IsPast}
 use Rattle.hwp_rule.specs.parts.Marks.{MarksAlternate, IsBefore}
@@ -53,7 +49,7 @@ pub record IsExplained (layout : Layout) (w : Words) (homes : Homes) (views : Li
   pub mark : (frame : Frame) (word : ℕ) → slice_get w.frames frame.0 ≡ Some word → s.place ≡ places.Frame frame → IsBefore word s
   pub policy : (thread : Thread) (d : ThreadDecl) (word : ℕ) → slice_get layout.threads thread.0 ≡ Some d → slice_get w.policies thread.0 ≡ Some word
       → EachMember (λ (v : List Part × List Setting). IsOf d.cpu v.0 → s.place ≡ places.Policy thread
-          → (n : ℕ) × (n ≤ length (settings_of thread v.1)) × (s.word ≡ policy_after (take n (settings_of thread v.1)))) (map (λ (v : View). (v.parts, v.settings)) views)
+      → (n : ℕ) × (n ≤ length (settings_of thread v.1)) × (s.word ≡ policy_after (take n (settings_of thread v.1)))) (map (λ (v : View). (v.parts, v.settings)) views)
   pub exhaustion : s.place ≡ places.Available → s.word ≡ 0
       → sum_below (usable layout) layout.frames ≤ sum_below (is_marked layout (map (λ (v : View). v.marks) views)) layout.frames + length layout.pages + 2 * layout.cpus
   pub ended : (process : Proc) (word : ℕ) → slice_get w.processes process.0 ≡ Some word → s.place ≡ places.Process process → s.word ≢ 0 → word ≡ s.word
@@ -73,7 +69,7 @@ seen-more sights s who frame entries.Out has = mask-more sights s who frame 0 ha
 seen-more sights s who frame entries.Soft has = mask-more sights s who frame 0 has
 seen-more sights s who frame (entries.Fail situation required seen signals) has =
     each-weaken (HasPolicy sights who) (HasPolicy (sights ++ s ∷ []) who) seen
-        (λ p some. some-push (λ (s : Sight). (s.stamp.who ≡ who) × (s.place ≡ places.Policy p.thread) × (s.word ≡ p.n * 4 + policy_code p.policy)) sights s some) has
+    (λ p some. some-push (λ (s : Sight). (s.stamp.who ≡ who) × (s.place ≡ places.Policy p.thread) × (s.word ≡ p.n * 4 + policy_code p.policy)) sights s some) has
 seen-more sights s who frame _ has = has
 
 module _ (layout : Layout) (w : Words) (homes : Homes) (views : List View) (seat : ℕ) (v : View) (s : Sight) where
@@ -106,8 +102,8 @@ module _ (layout : Layout) (w : Words) (homes : Homes) (views : List View) (seat
           h.entries.balance f ∙ sym gone;
       shown = each-set (λ (x : List Made × List Sight). EachMember (λ (m : Made). HasSeen x.1 m.entry.who m.frame m.entry.what) x.0) made seat (v.made, u.sights)
           (each-weaken (λ (m : Made). HasSeen v.sights m.entry.who m.frame m.entry.what) (λ (m : Made). HasSeen u.sights m.entry.who m.frame m.entry.what) v.made
-              (λ m has. seen-more v.sights s m.entry.who m.frame m.entry.what has)
-              (h.entries.shown seat (v.made, v.sights) there))
+          (λ m has. seen-more v.sights s m.entry.who m.frame m.entry.what has)
+          (h.entries.shown seat (v.made, v.sights) there))
           h.entries.shown;
       lengths_reached = h.entries.lengths_reached;
     }
@@ -132,10 +128,10 @@ module _ (layout : Layout) (w : Words) (homes : Homes) (views : List View) (seat
     policies-sighted x = record {
       agrees = λ thread d word declared there i y is of.
           let was : PolicyAgrees thread word sights (settings_of thread y.1) = h.policies.agrees thread d word declared there i y is of in record {
-              now = was.now;
-              few = was.few;
-              shown = each-sight (λ (s : Sight). s.place ≡ places.Policy thread → (n : ℕ) × (n ≤ length (settings_of thread y.1)) × (s.word ≡ policy_after (take n (settings_of thread y.1)))) me
-                  (x.policy thread d word declared there i y is of) was.shown;
+            now = was.now;
+            few = was.few;
+            shown = each-sight (λ (s : Sight). s.place ≡ places.Policy thread → (n : ℕ) × (n ≤ length (settings_of thread y.1)) × (s.word ≡ policy_after (take n (settings_of thread y.1)))) me
+                (x.policy thread d word declared there i y is of) was.shown;
           };
     }
 
@@ -166,7 +162,7 @@ module _ (layout : Layout) (w : Words) (homes : Homes) (views : List View) (seat
           }));
       entries = keep (λ (v : View). v.lengths) (λ l. EntriesListed homes (map (λ (v : View). v.bodies) (set views seat u)) (map (λ (v : View). (v.made, v.sights)) (set views seat u)) l) views seat v u me refl
           (keep (λ (v : View). v.bodies) (λ l. EntriesListed homes l (map (λ (v : View). (v.made, v.sights)) (set views seat u)) (map (λ (v : View). v.lengths) views)) views seat v u me refl
-              (change (λ (v : View). (v.made, v.sights)) (λ l. EntriesListed homes (map (λ (v : View). v.bodies) views) l (map (λ (v : View). v.lengths) views)) views seat u entries-sighted));
+          (change (λ (v : View). (v.made, v.sights)) (λ l. EntriesListed homes (map (λ (v : View). v.bodies) views) l (map (λ (v : View). v.lengths) views)) views seat u entries-sighted));
       endings = keep (λ (v : View). v.bodies) (λ l. EndingsAgree layout w.processes homes l (map (λ (v : View). v.sights) (set views seat u))) views seat v u me refl
           (change (λ (v : View). v.sights) (EndingsAgree layout w.processes homes (map (λ (v : View). v.bodies) views)) views seat u (record {
             caused = h.endings.caused;
@@ -193,13 +189,13 @@ module _ (layout : Layout) (w : Words) (homes : Homes) (views : List View) (seat
           }));
       stops = keep (λ (v : View). v.stops) (λ l. EndingsAndStopsStay w.processes w.stop (map (λ (v : View). v.bodies) (set views seat u)) (map (λ (v : View). v.sights) (set views seat u)) l) views seat v u me refl
           (keep (λ (v : View). v.bodies) (λ l. EndingsAndStopsStay w.processes w.stop l (map (λ (v : View). v.sights) (set views seat u)) (map (λ (v : View). v.stops) views)) views seat v u me refl
-              (change (λ (v : View). v.sights) (λ l. EndingsAndStopsStay w.processes w.stop (map (λ (v : View). v.bodies) views) l (map (λ (v : View). v.stops) views)) views seat u (record {
-                killed = h.stops.killed;
-                ended_stays = λ process word there. each-sight (λ (s : Sight). s.place ≡ places.Process process → s.word ≢ 0 → word ≡ s.word) me (x.ended process word there) (h.stops.ended_stays process word there);
-                stop_stays = each-sight (λ (s : Sight). s.place ≡ places.Stop → stopper_of s.word ≢ 0 → stopper_of w.stop ≡ stopper_of s.word) me x.stop h.stops.stop_stays;
-                one = h.stops.one;
-                named = h.stops.named;
-              })));
+          (change (λ (v : View). v.sights) (λ l. EndingsAndStopsStay w.processes w.stop (map (λ (v : View). v.bodies) views) l (map (λ (v : View). v.stops) views)) views seat u (record {
+            killed = h.stops.killed;
+            ended_stays = λ process word there. each-sight (λ (s : Sight). s.place ≡ places.Process process → s.word ≢ 0 → word ≡ s.word) me (x.ended process word there) (h.stops.ended_stays process word there);
+            stop_stays = each-sight (λ (s : Sight). s.place ≡ places.Stop → stopper_of s.word ≢ 0 → stopper_of w.stop ≡ stopper_of s.word) me x.stop h.stops.stop_stays;
+            one = h.stops.one;
+            named = h.stops.named;
+          })));
       fits = Kept.kept-fits views seat v u me layout w.trans w.caches homes refl refl h.fits;
       processors = Kept.kept-processors views seat v u me layout refl h.processors;
       commands = Kept.kept-commands views seat v u me (own-sighted past) h.commands;
@@ -296,9 +292,9 @@ pub explained-frame : (layout : Layout) (w : Words) (homes : Homes) (views : Lis
     → slice_get w.frames frame.0 ≡ Some word → IsExplained layout w homes views (record { stamp = stamp; place = places.Frame frame; word = word })
 explained-frame layout w homes views stamp frame word there =
     explained-before layout w homes views (record { stamp = stamp; place = places.Frame frame; word = word }) frame refl
-        (λ other standing.
-            let same : other ≡ word = same_Some other word (sym standing ∙ there) in
-            record { cycle = subst (λ (n : ℕ). cycle_of word ≤ cycle_of n) (sym same) (omega arith); poison = λ e. subst (λ (n : ℕ). poison_of word ≤ poison_of n) (sym same) (omega arith) })
+    (λ other standing.
+    let same : other ≡ word = same_Some other word (sym standing ∙ there) in
+    record { cycle = subst (λ (n : ℕ). cycle_of word ≤ cycle_of n) (sym same) (omega arith); poison = λ e. subst (λ (n : ℕ). poison_of word ≤ poison_of n) (sym same) (omega arith) })
 
 -- a sight of a free word
 pub explained-free : (layout : Layout) (w : Words) (homes : Homes) (views : List View) (stamp : Stamp) (number word : ℕ)

@@ -1,7 +1,7 @@
 -- No view lists a later command of the processor whose turn it is.
-use Rattle.std.proofs.Common.{◌≡◌, ◌≢◌, ℕ, suc, zero, ◌+◌, ◌<◌, ◌≤◌, ◌==◌, ◌&&◌, nat_lt, eq-eqb, eqb-true, ltb-false, ltb-true, Bool, true, false, List, [], ◌∷◌, Option, Some, None, map, length, slice_get, inl, inr, refl, sym, ap, ◌∙◌, subst, arith}
+use Rattle.std.proofs.Common.{◌≡◌, ℕ, suc, zero, ◌+◌, ◌<◌, ◌≤◌, ◌==◌, ◌&&◌, nat_lt, eq-eqb, eqb-true, ltb-false, ltb-true, Bool, true, false, List, [], ◌∷◌, Some, map, slice_get, inl, inr, refl, sym, ap, ◌∙◌, subst, arith}
 use Rattle.std.specs.Int.{from_bool}
-use Rattle.std.specs.List.{sum_by, list_any}
+use Rattle.std.specs.List.{sum_by}
 use Rattle.std.proofs.lemmas.List.Sums.{sum_by-cons}
 use Rattle.std.proofs.lemmas.Option.{none-some, same_Some}
 use Rattle.hwp_geom.specs.declared.Cpu.{Cpu}
@@ -16,7 +16,7 @@ use Rattle.hwp_rule.specs.declared.view.Part.{Part}
 use Rattle.hwp_rule.specs.declared.view.Sight.{Sight}
 use Rattle.hwp_rule.specs.declared.view.View.{View}
 use Rattle.hwp_rule.specs.Asks.{IsTurnOf}
-use Rattle.hwp_rule.specs.Lists.{Homes, EachBody, EachMember, SomeMember, IsNotLater, of_home, sum_all, sum_bodies}
+use Rattle.hwp_rule.specs.Lists.{Homes, EachBody, EachMember, IsNotLater, of_home, sum_all, sum_bodies}
 use Rattle.hwp_rule.specs.Rule.{FrameRule}
 use Rattle.hwp_rule.specs.Words.{Words}
 use Rattle.hwp_rule.specs.parts.Entries.{weigh, weigh_from}
@@ -31,22 +31,13 @@ all-zero f (x ∷ xs) each =
     let all : sum_by f (x ∷ xs) ≡ f x + sum_by f xs = sum_by-cons f x xs in
     omega arith
 
--- two parts of the same processor are one
-one-part : (layout : Layout) (parts : List (List Part)) → ProcessorsApart layout parts
+-- two views with a part of the same processor are one
+pub one-view : (layout : Layout) (parts : List (List Part)) → ProcessorsApart layout parts
     → (i j k l : ℕ) (a b : List Part) (p q : Part) → slice_get parts i ≡ Some a → slice_get parts j ≡ Some b → slice_get a k ≡ Some p → slice_get b l ≡ Some q
-    → p.cpu ≡ q.cpu → p ≡ q
-one-part layout parts apart i j k l a b p q there here listed noted same =
+    → p.cpu ≡ q.cpu → i ≡ j
+one-view layout parts apart i j k l a b p q there here listed noted same =
     elim (same-or i j) [
-      | inl views_same ↦
-          let lists : a ≡ b = same_Some a b (sym there ∙ ap (slice_get parts) views_same ∙ here) in
-          let listed_b : slice_get b k ≡ Some p = subst (λ (x : List Part). slice_get x k ≡ Some p) lists listed in
-          elim (same-or k l) [
-            | inl places_same ↦ same_Some p q (sym listed_b ∙ ap (slice_get b) places_same ∙ noted)
-            | inr differ ↦
-                let two : count p + count q ≤ sum_by count b = terms-le count b k l p q differ listed_b noted in
-                let all : sum_by count b ≤ sum_by (sum_by count) parts = term-le (sum_by count) parts j b here in
-                absurd (omega (arith, once, first, second))
-          ]
+      | inl views_same ↦ views_same
       | inr differ ↦
           let in_a : count p ≤ sum_by count a = term-le count a k p listed in
           let in_b : count q ≤ sum_by count b = term-le count b l q noted in
@@ -66,12 +57,40 @@ one-part layout parts apart i j k l a b p q there here listed noted same =
     second : count q ≡ 1
     second = ap from_bool (eq-eqb q.cpu.0 q.cpu.0 refl)
 
+-- and the parts are one
+one-part : (layout : Layout) (parts : List (List Part)) → ProcessorsApart layout parts
+    → (i j k l : ℕ) (a b : List Part) (p q : Part) → slice_get parts i ≡ Some a → slice_get parts j ≡ Some b → slice_get a k ≡ Some p → slice_get b l ≡ Some q
+    → p.cpu ≡ q.cpu → p ≡ q
+one-part layout parts apart i j k l a b p q there here listed noted same =
+    elim (same-or k l) [
+      | inl places_same ↦ same_Some p q (sym listed_b ∙ ap (slice_get b) places_same ∙ noted)
+      | inr differ ↦
+          let two : count p + count q ≤ sum_by count b = terms-le count b k l p q differ listed_b noted in
+          let all : sum_by count b ≤ sum_by (sum_by count) parts = term-le (sum_by count) parts j b here in
+          absurd (omega (arith, once, first, second))
+    ]
+  where
+    count : Part → ℕ
+    count x = from_bool (x.cpu.0 == q.cpu.0)
+
+    once : sum_by (sum_by count) parts ≡ 1
+    once = apart.one q.cpu.0 (apart.declared j b here l q noted)
+
+    first : count p ≡ 1
+    first = ap from_bool (eq-eqb p.cpu.0 q.cpu.0 (ap (λ (c : Cpu). c.0) same))
+
+    second : count q ≡ 1
+    second = ap from_bool (eq-eqb q.cpu.0 q.cpu.0 refl)
+
+    listed_b : slice_get b k ≡ Some p
+    listed_b = subst (λ (x : List Part). slice_get x k ≡ Some p) (same_Some a b (sym there ∙ ap (slice_get parts) (one-view layout parts apart i j k l a b p q there here listed noted same) ∙ here)) listed
+
 module _ (layout : Layout) (w : Words) (homes : Homes) (views : List View) (seat : ℕ) (v : View) (who : Who) (me : slice_get views seat ≡ Some v) (turn : IsTurnOf v who) (h : FrameRule layout w homes views) where
   -- what a view has come to is of no later command
   pub not-later : (i : ℕ) (x : View) (other : Who) → slice_get views i ≡ Some x → IsPast x.parts other → IsNotLater other who
   not-later i x other there past same =
       let one : past.1 ≡ turn.part.1 = one-part layout (map (λ (v : View). v.parts) views) h.processors i seat past.0 turn.part.0 x.parts v.parts past.1 turn.part.1
-          (at_map (λ (v : View). v.parts) views i x there) (at_map (λ (v : View). v.parts) views seat v me) past.2 turn.part.2 (past.3.0 ∙ same ∙ sym turn.part.3.0) in
+      (at_map (λ (v : View). v.parts) views i x there) (at_map (λ (v : View). v.parts) views seat v me) past.2 turn.part.2 (past.3.0 ∙ same ∙ sym turn.part.3.0) in
       let come : other.seq ≤ past.1.latest = past.3.1 in
       let latest : past.1.latest ≡ turn.part.1.latest = ap (λ (p : Part). p.latest) one in
       let now : turn.part.1.latest ≤ who.seq = turn.part.3.1 in
@@ -108,7 +127,7 @@ module _ (layout : Layout) (w : Words) (homes : Homes) (views : List View) (seat
       let was : (x : View) × (slice_get views i ≡ Some x) × ((x.made, x.sights) ≡ y) = map-was (λ (v : View). (v.made, v.sights)) views i y is in
       let own : AreOwn was.0 = h.commands.own i was.0 was.1 in
       subst (λ (z : List Made × List Sight). sum_by (λ (m : Made). is_later m.entry) z.0 ≡ 0) was.2
-          (all-zero (λ (m : Made). is_later m.entry) was.0.made (λ j m listed. was-not-later m.entry (not-later i was.0 m.entry.who was.1 (own.made j m listed)))))
+      (all-zero (λ (m : Made). is_later m.entry) was.0.made (λ j m listed. was-not-later m.entry (not-later i was.0 m.entry.who was.1 (own.made j m listed)))))
 
   none-later : sum_bodies (weigh (λ (page : Page) (place : ℕ) (e : Entry). is_later e)) homes (map (λ (v : View). v.bodies) views) ≡ 0
   none-later = h.entries.balance (λ (page : Page) (place : ℕ) (e : Entry). is_later e) ∙ none-made

@@ -1,5 +1,5 @@
 -- What a view lists of its page's lock may change while the lock stays: the frame rule stays where the lists are right.
-use Rattle.std.proofs.Common.{◌≡◌, ℕ, ◌+◌, ◌<◌, ◌≤◌, ◌==◌, Bool, true, List, Some, map, set, length, slice_get, inl, inr, ◌⊎◌, refl, sym, ap, ◌∙◌, subst, arith}
+use Rattle.std.proofs.Common.{◌≡◌, ℕ, ◌+◌, ◌<◌, ◌≤◌, ◌==◌, Bool, List, Some, map, set, length, slice_get, inl, inr, refl, sym, ap, ◌∙◌, subst, arith}
 use Rattle.std.specs.Int.{from_bool}
 use Rattle.std.specs.List.{sum_by}
 use Rattle.hwp_geom.specs.declared.Layout.{Layout}
@@ -9,7 +9,7 @@ use Rattle.hwp_rule.specs.declared.view.FrameLock.{FrameLock}
 use Rattle.hwp_rule.specs.declared.view.Held.{Held}
 use Rattle.hwp_rule.specs.declared.view.PageLock.{PageLock}
 use Rattle.hwp_rule.specs.declared.view.View.{View}
-use Rattle.hwp_rule.specs.Lists.{Homes, EachMember, SomeMember, sum_bodies}
+use Rattle.hwp_rule.specs.Lists.{Homes, EachMember, sum_bodies}
 use Rattle.hwp_rule.specs.Rule.{FrameRule, holder_of}
 use Rattle.hwp_rule.specs.Views.{changed, page_locks_on}
 use Rattle.hwp_rule.specs.Words.{Words}
@@ -18,7 +18,7 @@ use Rattle.hwp_rule.specs.parts.Fits.{Fits, KnowsWords, KnowsOwn, PageFits}
 use Rattle.hwp_rule.specs.parts.Holdings.{AreOwn}
 use Rattle.hwp_rule.specs.parts.Locks.{PageLocksHeld}
 use Rattle.hwp_rule.specs.parts.Owners.{CacheWordsOwned, HoldsBoth}
-use Rattle.hwp_rule.proofs.Lists.{change, keep, at_map, each-set, each-weaken, each-changed, some-set, sum-set, sum-changed, length-changed}
+use Rattle.hwp_rule.proofs.Lists.{change, keep, at_map, each-set, each-weaken, some-set, sum-set, sum-changed, length-changed}
 use Rattle.hwp_rule.proofs.Kept
 
 -- a change of locks that leaves their pages
@@ -63,10 +63,10 @@ module _ (layout : Layout) (w : Words) (homes : Homes) (views : List View) (seat
   caches-listed = record {
     owned = h.caches.owned;
     named = λ f word q there owner. elim (h.caches.named f word q there owner) [
-        | inl cached ↦ inl cached
-        | inr some ↦ inr (some-set (HoldsBoth f q) both seat (v.locks, v.pages) (v.locks, listing.pages) (at_map (λ (v : View). (v.locks, v.pages)) views seat v me)
-            (λ holds. record { frame = holds.frame; page = subst (λ (n : ℕ). 0 < n) (sym (same-locks test to same v.pages q)) holds.page }) some)
-      ];
+      | inl cached ↦ inl cached
+      | inr some ↦ inr (some-set (HoldsBoth f q) both seat (v.locks, v.pages) (v.locks, listing.pages) (at_map (λ (v : View). (v.locks, v.pages)) views seat v me)
+          (λ holds. record { frame = holds.frame; page = subst (λ (n : ℕ). 0 < n) (sym (same-locks test to same v.pages q)) holds.page }) some)
+    ];
   }
 
   still-holding : (q : ℕ) → IsHolding q (holder_of v) → IsHolding q (holder_of listing)
@@ -83,7 +83,7 @@ module _ (layout : Layout) (w : Words) (homes : Homes) (views : List View) (seat
         keep (λ (x : Holder). x.bodies) (λ l. OneBody q l) holders seat (holder_of v) (holder_of listing) there refl (h.bodies.one q declared);
     in_hand = each-set (λ (x : Holder). EachMember (λ (b : Held). IsHolding b.log.page.0 x) x.bodies) holders seat (holder_of listing)
         (each-weaken (λ (b : Held). IsHolding b.log.page.0 (holder_of v)) (λ (b : Held). IsHolding b.log.page.0 (holder_of listing)) v.bodies (λ b holding. still-holding b.log.page.0 holding)
-            (h.bodies.in_hand seat (holder_of v) there)) h.bodies.in_hand;
+        (h.bodies.in_hand seat (holder_of v) there)) h.bodies.in_hand;
   }
     where
       OneBody : ℕ → List (List Held) → Type 0
@@ -97,11 +97,11 @@ module _ (layout : Layout) (w : Words) (homes : Homes) (views : List View) (seat
     at_home = h.fits.at_home;
     in_hand = each-set (λ (x : List PageLock × List Held). EachMember (λ (b : Held). page_locks_on b.log.page.0 x.0 ≡ 0 → Fits layout w.trans w.caches b.log) x.1) fitting seat (listing.pages, v.bodies)
         (each-weaken (λ (b : Held). page_locks_on b.log.page.0 v.pages ≡ 0 → Fits layout w.trans w.caches b.log) (λ (b : Held). page_locks_on b.log.page.0 listing.pages ≡ 0 → Fits layout w.trans w.caches b.log) v.bodies
-            (λ b fits none. fits (sym (same-locks test to same v.pages b.log.page.0) ∙ none)) (h.fits.in_hand seat (v.pages, v.bodies) there)) h.fits.in_hand;
+        (λ b fits none. fits (sym (same-locks test to same v.pages b.log.page.0) ∙ none)) (h.fits.in_hand seat (v.pages, v.bodies) there)) h.fits.in_hand;
     known = each-set (λ (x : List PageLock × List Held). EachMember (KnowsWords layout w.trans w.caches) x.0) fitting seat (listing.pages, v.bodies) knows h.fits.known;
     own = each-set (λ (x : List PageLock × List Held). EachMember (λ (b : Held). 0 < page_locks_on b.log.page.0 x.0 → KnowsOwn x.0 b) x.1) fitting seat (listing.pages, v.bodies)
         (each-weaken (λ (b : Held). 0 < page_locks_on b.log.page.0 v.pages → KnowsOwn v.pages b) (λ (b : Held). 0 < page_locks_on b.log.page.0 listing.pages → KnowsOwn listing.pages b) v.bodies
-            (λ b knows some. own b (knows (subst (λ (n : ℕ). 0 < n) (same-locks test to same v.pages b.log.page.0) some))) (h.fits.own seat (v.pages, v.bodies) there)) h.fits.own;
+        (λ b knows some. own b (knows (subst (λ (n : ℕ). 0 < n) (same-locks test to same v.pages b.log.page.0) some))) (h.fits.own seat (v.pages, v.bodies) there)) h.fits.own;
   }
     where
       there : slice_get fitting seat ≡ Some (v.pages, v.bodies)

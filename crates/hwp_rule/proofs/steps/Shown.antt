@@ -1,5 +1,5 @@
 -- Sights of words as they stand are explained: damage, policies, the stop, the counter and ended processes.
-use Rattle.std.proofs.Common.{◌≡◌, ◌≢◌, ℕ, ◌+◌, ◌<◌, ◌≤◌, ◌||◌, Bool, true, false, List, [], ◌∷◌, Some, map, length, take, slice_get, suc, refl, sym, ap, ◌∙◌, subst, arith}
+use Rattle.std.proofs.Common.{◌≡◌, ℕ, ◌+◌, ◌<◌, ◌≤◌, ◌||◌, Bool, true, false, List, [], ◌∷◌, Some, map, length, slice_get, suc, refl, sym, ap, ◌∙◌, subst, arith}
 use Rattle.std.specs.Int.{from_bool, bit_at}
 use Rattle.std.specs.List.{sum_by, list_any}
 use Rattle.std.proofs.Math.Seq.{take-length}
@@ -8,16 +8,12 @@ use Rattle.hwp_geom.specs.declared.Frame.{Frame}
 use Rattle.hwp_geom.specs.declared.Layout.{Layout}
 use Rattle.hwp_geom.specs.declared.Proc.{Proc}
 use Rattle.hwp_geom.specs.declared.Thread.{Thread}
-use Rattle.hwp_geom.specs.declared.Who.{Who}
 use Rattle.hwp_page.specs.declared.Entry.{Entry}
 use Rattle.hwp_words.specs.Counters.{hardware_of}
 use Rattle.hwp_rule.specs.declared.log.Log.{Log}
 use Rattle.hwp_rule.specs.declared.place.Place.TheVariants as places
 use Rattle.hwp_rule.specs.declared.view.Debts.{Debts}
-use Rattle.hwp_rule.specs.declared.view.Held.{Held}
 use Rattle.hwp_rule.specs.declared.view.Mark.{Mark}
-use Rattle.hwp_rule.specs.declared.view.Part.{Part}
-use Rattle.hwp_rule.specs.declared.view.Setting.{Setting}
 use Rattle.hwp_rule.specs.declared.view.Sight.{Sight}
 use Rattle.hwp_rule.specs.declared.view.Stamp.{Stamp}
 use Rattle.hwp_rule.specs.declared.view.View.{View}
@@ -27,8 +23,7 @@ use Rattle.hwp_rule.specs.Logs.{has_ending, is_ending}
 use Rattle.hwp_rule.specs.Rule.{FrameRule}
 use Rattle.hwp_rule.specs.Words.{Words}
 use Rattle.hwp_rule.specs.parts.Counter.{SomeHardware, is_by_hardware}
-use Rattle.hwp_rule.specs.parts.Endings.{ShowsEnding}
-use Rattle.hwp_rule.specs.parts.Policies.{PolicyAgrees, IsOf, settings_of, policy_after}
+use Rattle.hwp_rule.specs.parts.Policies.{PolicyAgrees, settings_of, policy_after}
 use Rattle.hwp_rule.proofs.Counting.{some-term}
 use Rattle.hwp_rule.proofs.Lists.{map-was}
 use Rattle.hwp_rule.proofs.Sights.{IsExplained, elsewhere, shown_number}
@@ -154,10 +149,20 @@ module _ (layout : Layout) (w : Words) (homes : Homes) (views : List View) (seat
           let some : SomeMember (λ (d : Debts × List Mark). 0 < sum_by hardware d.1) debts = some-term (λ (d : Debts × List Mark). sum_by hardware d.1) debts (omega arith) in
           let mark : SomeMember (λ (m : Mark). 0 < hardware m) some.1.1 = some-term hardware some.1.1 some.3 in
           let was : (x : View) × (slice_get views some.0 ≡ Some x) × ((x.owed, x.marks) ≡ some.1) = map-was (λ (v : View). (v.owed, v.marks)) views some.0 some.1 some.2 in
-          let listed : slice_get was.0.marks mark.0 ≡ Some mark.1 = subst (λ (d : Debts × List Mark). slice_get d.1 mark.0 ≡ Some mark.1) (sym was.2) mark.2 in
-          (some.0, some.1, some.2, (mark.0, mark.1, mark.2,
-              (is-so (is_by_hardware mark.1.kind) mark.3,
-              not-later layout w homes views seat v stamp.who me turn h some.0 was.0 mark.1.stamp.who was.1 ((h.commands.own some.0 was.0 was.1).marks mark.0 mark.1 listed))))
+          let listed : slice_get was.0.marks mark.0 ≡ Some mark.1 = subst (λ (d : Debts × List Mark). slice_get d.1 mark.0 ≡ Some mark.1) (sym was.2) mark.2 in (
+            some.0,
+            some.1,
+            some.2,
+            (
+              mark.0,
+              mark.1,
+              mark.2,
+              (
+                is-so (is_by_hardware mark.1.kind) mark.3,
+                not-later layout w homes views seat v stamp.who me turn h some.0 was.0 mark.1.stamp.who was.1 ((h.commands.own some.0 was.0 was.1).marks mark.0 mark.1 listed),
+              ),
+            ),
+          )
 
   pub explained-process : (process : Proc) (word : ℕ) → slice_get w.processes process.0 ≡ Some word → IsExplained layout w homes views (record { stamp = stamp; place = places.Process process; word = word })
   explained-process process word there = record {
@@ -165,8 +170,8 @@ module _ (layout : Layout) (w : Words) (homes : Homes) (views : List View) (seat
     bad = λ f standing at e. absurd (elsewhere layout w homes views s (places.Bad f) 6 refl (λ n. omega arith) e);
     weak = λ f standing at e. absurd (elsewhere layout w homes views s (places.Weak f) 6 refl (λ n. omega arith) e);
     ending = λ p e. record {
-        at_home = λ i log is. some-entry p log e ((h.endings.caused p word (same p e)).at_home i log is) (all.at_home i log is);
-        in_hand = λ i bodies is j b listed. some-entry p b.log e ((h.endings.caused p word (same p e)).in_hand i bodies is j b listed) (all.in_hand i bodies is j b listed);
+      at_home = λ i log is. some-entry p log e ((h.endings.caused p word (same p e)).at_home i log is) (all.at_home i log is);
+      in_hand = λ i bodies is j b listed. some-entry p b.log e ((h.endings.caused p word (same p e)).in_hand i bodies is j b listed) (all.in_hand i bodies is j b listed);
     };
     mark = λ f standing at e. absurd (elsewhere layout w homes views s (places.Frame f) 6 refl (λ n. omega arith) e);
     policy = λ thread d standing declared at i y this of e. absurd (elsewhere layout w homes views s (places.Policy thread) 6 refl (λ n. omega arith) e);

@@ -1,14 +1,13 @@
 -- Why no frame is available: each that isn't the kernel's is free, in hand, named by a cache word, referenced or marked.
-use Rattle.std.proofs.Common.{◌≡◌, ◌≢◌, ℕ, suc, zero, ◌+◌, ◌*◌, ◌^◌, ◌<◌, ◌≤◌, ◌==◌, ◌&&◌, nat_lt, not, min, eq-eqb, eqb-true, le-ltb, Bool, true, false, cond, List, [], ◌∷◌, Option, Some, None, map, length, slice_get, slice_index, slice_index_or, inl, inr, ◌⊎◌, refl, sym, ap, ◌∙◌, subst, arith}
+use Rattle.std.proofs.Common.{◌≡◌, ◌≢◌, ℕ, suc, zero, ◌+◌, ◌*◌, ◌^◌, ◌<◌, ◌≤◌, ◌==◌, ◌&&◌, nat_lt, not, min, eq-eqb, eqb-true, le-ltb, Bool, true, false, cond, List, [], ◌∷◌, Some, map, length, slice_get, slice_index, slice_index_or, inl, inr, refl, sym, ap, ◌∙◌, subst, arith}
 use Rattle.std.specs.Int.{from_bool}
 use Rattle.std.specs.List.{sum_by}
 use Rattle.std.proofs.lemmas.List.Sums.{sum_by-cons}
 use Rattle.std.proofs.lemmas.Option.{same_Some, slice_get_within, slice_get-get_or, slice_get_cases}
 use Rattle.hwp_geom.specs.declared.Frame.{Frame}
 use Rattle.hwp_geom.specs.declared.Layout.{Layout}
-use Rattle.hwp_geom.specs.declared.TransDecl.{TransDecl}
 use Rattle.hwp_geom.specs.Layout.{IsSound}
-use Rattle.hwp_words.specs.Frames.{count_of, owner_of, poison_of, handled_of, cycle_of, is_kernel}
+use Rattle.hwp_words.specs.Frames.{count_of, owner_of, poison_of, handled_of, cycle_of}
 use Rattle.hwp_rule.specs.declared.place.Place.TheVariants as places
 use Rattle.hwp_rule.specs.declared.view.FrameLock.{FrameLock}
 use Rattle.hwp_rule.specs.declared.view.Mark.{Mark}
@@ -17,20 +16,18 @@ use Rattle.hwp_rule.specs.declared.view.Part.{Part}
 use Rattle.hwp_rule.specs.declared.view.Ref.{Ref}
 use Rattle.hwp_rule.specs.declared.view.Stamp.{Stamp}
 use Rattle.hwp_rule.specs.declared.view.View.{View}
-use Rattle.hwp_rule.specs.Lists.{Homes, EachMember, SomeMember, sum_all}
+use Rattle.hwp_rule.specs.Lists.{Homes, SomeMember, sum_all}
 use Rattle.hwp_rule.specs.Rule.{FrameRule, holdings_of}
 use Rattle.hwp_rule.specs.Views.{refs_on, locks_on}
 use Rattle.hwp_rule.specs.Words.{Words, free_bit, sum_below}
 use Rattle.hwp_rule.specs.parts.Counter.{is_poisoning}
 use Rattle.hwp_rule.specs.parts.Counts.{named}
 use Rattle.hwp_rule.specs.parts.Exhaustion.{usable, is_marked}
-use Rattle.hwp_rule.specs.parts.Handled.{IsOutOfUse}
-use Rattle.hwp_rule.specs.parts.Holdings.{Holdings, IsBounded, frames_held}
+use Rattle.hwp_rule.specs.parts.Holdings.{IsBounded, frames_held}
 use Rattle.hwp_rule.specs.parts.Locks.{IsLocked}
 use Rattle.hwp_rule.specs.parts.Marks.{poisonings}
-use Rattle.hwp_rule.specs.parts.Owners.{NamesOwn, HoldsBoth}
 use Rattle.hwp_rule.specs.parts.Places.{in_hand}
-use Rattle.hwp_rule.proofs.Counting.{below-le, below-add, below-zero, below-swap, hit-one, sum-le, sum-ones, sum-add, some-term, hits-le, hits-all-le, hits-within}
+use Rattle.hwp_rule.proofs.Counting.{below-le, below-add, below-swap, hit-one, sum-le, sum-ones, sum-add, some-term, hits-all-le, hits-within}
 use Rattle.hwp_rule.proofs.Given.{IsShaped}
 use Rattle.hwp_rule.proofs.Sights.{IsExplained, explained-exhausted}
 use Rattle.hwp_rule.proofs.Lists.{same-or, at_map, map-was, term-le}
@@ -103,16 +100,16 @@ module _ (layout : Layout) (w : Words) (homes : Homes) (views : List View) (soun
 
     by-owner : (q : ℕ) → owner_of word ≡ q + 1 → 0 < named f w.caches + listed_on f
     by-owner q owned = elim (h.caches.named f word q there owned) [
-        | inl cached ↦
-            let one : from_bool (f + 1 == f + 1) ≡ 1 = one-equal (f + 1) (f + 1) refl in
-            let more : from_bool (f + 1 == f + 1) ≤ named f w.caches = term-le (λ (x : ℕ). from_bool (x == f + 1)) w.caches q (f + 1) cached in
-            omega arith
-        | inr some ↦
-            let was : (v : View) × (slice_get views some.0 ≡ Some v) × ((v.locks, v.pages) ≡ some.1) = map-was (λ (v : View). (v.locks, v.pages)) views some.0 some.1 some.2 in
-            let both : 0 < locks_on f was.0.locks = subst (λ (x : List FrameLock × List PageLock). 0 < locks_on f x.0) (sym was.2) some.3.frame in
-            let listed : 0 < listed_on f = by-lock was.0 some.0 was.1 both in
-            omega arith
-      ]
+      | inl cached ↦
+          let one : from_bool (f + 1 == f + 1) ≡ 1 = one-equal (f + 1) (f + 1) refl in
+          let more : from_bool (f + 1 == f + 1) ≤ named f w.caches = term-le (λ (x : ℕ). from_bool (x == f + 1)) w.caches q (f + 1) cached in
+          omega arith
+      | inr some ↦
+          let was : (v : View) × (slice_get views some.0 ≡ Some v) × ((v.locks, v.pages) ≡ some.1) = map-was (λ (v : View). (v.locks, v.pages)) views some.0 some.1 some.2 in
+          let both : 0 < locks_on f was.0.locks = subst (λ (x : List FrameLock × List PageLock). 0 < locks_on f x.0) (sym was.2) some.3.frame in
+          let listed : 0 < listed_on f = by-lock was.0 some.0 was.1 both in
+          omega arith
+    ]
 
     by-translation : f < layout.frames → 0 < named f w.trans → 0 < named f w.caches + listed_on f
     by-translation before above =
@@ -121,17 +118,17 @@ module _ (layout : Layout) (w : Words) (homes : Homes) (views : List View) (soun
         let frames : layout.frames ≤ 256 = sound.frames in
         elim (slice_get_cases layout.trans one.0).1 [
           | inl found ↦ elim (h.translations.owned one.0 one.1 found.0 one.2 found.2) [
-              | inl none ↦ let none : one.1 ≡ 0 = none in absurd (omega arith)
-              | inr some ↦ elim some [
-                  | inl poison ↦ let poison : one.1 ≡ 2 ^ 63 = poison in absurd (omega arith)
-                  | inr own ↦
-                      let frame_is : one.1 ≡ own.frame + 1 = own.named in
-                      let same : own.frame ≡ f = omega arith in
-                      let standing : slice_get w.frames f ≡ Some own.owner_word = subst (λ (n : ℕ). slice_get w.frames n ≡ Some own.owner_word) same own.there in
-                      let word_is : own.owner_word ≡ word = same_Some own.owner_word word (sym standing ∙ there) in
-                      by-owner found.0.page.0 (subst (λ (x : ℕ). owner_of x ≡ found.0.page.0 + 1) word_is own.owned)
-                ]
+            | inl none ↦ let none : one.1 ≡ 0 = none in absurd (omega arith)
+            | inr some ↦ elim some [
+              | inl poison ↦ let poison : one.1 ≡ 2 ^ 63 = poison in absurd (omega arith)
+              | inr own ↦
+                  let frame_is : one.1 ≡ own.frame + 1 = own.named in
+                  let same : own.frame ≡ f = omega arith in
+                  let standing : slice_get w.frames f ≡ Some own.owner_word = subst (λ (n : ℕ). slice_get w.frames n ≡ Some own.owner_word) same own.there in
+                  let word_is : own.owner_word ≡ word = same_Some own.owner_word word (sym standing ∙ there) in
+                  by-owner found.0.page.0 (subst (λ (x : ℕ). owner_of x ≡ found.0.page.0 + 1) word_is own.owned)
             ]
+          ]
           | inr past ↦
               let within : one.0 < length w.trans = slice_get_within w.trans one.0 one.1 one.2 in
               let wide : length w.trans ≡ length layout.trans = shaped.trans in
@@ -147,8 +144,8 @@ module _ (layout : Layout) (w : Words) (homes : Homes) (views : List View) (soun
         ap (λ (b : Bool). cond b 1 (cond (cycle_of word == cycle_of word) (poison_of word) 0)) (le-ltb (cycle_of word) (cycle_of word) (omega arith)) ∙ ap (λ (b : Bool). cond b (poison_of word) 0) (eq-eqb (cycle_of word) (cycle_of word) refl) in
         let more : poisonings f (cycle_of word) marks ≤ sum_all (λ (m : Mark). from_bool (m.frame.0 == f)) marks =
         sum-le (λ (l : List Mark). sum_by (λ (m : Mark). from_bool ((m.frame.0 == f) && ((m.cycle == cycle_of word) && is_poisoning m.kind))) l) (λ (l : List Mark). sum_by (λ (m : Mark). from_bool (m.frame.0 == f)) l) marks
-            (λ i l e. sum-le (λ (m : Mark). from_bool ((m.frame.0 == f) && ((m.cycle == cycle_of word) && is_poisoning m.kind))) (λ (m : Mark). from_bool (m.frame.0 == f)) l
-                (λ j m e. both-le (m.frame.0 == f) ((m.cycle == cycle_of word) && is_poisoning m.kind))) in
+        (λ i l e. sum-le (λ (m : Mark). from_bool ((m.frame.0 == f) && ((m.cycle == cycle_of word) && is_poisoning m.kind))) (λ (m : Mark). from_bool (m.frame.0 == f)) l
+        (λ j m e. both-le (m.frame.0 == f) ((m.cycle == cycle_of word) && is_poisoning m.kind))) in
         omega arith
 
     -- a frame with a count is named by a cache word, referenced or marked
@@ -158,12 +155,12 @@ module _ (layout : Layout) (w : Words) (homes : Homes) (views : List View) (soun
         elim (same-or (named f w.trans) 0) [
           | inr some ↦ let owned : 0 < named f w.caches + listed_on f = by-translation before (omega arith) in omega arith
           | inl unnamed ↦ elim (same-or (sum_by (refs_on f) refs) 0) [
-              | inr some ↦ let referenced : 0 < listed_on f = by-reference (omega arith) in omega arith
-              | inl unreferenced ↦ elim (same-or (handled_of word) 0) [
-                  | inr some ↦ let marked : 0 < is_marked layout marks f = by-handled is (handled-one word some) in omega arith
-                  | inl unhandled ↦ omega arith
-                ]
+            | inr some ↦ let referenced : 0 < listed_on f = by-reference (omega arith) in omega arith
+            | inl unreferenced ↦ elim (same-or (handled_of word) 0) [
+              | inr some ↦ let marked : 0 < is_marked layout marks f = by-handled is (handled-one word some) in omega arith
+              | inl unhandled ↦ omega arith
             ]
+          ]
         ]
 
   -- a frame that isn't the kernel's has a cause that it isn't available
@@ -202,15 +199,15 @@ module _ (layout : Layout) (w : Words) (homes : Homes) (views : List View) (soun
       let mapped : sum_by (λ (l : List Part). length l) parts ≡ sum_by (λ (v : View). length v.parts) views = sum-mapped (λ (v : View). v.parts) (λ (l : List Part). length l) views in
       let within : sum_by (λ (l : List Part). length l) parts ≤ sum_below (λ c. sum_all (λ (p : Part). from_bool (p.cpu.0 == c)) parts) layout.cpus = hits-within (λ (p : Part). p.cpu.0) parts layout.cpus h.processors.declared in
       let once : sum_below (λ c. sum_all (λ (p : Part). from_bool (p.cpu.0 == c)) parts) layout.cpus ≤ sum_below (λ c. 1) layout.cpus = below-le (λ c. sum_all (λ (p : Part). from_bool (p.cpu.0 == c)) parts) (λ c. 1) layout.cpus
-          (λ c before. let one : sum_all (λ (p : Part). from_bool (p.cpu.0 == c)) parts ≡ 1 = h.processors.one c before in omega arith) in
+      (λ c before. let one : sum_all (λ (p : Part). from_bool (p.cpu.0 == c)) parts ≡ 1 = h.processors.one c before in omega arith) in
       let number : sum_below (λ c. 1) layout.cpus ≡ layout.cpus = below-ones layout.cpus in
       omega arith
     where
       bounded : (v : View) → IsBounded layout (holdings_of v) → frames_held (holdings_of v) ≤ length v.parts + length v.parts
       bounded v is = elim (same-or (length v.parts) 0) [
-          | inl none ↦ let nothing : frames_held (holdings_of v) ≡ 0 = is.none none in omega arith
-          | inr some ↦ let few : frames_held (holdings_of v) ≤ 2 = is.few in omega arith
-        ]
+        | inl none ↦ let nothing : frames_held (holdings_of v) ≡ 0 = is.none none in omega arith
+        | inr some ↦ let few : frames_held (holdings_of v) ≤ 2 = is.few in omega arith
+      ]
 
   named-few : sum_below (λ f. named f w.caches) layout.frames ≤ length layout.pages
   named-few =

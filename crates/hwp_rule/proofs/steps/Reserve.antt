@@ -1,5 +1,5 @@
 -- A reservation keeps the frame rule, and so does one that found no frame as expected.
-use Rattle.std.proofs.Common.{◌≡◌, ℕ, zero, suc, ◌+◌, ◌-◌, ◌<◌, ◌≤◌, ◌==◌, eqb-true, Bool, true, false, cond, List, Some, map, set, length, slice_get, refl, sym, ap, ◌∙◌, subst, arith}
+use Rattle.std.proofs.Common.{◌≡◌, ℕ, ◌+◌, ◌-◌, ◌<◌, ◌≤◌, ◌==◌, eqb-true, Bool, true, false, cond, List, Some, map, set, length, slice_get, refl, arith}
 use Rattle.std.specs.List.{sum_by}
 use Rattle.std.proofs.lemmas.Option.{slice_get_within}
 use prog.Atomic.{either}
@@ -11,8 +11,8 @@ use Rattle.hwp_rule.specs.Views.{sighted, stamp_of}
 use Rattle.hwp_rule.specs.Words.{free_bit, sum_below}
 use Rattle.hwp_rule.specs.parts.Free.{FreeBitsAgree}
 use Rattle.hwp_rule.specs.parts.Holdings.{AreOwn, IsBounded, HoldingsBounded}
-use Rattle.hwp_rule.proofs.Exhausted.{explained-available}
-use Rattle.hwp_rule.proofs.Given.{Given, Keeps}
+use Rattle.hwp_rule.proofs.steps.Exhausted.{explained-available}
+use Rattle.hwp_rule.proofs.Given.{Keeps}
 use Rattle.hwp_rule.proofs.Lists.{change, at_map, each-set, sum-set}
 use Rattle.hwp_rule.proofs.Sights.{keeps-sight}
 use Rattle.hwp_rule.proofs.Kept

@@ -1,0 +1,10 @@
+pub mod Exhausted
+pub mod Knowing
+pub mod Reserve
+pub mod Shown
+pub mod Loading
+pub mod Stopping
+pub mod Settings
+pub mod Reporting
+pub mod Owning
+pub mod SetOwner
