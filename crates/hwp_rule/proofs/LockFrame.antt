@@ -38,7 +38,7 @@ use Rattle.hwp_rule.proofs.Lists.{at_map, map-was, same-number, set_again, set_h
 use Rattle.hwp_rule.proofs.FrameWord.{IsLike, like-fields, like-locked}
 use Rattle.hwp_rule.proofs.Given.{Keeps, IsShaped}
 use Rattle.hwp_rule.proofs.Locking.{all_bodies, keeps-locking}
-use Rattle.hwp_rule.proofs.PageLocks.{or-odd, same-page, fitting-at, first-lock}
+use Rattle.hwp_rule.proofs.frames.PageLocks.{or-odd, same-page, fitting-at, first-lock}
 use Rattle.hwp_rule.proofs.Referring.{word-there}
 use Rattle.hwp_rule.proofs.TakenBodies.{sum-empty, each-empty, sum-taken, each-taken, only-at-home}
 

@@ -28,12 +28,12 @@ use Rattle.hwp_rule.specs.parts.Endings.{AreEnded}
 use Rattle.hwp_rule.specs.parts.Fits.{Fits, FitsWords, KnowsWords, KnowsOwn}
 use Rattle.hwp_rule.specs.parts.Owners.{HoldsBoth}
 use Rattle.hwp_rule.proofs.Given.{Given, Keeps}
-use Rattle.hwp_rule.proofs.Listed
+use Rattle.hwp_rule.proofs.frames.Listed
 use Rattle.hwp_rule.proofs.Lists.{at_map, map-was, same-or, same-number, set_here, set-set, terms-le}
-use Rattle.hwp_rule.proofs.PageLocks.{first-lock, same-page}
+use Rattle.hwp_rule.proofs.frames.PageLocks.{first-lock, same-page}
 use Rattle.hwp_rule.proofs.Referring.{word-there}
-use Rattle.hwp_rule.proofs.UnlockFrame
-use Rattle.hwp_rule.proofs.Without.{find-is, changed-at}
+use Rattle.hwp_rule.proofs.frames.UnlockFrame
+use Rattle.hwp_rule.proofs.frames.Without.{find-is, changed-at}
 
 or-parts : (a b : Bool) → (a || b) ≡ true → (a ≡ true) ⊎ (b ≡ true)
 or-parts true b e = inl refl

@@ -27,10 +27,10 @@ use Rattle.hwp_rule.specs.parts.Owners.{HoldsBoth}
 use Rattle.hwp_rule.proofs.Lists.{at_map, at_set, same-or, same-number, set_again, set_here, sum-set, term-le, each-set, each-weaken, each-changed, sum-changed, length-changed}
 use Rattle.hwp_rule.proofs.FrameWord.{IsLike, like-fields, like-locked}
 use Rattle.hwp_rule.proofs.Hands.{sum-without, length-without, each-without}
-use Rattle.hwp_rule.proofs.PageLocks.{first-lock}
+use Rattle.hwp_rule.proofs.frames.PageLocks.{first-lock}
 use Rattle.hwp_rule.proofs.Locking.{all_bodies, keeps-locking}
 use Rattle.hwp_rule.proofs.TakenBodies.{sum-empty, each-empty}
-use Rattle.hwp_rule.proofs.Without.{some-without, others-unfound, sum-without-one}
+use Rattle.hwp_rule.proofs.frames.Without.{some-without, others-unfound, sum-without-one}
 
 -- a lock that the view lists is freed
 module _ (layout : Layout) (w : Words) (homes : Homes) (views : List View) (seat : ℕ) (v : View) (frame : Frame) (found place : ℕ) (lock : FrameLock)

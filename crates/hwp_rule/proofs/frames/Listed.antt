@@ -39,8 +39,8 @@ use Rattle.hwp_rule.specs.parts.Stops.{EndingsAndStopsStay}
 use Rattle.hwp_rule.specs.parts.Unpoisoned.{NothingPoisonedYet, is_failure}
 use Rattle.hwp_rule.proofs.Lists.{change, keep, at_map, at_longer, sum-set, term-le, each-set, each-weaken, each-changed}
 use Rattle.hwp_rule.proofs.Locking.{all_bodies}
-use Rattle.hwp_rule.proofs.Without.{sum-changed-one, each-changed-one}
-use Rattle.hwp_rule.proofs.Listing.{each-append, seen-drop, weigh-append, made-weigh, made-each, losses-none, losses-in-none, failures-none, or-left, fits-same}
+use Rattle.hwp_rule.proofs.frames.Without.{sum-changed-one, each-changed-one}
+use Rattle.hwp_rule.proofs.frames.Listing.{each-append, seen-drop, weigh-append, made-weigh, made-each, losses-none, losses-in-none, failures-none, or-left, fits-same}
 use Rattle.hwp_rule.proofs.Kept
 
 losses-of-made : (stamp : Stamp) (page : Page) (frame : Option Frame) (place : ℕ) (es : List Entry) → sum_by (λ (m : Made). from_bool (is_loss m.entry.what)) (made_from stamp page frame place es) ≡ losses_in es
