@@ -1,0 +1,4 @@
+pub mod Stepping
+pub mod Pinning
+pub mod Releasing
+pub mod Taking

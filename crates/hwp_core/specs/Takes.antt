@@ -32,6 +32,10 @@ after_word layout number = cond (nat_lt (number + 1) (free_words layout)) (numbe
 abbrev pub lowest_free : ℕ → ℕ → Frame
 lowest_free number word = record { 0 = number * 64 + trailing_zeros w64 word }
 
+-- what is to be done about the free word of this number
+abbrev pub at_free : Layout → ℕ → ℕ → TakeAt
+at_free layout number word = cond (word == 0) (at.Scan (after_word layout number)) (at.TakeBit (lowest_free number word))
+
 abbrev pub begin : Who → Take
 begin who = record { who = who; at = at.Available }
 
@@ -49,7 +53,7 @@ plan t = plan_at t.at
 abbrev pub next_at : Layout → TakeAt → ℕ → TakeAt
 next_at layout at.Available found = at_available found
 next_at layout (at.Reserve seen) found = cond (found == seen) (at.Scan 0) (at_available found)
-next_at layout (at.Scan number) found = cond (found == 0) (at.Scan (after_word layout number)) (at.TakeBit (lowest_free number found))
+next_at layout (at.Scan number) found = at_free layout number found
 next_at layout (at.TakeBit frame) found = cond (goes (take_bit frame) found) (at.Adopt frame) (at.Scan (frame.0 / 64))
 next_at layout (at.Adopt frame) found = at.Done (Some frame)
 next_at layout (at.Done frame) found = at.Done frame

@@ -35,7 +35,7 @@ pub enum TakeAnswer {
 
 impl Take {
     ghost use Rattle.hwp_rule.specs.Words.{free_words};
-    ghost use Rattle.hwp_core.specs.Takes.{begin, plan, answer, at_available, after_word, class};
+    ghost use Rattle.hwp_core.specs.Takes.{begin, plan, answer, at_available, at_free};
 
     /// The command takes a free frame.
     pub fn new(who: Who) -> Take
@@ -66,12 +66,21 @@ impl Take {
         }
     }
 
-    fn after_word(layout: &Layout, number: u32) -> u32
+    /// What is to be done about the free word of this number.
+    fn at_free(layout: &Layout, number: u32, word: u64) -> TakeAt
         requires { number < free_words layout.now }
-        ensures { result ≡ after_word layout.now number }
+        ensures { result ≡ at_free layout.now number word }
     {
         let words = (u32::from(layout.frames) + 63) / 64;
-        if number + 1 < words { number + 1 } else { 0 }
+        if word == 0 {
+            TakeAt::Scan {
+                number: if number + 1 < words { number + 1 } else { 0 },
+            }
+        } else {
+            TakeAt::TakeBit {
+                frame: Frame((number * 64 + word.trailing_zeros()) as u16),
+            }
+        }
     }
 }
 
@@ -120,11 +129,7 @@ impl Task for Take {
             TakeAt::Scan { number } => {
                 o.at(self.who.seq);
                 let word = o.load_free(number);
-                self.at = if word == 0 {
-                    TakeAt::Scan { number: Take::after_word(o.layout(), number) }
-                } else {
-                    TakeAt::TakeBit { frame: Frame((number * 64 + word.trailing_zeros()) as u16) }
-                };
+                self.at = Take::at_free(o.layout(), number, word);
                 Turn::Moved
             }
             TakeAt::TakeBit { frame } => {

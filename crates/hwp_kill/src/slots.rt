@@ -6,11 +6,11 @@ ghost use Rattle.hwp_kill.specs.Members.{members};
 ghost use Rattle.hwp_kill.specs.Lowest.{HasNoneFrom, HasNoBitFrom, IsLowestBit, IsLowestFrom};
 ghost use Rattle.hwp_kill.specs.declared.slots.TheConstants.{SLOTS};
 
-use hwp_geom::VSlot;
+use hwp_geom::{MAX_TRANS, VSlot};
 use std::marker::Model;
 
-/// How many translations a set can hold: those from 0 up to this number.
-pub const SLOTS: usize = 512;
+/// How many translations a set can hold: as many as a layout can declare.
+pub const SLOTS: usize = MAX_TRANS as usize;
 
 /// A set of translations, a bit for each in a row of machine words. Clauses see it as the set of their numbers.
 #[derive(Drop)]

@@ -6,5 +6,6 @@ pub mod SumLaws
 pub mod CollectLaws
 pub mod JudgeLaws
 pub mod NameLaws
+pub mod FitLaws
 pub mod ValidLaws
 pub mod ReadLaws

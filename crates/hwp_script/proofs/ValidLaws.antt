@@ -13,6 +13,7 @@ use Rattle.hwp_geom.specs.Layout.{IsBacked}
 use Rattle.hwp_geom.specs.declared.Layout.{Layout}
 use Rattle.hwp_geom.specs.declared.ThreadDecl.{ThreadDecl}
 use Rattle.hwp_geom.specs.declared.TransDecl.{TransDecl}
+use Rattle.hwp_form.specs.Grammar.{Fits}
 use Rattle.hwp_form.specs.declared.Form.{Form}
 use Rattle.hwp_form.specs.declared.Form.TheVariants as forms
 use Rattle.hwp_form.specs.declared.GoWord.{GoWord}
@@ -20,12 +21,14 @@ use Rattle.hwp_script.specs.Context.{cpus_of, frames_of, file_of, proc_of, threa
 use Rattle.hwp_script.specs.Reasons.{IsClean, AreClean, top_cpu}
 use Rattle.hwp_script.specs.Collects.{command_at, commands_from, commands_of, IsEnded, Collects}
 use Rattle.hwp_script.specs.Valid.{IsCommandOf, AreLists, IsValid}
+use Rattle.hwp_script.specs.Reads.{Reads}
 use Rattle.hwp_script.specs.declared.script.Script.{Script}
 use Rattle.hwp_script.specs.declared.script.Go.{Go}
 use Rattle.hwp_script.specs.declared.script.Command.{Command}
 use Rattle.hwp_script.proofs.ContextLaws.{onto, plus, more, pushed}
 use Rattle.hwp_script.proofs.CleanLaws.{clean_cpus, clean_frames, clean_file, clean_proc, clean_thread, clean_page, clean_trans, clean_order, clean_schedule, clean_end}
 use Rattle.hwp_script.proofs.CollectLaws.{commands_of-push}
+use Rattle.hwp_script.proofs.FitLaws.{lines_fit, all_fills, all_words}
 use Rattle.hwp_script.proofs.NameLaws.{names_in, Grows, grows_line, command_kept, backed_kept, backed, order_valid, plus_le, more_le, onto_le}
 
 -- the numbers stay within their limits
@@ -298,8 +301,8 @@ has_size fs h e =
     subst HasSize (sym behind) size
 
 -- the script of clean lines is valid
-pub valid : (fs : List Form) (s : Script) → AreClean fs → IsEnded fs → Collects fs s → IsValid s
-valid fs s clean ended h =
+valid : (fs : List Form) (s : Script) → AreClean fs → IsEnded fs → Collects fs s → All Fits fs → IsValid s
+valid fs s clean ended h fit =
     let d = declared fs clean in
     let size = has_size fs clean ended in
     let grows : Grows (names_in fs) s.layout = record {
@@ -333,4 +336,11 @@ valid fs s clean ended h =
       few = rw (h.lists, total-sum) (omega (arith, lists_total fs None 0 (cpus_in fs), d.commands));
       go = rw (h.go, h.cpus) d.go;
       few_go = rw h.go d.few_go;
+      fills = rw h.pages (all_fills fs fit);
+      words = rw h.lists (all_words fs 0 (cpus_in fs) fit);
     }
+
+-- a script that some text gives is valid
+pub valid_read : {bytes : List ℕ} {s : Script} → Reads bytes s → IsValid s
+valid_read {bytes} {s} h =
+    valid h.script.forms s h.script.clean h.script.ended h.script.collects (lines_fit h.numbered h.script.each)

@@ -1,5 +1,5 @@
 -- What every script has that some text gives.
-use Rattle.std.specs.Prelude.{◌≡◌, ℕ, ◌<◌, ◌≤◌, ◌+◌, length, sum_by, All, IsSomeAnd, slice_get, List, [], ◌∷◌}
+use Rattle.std.specs.Prelude.{◌≡◌, ℕ, ◌<◌, ◌≤◌, ◌+◌, ◌^◌, length, sum_by, All, IsSomeAnd, slice_get, List, [], ◌∷◌}
 use Rattle.hwp_geom.specs.Layout.{IsSound}
 use Rattle.hwp_geom.specs.Limits.{line_limit}
 use Rattle.hwp_geom.specs.declared.Layout.{Layout}
@@ -63,6 +63,18 @@ abbrev pub AreLists : Layout → ℕ → List (List Command) → Type 0
 AreLists layout cpu [] = Unit {0}
 AreLists layout cpu (list ∷ lists) = All (IsCommandOf layout cpu) list × AreLists layout (cpu + 1) lists
 
+-- the words of a command that no declaration bounds are of 64 bits
+abbrev pub HasWords : Command → Type 0
+HasWords (commands.Store thread slot line word) = word < 2 ^ 64
+HasWords (commands.Prctl thread args) = (args.operation < 2 ^ 64) × (args.arg2 < 2 ^ 64) × (args.arg3 < 2 ^ 64) × (args.arg4 < 2 ^ 64) × (args.arg5 < 2 ^ 64)
+HasWords (commands.Log status addr misc) = (status < 2 ^ 64) × (addr < 2 ^ 64) × (misc < 2 ^ 64)
+HasWords command = Unit {0}
+
+-- the words of a file's page are of 64 bits
+abbrev pub HasFill : PageKind → Type 0
+HasFill kinds.Anon = Unit {0}
+HasFill (kinds.File file fill) = fill < 2 ^ 64
+
 -- a script that some text gives: its layout is sound, it has a list of each processor's commands, and a schedule of
 -- its processors
 pub record IsValid (script : Script) : Type 0 where
@@ -72,3 +84,5 @@ pub record IsValid (script : Script) : Type 0 where
   pub few : sum_by length script.lists ≤ command_limit
   pub go : All (λ (g : Go). g.cpu.0 < script.layout.cpus) script.go
   pub few_go : length script.go ≤ schedule_limit
+  pub fills : All HasFill script.layout.pages
+  pub words : All (All HasWords) script.lists

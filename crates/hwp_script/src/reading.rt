@@ -25,7 +25,6 @@ pub enum ReadScript {
 /// The script that lines give, or their first line at fault.
 fn read_script(alloc: Global, lines: Vec<Numbered>) -> Result<Result<Script, Refused>, OutOfMemory>
     ensures script { IfOk result (λ read. IfOk read (AreScript lines.items)) }
-    ensures valid { IfOk result (λ read. IfOk read IsValid) }
     ensures refused { IfOk result (λ read. IfErr read (AreRefused lines.items)) }
 {
     match judge(alloc, lines)? {

@@ -296,48 +296,259 @@ fn the_lowest_reason_is_named(rt: HostRuntime) -> Result<(), Fail> {
     Ok(())
 }
 
-/// A script of so many lines in its list, with the end behind them.
-fn listed(alloc: Global, line: &str, count: u32) -> Result<String, Fail> {
-    let mut text = String::from_str(
-        alloc,
-        "hwp 1\ncpus 1\nframes 1\nproc 0\nthread 0 0 0 handler\npage 0 anon\ntrans 0 0 0\ncpu 0\n",
-    )?;
-    for _ in 0..count {
-        text.push_str(line)?;
+/// The text of `ONE` with these bytes in the place of its line of this number, counted from 1.
+fn with_line(alloc: Global, number: usize, bytes: &[u8]) -> Result<Vec<u8>, Fail> {
+    let mut text = Vec::new(alloc);
+    for (above, line) in ONE.lines().enumerate() {
+        let line = if above + 1 == number {
+            bytes
+        } else {
+            line.as_bytes()
+        };
+        text.extend_from_slice(line)?;
+        text.push(b'\n')?;
     }
+    Ok(text)
+}
+
+/// A line of `ONE` by its number, the bytes in its place, and what becomes of the text.
+type Swap<'a> = (usize, &'a [u8], Answer);
+
+/// The first row that does not become what it says, counted from 0, and what becomes of it.
+fn first_stray(alloc: Global, rows: &[Swap<'_>]) -> Result<Option<(usize, Answer)>, Fail> {
+    for (at, (number, bytes, want)) in rows.iter().enumerate() {
+        let text = with_line(alloc, *number, bytes)?;
+        let answer = refusal(alloc, text.as_slice())?;
+        if answer != *want {
+            return Ok(Some((at, answer)));
+        }
+    }
+    Ok(None)
+}
+
+#[test]
+fn each_reason_comes_early_in_the_middle_and_after_a_comment(rt: HostRuntime) -> Result<(), Fail> {
+    let rows: [Swap<'_>; 24] = [
+        (1, b"hwp 2", Some((1, Why::BadHeader))),
+        (1, b"", Some((2, Why::BadHeader))),
+        (1, b"# c\nhwp 01", Some((2, Why::BadHeader))),
+        (2, b"cpus 1 1", Some((2, Why::UnknownWord))),
+        (6, b"page 0 anonymous", Some((6, Why::UnknownWord))),
+        (9, b"# c\nsotre 0 0 5 77", Some((10, Why::UnknownWord))),
+        (2, b"cpus 01", Some((2, Why::BadNumber))),
+        (6, b"page 0x0 anon", Some((6, Why::BadNumber))),
+        (
+            9,
+            b"# c\nstore 0 0 5 18446744073709551616",
+            Some((10, Why::BadNumber)),
+        ),
+        (2, b"cpus 9", Some((2, Why::OverLimit))),
+        (5, b"thread 0 0 8 handler", Some((5, Why::OverLimit))),
+        (10, b"# c\nload 0 0 64", Some((11, Why::OverLimit))),
+        (2, b"kernel 0", Some((2, Why::Undeclared))),
+        (7, b"trans 0 1 0", Some((7, Why::Undeclared))),
+        (10, b"# c\nload 0 1 5", Some((11, Why::Undeclared))),
+        (3, b"cpus 1", Some((3, Why::Twice))),
+        (5, b"proc 0", Some((5, Why::Twice))),
+        (10, b"# c\ncpu 0", Some((11, Why::Twice))),
+        (2, b"frames 2", Some((2, Why::WrongPlace))),
+        (6, b"page 1 anon", Some((6, Why::WrongPlace))),
+        (
+            10,
+            b"# c\nschedule 0\nload 0 0 5",
+            Some((12, Why::WrongPlace)),
+        ),
+        (11, b"", Some((10, Why::NoEnd))),
+        (11, b"schedule 0", Some((11, Why::NoEnd))),
+        (11, b"# c\nschedule 0\n# d", Some((12, Why::NoEnd))),
+    ];
+    assert_eq!(rt; first_stray(rt.alloc(), rows.as_slice())?, None);
+    Ok(())
+}
+
+#[test]
+fn hostile_bytes_are_refused_where_they_stand(rt: HostRuntime) -> Result<(), Fail> {
+    let unknown = |line| Some((line, Why::UnknownWord));
+    let rows: [Swap<'_>; 14] = [
+        (1, b"hwp 1\r", Some((1, Why::BadHeader))),
+        (1, b"\xef\xbb\xbfhwp 1", Some((1, Why::BadHeader))),
+        (4, b"\tproc 0", unknown(4)),
+        (4, b"proc\t0", unknown(4)),
+        (4, b"\r\nproc 0", unknown(4)),
+        (4, b"proc 0\r", unknown(4)),
+        (4, b"proc 0\x00", unknown(4)),
+        (4, b"proc 0 \xff", unknown(4)),
+        (4, b"proc 0\x7f", unknown(4)),
+        (4, b" # c\nproc 0", unknown(4)),
+        (4, b"proc 0 # c", unknown(4)),
+        (4, b"#\nproc 0", None),
+        (4, b"#\xff\x00\t\r\nproc 0", None),
+        (4, b"  proc   0  ", None),
+    ];
+    assert_eq!(rt; first_stray(rt.alloc(), rows.as_slice())?, None);
+    Ok(())
+}
+
+#[test]
+fn long_words_and_many_lines_are_read_to_their_end(rt: HostRuntime) -> Result<(), Fail> {
+    let alloc = rt.alloc();
+    for (byte, want) in [
+        (b'x', Some((4, Why::UnknownWord))),
+        (b'#', Some((5, Why::Undeclared))),
+        (b' ', Some((5, Why::Undeclared))),
+    ] {
+        let word = vec![in alloc; byte; 70_000]?;
+        let text = with_line(alloc, 4, word.as_slice())?;
+        assert_eq!(rt; refusal(alloc, text.as_slice())?, want, "{byte}");
+    }
+    let mut digits = b"proc 1".to_vec(alloc)?;
+    digits.extend_from_slice(vec![in alloc; b'0'; 70_000]?.as_slice())?;
+    let text = with_line(alloc, 4, digits.as_slice())?;
+    assert_eq!(rt; refusal(alloc, text.as_slice())?, Some((4, Why::BadNumber)));
+    let mut lines = vec![in alloc; b'\n'; 1_000_000]?;
+    lines.extend_from_slice(b"hwp 1\ncpus 9\n")?;
+    assert_eq!(rt;
+        refusal(alloc, lines.as_slice())?,
+        Some((1_000_002, Why::OverLimit))
+    );
+    Ok(())
+}
+
+/// Adds the declarations of one kind, numbered from 0.
+fn declare(text: &mut String, kind: &str, count: u32, rest: &str) -> Result<(), Fail> {
+    for number in 0..count {
+        writeln!(text, "{kind} {number}{rest}")?;
+    }
+    Ok(())
+}
+
+/// A script with so many files, processes, threads, pages and translations.
+fn declared(alloc: Global, counts: [u32; 5]) -> Result<String, Fail> {
+    let [files, procs, threads, pages, trans] = counts;
+    let mut text = String::from_str(alloc, "hwp 1\ncpus 8\nframes 256\n")?;
+    declare(&mut text, "file", files, "")?;
+    declare(&mut text, "proc", procs, "")?;
+    declare(&mut text, "thread", threads, " 0 7 handler")?;
+    declare(&mut text, "page", pages, " anon")?;
+    declare(&mut text, "trans", trans, " 0 0")?;
     text.push_str("end\n")?;
     Ok(text)
 }
 
 #[test]
-fn the_limits_of_a_script_are_exact(rt: HostRuntime) -> Result<(), Fail> {
-    let many = Why::OverLimit;
-    for (line, count, want) in [
-        ("inject 0\n", 4096, None),
-        ("inject 0\n", 4097, Some((4105, many))),
-        ("schedule 0 0 0 0 0 0 0 0 0 0\n", 10_000, None),
-        (
-            "schedule 0 0 0 0 0 0 0 0 0 0\n",
-            10_001,
-            Some((10_009, many)),
-        ),
+fn as_many_as_the_limits_say_are_declared_and_no_more(rt: HostRuntime) -> Result<(), Fail> {
+    let over = |line| Some((line, Why::OverLimit));
+    for (counts, want) in [
+        ([16, 16, 32, 256, 512], None),
+        ([17, 16, 32, 256, 512], over(20)),
+        ([16, 17, 32, 256, 512], over(36)),
+        ([16, 16, 33, 256, 512], over(68)),
+        ([16, 16, 32, 257, 512], over(324)),
+        ([16, 16, 32, 256, 513], over(836)),
     ] {
-        let text = listed(rt.alloc(), line, count)?;
+        let text = declared(rt.alloc(), counts)?;
+        assert_eq!(rt; refusal(rt.alloc(), text.as_bytes())?, want, "{counts:?}");
+    }
+    let changes = [
+        ("cpus 8", "cpus 9", 2, Why::OverLimit),
+        ("frames 256", "frames 257", 3, Why::OverLimit),
+    ];
+    let text = declared(rt.alloc(), [0; 5])?;
+    assert_eq!(rt; refusal(rt.alloc(), text.as_bytes())?, None);
+    assert_eq!(rt;
+        first_miss(rt.alloc(), text.as_str(), changes.as_slice())?,
+        None
+    );
+    Ok(())
+}
+
+/// The texts one after another, each as often as it says.
+fn repeated(alloc: Global, parts: &[(&str, u32)]) -> Result<String, Fail> {
+    let mut text = String::new(alloc);
+    for (part, count) in parts {
+        repeat(&mut text, part, *count)?;
+    }
+    Ok(text)
+}
+
+/// Adds a text so often.
+fn repeat(text: &mut String, part: &str, count: u32) -> Result<(), Fail> {
+    for _ in 0..count {
+        text.push_str(part)?;
+    }
+    Ok(())
+}
+
+#[test]
+fn all_lists_together_hold_4096_commands(rt: HostRuntime) -> Result<(), Fail> {
+    let over = |line| Some((line, Why::OverLimit));
+    for (first, second, want) in [
+        (4096, 0, None),
+        (4097, 0, over(4101)),
+        (2048, 2048, None),
+        (0, 4097, over(4102)),
+        (2048, 2049, over(4102)),
+    ] {
+        let parts = [
+            ("hwp 1\ncpus 2\nframes 1\ncpu 1\n", 1),
+            ("inject 0\n", first),
+            ("cpu 0\n", 1),
+            ("inject 0\n", second),
+            ("end\n", 1),
+        ];
+        let text = repeated(rt.alloc(), parts.as_slice())?;
         assert_eq!(rt;
             refusal(rt.alloc(), text.as_bytes())?,
             want,
-            "{count} lines"
+            "{first} and {second}"
         );
     }
-    for (length, want) in [
-        (1 << 20, (1, Why::BadHeader)),
-        ((1 << 20) + 1, (0, Why::TooLong)),
+    Ok(())
+}
+
+#[test]
+fn a_schedule_holds_100000_words(rt: HostRuntime) -> Result<(), Fail> {
+    for (lines, last, want) in [
+        (10_000, "\n", None),
+        (10_000, "schedule 0\n", Some((10_004, Why::OverLimit))),
+        (
+            9_999,
+            "schedule 0 0 0 0 0 0 0 0 0 0 0\n",
+            Some((10_003, Why::OverLimit)),
+        ),
     ] {
-        let bytes = vec![in rt.alloc(); b'\n'; length]?;
+        let parts = [
+            ("hwp 1\ncpus 1\nframes 1\n", 1),
+            ("schedule 0 0 0 0 0 0 0 0 0 0\n", lines),
+            (last, 1),
+            ("end\n", 1),
+        ];
+        let text = repeated(rt.alloc(), parts.as_slice())?;
+        assert_eq!(rt;
+            refusal(rt.alloc(), text.as_bytes())?,
+            want,
+            "{lines} lines"
+        );
+    }
+    Ok(())
+}
+
+#[test]
+fn a_script_has_at_most_1_mib(rt: HostRuntime) -> Result<(), Fail> {
+    let most = 1 << 20;
+    for (front, want) in [
+        (ONE, None),
+        ("hwp 2", Some((1, Why::BadHeader))),
+        ("", Some((1, Why::BadHeader))),
+    ] {
+        let mut bytes = front.as_bytes().to_vec(rt.alloc())?;
+        bytes.resize(most, b' ')?;
+        assert_eq!(rt; refusal(rt.alloc(), bytes.as_slice())?, want, "{front}");
+        bytes.push(b' ')?;
         assert_eq!(rt;
             refusal(rt.alloc(), bytes.as_slice())?,
-            Some(want),
-            "{length} bytes"
+            Some((0, Why::TooLong)),
+            "{front}"
         );
     }
     Ok(())

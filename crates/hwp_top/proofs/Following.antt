@@ -1,5 +1,5 @@
 -- What is followed stays followed under one more entry, and grows by an answer.
-use Rattle.std.proofs.Common.{◌≡◌, ℕ, suc, zero, ◌+◌, ◌<◌, Bool, true, false, List, [], ◌∷◌, ◌++◌, Option, Some, None, length, option_map, option_and_then, slice_get, set, IsSomeAnd, inl, inr, refl, sym, ap, ◌∙◌, subst, arith, true≢false}
+use Rattle.std.proofs.Common.{◌≡◌, ℕ, suc, zero, ◌+◌, ◌<◌, ◌≤◌, Bool, true, false, List, [], ◌∷◌, ◌++◌, Option, Some, None, length, option_map, option_and_then, slice_get, set, IsSomeAnd, inl, inr, refl, sym, ap, ◌∙◌, subst, arith, true≢false}
 use Rattle.std.proofs.lemmas.List.{length-append, map-set}
 use Rattle.std.proofs.lemmas.Option.{none-some, same_Some, slice_get-map, slice_get_within}
 use Rattle.hwp_geom.specs.declared.Cpu.{Cpu}
@@ -186,6 +186,10 @@ Follows-stops script n command cause pages list rows there is_cause count follow
               row = length rows;
               of_cpu = refl;
               answered = slice_get-pushed rows (lines.Answer n answers.Stopped);
+              first = λ i m row. elim (slice_get-push_cases rows (lines.Answer n answers.Stopped) i (lines.Answer m answers.Stopped) row) [
+                | inl was ↦ absurd (none_stopped script pages first_cpu 0 list rows follows.answers i m was)
+                | inr last ↦ let same : m ≡ n = (same_answer m n answers.Stopped answers.Stopped last.1).0 in omega arith
+              ];
             });
         stays = λ cpu mine of_cpu i j m k answer less first second.
             let same = (only_rows all mine cpu.0 of_cpu).1 in
@@ -226,6 +230,14 @@ Follows-stopped script n command s pages list rows count follows =
               row = old.row;
               of_cpu = ap (slice_get (all ∷ [])) rows_are.0;
               answered = slice_get-kept rows (lines.Answer n answers.Stopped ∷ []) old.row (lines.Answer t.who.seq answers.Stopped) (ap (λ (r : List CpuLine). slice_get r old.row) (sym rows_are.1) ∙ old.answered);
+              first = λ i m row. elim (slice_get-push_cases rows (lines.Answer n answers.Stopped) i (lines.Answer m answers.Stopped) row) [
+                | inl was ↦ old.first i m (ap (λ (r : List CpuLine). slice_get r i) rows_are.1 ∙ was)
+                | inr last ↦
+                    let same : m ≡ n = (same_answer m n answers.Stopped answers.Stopped last.1).0 in
+                    let here : slice_get rows old.row ≡ Some (lines.Answer t.who.seq answers.Stopped) = ap (λ (r : List CpuLine). slice_get r old.row) (sym rows_are.1) ∙ old.answered in
+                    let before : t.who.seq < n = below old.row t.who.seq answers.Stopped here in
+                    omega arith
+              ];
             };
         stays = λ cpu mine of_cpu i j m k answer less first second.
             let same = (only_rows all mine cpu.0 of_cpu).1 in

@@ -53,8 +53,7 @@ packed_above low r (f ∷ fs) (x ∷ xs) below h fit =
     let here : r + (x * 2 ^ f.shift + packed fs xs) ≡ (top + x) * 2 ^ f.shift + r = omega (arith, high) in
     let first : field f (r + packed (f ∷ fs) (x ∷ xs)) ≡ x = ap (field f) here ∙ field-parts f rest.0 x r fit.0 small in
     let fits : r + x * 2 ^ f.shift < 2 ^ (f.shift + f.width) = omega (arith, whole, mul-add-lt x (2 ^ f.shift) r (2 ^ f.width) fit.0 small) in
-    let later : map (λ g. field g (r + x * 2 ^ f.shift + packed fs xs)) fs ≡ xs =
-    packed_above (f.shift + f.width) (r + x * 2 ^ f.shift) fs xs fits parts.1 fit.1 in
+    let later = packed_above (f.shift + f.width) (r + x * 2 ^ f.shift) fs xs fits parts.1 fit.1 in
     let same : r + x * 2 ^ f.shift + packed fs xs ≡ r + packed (f ∷ fs) (x ∷ xs) = omega arith in
     let others = subst (λ n. map (λ g. field g n) fs ≡ xs) same later in
     λ i. first i ∷ others i

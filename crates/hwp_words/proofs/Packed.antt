@@ -1,5 +1,5 @@
 -- Each kind of word: what is packed is read again, by the one law of fields, and what is read packs again.
-use Rattle.std.proofs.Common.{◌≡◌, ℕ, zero, suc, ◌+◌, ◌^◌, ◌<◌, ◌≤◌, Bool, true, false, ◌==◌, ◌⊎◌, Option, Some, None, IfSome, FitsSigned, pos, ◌+ℤ◌, [], ◌∷◌, if◌then◌else◌, w32, arith, refl, ap, ◌∙◌, sym}
+use Rattle.std.proofs.Common.{◌≡◌, ℕ, zero, suc, ◌+◌, ◌*◌, ◌^◌, ◌<◌, ◌≤◌, Bool, true, false, ◌==◌, ◌⊎◌, Option, Some, None, IfSome, FitsSigned, pos, ◌+ℤ◌, [], ◌∷◌, if◌then◌else◌, w32, arith, refl, ap, ◌∙◌, sym}
 use mathlib.Core.Logic.{⊎_elim}
 use Rattle.std.specs.Int.{from_bool}
 use Rattle.std.proofs.lemmas.Int.{ints}
@@ -159,6 +159,10 @@ policy_reading-policy_word x settings =
     let policy : field policy_field (policy_word x) ≡ policy_code x.policy = cc in
     let times : settings_of (policy_word x) ≡ x.settings = cc in
     λ i. record { policy = (ap policy_coded policy ∙ policy_coded-policy_code x.policy) i; settings = times i }
+
+-- four times the settings, plus the policy's number
+pub policy_word-sum : (x : PolicyWord) → policy_word x ≡ x.settings * 4 + policy_code x.policy
+policy_word-sum x = omega arith
 
 pub stop_reading-stop_word : (x : StopWord) → IfSome x.cpu (λ c. c.0 < 255) → stop_reading (stop_word x) ≡ x
 stop_reading-stop_word x cpu =

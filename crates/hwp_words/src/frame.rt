@@ -68,6 +68,7 @@ impl FrameWord {
             cycle: field(word, 44, 20) as u32,
         }
     }
+
     /// The bits to turn in a frame's word, by an exclusive or, so that its owner becomes another.
     pub fn owner_change(old: Option<Page>, new: Option<Page>) -> u64
         ensures { result ≡ bit_xor (page_name old) (page_name new) * 2 ^ 24 }

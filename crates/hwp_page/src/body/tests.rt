@@ -307,14 +307,45 @@ fn two_signals(first: Signal, second: Signal) -> SignalList {
     signals
 }
 
+/// One process with a thread, one page of a file filled with 9, and translation 0 to it.
+fn one_file_page(alloc: Global) -> Result<Layout, OutOfMemory>
+    ensures { IfOk result (λ layout. IsSound layout × (length layout.pages ≡ 1)) }
+{
+    let thread = ThreadDecl {
+        process: Proc(0),
+        cpu: Cpu(0),
+        handler: true,
+    };
+    let file = PageKind::File {
+        file: FileNo(0),
+        fill: 9,
+    };
+    let translation = TransDecl {
+        process: Proc(0),
+        page: Page(0),
+    };
+    Ok(Layout {
+        cpus: 1,
+        frames: 2,
+        kernel: List::from_vec([false, false].to_vec(alloc)?),
+        recovery: true,
+        early: false,
+        files: 1,
+        procs: 1,
+        threads: List::from_vec([thread].to_vec(alloc)?),
+        pages: List::from_vec([file].to_vec(alloc)?),
+        trans: List::from_vec([translation].to_vec(alloc)?),
+    })
+}
+
 #[test]
 fn a_dirty_file_page_fails(rt: HostRuntime) -> Result<(), Fail> {
     let alloc = rt.alloc();
-    let layout = Arc::new(alloc, two_pages(alloc)?)?;
+    let layout = Arc::new(alloc, one_file_page(alloc)?)?;
     let line = Line::new(2).ok_or("a line")?;
-    let mut body = Body::new(alloc, &layout, Page(1))?;
-    add(&rt, alloc, &mut body, &stored(1, line, 70))?;
-    let to_thread = || one_signal(signal(0, Code::Ar, 1));
+    let mut body = Body::new(alloc, &layout, Page(0))?;
+    add(&rt, alloc, &mut body, &stored(0, line, 70))?;
+    let to_thread = || one_signal(signal(0, Code::Ar, 0));
     let who = Who {
         cpu: Cpu(0),
         seq: 1,
@@ -332,11 +363,11 @@ fn a_dirty_file_page_fails(rt: HostRuntime) -> Result<(), Fail> {
         assert_eq!(rt; state.val.get(line), 9, "line {number}");
     }
     assert!(rt; !state.dirty && !state.cached && !state.lost);
-    for slot in 0..3 {
+    for slot in 0..512 {
         assert!(rt; !state.maps.has(VSlot(slot)), "slot {slot} in use");
         assert_eq!(rt;
             state.bar.has(VSlot(slot)),
-            slot == 1,
+            slot == 0,
             "poison entry of slot {slot}"
         );
     }

@@ -160,6 +160,23 @@ store 0 0 0 5\nout 0\nout 0\nload 0 0 0\nend\n",
 in 0 0\nmap 0 0 0\nstore 0 0 0 0 0 5\nout 0 1\nin 0 3\nmap 0 3 0\nload 0 3 0 0 0 5\ncpu 0 4\n0 stored 0 2\n\
 1 done 0 3\n2 notresident 0 4\n3 value 5 0 6\nend\n",
         ),
+        (
+            "a page of a file, dropped in each state that it can be in",
+            "hwp 1\ncpus 1\nframes 2\nfile 0\nproc 0\nthread 0 0 0 handler\npage 0 file 0 fill 9\ntrans 0 0 0\n\
+cpu 0\ndrop 0\nstore 0 0 0 4\ndrop 0\nsync 0\ndrop 0\nfree 0\nfree 0\ndrop 0\nload 0 0 0\nend\n",
+            "hwp-report 1\nstop none\ncount 0\nfile 0 lost 0\nframe 0 page 0 bad 0 weak 0\nframe 1 free bad 0 weak 0\n\
+page 0 9\nin 0 1\nmap 0 1 0\nstore 0 1 0 0 0 4\nsync 0 3\nfree 0 5 0\ndrop 0 7\nin 0 8\nmap 0 8 0\n\
+load 0 8 0 0 0 4\ncpu 0 9\n0 notresident 0 0\n1 stored 0 2\n2 dirty 0 3\n3 done 0 3\n4 mapped 0 4\n5 done 0 4\n\
+6 notmapped 0 5\n7 done 0 5\n8 value 4 0 8\nend\n",
+        ),
+        (
+            "a page swapped out and in, and stored again",
+            "hwp 1\ncpus 1\nframes 3\nproc 0\nthread 0 0 0 handler\npage 0 anon\ntrans 0 0 0\ncpu 0\n\
+store 0 0 0 5\nout 0\nload 0 0 0\nstore 0 0 0 6\nend\n",
+            "hwp-report 1\nstop none\ncount 0\nframe 0 page 0 bad 0 weak 0\nframe 1 free bad 0 weak 0\n\
+frame 2 free bad 0 weak 0\npage 0 8\nin 0 0\nmap 0 0 0\nstore 0 0 0 0 0 5\nout 0 1\nin 0 2\nmap 0 2 0\n\
+load 0 2 0 0 0 5\nstore 0 3 0 0 0 6\ncpu 0 4\n0 stored 0 2\n1 done 0 3\n2 value 5 0 6\n3 stored 0 7\nend\n",
+        ),
     ];
     for (name, script, report) in &table {
         let left = call(rt.alloc(), &["step"], script.as_bytes(), &[], 4096, &[])?;
@@ -186,18 +203,44 @@ log 0xBD000000000000C0 0x1000 0x8c\nend\n";
 }
 
 #[test]
-fn a_nested_machine_check_stops_the_machine(rt: HostRuntime) -> Result<(), Fail> {
+fn prctl_refuses_policies_and_arguments_that_are_none(rt: HostRuntime) -> Result<(), Fail> {
     let script =
-        "hwp 1\ncpus 1\nframes 1\nproc 0\nthread 0 0 0 handler\npage 0 anon\ntrans 0 0 0\ncpu 0\n\
-store 0 0 0 7\nraise nested\nload 0 0 0\nraise nested\nend\n";
+        "hwp 1\ncpus 1\nframes 2\nproc 0\nthread 0 0 0 handler\npage 0 anon\ntrans 0 0 0\ncpu 0\n\
+prctl 0 33 1 3 0 0\nprctl 0 33 0 1 0 0\nprctl 0 33 1 1 0 0\nprctl 0 34 0 0 0 0\nprctl 0 34 1 0 0 0\nend\n";
     let report =
-        "hwp-report 1\nstop 0 1 shutdown\ncount 0\nframe 0 page 0 bad 0 weak 0\npage 0 3\nin 0 0\nmap 0 0 0\n\
-store 0 0 0 0 0 7\ncpu 0 4\n0 stored 0 2\n1 stopped\n2 stopped\n3 stopped\nend\n";
+        "hwp-report 1\nstop none\ncount 0\nframe 0 free bad 0 weak 0\nframe 1 free bad 0 weak 0\npage 0 0\ncpu 0 5\n\
+0 einval\n1 einval\n2 done\n3 is 1\n4 einval\nend\n";
     let left = call(rt.alloc(), &["step"], script.as_bytes(), &[], 4096, &[])?;
-    assert_eq!(rt; left.status, 8);
-    assert!(rt; left.reported);
+    assert_eq!(rt; left.status, 0);
     assert_eq!(rt; left.out.as_slice(), report.as_bytes());
-    assert_eq!(rt; left.err.len(), 0);
+    Ok(())
+}
+
+#[test]
+fn a_nested_machine_check_stops_the_machine(rt: HostRuntime) -> Result<(), Fail> {
+    let table = [
+        (
+            "alone",
+            "hwp 1\ncpus 1\nframes 2\nproc 0\nthread 0 0 0 handler\npage 0 anon\ntrans 0 0 0\ncpu 0\n\
+raise nested\nend\n",
+            "hwp-report 1\nstop 0 0 shutdown\ncount 0\nframe 0 free bad 0 weak 0\nframe 1 free bad 0 weak 0\n\
+page 0 0\ncpu 0 1\n0 stopped\nend\n",
+        ),
+        (
+            "between a store and a load",
+            "hwp 1\ncpus 1\nframes 1\nproc 0\nthread 0 0 0 handler\npage 0 anon\ntrans 0 0 0\ncpu 0\n\
+store 0 0 0 7\nraise nested\nload 0 0 0\nraise nested\nend\n",
+            "hwp-report 1\nstop 0 1 shutdown\ncount 0\nframe 0 page 0 bad 0 weak 0\npage 0 3\nin 0 0\nmap 0 0 0\n\
+store 0 0 0 0 0 7\ncpu 0 4\n0 stored 0 2\n1 stopped\n2 stopped\n3 stopped\nend\n",
+        ),
+    ];
+    for (name, script, report) in &table {
+        let left = call(rt.alloc(), &["step"], script.as_bytes(), &[], 4096, &[])?;
+        assert_eq!(rt; left.status, 8, "{name}");
+        assert!(rt; left.reported, "{name}");
+        assert_eq!(rt; left.out.as_slice(), report.as_bytes(), "{name}");
+        assert_eq!(rt; left.err.len(), 0, "{name}");
+    }
     Ok(())
 }
 
@@ -235,6 +278,14 @@ fn a_refused_script_leaves_nothing_on_out(rt: HostRuntime) -> Result<(), Fail> {
         assert_eq!(rt; left.out.len(), 0, "{script}");
         assert_eq!(rt; left.err.as_slice(), told.as_bytes(), "{script}");
     }
+    let two = STORE_AND_LOAD.replace(rt.alloc(), "cpus 1", "cpus 2")?;
+    let left = call(rt.alloc(), &["step"], two.as_bytes(), &[], 4096, &[])?;
+    assert_eq!(rt; left.status, 3, "a second processor");
+    assert_eq!(rt; left.out.len(), 0, "a second processor");
+    assert_eq!(rt;
+        left.err.as_slice(),
+        b"script line 0: NotBuilt\n".as_slice()
+    );
     let long = vec![in rt.alloc(); b' '; 1_048_577]?;
     let left = call(rt.alloc(), &["step"], long.as_slice(), &[], 4096, &[])?;
     assert_eq!(rt; left.status, 3);

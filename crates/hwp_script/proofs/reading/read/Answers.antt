@@ -1,4 +1,6 @@
+use Rattle.std.proofs.Common.{rules}
 use Rattle.hwp_script.proofs.ReadLaws.{apart}
+use Rattle.hwp_script.proofs.ValidLaws.{valid_read}
 use Rattle.hwp_script.proofs.reading.read.Goals as goal
 
 pub returns-in_default-clause-apart : goal.returns-in_default-clause-apart
@@ -12,3 +14,6 @@ returns-in-Ok-Err-clause-apart c = λ r script. apart c.args.bytes.now r script
 
 pub returns-in-Err-clause-apart : goal.returns-in-Err-clause-apart
 returns-in-Err-clause-apart c = λ r script. apart c.args.bytes.now r script
+
+pub returns-in-Ok-Ok-clause-valid : goal.returns-in-Ok-Ok-clause-valid
+returns-in-Ok-Ok-clause-valid c = valid_read {bytes = c.args.bytes.now} (search rules)

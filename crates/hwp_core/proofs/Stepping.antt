@@ -1,0 +1,139 @@
+-- What one step of a task leaves and shows: the processor keeps its turn, and the words are those of a board that keeps the
+-- frame rule.
+use Rattle.std.proofs.Common.{◌≡◌, ℕ, ◌+◌, ◌*◌, ◌/◌, ◌%◌, ◌^◌, ◌<◌, ◌≤◌, ◌==◌, Bool, true, false, cond, List, Option, Some, None, length, take, drop, min, slice_get, slice_index, ◌⊎◌, inl, inr, refl, sym, ap, ◌∙◌, subst, arith, w64}
+use Rattle.std.specs.Int.{trailing_zeros}
+use Rattle.std.proofs.lemmas.Bool.{cases_lt, both_ways}
+use Rattle.std.proofs.lemmas.List.{length-take, length-drop}
+use Rattle.std.proofs.lemmas.Nat.Bits.{bit_at-trailing_zeros}
+use Rattle.std.proofs.lemmas.Option.{slice_get-get_or}
+use Rattle.hwp_geom.specs.declared.Cpu.{Cpu}
+use Rattle.hwp_geom.specs.declared.Frame.{Frame}
+use Rattle.hwp_geom.specs.declared.Layout.{Layout}
+use Rattle.hwp_geom.specs.declared.Who.{Who}
+use Rattle.hwp_words.specs.declared.FrameWord.{FrameWord}
+use Rattle.hwp_words.specs.Frames.{poison_of, is_poisoned, frame_reading}
+use Rattle.hwp_rule.specs.declared.Log.{Log}
+use Rattle.hwp_rule.specs.declared.Place.{Place}
+use Rattle.hwp_rule.specs.declared.Place.TheVariants as places
+use Rattle.hwp_rule.specs.declared.Rec.{Rec}
+use Rattle.hwp_rule.specs.declared.State.{State}
+use Rattle.hwp_rule.specs.declared.Step.{Step}
+use Rattle.hwp_rule.specs.declared.View.{View}
+use Rattle.hwp_rule.specs.Asks.{IsTurnOf}
+use Rattle.hwp_rule.specs.Rule.{Holds}
+use Rattle.hwp_rule.specs.Steps.{place_of, goes}
+use Rattle.hwp_rule.specs.Words.{words_of, segment, index, size, free_words, free_bit}
+use Rattle.hwp_rule.proofs.Split.{words-read}
+use Rattle.hwp_rule.proofs.Turns.{turn-after, none-later-after}
+use Rattle.hwp_core.specs.declared.turn.Turn.{Turn}
+use Rattle.hwp_core.specs.declared.turn.Tried.{Tried}
+use Rattle.hwp_core.specs.declared.turn.Tried.TheVariants.{Busy, Changed}
+use Rattle.hwp_core.specs.Calls.{Slots, Steps, IsTried, IsLater}
+use Rattle.hwp_core.specs.Turns.{Advances, StepTaken, IsOnTurn}
+
+-- a step of the processor leaves it its turn
+pub on-turn-after : (layout : Layout) (who : Who) (step : Step) (old new : View) (was now : Slots) (moves : Rec → Option Log → Type 0) (found : ℕ)
+    → IsOnTurn old who → Steps layout who step old new was now moves found → IsOnTurn new who
+on-turn-after layout who step old new was now moves found on made = record {
+  turn = subst (λ (v : View). IsTurnOf v who) (sym made.told.next) (turn-after layout r made.content old who refl on.turn);
+  later = subst (λ (v : View). IsLater v who who.seq) (sym made.told.next) (none-later-after layout r made.content old who.cpu who.seq (omega arith) on.later);
+}
+  where
+    r : Rec
+    r = record { who = who; step = step; found = found }
+
+-- the step of a command that was begun on another processor's object is one of this command
+pub own-step : {layout layout_at : Layout} {cpu : Cpu} {who_at : Who} {step : Step} {old old_at new : View} {was was_at now : Slots} {moves : Rec → Option Log → Type 0} {found : ℕ}
+    (who : Who) → (layout_at ≡ layout) × (old_at ≡ old) × (was_at ≡ was) → who_at ≡ record { cpu = cpu; seq = who.seq } → cpu ≡ who.cpu
+    → Steps layout_at who_at step old_at new was_at now moves found → Steps layout who step old new was now moves found
+own-step {layout} {layout_at} {cpu} {who_at} {step} {old} {old_at} {new} {was} {was_at} {now} {moves} {found} who same is own made =
+    subst (λ (l : Layout). Steps l who step old new was now moves found) same.0
+    (subst (λ (w : Who). Steps layout_at w step old new was now moves found) (is ∙ ap (λ (c : Cpu). record { cpu = c; seq = who.seq }) own)
+    (subst (λ (v : View). Steps layout_at who_at step v new was now moves found) same.1
+    (subst (λ (s : Slots). Steps layout_at who_at step old_at new s now moves found) same.2 made)))
+
+-- a step that moves one board moves the other, where the moves of the one are moves of the other
+pub steps-on : {layout : Layout} {who : Who} {step : Step} {old new : View} {was now : Slots} {moves others : Rec → Option Log → Type 0} {found : ℕ}
+    → ((r : Rec) (content : Option Log) → moves r content → others r content) → Steps layout who step old new was now moves found → Steps layout who step old new was now others found
+steps-on {found} on made = record {
+  content = made.content;
+  told = made.told;
+  put = made.put;
+  carried = made.carried;
+  moved = on _ made.content made.moved;
+}
+
+-- the frame word that a step met, among the words of the board
+frame-word : (layout : Layout) (s : State) → Holds layout s → (frame : Frame) (found : ℕ) → frame.0 < layout.frames
+    → found ≡ slice_index s.words (index layout (places.Frame frame)) → slice_get (words_of layout s.words).frames frame.0 ≡ Some found
+frame-word layout s h frame found inside met =
+    slice_get-get_or (words_of layout s.words).frames frame.0 0 within ∙ ap (λ (n : ℕ). Some n) (words-read layout s.words (places.Frame frame) inside ∙ sym met)
+  where
+    within : frame.0 < length (segment 0 layout.frames s.words)
+    within =
+        let all : length s.words ≡ size layout = h.words in
+        let rest : length (drop 0 s.words) ≡ length s.words = refl in
+        let both : length (segment 0 layout.frames s.words) ≡ min layout.frames (length (drop 0 s.words)) = length-take layout.frames (drop 0 s.words) in
+        omega arith
+
+-- it has no poison
+pub unpoisoned : (layout : Layout) (s : State) → Holds layout s → (frame : Frame) (found : ℕ) → frame.0 < layout.frames
+    → found ≡ slice_index s.words (index layout (places.Frame frame)) → is_poisoned found ≡ false
+unpoisoned layout s h frame found inside met = ap (λ (n : ℕ). n == 1) (h.rule.unpoisoned.sound frame.0 found (frame-word layout s h frame found inside met))
+
+-- a bit that a free word shows is that of a frame of the layout
+pub free-within : (layout : Layout) (s : State) → Holds layout s → (number found : ℕ) → number < free_words layout
+    → found ≡ slice_index s.words (index layout (places.Free number)) → 0 < found → found < 2 ^ 64
+    → (trailing_zeros w64 found < 64) × (number * 64 + trailing_zeros w64 found < layout.frames)
+free-within layout s h number found inside met some fits = (lowest.0, within (cases_lt f layout.frames))
+  where
+    lowest : (trailing_zeros w64 found < 64) × (found / 2 ^ trailing_zeros w64 found % 2 ≡ 1) × ((i : ℕ) → i < trailing_zeros w64 found → found / 2 ^ i % 2 ≡ 0)
+    lowest = bit_at-trailing_zeros w64 found some fits
+
+    f : ℕ
+    f = number * 64 + trailing_zeros w64 found
+
+    within : (f < layout.frames) ⊎ (layout.frames ≤ f) → f < layout.frames
+    within (inl less) = less
+    within (inr past) =
+        let below : trailing_zeros w64 found < 64 = lowest.0 in
+        let word_is : f / 64 ≡ number = omega arith in
+        let bit_is : f % 64 ≡ trailing_zeros w64 found = omega arith in
+        let read : slice_index (words_of layout s.words).frees number ≡ found = words-read layout s.words (places.Free number) inside ∙ sym met in
+        let none : slice_index (words_of layout s.words).frees (f / 64) / 2 ^ (f % 64) % 2 ≡ 0 = h.rule.free.within f past in
+        let none_there : slice_index (words_of layout s.words).frees number / 2 ^ (f % 64) % 2 ≡ 0 = subst (λ (n : ℕ). slice_index (words_of layout s.words).frees n / 2 ^ (f % 64) % 2 ≡ 0) word_is none in
+        let none_at : slice_index (words_of layout s.words).frees number / 2 ^ trailing_zeros w64 found % 2 ≡ 0 = subst (λ (k : ℕ). slice_index (words_of layout s.words).frees number / 2 ^ k % 2 ≡ 0) bit_is none_there in
+        let none_found : found / 2 ^ trailing_zeros w64 found % 2 ≡ 0 = subst (λ (w : ℕ). w / 2 ^ trailing_zeros w64 found % 2 ≡ 0) read none_at in
+        let set : found / 2 ^ trailing_zeros w64 found % 2 ≡ 1 = lowest.1 in
+        absurd (omega arith)
+
+-- a turn made the planned step
+pub advanced : {S : Type 0} {layout : Layout} {who : Who} {step : Step} {old new : View} {was now : Slots} {moves : Rec → Option Log → Type 0} {after : S} {result : Turn} {found : ℕ}
+    (next : ℕ → S) (answer : ℕ → Turn) (stays : Type 0) (before : S) (plan : Option Step) → plan ≡ Some step → Steps layout who step old new was now moves found → after ≡ next found → result ≡ answer found
+    → Advances layout who plan next answer old new was now moves stays before after result
+advanced {S} {layout} {who} {step} {old} {new} {was} {now} {moves} {after} {result} {found} next answer stays before plan is made then told =
+    subst (λ (p : Option Step). Advances layout who p next answer old new was now moves stays before after result) (sym is)
+        (record { found = found; steps = made; next_is = then; answered = told })
+
+-- no step shows a frame word with poison
+pub no-poison : {layout : Layout} {who : Who} {step : Step} {old new : View} {was now : Slots} {moves : Rec → Option Log → Type 0} {found : ℕ}
+    (frame : Frame) → place_of step ≡ places.Frame frame → frame.0 < layout.frames → Steps layout who step old new was now moves found
+    → (word : FrameWord) → word ≡ frame_reading found → word.poisoned ≡ true → ⊥
+no-poison {layout} {found} frame place inside made word reading poisoned = both_ways (is_poisoned found) none (sym (ap (λ (w : FrameWord). w.poisoned) reading) ∙ poisoned)
+  where
+    none : is_poisoned found ≡ false
+    none = unpoisoned layout made.told.board made.told.rule frame found inside (made.told.met ∙ ap (λ (p : Place). slice_index made.told.board.words (index layout p)) place)
+
+-- a choice, where it is known
+pub first-way : {A : Type 0} {b : Bool} (x y : A) → b ≡ true → x ≡ cond b x y
+first-way x y is = sym (ap (λ (b : Bool). cond b x y) is)
+
+pub other-way : {A : Type 0} {b : Bool} (x y : A) → b ≡ false → y ≡ cond b x y
+other-way x y is = sym (ap (λ (b : Bool). cond b x y) is)
+
+-- a step that did not go through answers the word that it found
+pub refused : {T : Type 0} {layout : Layout} {who : Who} {step : Step} {old new : View} {was now : Slots} {moves : Rec → Option Log → Type 0} {found word : ℕ} {result : Tried T}
+    → Steps layout who step old new was now moves found → IsTried step found result → (result ≡ Busy word) ⊎ (result ≡ Changed word)
+    → (goes step found ≡ false) × (word ≡ found)
+refused {T} {layout} {who} {step} {old} {new} {was} {now} {moves} {found} {word} {result} made tried (inl busy) = let t = subst (λ (r : Tried T). IsTried step found r) busy tried in (t.0, t.1.1)
+refused {T} {layout} {who} {step} {old} {new} {was} {now} {moves} {found} {word} {result} made tried (inr changed) = let t = subst (λ (r : Tried T). IsTried step found r) changed tried in (t.0, t.1.1)

@@ -1,0 +1,16 @@
+-- The steps that the plain board serves.
+use Rattle.hwp_rule.specs.declared.Step.{Step}
+use Rattle.hwp_rule.specs.declared.Step.TheVariants as steps
+
+abbrev pub IsServed : Step → Type 0
+IsServed (steps.Load place) = Unit {0}
+IsServed (steps.Reserve seen) = Unit {0}
+IsServed (steps.TakeBit frame) = Unit {0}
+IsServed (steps.GiveBit frame) = Unit {0}
+IsServed steps.Unreserve = Unit {0}
+IsServed (steps.Adopt frame) = Unit {0}
+IsServed (steps.GetRef frame seen count) = Unit {0}
+IsServed (steps.PutRef frame count) = Unit {0}
+IsServed (steps.LockFrame frame) = Unit {0}
+IsServed (steps.UnlockFrame frame) = Unit {0}
+IsServed step = ⊥

@@ -1,0 +1,10 @@
+pub mod PutLaws
+pub mod WordsPut
+pub mod ReadBack
+pub mod CleanPut
+pub mod Sections
+pub mod ListsPut
+pub mod RowsPut
+pub mod CommandsBack
+pub mod OneScript
+pub mod RoundTrip

@@ -1,0 +1,98 @@
+-- Texts of lines, as they grow.
+use Rattle.std.proofs.Common.{ℕ, ◌≡◌, ◌+◌, ◌-◌, ◌<◌, ◌≤◌, ◌⊎◌, inl, inr, ◌++◌, List, [], ◌∷◌, length, get_or, take, drop, length-drop, map, sym, ap, ◌∙◌, add-zero, append_assoc, append-nil, arith}
+use Rattle.std.proofs.lemmas.List.{take_more, length-take-le, take_all, map_push}
+use Rattle.std.proofs.lemmas.List.FromFn.{map-range_with_len_more}
+use Rattle.std.proofs.lemmas.List.Concat.{flat_map-append}
+use Rattle.hwp_geom.specs.Words.{line}
+use Rattle.hwp_form.specs.Grammar.{form_words}
+use Rattle.hwp_form.specs.Printed.{forms_text}
+use Rattle.hwp_form.specs.declared.Form.{Form}
+use Rattle.hwp_form.specs.declared.Form.TheVariants as forms
+use Rattle.hwp_script.specs.declared.Script.{Script}
+use Rattle.hwp_script_print.specs.Text.{numbered, counted, head_forms, kernel_forms, setting_forms, file_form, proc_form, thread_forms, page_forms, trans_forms, list_forms, go_row, rows_of, script_text}
+
+pub forms_text-append : (xs ys : List Form) → forms_text (xs ++ ys) ≡ forms_text xs ++ forms_text ys
+forms_text-append xs ys = flat_map-append (λ f. line (form_words f)) xs ys
+
+-- one text of lines after another
+pub put_more : (old now new : List ℕ) (xs ys : List Form) → now ≡ old ++ forms_text xs → new ≡ now ++ forms_text ys → new ≡ old ++ forms_text (xs ++ ys)
+put_more old now new xs ys e f =
+    f ∙ ap (λ t. t ++ forms_text ys) e ∙ append_assoc old (forms_text xs) (forms_text ys) ∙ ap (λ t. old ++ t) (sym (forms_text-append xs ys))
+
+-- one line after a text of lines
+pub put_one : (old now new : List ℕ) (xs : List Form) (f : Form) → now ≡ old ++ forms_text xs → new ≡ now ++ line (form_words f) → new ≡ old ++ forms_text (xs ++ f ∷ [])
+put_one old now new xs f e g = put_more old now new xs (f ∷ []) e (g ∙ ap (λ t. now ++ t) (sym (append-nil (line (form_words f)))))
+
+-- one line
+pub put_line : (old new : List ℕ) (f : Form) → new ≡ old ++ line (form_words f) → new ≡ old ++ forms_text (f ∷ [])
+put_line old new f g = g ∙ ap (λ t. old ++ t) (sym (append-nil (line (form_words f))))
+
+numbered-push : {A : Type 0} (forms_of : ℕ → A → List Form) (n : ℕ) (xs : List A) (x : A)
+    → numbered forms_of n (xs ++ x ∷ []) ≡ numbered forms_of n xs ++ forms_of (n + length xs) x
+numbered-push forms_of n [] x = append-nil (forms_of n x) ∙ ap (λ k. forms_of k x) (sym (add-zero n))
+numbered-push forms_of n (y ∷ ys) x =
+    ap (λ t. forms_of n y ++ t) (numbered-push forms_of (n + 1) ys x)
+    ∙ sym (append_assoc (forms_of n y) (numbered forms_of (n + 1) ys) (forms_of (n + 1 + length ys) x))
+    ∙ ap (λ k. (forms_of n y ++ numbered forms_of (n + 1) ys) ++ forms_of k x) (omega arith)
+
+-- after the text of the items below i, the text of item i
+pub put_numbered : {A : Type 0} (forms_of : ℕ → A → List Form) (old now new : List ℕ) (xs : List A) (i : ℕ) (d x : A) → i < length xs
+    → now ≡ old ++ forms_text (numbered forms_of 0 (take i xs)) → new ≡ now ++ forms_text (forms_of i x) → x ≡ get_or xs i d
+    → new ≡ old ++ forms_text (numbered forms_of 0 (take (i + 1) xs))
+put_numbered forms_of old now new xs i d x l e f is =
+    let more : numbered forms_of 0 (take (i + 1) xs) ≡ numbered forms_of 0 (take i xs) ++ forms_of i x =
+    ap (numbered forms_of 0) (take_more xs i d l) ∙ numbered-push forms_of 0 (take i xs) (get_or xs i d)
+    ∙ ap (λ k. numbered forms_of 0 (take i xs) ++ forms_of k (get_or xs i d)) (omega (arith, length-take-le i xs))
+    ∙ ap (λ y. numbered forms_of 0 (take i xs) ++ forms_of i y) (sym is) in
+    put_more old now new (numbered forms_of 0 (take i xs)) (forms_of i x) e f ∙ ap (λ fs. old ++ forms_text fs) (sym more)
+
+-- after the lines of the numbers below i, the line of i
+pub put_counted : (form_of : ℕ → Form) (old now new : List ℕ) (i : ℕ) → now ≡ old ++ forms_text (counted form_of i)
+    → new ≡ now ++ line (form_words (form_of i)) → new ≡ old ++ forms_text (counted form_of (i + 1))
+put_counted form_of old now new i e f =
+    let more : counted form_of (i + 1) ≡ counted form_of i ++ form_of i ∷ [] =
+    map-range_with_len_more form_of 0 i i (omega arith) in
+    put_one old now new (counted form_of i) (form_of i) e f ∙ ap (λ fs. old ++ forms_text fs) (sym more)
+
+-- a command more
+pub put_command : {A : Type 0} (form_of : A → Form) (front : Form) (old now new : List ℕ) (xs : List A) (i : ℕ) (d x : A) → i < length xs
+    → now ≡ old ++ forms_text (front ∷ map form_of (take i xs)) → new ≡ now ++ line (form_words (form_of x)) → x ≡ get_or xs i d
+    → new ≡ old ++ forms_text (front ∷ map form_of (take (i + 1) xs))
+put_command form_of front old now new xs i d x l e f is =
+    let more : map form_of (take (i + 1) xs) ≡ map form_of (take i xs) ++ form_of x ∷ [] =
+    ap (map form_of) (take_more xs i d l) ∙ map_push form_of (take i xs) (get_or xs i d) ∙ ap (λ y. map form_of (take i xs) ++ form_of y ∷ []) (sym is) in
+    put_one old now new (front ∷ map form_of (take i xs)) (form_of x) e f ∙ ap (λ fs. old ++ forms_text (front ∷ fs)) (sym more)
+
+forms_text-one : (f : Form) → forms_text (f ∷ []) ≡ line (form_words f)
+forms_text-one f = append-nil (line (form_words f))
+
+text_parts : (a b c d e f g h i j : List Form) (z : Form) → forms_text (a ++ b ++ c ++ d ++ e ++ f ++ g ++ h ++ i ++ j ++ z ∷ [])
+    ≡ forms_text a ++ forms_text b ++ forms_text c ++ forms_text d ++ forms_text e ++ forms_text f ++ forms_text g ++ forms_text h ++ forms_text i ++ forms_text j ++ line (form_words z)
+text_parts a b c d e f g h i j z = simp (forms_text-append, forms_text-one)
+
+-- the text of a script, part by part
+pub script_parts : (s : Script) (a b c d e f g h i j k l : List ℕ) → a ≡ []
+    → b ≡ a ++ forms_text (head_forms s.layout.cpus s.layout.frames)
+    → c ≡ b ++ forms_text (numbered kernel_forms 0 s.layout.kernel)
+    → d ≡ c ++ forms_text (setting_forms s.layout.recovery s.layout.early)
+    → e ≡ d ++ forms_text (counted file_form s.layout.files)
+    → f ≡ e ++ forms_text (counted proc_form s.layout.procs)
+    → g ≡ f ++ forms_text (numbered thread_forms 0 s.layout.threads)
+    → h ≡ g ++ forms_text (numbered page_forms 0 s.layout.pages)
+    → i ≡ h ++ forms_text (numbered trans_forms 0 s.layout.trans)
+    → j ≡ i ++ forms_text (numbered list_forms 0 s.lists)
+    → k ≡ j ++ forms_text (counted (go_row s.go) (rows_of (length s.go)))
+    → l ≡ k ++ line (form_words forms.End) → l ≡ script_text s
+script_parts s a b c d e f g h i j k l ea eb ec ed ee ef eg eh ei ej ek el =
+    el ∙ rw (ek, ej, ei, eh, eg, ef, ee, ed, ec, eb, ea) (sym (text_parts (head_forms s.layout.cpus s.layout.frames) (numbered kernel_forms 0 s.layout.kernel)
+    (setting_forms s.layout.recovery s.layout.early) (counted file_form s.layout.files) (counted proc_form s.layout.procs) (numbered thread_forms 0 s.layout.threads)
+    (numbered page_forms 0 s.layout.pages) (numbered trans_forms 0 s.layout.trans) (numbered list_forms 0 s.lists) (counted (go_row s.go) (rows_of (length s.go))) forms.End))
+
+-- the words from one place to another, where 50 or fewer follow
+pub row_words : {A : Type 0} (xs : List A) (start end : ℕ) → start ≤ length xs
+    → ((end ≡ length xs) × (length xs ≤ start + 50)) ⊎ ((end ≡ start + 50) × (start + 50 ≤ length xs))
+    → take (end - start) (drop start xs) ≡ take 50 (drop start xs)
+row_words xs start end l (inl h) =
+    take_all (end - start) (drop start xs) (rw length-drop (omega (arith, h.0, h.1))) ∙ sym (take_all 50 (drop start xs) (rw length-drop (omega (arith, h.0, h.1))))
+row_words xs start end l (inr h) =
+    let fifty : end - start ≡ 50 = omega (arith, h.0, h.1) in ap (λ k. take k (drop start xs)) fifty

@@ -1,0 +1,299 @@
+-- Declarations that are put one after the other: each line is clean, and what they declare grows.
+use Rattle.std.proofs.Common.{ℕ, ◌≡◌, ◌<◌, ◌≤◌, ◌^◌, ◌+◌, ◌++◌, ◌==◌, Bool, true, false, List, [], ◌∷◌, length, map, Option, Some, None, zero, suc, ap, subst, ◌∙◌, sym, refl, arith}
+use Rattle.std.specs.Prelude.{All, Contains}
+use Rattle.std.specs.List.{range_with_len}
+use Rattle.std.proofs.lemmas.List.{append-nil, append_assoc, length_push}
+use Rattle.std.proofs.lemmas.List.Elements.{All-nil, All-cons, All-head, All-tail, All-push, All-weaker, All-contains}
+use Rattle.hwp_geom.specs.declared.ThreadDecl.{ThreadDecl}
+use Rattle.hwp_geom.specs.declared.TransDecl.{TransDecl}
+use Rattle.hwp_geom.specs.declared.PageKind.{PageKind}
+use Rattle.hwp_geom.specs.declared.PageKind.TheVariants as kinds
+use Rattle.hwp_form.specs.declared.Form.{Form}
+use Rattle.hwp_form.specs.declared.GoWord.{GoWord}
+use Rattle.hwp_form.specs.declared.Form.TheVariants as forms
+use Rattle.hwp_script.specs.declared.Go.{Go}
+use Rattle.hwp_script.specs.Context.{cpus_of, frames_of, kernel_of, recovery_of, early_of, file_of, proc_of, thread_of, page_of, trans_of, cpu_of, command_of, words_of, go_of, kind_of, cpus_in, frames_in, kernel_in, recovery_in, early_in, files_in, procs_in, threads_in, pages_in, trans_in, lists_in, commands_in, go_in, place_in, place_after, group, highest}
+use Rattle.hwp_script.specs.Reasons.{IsClean, AreClean, IsBackingOver, IsBackingUndeclared}
+use Rattle.hwp_script.proofs.ContextLaws.{onto, plus, more, either, pushed}
+use Rattle.hwp_script.proofs.CleanLaws.{IsPlaced}
+use Rattle.hwp_script.proofs.CleanLists.{AreClean-none, AreClean-push}
+use Rattle.hwp_script.proofs.ValidLaws.{IsNamedThread, IsNamedTrans}
+use Rattle.hwp_script_print.specs.Text.{bit, backing_of, numbered, head_forms, kernel_forms, setting_forms, file_form, proc_form, thread_forms, page_forms, trans_forms}
+use Rattle.hwp_form.specs.Grammar.{Fits}
+use Rattle.hwp_script_print.proofs.WordsPut.{IsWhole}
+use Rattle.hwp_script_print.proofs.CleanPut.{put_header, put_cpus, put_frames, put_kernel, put_recovery, put_early, put_file, put_proc, put_thread, put_page, put_trans}
+
+-- what lines declare
+pub record Known : Type 0 where
+  pub cpus : ℕ
+  pub frames : ℕ
+  pub kernel : List ℕ
+  pub recovery : Option Bool
+  pub early : Option Bool
+  pub files : ℕ
+  pub procs : ℕ
+  pub threads : List ThreadDecl
+  pub pages : List PageKind
+  pub trans : List TransDecl
+  pub lists : List ℕ
+  pub place : Option ℕ
+  pub commands : ℕ
+  pub go : List Go
+
+abbrev pub known : List Form → Known
+known fs = record {
+  cpus = cpus_in fs;
+  frames = frames_in fs;
+  kernel = kernel_in fs;
+  recovery = recovery_in fs;
+  early = early_in fs;
+  files = files_in fs;
+  procs = procs_in fs;
+  threads = threads_in fs;
+  pages = pages_in fs;
+  trans = trans_in fs;
+  lists = lists_in fs;
+  place = place_in fs;
+  commands = commands_in fs;
+  go = go_in fs;
+}
+
+abbrev pub go_more : List Go → List GoWord → List Go
+go_more xs [] = xs
+go_more xs (w ∷ ws) = xs ++ map go_of (w ∷ ws)
+
+pub go_more-is : (xs : List Go) (ws : List GoWord) → go_more xs ws ≡ xs ++ map go_of ws
+go_more-is xs [] = sym (append-nil xs)
+go_more-is xs (w ∷ ws) = refl
+
+-- what they declare with one more
+abbrev pub next : Known → Form → Known
+next k f = record {
+  cpus = plus (cpus_of f) k.cpus;
+  frames = plus (frames_of f) k.frames;
+  kernel = onto (kernel_of f) k.kernel;
+  recovery = either k.recovery (recovery_of f);
+  early = either k.early (early_of f);
+  files = more (file_of f) k.files;
+  procs = more (proc_of f) k.procs;
+  threads = onto (thread_of f) k.threads;
+  pages = onto (page_of f) k.pages;
+  trans = onto (trans_of f) k.trans;
+  lists = onto (cpu_of f) k.lists;
+  place = place_after k.place f;
+  commands = more (command_of f) k.commands;
+  go = go_more k.go (words_of f);
+}
+
+known_push : (fs : List Form) (f : Form) → known (fs ++ f ∷ []) ≡ next (known fs) f
+known_push fs f =
+    let p = pushed fs f in
+    rw (p.cpus, p.frames, p.kernel, p.recovery, p.early, p.files, p.procs, p.threads, p.pages, p.trans, p.lists, p.place, p.commands, p.go, go_more-is) refl
+
+-- the lines are clean, of groups up to g, and declare this
+pub record IsMade (fs : List Form) (g : ℕ) (k : Known) : Type 0 where
+  pub some : 0 < length fs
+  pub clean : AreClean fs
+  pub late : highest fs ≤ g
+  pub whole : All IsWhole fs
+  pub same : known fs ≡ k
+
+-- a line that is none of the schedule
+pub plain : {f : Form} → Fits f → words_of f ≡ [] → IsWhole f
+plain {f} h e = record { fits = h; turns = rw e (All-nil (λ (t : GoWord). t.cpu < 2 ^ 64)) }
+
+pub made_push : {fs : List Form} {g : ℕ} {k : Known} (f : Form) → IsMade fs g k → group f ≤ g → IsWhole f → IsClean fs f → IsMade (fs ++ f ∷ []) g (next k f)
+made_push {fs} {g} {k} f h l w c = record {
+  some = omega (arith, length_push fs f);
+  clean = AreClean-push fs f h.clean c;
+  late = omega (arith, (pushed fs f).group, h.late);
+  whole = All-push IsWhole fs f h.whole w;
+  same = known_push fs f ∙ ap (λ x. next x f) h.same;
+}
+
+pub made_later : {fs : List Form} {g : ℕ} {k : Known} (h : ℕ) → IsMade fs g k → g ≤ h → IsMade fs h k
+made_later h made l = record { some = made.some; clean = made.clean; late = omega (arith, made.late, l); whole = made.whole; same = made.same }
+
+pub made_then : {g : ℕ} {k : Known} (fs : List Form) (f : Form) (rest : List Form) → IsMade ((fs ++ f ∷ []) ++ rest) g k → IsMade (fs ++ f ∷ rest) g k
+made_then {g} {k} fs f rest h = subst (λ xs. IsMade xs g k) (append_assoc fs (f ∷ []) rest) h
+
+pub made_nil : {fs : List Form} {g : ℕ} {k : Known} → IsMade fs g k → IsMade (fs ++ []) g k
+made_nil {fs} h = rw append-nil h
+
+pub placed : {fs : List Form} {g : ℕ} {k : Known} → IsMade fs g k → 0 < k.cpus → 0 < k.frames → IsPlaced fs g
+placed {fs} {g} {k} h c f =
+    let cpus : cpus_in fs ≡ k.cpus = ap (λ (x : Known). x.cpus) h.same in
+    let frames : frames_in fs ≡ k.frames = ap (λ (x : Known). x.frames) h.same in
+    record { late = h.late; some_cpu = omega arith; some_frame = omega arith }
+
+-- the header, and the numbers of processors and frames
+abbrev pub nothing : Known
+nothing = record {
+  cpus = 0;
+  frames = 0;
+  kernel = [];
+  recovery = None;
+  early = None;
+  files = 0;
+  procs = 0;
+  threads = [];
+  pages = [];
+  trans = [];
+  lists = [];
+  place = None;
+  commands = 0;
+  go = [];
+}
+
+made_header : IsMade (forms.Header ∷ []) 2 nothing
+made_header = record { some = omega arith; clean = AreClean-push [] forms.Header AreClean-none put_header; late = omega arith; whole = All-cons IsWhole forms.Header [] (plain tt refl) (All-nil IsWhole); same = refl }
+
+pub made_head : (c f : ℕ) → 1 ≤ c → c ≤ 8 → 1 ≤ f → f ≤ 256 → IsMade (head_forms c f) 2 (record nothing { cpus = c; frames = f })
+made_head c f some_c few_c some_f few_f =
+    let one = made_push (forms.Cpus c) made_header (omega arith) (plain (omega arith) refl) (put_cpus (omega arith) (record { some = omega arith; few = omega arith; first = refl; late = omega arith })) in
+    let two = made_push (forms.Frames f) one (omega arith) (plain (omega arith) refl) (put_frames (omega arith) (record { some = omega arith; few = omega arith; first = refl; late = omega arith }) (omega arith)) in
+    let cpus : 0 + c ≡ c = omega arith in
+    let frames : 0 + f ≡ f = omega arith in
+    rw (cpus, frames) at two
+
+-- the frames of the kernel
+abbrev pub marked : ℕ → List Bool → List ℕ
+marked n [] = []
+marked n (true ∷ bs) = n ∷ marked (n + 1) bs
+marked n (false ∷ bs) = marked (n + 1) bs
+
+pub made_kernel : {fs : List Form} (k : Known) (done : List ℕ) (n : ℕ) (bs : List Bool) → IsMade fs 3 (record k { kernel = done }) → 0 < k.cpus → 0 < k.frames → k.frames ≤ 256
+    → All (λ m. m < n) done → n + length bs ≤ k.frames → IsMade (fs ++ numbered kernel_forms n bs) 3 (record k { kernel = done ++ marked n bs })
+made_kernel k done n [] h c f few low l = rw (append-nil done) (made_nil h)
+made_kernel k done n (false ∷ bs) h c f few low l =
+    made_kernel k done (n + 1) bs h c f few (All-weaker (λ m. m < n) (λ m. m < n + 1) (λ m e. omega arith) done low) (omega arith)
+made_kernel {fs} k done n (true ∷ bs) h c f few low l =
+    let frames : frames_in fs ≡ k.frames = ap (λ (x : Known). x.frames) h.same in
+    let marks : kernel_in fs ≡ done = ap (λ (x : Known). x.kernel) h.same in
+    let once : Contains (kernel_in fs) n → ⊥ = λ has. omega (arith, All-contains (λ m. m < n) done n low (subst (λ xs. Contains xs n) marks has)) in
+    let clean : IsClean fs (forms.Kernel n) = put_kernel h.some (record { placed = placed h c f; declared = omega arith; low = omega arith }) once in
+    let rest = made_kernel k (done ++ n ∷ []) (n + 1) bs (made_push (forms.Kernel n) h (omega arith) (plain (omega arith) refl) clean) c f few
+    (All-push (λ m. m < n + 1) done n (All-weaker (λ m. m < n) (λ m. m < n + 1) (λ m e. omega arith) done low) (omega arith)) (omega arith) in
+    made_then fs (forms.Kernel n) (numbered kernel_forms (n + 1) bs) (rw (append_assoc done (n ∷ []) (marked (n + 1) bs)) at rest)
+
+-- the settings
+pub bit_low : (b : Bool) → bit b ≤ 1
+bit_low true = omega arith
+bit_low false = omega arith
+
+pub bit_is : (b : Bool) → (bit b == 1) ≡ b
+bit_is true = refl
+bit_is false = refl
+
+pub made_settings : {fs : List Form} (k : Known) (recovery early : Bool) → IsMade fs 5 (record k { recovery = None; early = None }) → highest fs ≤ 3 → 0 < k.cpus → 0 < k.frames
+    → IsMade (fs ++ setting_forms recovery early) 5 (record k { recovery = Some recovery; early = Some early })
+made_settings {fs} k recovery early h low c f =
+    let first : IsMade fs 4 (record k { recovery = None; early = None }) = record { some = h.some; clean = h.clean; late = omega (arith, low); whole = h.whole; same = h.same } in
+    let one = made_push (forms.Recovery (bit recovery)) first (omega arith) (plain (omega (arith, bit_low recovery)) refl)
+    (put_recovery h.some (record { placed = placed first c f; first = ap (λ (x : Known). x.recovery) h.same }) (bit_low recovery)) in
+    let next = made_later 5 one (omega arith) in
+    let two = made_push (forms.Early (bit early)) next (omega arith) (plain (omega (arith, bit_low early)) refl)
+    (put_early next.some (record { placed = placed next c f; first = ap (λ (x : Known). x.early) next.same }) (bit_low early)) in
+    rw (bit_is recovery, bit_is early) at (made_then fs (forms.Recovery (bit recovery)) (forms.Early (bit early) ∷ []) two)
+
+-- the files and the processes
+pub made_files : {fs : List Form} (k : Known) (m n : ℕ) → IsMade fs 6 (record k { files = m }) → 0 < k.cpus → 0 < k.frames → m + n ≤ 16
+    → IsMade (fs ++ map file_form (range_with_len m n)) 6 (record k { files = m + n })
+made_files k m zero h c f l = let e : m + zero ≡ m = omega arith in rw e (made_nil h)
+made_files {fs} k m (suc n) h c f l =
+    let clean : IsClean fs (forms.File m) = put_file h.some (record { placed = placed h c f; few = omega arith; next = sym (ap (λ (x : Known). x.files) h.same) }) in
+    let e : m + suc n ≡ (m + 1) + n = omega arith in
+    rw e (made_then fs (forms.File m) (map file_form (range_with_len (m + 1) n)) (made_files k (m + 1) n (made_push (forms.File m) h (omega arith) (plain (omega arith) refl) clean) c f (omega arith)))
+
+pub made_procs : {fs : List Form} (k : Known) (m n : ℕ) → IsMade fs 7 (record k { procs = m }) → 0 < k.cpus → 0 < k.frames → m + n ≤ 16
+    → IsMade (fs ++ map proc_form (range_with_len m n)) 7 (record k { procs = m + n })
+made_procs k m zero h c f l = let e : m + zero ≡ m = omega arith in rw e (made_nil h)
+made_procs {fs} k m (suc n) h c f l =
+    let clean : IsClean fs (forms.Proc m) = put_proc h.some (record { placed = placed h c f; few = omega arith; next = sym (ap (λ (x : Known). x.procs) h.same) }) in
+    let e : m + suc n ≡ (m + 1) + n = omega arith in
+    rw e (made_then fs (forms.Proc m) (map proc_form (range_with_len (m + 1) n)) (made_procs k (m + 1) n (made_push (forms.Proc m) h (omega arith) (plain (omega arith) refl) clean) c f (omega arith)))
+
+-- the threads, the pages and the translations
+pub made_threads : {fs : List Form} (k : Known) (done ts : List ThreadDecl) → IsMade fs 8 (record k { threads = done }) → 0 < k.cpus → 0 < k.frames
+    → k.cpus ≤ 8 → k.procs ≤ 16 → length done + length ts ≤ 32 → All (IsNamedThread k.procs k.cpus) ts
+    → IsMade (fs ++ numbered thread_forms (length done) ts) 8 (record k { threads = done ++ ts })
+made_threads k done [] h c f few_c few_p l names = rw (append-nil done) (made_nil h)
+made_threads {fs} k done (t ∷ ts) h c f few_c few_p l names =
+    let named = All-head (IsNamedThread k.procs k.cpus) t ts names in
+    let cpus : cpus_in fs ≡ k.cpus = ap (λ (x : Known). x.cpus) h.same in
+    let procs : procs_in fs ≡ k.procs = ap (λ (x : Known). x.procs) h.same in
+    let next : length done ≡ length (threads_in fs) = sym (ap (λ (x : Known). length x.threads) h.same) in
+    let clean : IsClean fs (forms.Thread (length done) t.process.0 t.cpu.0 t.handler) = put_thread t.handler h.some (record {
+      placed = placed h c f;
+      few = omega arith;
+      next = next;
+      process = omega (arith, named.0, procs);
+      low_process = omega (arith, named.0);
+      cpu = omega (arith, named.1, cpus);
+      low_cpu = omega (arith, named.1);
+    }) in
+    let rest = made_threads k (done ++ t ∷ []) ts (made_push (forms.Thread (length done) t.process.0 t.cpu.0 t.handler) h (omega arith) (plain (omega arith, omega (arith, named.0), omega (arith, named.1)) refl) clean) c f few_c few_p
+    (rw length_push (omega arith)) (All-tail (IsNamedThread k.procs k.cpus) t ts names) in
+    made_then fs (forms.Thread (length done) t.process.0 t.cpu.0 t.handler) (numbered thread_forms (length done + 1) ts) (rw (length_push, append_assoc done (t ∷ []) ts) at rest)
+
+-- the file behind a page, if there is one, is one of n, and its words are of 64 bits
+abbrev pub HasFile : ℕ → PageKind → Type 0
+HasFile n kinds.Anon = Unit {0}
+HasFile n (kinds.File file fill) = (file.0 < n) × (fill < 2 ^ 64)
+
+kind_back : (kind : PageKind) → kind_of (backing_of kind) ≡ kind
+kind_back kinds.Anon = refl
+kind_back (kinds.File file fill) = refl
+
+no_over : (n : ℕ) (kind : PageKind) → HasFile n kind → n ≤ 16 → IsBackingOver (backing_of kind) → ⊥
+no_over n kinds.Anon h l e = e
+no_over n (kinds.File file fill) h l e = let big : 16 ≤ file.0 = e in omega (arith, h.0, big)
+
+no_undeclared : (fs : List Form) (n : ℕ) (kind : PageKind) → HasFile n kind → files_in fs ≡ n → IsBackingUndeclared fs (backing_of kind) → ⊥
+no_undeclared fs n kinds.Anon h same e = e
+no_undeclared fs n (kinds.File file fill) h same e = omega (arith, h.0, e)
+
+page_fits : (n q : ℕ) (kind : PageKind) → HasFile n kind → n ≤ 16 → q < 2 ^ 64 → Fits (forms.Page q (backing_of kind))
+page_fits n q kinds.Anon h l low = low
+page_fits n q (kinds.File file fill) h l low = (low, omega (arith, h.0), h.1)
+
+pub made_pages : {fs : List Form} (k : Known) (done qs : List PageKind) → IsMade fs 9 (record k { pages = done }) → 0 < k.cpus → 0 < k.frames
+    → k.files ≤ 16 → length done + length qs ≤ 256 → All (HasFile k.files) qs
+    → IsMade (fs ++ numbered page_forms (length done) qs) 9 (record k { pages = done ++ qs })
+made_pages k done [] h c f few l files = rw (append-nil done) (made_nil h)
+made_pages {fs} k done (q ∷ qs) h c f few l files =
+    let file = All-head (HasFile k.files) q qs files in
+    let next : length done ≡ length (pages_in fs) = sym (ap (λ (x : Known). length x.pages) h.same) in
+    let clean : IsClean fs (forms.Page (length done) (backing_of q)) = put_page h.some (record {
+      placed = placed h c f;
+      few = omega arith;
+      next = next;
+      low = no_over k.files q file few;
+      backed = no_undeclared fs k.files q file (ap (λ (x : Known). x.files) h.same);
+    }) in
+    let made : IsMade (fs ++ forms.Page (length done) (backing_of q) ∷ []) 9 (record k { pages = done ++ q ∷ [] }) =
+    rw kind_back at (made_push (forms.Page (length done) (backing_of q)) h (omega arith) (plain (page_fits k.files (length done) q file few (omega arith)) refl) clean) in
+    let rest = made_pages k (done ++ q ∷ []) qs made c f few (rw length_push (omega arith)) (All-tail (HasFile k.files) q qs files) in
+    made_then fs (forms.Page (length done) (backing_of q)) (numbered page_forms (length done + 1) qs) (rw (length_push, append_assoc done (q ∷ []) qs) at rest)
+
+pub made_trans : {fs : List Form} (k : Known) (done vs : List TransDecl) → IsMade fs 10 (record k { trans = done }) → 0 < k.cpus → 0 < k.frames
+    → k.procs ≤ 16 → length k.pages ≤ 256 → length done + length vs ≤ 512 → All (IsNamedTrans k.procs (length k.pages)) vs
+    → IsMade (fs ++ numbered trans_forms (length done) vs) 10 (record k { trans = done ++ vs })
+made_trans k done [] h c f few_p few_q l names = rw (append-nil done) (made_nil h)
+made_trans {fs} k done (v ∷ vs) h c f few_p few_q l names =
+    let named = All-head (IsNamedTrans k.procs (length k.pages)) v vs names in
+    let procs : procs_in fs ≡ k.procs = ap (λ (x : Known). x.procs) h.same in
+    let pages : length (pages_in fs) ≡ length k.pages = ap (λ (x : Known). length x.pages) h.same in
+    let next : length done ≡ length (trans_in fs) = sym (ap (λ (x : Known). length x.trans) h.same) in
+    let clean : IsClean fs (forms.Trans (length done) v.process.0 v.page.0) = put_trans h.some (record {
+      placed = placed h c f;
+      few = omega arith;
+      next = next;
+      process = omega (arith, named.0, procs);
+      low_process = omega (arith, named.0);
+      page = omega (arith, named.1, pages);
+      low_page = omega (arith, named.1);
+    }) in
+    let rest = made_trans k (done ++ v ∷ []) vs (made_push (forms.Trans (length done) v.process.0 v.page.0) h (omega arith) (plain (omega arith, omega (arith, named.0), omega (arith, named.1)) refl) clean) c f few_p few_q
+    (rw length_push (omega arith)) (All-tail (IsNamedTrans k.procs (length k.pages)) v vs names) in
+    made_then fs (forms.Trans (length done) v.process.0 v.page.0) (numbered trans_forms (length done + 1) vs) (rw (length_push, append_assoc done (v ∷ []) vs) at rest)

@@ -1,0 +1,254 @@
+-- The words of the lines of a script are put together so that a line can be cut back to them.
+use Rattle.std.proofs.Common.{ℕ, ◌≡◌, ◌≢◌, ◌<◌, ◌≤◌, ◌^◌, ◌++◌, ◌==◌, nat_lt, ◌&&◌, not, Bool, true, false, List, [], ◌∷◌, length, map, decimal, codes, refl, arith}
+use Rattle.std.specs.Prelude.{All}
+use Rattle.std.specs.Char.{digit_value}
+use Rattle.std.specs.Str.Parse.{AllDigits}
+use Rattle.std.proofs.lemmas.Bool.{and_parts}
+use Rattle.std.proofs.lemmas.Bool.Decides.{nat_tests}
+use Rattle.std.proofs.lemmas.Fmt.{decimal_is_IsNumeral, digits_is_IsNumeral}
+use Rattle.std.proofs.lemmas.List.{length-append}
+use Rattle.std.proofs.lemmas.List.Elements.{All-nil, All-cons, All-append, All-weaker, All-head, All-tail}
+use Rattle.hwp_geom.specs.Words.{IsWord, hex}
+use Rattle.hwp_geom.specs.declared.Kind.{Kind}
+use Rattle.hwp_geom.specs.declared.Kind.TheVariants as kinds
+use Rattle.hwp_geom.proofs.WordLaws.{not_nil}
+use Rattle.hwp_form.specs.Kinds.{kind_text}
+use Rattle.hwp_form.specs.Numbers.{register}
+use Rattle.hwp_form.specs.Grammar.{keyword, keyword_text, order_words, rest_words, form_words, handler_text, turn_text, until_text, Fits, OrderFits}
+use Rattle.hwp_script.specs.Context.{words_of as turns_in}
+use Rattle.hwp_form.specs.declared.Form.{Form}
+use Rattle.hwp_form.specs.declared.Order.{Order}
+use Rattle.hwp_form.specs.declared.GoWord.{GoWord}
+use Rattle.hwp_form.specs.declared.Until.{Until}
+use Rattle.hwp_form.specs.declared.Form.TheVariants as forms
+use Rattle.hwp_form.specs.declared.Order.TheVariants as orders
+use Rattle.hwp_form.specs.declared.Backing.TheVariants as backings
+use Rattle.hwp_form.specs.declared.Until.TheVariants as untils
+
+-- a byte above `#`, and so above space and line feed
+abbrev pub IsHigh : ℕ → Type 0
+IsHigh b = 35 < b
+
+-- not `@`
+abbrev pub IsNoAt : ℕ → Type 0
+IsNoAt b = b ≢ 64
+
+-- a word as it is printed
+pub record IsPut (w : List ℕ) : Type 0 where
+  pub some : 0 < length w
+  pub high : All IsHigh w
+
+-- words as they are printed
+pub record ArePut (ws : List (List ℕ)) : Type 0 where
+  pub each : All IsPut ws
+
+pub put_word : {w : List ℕ} → IsPut w → IsWord w
+put_word {w} h = record {
+  some = not_nil w h.some;
+  no_space = All-weaker IsHigh (λ b. b ≢ 32) (λ b l e. omega (arith, l, e)) w h.high;
+  no_feed = All-weaker IsHigh (λ b. b ≢ 10) (λ b l e. omega (arith, l, e)) w h.high;
+}
+
+pub put_append : {v : List ℕ} (w : List ℕ) → IsPut v → All IsHigh w → IsPut (v ++ w)
+put_append {v} w h k = record { some = omega (arith, length-append v w, h.some); high = All-append IsHigh v w h.high k }
+
+-- digits
+digit_high : (b : ℕ) → digit_value b < 16 → IsHigh b
+digit_high b h = grind (arith, nat_tests)
+
+digit_no_at : (b : ℕ) → digit_value b < 16 → IsNoAt b
+digit_no_at b h = grind (arith, nat_tests)
+
+digits_high : (base : ℕ) → base ≤ 16 → (ds : List ℕ) → AllDigits base ds → All IsHigh ds
+digits_high base low [] h = All-nil IsHigh
+digits_high base low (d ∷ ds) h = All-cons IsHigh d ds (digit_high d (omega (arith, h.0))) (digits_high base low ds h.1)
+
+digits_no_at : (base : ℕ) → base ≤ 16 → (ds : List ℕ) → AllDigits base ds → All IsNoAt ds
+digits_no_at base low [] h = All-nil IsNoAt
+digits_no_at base low (d ∷ ds) h = All-cons IsNoAt d ds (digit_no_at d (omega (arith, h.0))) (digits_no_at base low ds h.1)
+
+pub put_decimal : (n : ℕ) → n < 2 ^ 64 → IsPut (decimal n)
+put_decimal n h =
+    let numeral = (decimal_is_IsNumeral n h).0 in record { some = numeral.0; high = digits_high 10 (omega arith) (decimal n) numeral.1 }
+
+pub no_at-decimal : (n : ℕ) → n < 2 ^ 64 → All IsNoAt (decimal n)
+no_at-decimal n h = digits_no_at 10 (omega arith) (decimal n) (decimal_is_IsNumeral n h).0.1
+
+-- whether each byte of a fixed word is above `#` and not `@`
+abbrev are_fixed : List ℕ → Bool
+are_fixed [] = true
+are_fixed (b ∷ bs) = (nat_lt 35 b && not (b == 64)) && are_fixed bs
+
+byte_high : (b : ℕ) → (nat_lt 35 b && not (b == 64)) ≡ true → IsHigh b
+byte_high b h = let parts = and_parts (nat_lt 35 b) (not (b == 64)) h in grind (arith, nat_tests)
+
+byte_no_at : (b : ℕ) → (nat_lt 35 b && not (b == 64)) ≡ true → IsNoAt b
+byte_no_at b h = let parts = and_parts (nat_lt 35 b) (not (b == 64)) h in grind (arith, nat_tests)
+
+fixed_high : (bs : List ℕ) → are_fixed bs ≡ true → All IsHigh bs
+fixed_high [] h = All-nil IsHigh
+fixed_high (b ∷ bs) h =
+    let parts = and_parts (nat_lt 35 b && not (b == 64)) (are_fixed bs) h in All-cons IsHigh b bs (byte_high b parts.0) (fixed_high bs parts.1)
+
+fixed_no_at : (bs : List ℕ) → are_fixed bs ≡ true → All IsNoAt bs
+fixed_no_at [] h = All-nil IsNoAt
+fixed_no_at (b ∷ bs) h =
+    let parts = and_parts (nat_lt 35 b && not (b == 64)) (are_fixed bs) h in All-cons IsNoAt b bs (byte_no_at b parts.0) (fixed_no_at bs parts.1)
+
+-- a fixed word is printed so, by `fixed _ _ refl`
+fixed : (b : ℕ) (bs : List ℕ) → are_fixed (b ∷ bs) ≡ true → IsPut (b ∷ bs)
+fixed b bs h = record { some = omega arith; high = fixed_high (b ∷ bs) h }
+
+pub put_register : (n : ℕ) → n < 2 ^ 64 → IsPut (register n)
+put_register n h =
+    put_append (hex n) (fixed 48 (120 ∷ []) refl) (digits_high 16 (omega arith) (hex n) (digits_is_IsNumeral 16 false (omega arith) (omega arith) n (omega arith)).0.1)
+
+-- the first word of a line
+put_first : (f : Form) → IsPut (keyword_text (keyword f))
+put_first forms.Header = fixed _ _ refl
+put_first forms.End = fixed _ _ refl
+put_first (forms.Cpus n) = fixed _ _ refl
+put_first (forms.Frames n) = fixed _ _ refl
+put_first (forms.Kernel n) = fixed _ _ refl
+put_first (forms.Recovery n) = fixed _ _ refl
+put_first (forms.Early n) = fixed _ _ refl
+put_first (forms.File n) = fixed _ _ refl
+put_first (forms.Proc n) = fixed _ _ refl
+put_first (forms.Cpu n) = fixed _ _ refl
+put_first (forms.Thread t p c h) = fixed _ _ refl
+put_first (forms.Page q b) = fixed _ _ refl
+put_first (forms.Trans v p q) = fixed _ _ refl
+put_first (forms.Schedule ts) = fixed _ _ refl
+put_first (forms.Order (orders.Load t v l)) = fixed _ _ refl
+put_first (forms.Order (orders.Fetch t v l)) = fixed _ _ refl
+put_first (forms.Order (orders.KLoad t v l)) = fixed _ _ refl
+put_first (forms.Order (orders.Store t v l x)) = fixed _ _ refl
+put_first (forms.Order (orders.Free v)) = fixed _ _ refl
+put_first (forms.Order (orders.Drop q)) = fixed _ _ refl
+put_first (forms.Order (orders.Sync q)) = fixed _ _ refl
+put_first (forms.Order (orders.Out q)) = fixed _ _ refl
+put_first (forms.Order (orders.Fsync n)) = fixed _ _ refl
+put_first (forms.Order (orders.Prctl t args)) = fixed _ _ refl
+put_first (forms.Order (orders.Bad f l)) = fixed _ _ refl
+put_first (forms.Order (orders.Weak f l)) = fixed _ _ refl
+put_first (forms.Order (orders.Scrub a b)) = fixed _ _ refl
+put_first (forms.Order (orders.Log s a m)) = fixed _ _ refl
+put_first (forms.Order (orders.RaiseUser t r e)) = fixed _ _ refl
+put_first (forms.Order (orders.RaiseKernel r e)) = fixed _ _ refl
+put_first (forms.Order orders.RaiseNested) = fixed _ _ refl
+put_first (forms.Order (orders.Inject f)) = fixed _ _ refl
+put_first (forms.Order (orders.Soft f)) = fixed _ _ refl
+put_first (forms.Order (orders.Unpoison f)) = fixed _ _ refl
+
+-- whether a name of a kind of step is a fixed word
+fixed_kind : (k : Kind) → are_fixed (kind_text k) ≡ true
+fixed_kind kinds.LoadPte = refl
+fixed_kind kinds.LoadCache = refl
+fixed_kind kinds.LoadFrame = refl
+fixed_kind kinds.LoadAvail = refl
+fixed_kind kinds.LoadFree = refl
+fixed_kind kinds.LoadBad = refl
+fixed_kind kinds.LoadProc = refl
+fixed_kind kinds.LoadPolicy = refl
+fixed_kind kinds.LoadStop = refl
+fixed_kind kinds.LoadCount = refl
+fixed_kind kinds.Reserve = refl
+fixed_kind kinds.TakeBit = refl
+fixed_kind kinds.GiveBit = refl
+fixed_kind kinds.Unreserve = refl
+fixed_kind kinds.Adopt = refl
+fixed_kind kinds.GetRef = refl
+fixed_kind kinds.PutRef = refl
+fixed_kind kinds.LockFrame = refl
+fixed_kind kinds.UnlockFrame = refl
+fixed_kind kinds.Retire = refl
+fixed_kind kinds.Revive = refl
+fixed_kind kinds.SetOwner = refl
+fixed_kind kinds.LockPage = refl
+fixed_kind kinds.UnlockPage = refl
+fixed_kind kinds.SetPte = refl
+fixed_kind kinds.SetCache = refl
+fixed_kind kinds.Poison = refl
+fixed_kind kinds.CountPoison = refl
+fixed_kind kinds.Uncount = refl
+fixed_kind kinds.Spoil = refl
+fixed_kind kinds.Stop = refl
+fixed_kind kinds.GiveUp = refl
+fixed_kind kinds.Kill = refl
+fixed_kind kinds.SetPolicy = refl
+fixed_kind kinds.Lose = refl
+fixed_kind kinds.ReportLost = refl
+
+pub no_at-kind : (k : Kind) → All IsNoAt (kind_text k)
+no_at-kind k = fixed_no_at (kind_text k) (fixed_kind k)
+
+-- a word in front of others
+then : {w : List ℕ} {ws : List (List ℕ)} → IsPut w → ArePut ws → ArePut (w ∷ ws)
+then {w} {ws} h k = record { each = All-cons IsPut w ws h k.each }
+
+nothing : ArePut []
+nothing = record { each = All-nil IsPut }
+
+put_handler : (h : Bool) → IsPut (handler_text h)
+put_handler true = fixed _ _ refl
+put_handler false = fixed _ _ refl
+
+high_until : (u : Until) → All IsHigh (until_text u)
+high_until untils.One = All-nil IsHigh
+high_until untils.Command = fixed_high (codes ".") refl
+high_until (untils.After k) = All-cons IsHigh 64 (kind_text k) (omega arith) (fixed_high (kind_text k) (fixed_kind k))
+
+put_turn : (t : GoWord) → t.cpu < 2 ^ 64 → IsPut (turn_text t)
+put_turn t h = put_append (until_text t.until) (put_decimal t.cpu h) (high_until t.until)
+
+put_turns : (ts : List GoWord) → All (λ (t : GoWord). t.cpu < 2 ^ 64) ts → ArePut (map turn_text ts)
+put_turns [] h = nothing
+put_turns (t ∷ ts) h = then (put_turn t (All-head (λ (t : GoWord). t.cpu < 2 ^ 64) t ts h)) (put_turns ts (All-tail (λ (t : GoWord). t.cpu < 2 ^ 64) t ts h))
+
+put_order : (o : Order) → OrderFits o → ArePut (order_words o)
+put_order (orders.Load t v l) h = then (put_decimal t h.0) (then (put_decimal v h.1) (then (put_decimal l h.2) nothing))
+put_order (orders.Fetch t v l) h = then (put_decimal t h.0) (then (put_decimal v h.1) (then (put_decimal l h.2) nothing))
+put_order (orders.KLoad t v l) h = then (put_decimal t h.0) (then (put_decimal v h.1) (then (put_decimal l h.2) nothing))
+put_order (orders.Store t v l x) h = then (put_decimal t h.0) (then (put_decimal v h.1) (then (put_decimal l h.2) (then (put_decimal x h.3) nothing)))
+put_order (orders.Free v) h = then (put_decimal v h) nothing
+put_order (orders.Drop q) h = then (put_decimal q h) nothing
+put_order (orders.Sync q) h = then (put_decimal q h) nothing
+put_order (orders.Out q) h = then (put_decimal q h) nothing
+put_order (orders.Fsync n) h = then (put_decimal n h) nothing
+put_order (orders.Prctl t args) h = then (put_decimal t h.0) (then (put_decimal args.operation h.1) (then (put_decimal args.arg2 h.2) (then (put_decimal args.arg3 h.3) (then (put_decimal args.arg4 h.4) (then (put_decimal args.arg5 h.5) nothing)))))
+put_order (orders.Bad f l) h = then (put_decimal f h.0) (then (put_decimal l h.1) nothing)
+put_order (orders.Weak f l) h = then (put_decimal f h.0) (then (put_decimal l h.1) nothing)
+put_order (orders.Scrub a b) h = then (put_decimal a h.0) (then (put_decimal b h.1) nothing)
+put_order (orders.Log s a m) h = then (put_register s h.0) (then (put_register a h.1) (then (put_register m h.2) nothing))
+put_order (orders.RaiseUser t r e) h = then (fixed _ _ refl) (then (put_decimal t h.0) (then (put_decimal r h.1) (then (put_decimal e h.2) nothing)))
+put_order (orders.RaiseKernel r e) h = then (fixed _ _ refl) (then (put_decimal r h.0) (then (put_decimal e h.1) nothing))
+put_order orders.RaiseNested h = then (fixed _ _ refl) nothing
+put_order (orders.Inject f) h = then (put_decimal f h) nothing
+put_order (orders.Soft f) h = then (put_decimal f h) nothing
+put_order (orders.Unpoison f) h = then (put_decimal f h) nothing
+
+-- the numbers of a line are below 2 ^ 64, also in words of the schedule
+pub record IsWhole (f : Form) : Type 0 where
+  pub fits : Fits f
+  pub turns : All (λ (t : GoWord). t.cpu < 2 ^ 64) (turns_in f)
+
+put_rest : (f : Form) → Fits f → All (λ (t : GoWord). t.cpu < 2 ^ 64) (turns_in f) → ArePut (rest_words f)
+put_rest forms.Header h k = then (fixed _ _ refl) nothing
+put_rest (forms.Cpus n) h k = then (put_decimal n h) nothing
+put_rest (forms.Frames n) h k = then (put_decimal n h) nothing
+put_rest (forms.Kernel n) h k = then (put_decimal n h) nothing
+put_rest (forms.Recovery n) h k = then (put_decimal n h) nothing
+put_rest (forms.Early n) h k = then (put_decimal n h) nothing
+put_rest (forms.File n) h k = then (put_decimal n h) nothing
+put_rest (forms.Proc n) h k = then (put_decimal n h) nothing
+put_rest (forms.Cpu n) h k = then (put_decimal n h) nothing
+put_rest (forms.Thread t p c b) h k = then (put_decimal t h.0) (then (put_decimal p h.1) (then (put_decimal c h.2) (then (put_handler b) nothing)))
+put_rest (forms.Page q backings.Anon) h k = then (put_decimal q h) (then (fixed _ _ refl) nothing)
+put_rest (forms.Page q (backings.File n x)) h k = then (put_decimal q h.0) (then (fixed _ _ refl) (then (put_decimal n h.1) (then (fixed _ _ refl) (then (put_decimal x h.2) nothing))))
+put_rest (forms.Trans v p q) h k = then (put_decimal v h.0) (then (put_decimal p h.1) (then (put_decimal q h.2) nothing))
+put_rest (forms.Order o) h k = put_order o h
+put_rest (forms.Schedule ts) h k = put_turns ts k
+put_rest forms.End h k = nothing
+
+pub put_words : (f : Form) → IsWhole f → ArePut (form_words f)
+put_words f h = then (put_first f) (put_rest f h.fits h.turns)
