@@ -26,9 +26,6 @@ use Rattle.hwp_rule.proofs.Refs
 pub keeps-get_ref : (frame : Frame) (seen count : ℕ) → Keeps (steps.GetRef frame seen count)
 keeps-get_ref frame seen count layout w homes views seat v who content given = which (found == seen) refl
   where
-    f : ℕ
-    f = frame.0
-
     found : ℕ
     found = slice_index w.frames frame.0
 
