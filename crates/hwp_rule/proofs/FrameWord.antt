@@ -1,15 +1,13 @@
 -- The parts of the rule under a change of a frame's word that leaves its poison, owner and cycle: references and the lock.
-use Rattle.std.proofs.Common.{◌≡◌, ◌≢◌, ℕ, ◌+◌, ◌<◌, ◌≤◌, ◌==◌, ◌⊎◌, ◌^◌, nat_lt, min, Bool, true, false, cond, List, Some, map, length, set, slice_get, inl, inr, refl, sym, ap, ◌∙◌, subst, arith}
+use Rattle.std.proofs.Common.{◌≡◌, ◌≢◌, ℕ, ◌+◌, ◌<◌, ◌≤◌, ◌==◌, ◌^◌, nat_lt, min, Bool, true, false, cond, List, Some, length, set, slice_get, inl, inr, refl, sym, ap, ◌∙◌, subst, arith}
 use Rattle.std.proofs.lemmas.Option.{same_Some}
 use Rattle.std.specs.Int.{from_bool}
 use Rattle.std.specs.List.{sum_by}
 use Rattle.hwp_geom.specs.declared.Frame.{Frame}
 use Rattle.hwp_geom.specs.declared.Layout.{Layout}
 use Rattle.hwp_geom.specs.declared.TransDecl.{TransDecl}
-use Rattle.hwp_words.specs.declared.Pte.TheVariants as ptes
-use Rattle.hwp_words.specs.Frames.{lock_of, poison_of, handled_of, kernel_of, count_of, owner_of, cycle_of, is_kernel, is_handled, is_poisoned}
+use Rattle.hwp_words.specs.Frames.{lock_of, poison_of, handled_of, kernel_of, count_of, owner_of, cycle_of, is_kernel}
 use Rattle.hwp_words.specs.Counters.{biased_poisoned_of}
-use Rattle.hwp_words.specs.Translations.{pte_word}
 use Rattle.hwp_words.proofs.FrameSteps.{FieldsAre}
 use Rattle.hwp_rule.specs.declared.view.Debts.{Debts}
 use Rattle.hwp_rule.specs.declared.view.FrameLock.{FrameLock}
@@ -19,7 +17,7 @@ use Rattle.hwp_rule.specs.declared.view.PageLock.{PageLock}
 use Rattle.hwp_rule.specs.declared.view.Ref.{Ref}
 use Rattle.hwp_rule.specs.declared.view.Sight.{Sight}
 use Rattle.hwp_rule.specs.declared.view.Spoiled.{Spoiled}
-use Rattle.hwp_rule.specs.Lists.{Homes, EachMember, EachListed, SomeMember}
+use Rattle.hwp_rule.specs.Lists.{Homes, EachMember, EachListed}
 use Rattle.hwp_rule.specs.Views.{refs_on, locks_on}
 use Rattle.hwp_rule.specs.Words.{free_bit}
 use Rattle.hwp_rule.specs.parts.Bodies.{BodiesAtHome, Holder, IsAtHome}
@@ -28,7 +26,7 @@ use Rattle.hwp_rule.specs.parts.Counts.{CountsBalance, named}
 use Rattle.hwp_rule.specs.parts.Handled.{HandledIsPoisoned, IsOutOfUse}
 use Rattle.hwp_rule.specs.parts.Locks.{FrameLocksHeld, IsLocked}
 use Rattle.hwp_rule.specs.parts.Marks.{MarksAlternate, IsBefore}
-use Rattle.hwp_rule.specs.parts.Owners.{TranslationsOwned, CacheWordsOwned, NamesOwn, HoldsBoth}
+use Rattle.hwp_rule.specs.parts.Owners.{TranslationsOwned, CacheWordsOwned, NamesOwn}
 use Rattle.hwp_rule.specs.parts.Places.{HasOnePlace, IsBare, IsApart, in_hand}
 use Rattle.hwp_rule.specs.parts.Unpoisoned.{NothingPoisonedYet}
 use Rattle.hwp_rule.proofs.Lists.{at_set, set_here, set_else, same-or, sum-set, each-set, each-weaken}
@@ -55,15 +53,15 @@ module _ (frames : List ℕ) (f w u : ℕ) (there : slice_get frames f ≡ Some 
   -- what was there before
   pub word-was : (g x : ℕ) → slice_get (set frames f u) g ≡ Some x → (y : ℕ) × (slice_get frames g ≡ Some y) × IsLike y x
   word-was g x e = elim (at_set frames f g u x e) [
-      | inl t ↦ (w, ap (slice_get frames) t.0 ∙ there, subst (IsLike w) t.1 like)
-      | inr t ↦ (x, t.1, like-self x)
-    ]
+    | inl t ↦ (w, ap (slice_get frames) t.0 ∙ there, subst (IsLike w) t.1 like)
+    | inr t ↦ (x, t.1, like-self x)
+  ]
 
   pub word-is : (g y : ℕ) → slice_get frames g ≡ Some y → (x : ℕ) × (slice_get (set frames f u) g ≡ Some x) × IsLike y x
   word-is g y e = elim (same-or g f) [
-      | inl same ↦ (u, ap (slice_get (set frames f u)) same ∙ set_here frames f u w there, subst (λ (z : ℕ). IsLike z u) (same_Some w y (sym there ∙ ap (slice_get frames) (sym same) ∙ e)) like)
-      | inr differs ↦ (y, set_else frames f g u differs ∙ e, like-self y)
-    ]
+    | inl same ↦ (u, ap (slice_get (set frames f u)) same ∙ set_here frames f u w there, subst (λ (z : ℕ). IsLike z u) (same_Some w y (sym there ∙ ap (slice_get frames) (sym same) ∙ e)) like)
+    | inr differs ↦ (y, set_else frames f g u differs ∙ e, like-self y)
+  ]
 
   names-like : (q word : ℕ) → NamesOwn frames q word → NamesOwn (set frames f u) q word
   names-like q word names = record {
@@ -81,13 +79,13 @@ module _ (frames : List ℕ) (f w u : ℕ) (there : slice_get frames f ≡ Some 
   like-translations decls trans h = record {
     owned = λ s x t a b. elim (h.owned s x t a b) [
       | inl none ↦ inl none
-      | inr rest ↦ inr (elim rest [ | inl barred ↦ inl barred | inr names ↦ inr (names-like t.page.0 x names) ])
+      | inr rest ↦ inr (elim rest [ inl barred ↦ inl barred | inr names ↦ inr (names-like t.page.0 x names) ])
     ];
   }
 
   pub like-caches : (caches : List ℕ) (locks : List (List FrameLock × List PageLock)) → CacheWordsOwned frames caches locks → CacheWordsOwned (set frames f u) caches locks
   like-caches caches locks h = record {
-    owned = λ q x a. elim (h.owned q x a) [ | inl none ↦ inl none | inr names ↦ inr (names-like q x names) ];
+    owned = λ q x a. elim (h.owned q x a) [ inl none ↦ inl none | inr names ↦ inr (names-like q x names) ];
     named = λ g x q a owner.
         let was : (y : ℕ) × (slice_get frames g ≡ Some y) × IsLike y x = word-was g x a in
         h.named g was.0 q was.1 (sym was.2.owner ∙ owner);
@@ -127,9 +125,11 @@ module _ (frames : List ℕ) (f w u : ℕ) (there : slice_get frames f ≡ Some 
     shown = λ frame x a.
         let was : (y : ℕ) × (slice_get frames frame.0 ≡ Some y) × IsLike y x = word-was frame.0 x a in
         λ i list at j s is place.
-          let before : IsBefore was.0 s = h.shown frame was.0 was.1 i list at j s is place in
-          record { cycle = subst (λ (c : ℕ). cycle_of s.word ≤ c) (sym was.2.cycle) before.cycle;
-                   poison = λ e. subst (λ (p : ℕ). poison_of s.word ≤ p) (sym was.2.poison) (before.poison (e ∙ was.2.cycle)) };
+        let before : IsBefore was.0 s = h.shown frame was.0 was.1 i list at j s is place in
+        record {
+          cycle = subst (λ (c : ℕ). cycle_of s.word ≤ c) (sym was.2.cycle) before.cycle;
+          poison = λ e. subst (λ (p : ℕ). poison_of s.word ≤ p) (sym was.2.poison) (before.poison (e ∙ was.2.cycle));
+        };
   }
 
   pub like-unpoisoned : (spoiled : List (List Spoiled)) (homes : Homes) (bodies : List (List Held)) → NothingPoisonedYet frames spoiled homes bodies → NothingPoisonedYet (set frames f u) spoiled homes bodies
@@ -250,7 +250,7 @@ module _ (frames : List ℕ) (f w u : ℕ) (there : slice_get frames f ≡ Some 
     ];
     known = each-set (λ (o : List Ref × List FrameLock). EachMember (IsLocked (set frames f u) o.0) o.1) held seat now known
         (each-weaken (λ (o : List Ref × List FrameLock). EachMember (IsLocked frames o.0) o.1) (λ (o : List Ref × List FrameLock). EachMember (IsLocked (set frames f u) o.0) o.1) held
-            (λ o each. each-weaken (IsLocked frames o.0) (IsLocked (set frames f u) o.0) o.1 (λ l k. like-locked o.0 o.0 l k.referenced k) each) h.known);
+        (λ o each. each-weaken (IsLocked frames o.0) (IsLocked (set frames f u) o.0) o.1 (λ l k. like-locked o.0 o.0 l k.referenced k) each) h.known);
   }
     where
       at_f : sum_by (λ (o : List Ref × List FrameLock). locks_on f o.1) (set held seat now) ≡ lock_of u

@@ -22,16 +22,9 @@ pub mod Refs
 pub mod FrameWord
 pub mod RefBounds
 pub mod Referring
-pub mod Getting
-pub mod Putting
 pub mod Locking
 pub mod TakenBodies
-pub mod PageLocks
 pub mod LockFrame
+pub mod frames
 pub mod KeptTurns
-pub mod Without
-pub mod UnlockFrame
-pub mod Listing
-pub mod Listed
-pub mod Unlocking
 pub mod steps

@@ -1,23 +1,18 @@
 -- A frame's lock taken keeps the frame rule.
-use Rattle.std.proofs.Common.{◌≡◌, ◌≢◌, ℕ, zero, suc, ◌+◌, ◌*◌, ◌/◌, ◌%◌, ◌^◌, ◌<◌, ◌≤◌, ◌==◌, ◌⊎◌, Bool, true, false, not, cond, List, [], ◌∷◌, ◌++◌, Option, Some, None, map, set, take, length, slice_get, slice_index, slice_set, bit_or, length-append, inl, inr, refl, sym, ap, ◌∙◌, subst, arith}
+use Rattle.std.proofs.Common.{◌≡◌, ◌≢◌, ℕ, ◌+◌, ◌%◌, ◌<◌, ◌≤◌, ◌==◌, Bool, true, false, not, cond, List, [], ◌∷◌, ◌++◌, Option, Some, None, map, set, take, length, slice_get, slice_index, slice_set, bit_or, length-append, inl, inr, refl, sym, ap, ◌∙◌, subst, arith}
 use Rattle.std.proofs.lemmas.Bool.{eqb-true, eqb-false, ne_eqb}
-use Rattle.std.proofs.lemmas.List.Sums.{sum_by_push, sum_by-cons}
-use Rattle.std.proofs.lemmas.Nat.{or_mod, or_shr}
+use Rattle.std.proofs.lemmas.List.Sums.{sum_by_push}
 use Rattle.std.proofs.lemmas.Option.{none-some, same_Some, slice_get_within, slice_get-get_or}
 use Rattle.std.proofs.Math.Seq.{take-length}
-use Rattle.std.specs.Int.Bits.{or_zero_r}
 use Rattle.std.specs.Int.{from_bool}
 use Rattle.std.specs.List.{sum_by}
 use Rattle.hwp_geom.specs.declared.Frame.{Frame}
 use Rattle.hwp_geom.specs.declared.Layout.{Layout}
 use Rattle.hwp_geom.specs.declared.Page.{Page}
 use Rattle.hwp_geom.specs.declared.Proc.{Proc}
-use Rattle.hwp_geom.specs.declared.TransDecl.{TransDecl}
 use Rattle.hwp_geom.specs.declared.Who.{Who}
-use Rattle.hwp_page.specs.declared.PageState.{PageState}
-use Rattle.hwp_words.specs.Frames.{lock_of, poison_of, handled_of, kernel_of, count_of, owner_of, cycle_of, is_locked, is_handled, is_poisoned}
-use Rattle.hwp_words.proofs.FieldLaws.{or_one}
-use Rattle.hwp_words.proofs.FrameSteps.{FieldsAre, fields-lock}
+use Rattle.hwp_words.specs.Frames.{lock_of, count_of, owner_of, is_locked}
+use Rattle.hwp_words.proofs.FrameSteps.{fields-lock}
 use Rattle.hwp_rule.specs.declared.log.Log.{Log}
 use Rattle.hwp_rule.specs.declared.step.Step.TheVariants as steps
 use Rattle.hwp_rule.specs.declared.view.FrameLock.{FrameLock}
@@ -27,23 +22,23 @@ use Rattle.hwp_rule.specs.declared.view.PageLock.{PageLock}
 use Rattle.hwp_rule.specs.declared.view.Ref.{Ref}
 use Rattle.hwp_rule.specs.declared.view.View.{View}
 use Rattle.hwp_rule.specs.Asks.{CanLockFrame}
-use Rattle.hwp_rule.specs.Lists.{Homes, EachBody, EachMember, SomeMember, sum_bodies}
-use Rattle.hwp_rule.specs.Logs.{state_of, fitting, fitting_from, fitting_word}
+use Rattle.hwp_rule.specs.Lists.{Homes, EachBody, EachMember, sum_bodies}
+use Rattle.hwp_rule.specs.Logs.{state_of, fitting, fitting_word}
 use Rattle.hwp_rule.specs.Moves.{IsIn}
 use Rattle.hwp_rule.specs.Rule.{FrameRule, holder_of}
-use Rattle.hwp_rule.specs.Views.{refs_on, locks_on, page_locks_on, lock_found, taken, knowing, changed, is_page_lock_of, stamp_of}
+use Rattle.hwp_rule.specs.Views.{locks_on, page_locks_on, lock_found, taken, knowing, changed, is_page_lock_of, stamp_of}
 use Rattle.hwp_rule.specs.Words.{Words}
 use Rattle.hwp_rule.specs.parts.Bodies.{Holder, IsAtHome, IsHolding, content_name}
 use Rattle.hwp_rule.specs.parts.Endings.{AreEnded}
-use Rattle.hwp_rule.specs.parts.Fits.{Fits, FitsWords, KnowsWords, KnowsOwn}
+use Rattle.hwp_rule.specs.parts.Fits.{Fits, KnowsWords, KnowsOwn}
 use Rattle.hwp_rule.specs.parts.Holdings.{IsPast}
 use Rattle.hwp_rule.specs.parts.Locks.{IsLocked}
 use Rattle.hwp_rule.specs.parts.Owners.{HoldsBoth}
-use Rattle.hwp_rule.proofs.Lists.{at_map, map-was, same-or, same-number, set_again, set_here, term-le, each-set, each-push, each-weaken, each-changed, some-push, some-last, sum-changed, length-changed}
+use Rattle.hwp_rule.proofs.Lists.{at_map, map-was, same-number, set_again, set_here, term-le, each-push, each-weaken, each-changed, some-push, some-last, sum-changed, length-changed}
 use Rattle.hwp_rule.proofs.FrameWord.{IsLike, like-fields, like-locked}
-use Rattle.hwp_rule.proofs.Given.{Given, Keeps, IsShaped}
-use Rattle.hwp_rule.proofs.Locking.{Locking, all_bodies, keeps-locking}
-use Rattle.hwp_rule.proofs.PageLocks.{or-odd, same-page, fitting-at, first-lock}
+use Rattle.hwp_rule.proofs.Given.{Keeps, IsShaped}
+use Rattle.hwp_rule.proofs.Locking.{all_bodies, keeps-locking}
+use Rattle.hwp_rule.proofs.frames.PageLocks.{or-odd, same-page, fitting-at, first-lock}
 use Rattle.hwp_rule.proofs.Referring.{word-there}
 use Rattle.hwp_rule.proofs.TakenBodies.{sum-empty, each-empty, sum-taken, each-taken, only-at-home}
 
@@ -76,16 +71,16 @@ module _ (layout : Layout) (w : Words) (homes : Homes) (views : List View) (seat
 
   known : EachMember (IsLocked (set w.frames frame.0 now) v.refs) locks
   known = each-push (IsLocked (set w.frames frame.0 now) v.refs) v.locks lock (record {
-        word = now;
-        there = set_here w.frames frame.0 now found there;
-        owner = like.owner;
-        handled = ap (λ (n : ℕ). n == 1) like.handled;
-        poisoned = λ e. ap (λ (n : ℕ). n == 1) like.poison ∙ e;
-        referenced = can.referenced;
-      })
+    word = now;
+    there = set_here w.frames frame.0 now found there;
+    owner = like.owner;
+    handled = ap (λ (n : ℕ). n == 1) like.handled;
+    poisoned = λ e. ap (λ (n : ℕ). n == 1) like.poison ∙ e;
+    referenced = can.referenced;
+  })
       (each-weaken (IsLocked w.frames v.refs) (IsLocked (set w.frames frame.0 now) v.refs) v.locks
-          (λ l k. like-locked w.frames frame.0 found now there like v.refs v.refs l k.referenced k)
-          (h.frame_locks.known seat (v.refs, v.locks) (at_map (λ (v : View). (v.refs, v.locks)) views seat v me)))
+      (λ l k. like-locked w.frames frame.0 found now there like v.refs v.refs l k.referenced k)
+      (h.frame_locks.known seat (v.refs, v.locks) (at_map (λ (v : View). (v.refs, v.locks)) views seat v me)))
 
   twice : length locks ≤ 2
   twice = omega (arith, can.second, length-append v.locks (lock ∷ []))
@@ -102,9 +97,9 @@ module _ (layout : Layout) (w : Words) (homes : Homes) (views : List View) (seat
   -- what a view holds it still holds
   holding-more : (q : ℕ) (pages : List PageLock) (bodies : List Held) → page_locks_on q pages ≡ page_locks_on q v.pages → IsHolding q (holder_of v) → IsHolding q (holder pages bodies)
   holding-more q pages bodies same holds = elim holds [
-      | inl page ↦ inl (subst (λ (n : ℕ). 0 < n) (sym same) page)
-      | inr some ↦ inr (some-push (λ (l : FrameLock). l.owner ≡ q + 1) v.locks lock some)
-    ]
+    | inl page ↦ inl (subst (λ (n : ℕ). 0 < n) (sym same) page)
+    | inr some ↦ inr (some-push (λ (l : FrameLock). l.owner ≡ q + 1) v.locks lock some)
+  ]
 
   my_bodies : slice_get (all_bodies views) seat ≡ Some v.bodies
   my_bodies = at_map (λ (v : View). v.bodies) views seat v me
@@ -171,15 +166,15 @@ module _ (layout : Layout) (w : Words) (homes : Homes) (views : List View) (seat
 
     cached : slice_get w.caches log.page.0 ≡ Some (frame.0 + 1)
     cached = elim (h.caches.named frame.0 found log.page.0 there owner) [
-        | inl named ↦ named
-        | inr both ↦
-            let was : (x : View) × (slice_get views both.0 ≡ Some x) × ((x.locks, x.pages) ≡ both.1) = map-was (λ (v : View). (v.locks, v.pages)) views both.0 both.1 both.2 in
-            let holds : HoldsBoth frame.0 log.page.0 (was.0.locks, was.0.pages) = subst (HoldsBoth frame.0 log.page.0) (sym was.2) both.3 in
-            let one : sum_by (λ (o : List Ref × List FrameLock). locks_on frame.0 o.1) (map (λ (v : View). (v.refs, v.locks)) views) ≡ lock_of found = h.frame_locks.one frame.0 found there in
-            let term : locks_on frame.0 was.0.locks ≤ sum_by (λ (o : List Ref × List FrameLock). locks_on frame.0 o.1) (map (λ (v : View). (v.refs, v.locks)) views) =
-            term-le (λ (o : List Ref × List FrameLock). locks_on frame.0 o.1) (map (λ (v : View). (v.refs, v.locks)) views) both.0 (was.0.refs, was.0.locks) (at_map (λ (v : View). (v.refs, v.locks)) views both.0 was.0 was.1) in
-            absurd (omega (arith, holds.frame, free))
-      ]
+      | inl named ↦ named
+      | inr both ↦
+          let was : (x : View) × (slice_get views both.0 ≡ Some x) × ((x.locks, x.pages) ≡ both.1) = map-was (λ (v : View). (v.locks, v.pages)) views both.0 both.1 both.2 in
+          let holds : HoldsBoth frame.0 log.page.0 (was.0.locks, was.0.pages) = subst (HoldsBoth frame.0 log.page.0) (sym was.2) both.3 in
+          let one : sum_by (λ (o : List Ref × List FrameLock). locks_on frame.0 o.1) (map (λ (v : View). (v.refs, v.locks)) views) ≡ lock_of found = h.frame_locks.one frame.0 found there in
+          let term : locks_on frame.0 was.0.locks ≤ sum_by (λ (o : List Ref × List FrameLock). locks_on frame.0 o.1) (map (λ (v : View). (v.refs, v.locks)) views) =
+          term-le (λ (o : List Ref × List FrameLock). locks_on frame.0 o.1) (map (λ (v : View). (v.refs, v.locks)) views) both.0 (was.0.refs, was.0.locks) (at_map (λ (v : View). (v.refs, v.locks)) views both.0 was.0 was.1) in
+          absurd (omega (arith, holds.frame, free))
+    ]
 
     within : log.page.0 < length layout.pages
     within = subst (λ (n : ℕ). log.page.0 < n) shaped.caches (slice_get_within w.caches log.page.0 (frame.0 + 1) cached)
@@ -273,7 +268,7 @@ module _ (layout : Layout) (w : Words) (homes : Homes) (views : List View) (seat
       in_hand = each-push (λ (b : Held). IsHolding b.log.page.0 (holder pages bodies)) v.bodies body
           (inr (some-last (λ (l : FrameLock). l.owner ≡ log.page.0 + 1) v.locks lock owner))
           (each-weaken (λ (b : Held). IsHolding b.log.page.0 (holder_of v)) (λ (b : Held). IsHolding b.log.page.0 (holder pages bodies)) v.bodies
-              (λ b holds. holding-more b.log.page.0 pages bodies (page_locks b.log.page.0) holds) old-in_hand);
+          (λ b holds. holding-more b.log.page.0 pages bodies (page_locks b.log.page.0) holds) old-in_hand);
       reached = each-push (λ (l : Length). EachBody (λ (x : Log). x.page ≡ l.page → l.entries ≤ length x.entries) homes (all_bodies views)) v.lengths seen reached-now
           (h.entries.lengths_reached seat v.lengths (at_map (λ (v : View). v.lengths) views seat v me));
       before = each-push (λ (b : Held). AreEnded layout w.processes (take b.since b.log.entries)) v.bodies body
@@ -282,11 +277,11 @@ module _ (layout : Layout) (w : Words) (homes : Homes) (views : List View) (seat
       killed = each-push (λ (b : Held). EachMember (λ (p : Proc). (x : ℕ) → slice_get w.processes p.0 ≡ Some x → x ≢ 0) b.killed) v.bodies body (λ i p e. absurd (none-some p e)) (h.stops.killed seat v.bodies my_bodies);
       fits = each-push (λ (b : Held). page_locks_on b.log.page.0 pages ≡ 0 → Fits layout w.trans w.caches b.log) v.bodies body (λ none. fits-home)
           (each-weaken (λ (b : Held). page_locks_on b.log.page.0 v.pages ≡ 0 → Fits layout w.trans w.caches b.log) (λ (b : Held). page_locks_on b.log.page.0 pages ≡ 0 → Fits layout w.trans w.caches b.log) v.bodies
-              (λ b fits none. fits (sym (page_locks b.log.page.0) ∙ none)) (h.fits.in_hand seat (v.pages, v.bodies) my_fit));
+          (λ b fits none. fits (sym (page_locks b.log.page.0) ∙ none)) (h.fits.in_hand seat (v.pages, v.bodies) my_fit));
       knows = each-changed (KnowsWords layout w.trans w.caches) (is_page_lock_of log.page) (knowing layout log (Some frame)) v.pages knows-new (h.fits.known seat (v.pages, v.bodies) my_fit);
       own = each-push (λ (b : Held). 0 < page_locks_on b.log.page.0 pages → KnowsOwn pages b) v.bodies body own-new
           (each-weaken (λ (b : Held). 0 < page_locks_on b.log.page.0 v.pages → KnowsOwn v.pages b) (λ (b : Held). 0 < page_locks_on b.log.page.0 pages → KnowsOwn pages b) v.bodies
-              (λ b own some. own-changed b (own (subst (λ (n : ℕ). 0 < n) (page_locks b.log.page.0) some))) (h.fits.own seat (v.pages, v.bodies) my_fit));
+          (λ b own some. own-changed b (own (subst (λ (n : ℕ). 0 < n) (page_locks b.log.page.0) some))) (h.fits.own seat (v.pages, v.bodies) my_fit));
       past = each-push (λ (l : Length). IsPast v.parts l.stamp.who) v.lengths seen past (h.commands.own seat v me).lengths;
     }) less
 
@@ -301,11 +296,11 @@ keeps-lock_frame frame layout w homes views seat v who content given = which (no
     busy odd =
         let words : set w.frames frame.0 (bit_or (slice_index w.frames frame.0) 1) ≡ w.frames = ap (set w.frames frame.0) (or-odd (slice_index w.frames frame.0) odd) ∙ set_again w.frames frame.0 (slice_index w.frames frame.0) there in
         subst (λ (l : List ℕ). FrameRule layout (record w { frames = l }) homes (set views seat v)) (sym words)
-            (subst (FrameRule layout w homes) (sym (set_again views seat v given.me)) given.rule)
+        (subst (FrameRule layout w homes) (sym (set_again views seat v given.me)) given.rule)
 
     free-at : (is_locked (slice_index w.frames frame.0) ≡ false) → (content : Option Log) → IsIn homes frame.0 content
         → FrameRule layout (record w { frames = set w.frames frame.0 (bit_or (slice_index w.frames frame.0) 1) }) (set homes frame.0 None)
-            (set views seat (taken layout who (Some frame) content (record v { locks = v.locks ++ lock_found frame (slice_index w.frames frame.0) ∷ [] })))
+        (set views seat (taken layout who (Some frame) content (record v { locks = v.locks ++ lock_found frame (slice_index w.frames frame.0) ∷ [] })))
     free-at e None inside = keeps-lock-empty layout w homes views seat v who frame (slice_index w.frames frame.0) given.shaped given.me given.past given.place given.asks there
         (let unset : lock_of (slice_index w.frames frame.0) ≢ 1 = eqb-false (lock_of (slice_index w.frames frame.0)) 1 e in omega arith) given.rule inside
     free-at e (Some log) inside = keeps-lock-body layout w homes views seat v who frame (slice_index w.frames frame.0) given.shaped given.me given.past given.place given.asks there
@@ -320,6 +315,6 @@ keeps-lock_frame frame layout w homes views seat v who content given = which (no
 
     which : (b : Bool) → not (is_locked (slice_index w.frames frame.0)) ≡ b
         → FrameRule layout (record w { frames = slice_set w.frames frame.0 (bit_or (slice_index w.frames frame.0) 1) }) (cond b (slice_set homes frame.0 None) homes)
-            (set views seat (cond b (taken layout who (Some frame) content (record v { locks = v.locks ++ lock_found frame (slice_index w.frames frame.0) ∷ [] })) v))
+        (set views seat (cond b (taken layout who (Some frame) content (record v { locks = v.locks ++ lock_found frame (slice_index w.frames frame.0) ∷ [] })) v))
     which false e = busy (let set_it : lock_of (slice_index w.frames frame.0) ≡ 1 = eqb-true (lock_of (slice_index w.frames frame.0)) 1 (locked-is false e) in omega arith)
     which true e = free-at (locked-is true e) content (given.meets e)

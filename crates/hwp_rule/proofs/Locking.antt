@@ -1,44 +1,38 @@
 -- A step on a frame's lock keeps the frame rule: what is to be known of the locks, of the slot and of the bodies in hand.
-use Rattle.std.proofs.Common.{◌≡◌, ◌≢◌, ℕ, ◌+◌, ◌^◌, ◌<◌, ◌≤◌, ◌==◌, ◌⊎◌, min, Bool, true, false, cond, List, [], ◌∷◌, ◌++◌, Option, Some, None, map, set, take, length, slice_get, inl, inr, refl, sym, ap, ◌∙◌, subst, arith}
+use Rattle.std.proofs.Common.{◌≡◌, ◌≢◌, ℕ, ◌+◌, ◌<◌, ◌≤◌, ◌==◌, ◌⊎◌, min, Bool, true, false, cond, List, [], ◌∷◌, Option, Some, None, map, set, take, length, slice_get, inl, inr, refl, sym, ap, ◌∙◌, subst, arith}
 use Rattle.std.proofs.lemmas.List.{map-set}
-use Rattle.std.proofs.lemmas.Option.{none-some, same_Some}
+use Rattle.std.proofs.lemmas.Option.{same_Some}
 use Rattle.std.specs.Int.{from_bool}
 use Rattle.std.specs.List.{sum_by, list_any}
-use Rattle.hwp_geom.specs.declared.FileNo.{FileNo}
-use Rattle.hwp_geom.specs.declared.Frame.{Frame}
 use Rattle.hwp_geom.specs.declared.Layout.{Layout}
 use Rattle.hwp_geom.specs.declared.Proc.{Proc}
-use Rattle.hwp_geom.specs.declared.Who.{Who}
 use Rattle.hwp_page.specs.declared.Entry.{Entry}
 use Rattle.hwp_words.specs.Frames.{lock_of, count_of, owner_of, handled_of, is_kernel}
 use Rattle.hwp_rule.specs.declared.log.Log.{Log}
 use Rattle.hwp_rule.specs.declared.view.FrameLock.{FrameLock}
 use Rattle.hwp_rule.specs.declared.view.Held.{Held}
 use Rattle.hwp_rule.specs.declared.view.Length.{Length}
-use Rattle.hwp_rule.specs.declared.view.Made.{Made}
 use Rattle.hwp_rule.specs.declared.view.PageLock.{PageLock}
-use Rattle.hwp_rule.specs.declared.view.Ref.{Ref}
-use Rattle.hwp_rule.specs.declared.view.Sight.{Sight}
 use Rattle.hwp_rule.specs.declared.view.View.{View}
-use Rattle.hwp_rule.specs.Lists.{Homes, EachBody, EachMember, EachListed, SomeMember, IsNotLater, of_home, sum_bodies}
+use Rattle.hwp_rule.specs.Lists.{Homes, EachBody, EachMember, SomeMember, IsNotLater, sum_bodies}
 use Rattle.hwp_rule.specs.Logs.{has_ending, is_ending, losses_of}
-use Rattle.hwp_rule.specs.Rule.{FrameRule, holder_of, holdings_of, losing_of}
+use Rattle.hwp_rule.specs.Rule.{FrameRule, holder_of, losing_of}
 use Rattle.hwp_rule.specs.Views.{refs_on, locks_on, page_locks_on}
 use Rattle.hwp_rule.specs.Words.{Words, free_bit}
 use Rattle.hwp_rule.specs.parts.Bodies.{BodiesAtHome, Holder, IsAtHome, IsHolding}
 use Rattle.hwp_rule.specs.parts.Counts.{CountsBalance, named}
-use Rattle.hwp_rule.specs.parts.Endings.{EndingsAgree, AreEnded, ShowsEnding}
+use Rattle.hwp_rule.specs.parts.Endings.{EndingsAgree, AreEnded}
 use Rattle.hwp_rule.specs.parts.Entries.{EntriesListed, weigh}
 use Rattle.hwp_rule.specs.parts.Fits.{PageFits, Fits, KnowsWords, KnowsOwn}
 use Rattle.hwp_rule.specs.parts.Holdings.{AreOwn, IsPast}
 use Rattle.hwp_rule.specs.parts.Locks.{FrameLocksHeld, PageLocksHeld, IsLocked}
 use Rattle.hwp_rule.specs.parts.Losses.{LossesBalance}
 use Rattle.hwp_rule.specs.parts.Owners.{CacheWordsOwned, HoldsBoth}
-use Rattle.hwp_rule.specs.parts.Places.{HasOnePlace, IsBare, in_hand}
+use Rattle.hwp_rule.specs.parts.Places.{HasOnePlace, in_hand}
 use Rattle.hwp_rule.specs.parts.Stops.{EndingsAndStopsStay}
 use Rattle.hwp_rule.specs.parts.Unpoisoned.{NothingPoisonedYet, is_failure}
-use Rattle.hwp_rule.proofs.Lists.{change, keep, at_map, map-was, at_set, set_here, set_else, same-or, set_again, sum-set, term-le, each-set, each-map, each-weaken}
-use Rattle.hwp_rule.proofs.FrameWord.{IsLike, word-was, like-translations, like-caches, like-handled, like-counter, like-marks, like-unpoisoned, like-locked, placed-again, counted-again, locked-again}
+use Rattle.hwp_rule.proofs.Lists.{change, keep, at_map, at_set, set_here, set_else, same-or, set_again, sum-set, term-le, each-set, each-weaken}
+use Rattle.hwp_rule.proofs.FrameWord.{IsLike, word-was, like-translations, like-caches, like-handled, like-counter, like-marks, like-unpoisoned, placed-again, counted-again, locked-again}
 use Rattle.hwp_rule.proofs.Kept
 
 abbrev pub all_bodies : List View → List (List Held)
@@ -132,15 +126,19 @@ module _ (layout : Layout) (w : Words) (homes : Homes) (views : List View) (seat
           elim (h.caches.named g was.0 q was.1 owned) [
             | inl cached ↦ inl cached
             | inr both ↦ elim (same-or both.0 seat) [
-                | inl same ↦
-                    let mine : both.1 ≡ (v.locks, v.pages) = same_Some both.1 (v.locks, v.pages) (sym both.2 ∙ ap (slice_get (map (λ (v : View). (v.locks, v.pages)) views)) same ∙ my_locks) in
-                    elim (x.cached g was.0 q was.1 owned (subst (HoldsBoth g q) mine both.3)) [
-                      | inl cached ↦ inl cached
-                      | inr holds ↦ inr (seat, (locks, pages), set_here (map (λ (v : View). (v.locks, v.pages)) views) seat (locks, pages) (v.locks, v.pages) my_locks,
-                          record { frame = holds.frame; page = subst (λ (n : ℕ). 0 < n) (sym (x.page_locks q)) holds.page })
-                    ]
-                | inr differs ↦ inr (both.0, both.1, set_else (map (λ (v : View). (v.locks, v.pages)) views) seat both.0 (locks, pages) differs ∙ both.2, both.3)
-              ]
+              | inl same ↦
+                  let mine : both.1 ≡ (v.locks, v.pages) = same_Some both.1 (v.locks, v.pages) (sym both.2 ∙ ap (slice_get (map (λ (v : View). (v.locks, v.pages)) views)) same ∙ my_locks) in
+                  elim (x.cached g was.0 q was.1 owned (subst (HoldsBoth g q) mine both.3)) [
+                    | inl cached ↦ inl cached
+                    | inr holds ↦ inr (
+                      seat,
+                      (locks, pages),
+                      set_here (map (λ (v : View). (v.locks, v.pages)) views) seat (locks, pages) (v.locks, v.pages) my_locks,
+                      record { frame = holds.frame; page = subst (λ (n : ℕ). 0 < n) (sym (x.page_locks q)) holds.page },
+                    )
+                  ]
+              | inr differs ↦ inr (both.0, both.1, set_else (map (λ (v : View). (v.locks, v.pages)) views) seat both.0 (locks, pages) differs ∙ both.2, both.3)
+            ]
           ];
     }
       where
@@ -204,7 +202,7 @@ module _ (layout : Layout) (w : Words) (homes : Homes) (views : List View) (seat
       taken = each-set (EachMember (λ (b : Held). b.since ≤ length b.log.entries)) (all_bodies views) seat bodies x.taken h.endings.taken;
       shown = λ i list at j s is process place.
           x.eachs (λ (log : Log). s.word ≡ log.page.0 + 1 → SomeMember (λ (e : Entry). (is_ending layout process e.what ≡ true) × IsNotLater e.who s.stamp.who) log.entries)
-              (h.endings.shown i list at j s is process place);
+          (h.endings.shown i list at j s is process place);
     }
 
     losses-locking : LossesBalance layout w.losses (set homes f y) (set (all_bodies views) seat bodies) (map losing_of views)
@@ -263,7 +261,7 @@ module _ (layout : Layout) (w : Words) (homes : Homes) (views : List View) (seat
       damage = Kept.kept-damage views seat v u me w.bads w.weaks refl refl h.damage;
       entries = change (λ (v : View). v.lengths) (λ l. EntriesListed (set homes f y) (map (λ (v : View). v.bodies) (set views seat u)) (map (λ (v : View). (v.made, v.sights)) (set views seat u)) l) views seat u
           (keep (λ (v : View). (v.made, v.sights)) (λ l. EntriesListed (set homes f y) (map (λ (v : View). v.bodies) (set views seat u)) l (set (map (λ (v : View). v.lengths) views) seat lengths)) views seat v u me refl
-              (change (λ (v : View). v.bodies) (λ l. EntriesListed (set homes f y) l (map (λ (v : View). (v.made, v.sights)) views) (set (map (λ (v : View). v.lengths) views) seat lengths)) views seat u entries-locking));
+          (change (λ (v : View). v.bodies) (λ l. EntriesListed (set homes f y) l (map (λ (v : View). (v.made, v.sights)) views) (set (map (λ (v : View). v.lengths) views) seat lengths)) views seat u entries-locking));
       endings = keep (λ (v : View). v.sights) (λ l. EndingsAgree layout w.processes (set homes f y) (map (λ (v : View). v.bodies) (set views seat u)) l) views seat v u me refl
           (change (λ (v : View). v.bodies) (λ l. EndingsAgree layout w.processes (set homes f y) l (map (λ (v : View). v.sights) views)) views seat u endings-locking);
       marks = Kept.kept-marks views seat v u me frames refl refl (like-marks w.frames f word now there x.like (map (λ (v : View). v.marks) views) (map (λ (v : View). v.sights) views) h.marks);
@@ -274,7 +272,7 @@ module _ (layout : Layout) (w : Words) (homes : Homes) (views : List View) (seat
       exhaustion = Kept.kept-exhaustion views seat v u me layout refl refl h.exhaustion;
       stops = keep (λ (v : View). v.stops) (λ l. EndingsAndStopsStay w.processes w.stop (map (λ (v : View). v.bodies) (set views seat u)) (map (λ (v : View). v.sights) (set views seat u)) l) views seat v u me refl
           (keep (λ (v : View). v.sights) (λ l. EndingsAndStopsStay w.processes w.stop (map (λ (v : View). v.bodies) (set views seat u)) l (map (λ (v : View). v.stops) views)) views seat v u me refl
-              (change (λ (v : View). v.bodies) (λ l. EndingsAndStopsStay w.processes w.stop l (map (λ (v : View). v.sights) views) (map (λ (v : View). v.stops) views)) views seat u stops-locking));
+          (change (λ (v : View). v.bodies) (λ l. EndingsAndStopsStay w.processes w.stop l (map (λ (v : View). v.sights) views) (map (λ (v : View). v.stops) views)) views seat u stops-locking));
       fits = change (λ (v : View). (v.pages, v.bodies)) (PageFits layout w.trans w.caches (set homes f y)) views seat u fits-locking;
       processors = Kept.kept-processors views seat v u me layout refl h.processors;
       commands = Kept.kept-commands views seat v u me own-locking h.commands;

@@ -1,15 +1,13 @@
 -- How many references all views have on one frame: no count overflows its field.
 use Rattle.std.proofs.Common.{add-mul, mul-le-mul, inl, inr, ◌≡◌, ◌≢◌, ℕ, zero, suc, ◌+◌, ◌*◌, ◌^◌, ◌<◌, ◌≤◌, ◌==◌, Bool, true, false, List, [], ◌∷◌, Some, map, length, slice_get, refl, sym, ap, ◌∙◌, subst, arith}
-use Rattle.std.proofs.lemmas.Bool.{eqb-true, ne_eqb}
+use Rattle.std.proofs.lemmas.Bool.{ne_eqb}
 use Rattle.std.proofs.lemmas.List.Sums.{sum_by-cons}
-use Rattle.std.proofs.lemmas.Option.{none-some, same_Some}
 use Rattle.std.specs.Int.{from_bool}
 use Rattle.std.specs.List.{sum_by}
 use Rattle.hwp_geom.specs.declared.Layout.{Layout}
 use Rattle.hwp_geom.specs.Layout.{IsSound}
 use Rattle.hwp_words.specs.Frames.{count_of, handled_of}
 use Rattle.hwp_rule.specs.declared.view.Part.{Part}
-use Rattle.hwp_rule.specs.declared.view.Ref.{Ref}
 use Rattle.hwp_rule.specs.declared.view.View.{View}
 use Rattle.hwp_rule.specs.Lists.{Homes, EachMember, EachListed, sum_all}
 use Rattle.hwp_rule.specs.Rule.{FrameRule, holdings_of}
@@ -18,7 +16,7 @@ use Rattle.hwp_rule.specs.Words.{Words, sum_below}
 use Rattle.hwp_rule.specs.parts.Counts.{named}
 use Rattle.hwp_rule.specs.parts.Holdings.{Holdings, IsBounded, frames_held, ProcessorsApart}
 use Rattle.hwp_rule.proofs.Given.{IsShaped}
-use Rattle.hwp_rule.proofs.Lists.{same-number, same-or, at_map}
+use Rattle.hwp_rule.proofs.Lists.{same-number, same-or}
 use Rattle.hwp_rule.proofs.Refs.{refs-none}
 
 -- ---- each processor once: no more parts than processors
@@ -40,16 +38,16 @@ sum_below-add f g h (suc n) each =
 sum_below-one : (f : ℕ → ℕ) (k n : ℕ) → k < n → f k ≡ 1 → ((c : ℕ) → c ≢ k → f c ≡ 0) → sum_below f n ≡ 1
 sum_below-one f k zero less one none = absurd (omega arith)
 sum_below-one f k (suc n) less one none = elim (same-or n k) [
-    | inl same ↦
-        let rest : sum_below f n ≡ 0 = sum_below-zero f n (λ c below. none c (λ e. absurd (omega (arith, same, e, below)))) in
-        let last : f n ≡ 1 = ap f same ∙ one in
-        omega arith
-    | inr differs ↦
-        let within : k < n = omega (arith, differs) in
-        let rest : sum_below f n ≡ 1 = sum_below-one f k n within one none in
-        let last : f n ≡ 0 = none n differs in
-        omega arith
-  ]
+  | inl same ↦
+      let rest : sum_below f n ≡ 0 = sum_below-zero f n (λ c below. none c (λ e. absurd (omega (arith, same, e, below)))) in
+      let last : f n ≡ 1 = ap f same ∙ one in
+      omega arith
+  | inr differs ↦
+      let within : k < n = omega (arith, differs) in
+      let rest : sum_below f n ≡ 1 = sum_below-one f k n within one none in
+      let last : f n ≡ 0 = none n differs in
+      omega arith
+]
 
 abbrev of_cpu : ℕ → Part → ℕ
 of_cpu c p = from_bool (p.cpu.0 == c)
@@ -110,10 +108,10 @@ all-refs-at_most layout f (v ∷ vs) each =
     let right : sum_by (λ (l : List Part). length l) (map (λ (v : View). v.parts) (v ∷ vs)) ≡ length v.parts + sum_by (λ (l : List Part). length l) (map (λ (v : View). v.parts) vs) =
     sum_by-cons (λ (l : List Part). length l) v.parts (map (λ (v : View). v.parts) vs) in
     let product : (length v.parts + sum_by (λ (l : List Part). length l) (map (λ (v : View). v.parts) vs)) * (length layout.trans + 2)
-        ≡ length v.parts * (length layout.trans + 2) + sum_by (λ (l : List Part). length l) (map (λ (v : View). v.parts) vs) * (length layout.trans + 2) = add-mul (length v.parts) (sum_by (λ (l : List Part). length l) (map (λ (v : View). v.parts) vs)) (length layout.trans + 2) in
+    ≡ length v.parts * (length layout.trans + 2) + sum_by (λ (l : List Part). length l) (map (λ (v : View). v.parts) vs) * (length layout.trans + 2) = add-mul (length v.parts) (sum_by (λ (l : List Part). length l) (map (λ (v : View). v.parts) vs)) (length layout.trans + 2) in
     subst (λ (n : ℕ). n ≤ sum_by (λ (l : List Part). length l) (map (λ (v : View). v.parts) (v ∷ vs)) * (length layout.trans + 2)) (sym left)
-        (subst (λ (n : ℕ). refs_on f v.refs + sum_by (refs_on f) (map (λ (v : View). v.refs) vs) ≤ n * (length layout.trans + 2)) (sym right)
-            (subst (λ (n : ℕ). refs_on f v.refs + sum_by (refs_on f) (map (λ (v : View). v.refs) vs) ≤ n) (sym product) (omega arith)))
+    (subst (λ (n : ℕ). refs_on f v.refs + sum_by (refs_on f) (map (λ (v : View). v.refs) vs) ≤ n * (length layout.trans + 2)) (sym right)
+    (subst (λ (n : ℕ). refs_on f v.refs + sum_by (refs_on f) (map (λ (v : View). v.refs) vs) ≤ n) (sym product) (omega arith)))
 
 named-at_most : (f : ℕ) (words : List ℕ) → named f words ≤ length words
 named-at_most f [] = omega arith

@@ -1,39 +1,26 @@
 -- Steps on a frame's count keep the frame rule, where the parts on counts, places and locks do; and a word that is shown.
-use Rattle.std.proofs.Common.{◌≡◌, ◌≢◌, ℕ, zero, suc, ◌+◌, ◌-◌, ◌*◌, ◌%◌, ◌^◌, ◌<◌, ◌≤◌, ◌==◌, ◌⊎◌, min, Bool, true, false, cond, List, [], ◌∷◌, ◌++◌, Option, Some, None, map, set, length, slice_get, slice_index, slice_set, length-append, inl, inr, refl, sym, ap, ◌∙◌, subst, arith}
-use Rattle.std.proofs.lemmas.Bool.{eqb-true, eqb-false, ne_eqb}
-use Rattle.std.proofs.lemmas.List.Sums.{sum_by_push, sum_by-cons}
-use Rattle.std.proofs.lemmas.Option.{none-some, same_Some, slice_get_within, slice_get-get_or}
-use Rattle.std.specs.Int.{from_bool}
-use Rattle.std.specs.List.{sum_by}
-use prog.Atomic.{either}
+use Rattle.std.proofs.Common.{◌≡◌, ◌≢◌, ℕ, ◌+◌, ◌<◌, List, Some, map, set, length, slice_get, slice_index, slice_set, refl, sym, ap, subst, arith}
+use Rattle.std.proofs.lemmas.Option.{slice_get_within, slice_get-get_or}
 use Rattle.hwp_geom.specs.declared.Frame.{Frame}
 use Rattle.hwp_geom.specs.declared.Layout.{Layout}
 use Rattle.hwp_geom.specs.declared.Who.{Who}
-use Rattle.hwp_words.specs.Frames.{lock_of, poison_of, handled_of, count_of, owner_of, kernel_of, cycle_of, is_kernel}
-use Rattle.hwp_words.proofs.FrameSteps.{FieldsAre, fields-get_ref, fields-put_ref}
-use Rattle.hwp_rule.specs.declared.log.Log.{Log}
-use Rattle.hwp_rule.specs.declared.step.Step.TheVariants as steps
+use Rattle.hwp_words.specs.Frames.{lock_of}
 use Rattle.hwp_rule.specs.declared.place.Place.TheVariants as places
 use Rattle.hwp_rule.specs.declared.view.FrameLock.{FrameLock}
-use Rattle.hwp_rule.specs.declared.view.PageLock.{PageLock}
 use Rattle.hwp_rule.specs.declared.view.Part.{Part}
 use Rattle.hwp_rule.specs.declared.view.Ref.{Ref}
 use Rattle.hwp_rule.specs.declared.view.View.{View}
-use Rattle.hwp_rule.specs.Lists.{Homes, EachMember, SomeMember}
+use Rattle.hwp_rule.specs.Lists.{Homes, EachMember}
 use Rattle.hwp_rule.specs.Rule.{FrameRule, holdings_of, holder_of}
-use Rattle.hwp_rule.specs.Steps.{is_last}
-use Rattle.hwp_rule.specs.Views.{refs_on, with_refs, less_refs, locks_on, sighted, stamp_of, is_frame}
-use Rattle.hwp_rule.specs.Words.{Words, free_bit}
-use Rattle.hwp_rule.specs.parts.Counts.{CountsBalance, named}
-use Rattle.hwp_rule.specs.parts.Holdings.{AreOwn, Holdings, IsBounded, HoldingsBounded, IsPast, frames_held}
-use Rattle.hwp_rule.specs.parts.Locks.{FrameLocksHeld, IsLocked}
-use Rattle.hwp_rule.specs.parts.Owners.{HoldsBoth}
-use Rattle.hwp_rule.specs.parts.Places.{HasOnePlace, IsBare, in_hand}
-use Rattle.hwp_rule.proofs.Lists.{change, keep, at_map, map-was, same-or, same-number, set_again, sum-set, term-le, terms-le, each-set, each-push, each-weaken}
-use Rattle.hwp_rule.proofs.Given.{Given, Keeps, IsShaped}
-use Rattle.hwp_rule.proofs.FrameWord.{IsLike, bare-like, like-fields, like-translations, like-caches, like-handled, like-counter, like-marks, like-unpoisoned, like-locked, like-bodies, placed-again, counted-again, locked-again}
-use Rattle.hwp_rule.proofs.RefBounds.{count-fits}
-use Rattle.hwp_rule.proofs.Refs
+use Rattle.hwp_rule.specs.Views.{refs_on, locks_on, sighted, stamp_of}
+use Rattle.hwp_rule.specs.Words.{Words}
+use Rattle.hwp_rule.specs.parts.Counts.{CountsBalance}
+use Rattle.hwp_rule.specs.parts.Holdings.{AreOwn, IsBounded, HoldingsBounded, IsPast}
+use Rattle.hwp_rule.specs.parts.Locks.{FrameLocksHeld}
+use Rattle.hwp_rule.specs.parts.Places.{HasOnePlace}
+use Rattle.hwp_rule.proofs.Lists.{change, at_map, set_again, each-set}
+use Rattle.hwp_rule.proofs.Given.{IsShaped}
+use Rattle.hwp_rule.proofs.FrameWord.{IsLike, like-translations, like-caches, like-handled, like-counter, like-marks, like-unpoisoned, like-locked, like-bodies, locked-again}
 use Rattle.hwp_rule.proofs.Sights.{keeps-sight, explained-frame}
 use Rattle.hwp_rule.proofs.Kept
 
@@ -61,9 +48,9 @@ module _ (layout : Layout) (w : Words) (homes : Homes) (views : List View) (seat
     places = change (λ (v : View). v.hands) (HasOnePlace layout.kernel frames w.frees) views seat u placed;
     frame_locks = change (λ (v : View). (v.refs, v.locks)) (FrameLocksHeld frames) views seat u
         (locked-again w.frames f word now there like (map (λ (v : View). (v.refs, v.locks)) views) seat (v.refs, v.locks) (refs, v.locks) (at_map (λ (v : View). (v.refs, v.locks)) views seat v me)
-            (ap (λ (n : ℕ). n + locks_on f v.locks) lock) (λ g differs. refl)
-            (λ i l e. like-locked w.frames f word now there like v.refs refs l (referenced i l e) (h.frame_locks.known seat (v.refs, v.locks) (at_map (λ (v : View). (v.refs, v.locks)) views seat v me) i l e))
-            h.frame_locks);
+        (ap (λ (n : ℕ). n + locks_on f v.locks) lock) (λ g differs. refl)
+        (λ i l e. like-locked w.frames f word now there like v.refs refs l (referenced i l e) (h.frame_locks.known seat (v.refs, v.locks) (at_map (λ (v : View). (v.refs, v.locks)) views seat v me) i l e))
+        h.frame_locks);
     page_locks = Kept.kept-page-locks views seat v u me w.pages refl refl h.page_locks;
     translations = like-translations w.frames f word now there like layout.trans w.trans h.translations;
     caches = Kept.kept-caches views seat v u me frames w.caches refl refl (like-caches w.frames f word now there like w.caches (map (λ (v : View). (v.locks, v.pages)) views) h.caches);
@@ -98,5 +85,5 @@ pub keeps-shown : (layout : Layout) (w : Words) (homes : Homes) (views : List Vi
     → FrameRule layout (record w { frames = slice_set w.frames frame.0 (slice_index w.frames frame.0) }) homes (set views seat (sighted who (places.Frame frame) (slice_index w.frames frame.0) v))
 keeps-shown layout w homes views seat v who frame me past there h =
     subst (λ (list : List ℕ). FrameRule layout (record w { frames = list }) homes (set views seat (sighted who (places.Frame frame) (slice_index w.frames frame.0) v)))
-        (sym (set_again w.frames frame.0 (slice_index w.frames frame.0) there))
-        (keeps-sight layout w homes views seat v who (places.Frame frame) (slice_index w.frames frame.0) me past (explained-frame layout w homes views (stamp_of who v) frame (slice_index w.frames frame.0) there) h)
+    (sym (set_again w.frames frame.0 (slice_index w.frames frame.0) there))
+    (keeps-sight layout w homes views seat v who (places.Frame frame) (slice_index w.frames frame.0) me past (explained-frame layout w homes views (stamp_of who v) frame (slice_index w.frames frame.0) there) h)

@@ -1,13 +1,12 @@
 -- Bodies that go from a slot into the hand and back: sums over all bodies, and what each body is.
-use Rattle.std.proofs.Common.{◌≡◌, ◌≢◌, ℕ, zero, suc, ◌+◌, ◌<◌, ◌≤◌, ◌==◌, ◌⊎◌, Bool, true, false, cond, List, [], ◌∷◌, ◌++◌, Option, Some, None, map, set, length, slice_get, inl, inr, refl, sym, ap, ◌∙◌, subst, arith}
-use Rattle.std.proofs.lemmas.List.Sums.{sum_by_push, sum_by-cons}
+use Rattle.std.proofs.Common.{◌≡◌, ℕ, ◌+◌, ◌≤◌, List, [], ◌∷◌, ◌++◌, Option, Some, None, set, slice_get, inl, inr, sym, ap, ◌∙◌, subst, arith}
+use Rattle.std.proofs.lemmas.List.Sums.{sum_by_push}
 use Rattle.std.proofs.lemmas.Option.{none-some, same_Some}
-use Rattle.std.specs.Int.{from_bool}
 use Rattle.std.specs.List.{sum_by}
 use Rattle.hwp_rule.specs.declared.log.Log.{Log}
 use Rattle.hwp_rule.specs.declared.view.Held.{Held}
-use Rattle.hwp_rule.specs.Lists.{Homes, EachBody, EachMember, EachListed, of_home, sum_bodies, sum_all}
-use Rattle.hwp_rule.proofs.Lists.{at_set, same-or, set_again, sum-set, term-le, terms-le, each-set, each-push, same-number}
+use Rattle.hwp_rule.specs.Lists.{Homes, EachBody, EachMember, of_home, sum_bodies, sum_all}
+use Rattle.hwp_rule.proofs.Lists.{at_set, same-or, sum-set, term-le, terms-le, each-set, each-push}
 
 -- ---- a slot without a body
 

@@ -1,45 +1,19 @@
 -- What a page's lock lists, the words that fit a page's state, and a bit that is set already.
-use Rattle.std.proofs.Common.{◌≡◌, ◌≢◌, ℕ, zero, suc, ◌+◌, ◌*◌, ◌/◌, ◌%◌, ◌^◌, ◌<◌, ◌≤◌, ◌==◌, ◌⊎◌, Bool, true, false, not, cond, List, [], ◌∷◌, ◌++◌, Option, Some, None, map, set, take, length, slice_get, slice_index, slice_set, bit_or, length-append, inl, inr, refl, sym, ap, ◌∙◌, subst, arith}
-use Rattle.std.proofs.lemmas.Bool.{eqb-true, eqb-false, ne_eqb}
-use Rattle.std.proofs.lemmas.List.Sums.{sum_by_push, sum_by-cons}
+use Rattle.std.proofs.Common.{◌≡◌, ℕ, zero, suc, ◌+◌, ◌/◌, ◌%◌, ◌^◌, ◌<◌, ◌≤◌, ◌==◌, Bool, true, false, cond, List, [], ◌∷◌, Some, length, slice_get, bit_or, refl, ap, ◌∙◌, arith}
+use Rattle.std.proofs.lemmas.Bool.{eqb-true}
+use Rattle.std.proofs.lemmas.List.Sums.{sum_by-cons}
 use Rattle.std.proofs.lemmas.Nat.{or_mod, or_shr}
-use Rattle.std.proofs.lemmas.Option.{none-some, same_Some, slice_get_within, slice_get-get_or}
-use Rattle.std.proofs.Math.Seq.{take-length}
+use Rattle.std.proofs.lemmas.Option.{none-some, same_Some}
 use Rattle.std.specs.Int.Bits.{or_zero_r}
 use Rattle.std.specs.Int.{from_bool}
-use Rattle.std.specs.List.{sum_by}
-use Rattle.hwp_geom.specs.declared.Frame.{Frame}
-use Rattle.hwp_geom.specs.declared.Layout.{Layout}
 use Rattle.hwp_geom.specs.declared.Page.{Page}
-use Rattle.hwp_geom.specs.declared.Proc.{Proc}
 use Rattle.hwp_geom.specs.declared.TransDecl.{TransDecl}
-use Rattle.hwp_geom.specs.declared.Who.{Who}
 use Rattle.hwp_page.specs.declared.PageState.{PageState}
-use Rattle.hwp_words.specs.Frames.{lock_of, poison_of, handled_of, kernel_of, count_of, owner_of, cycle_of, is_locked, is_handled, is_poisoned}
 use Rattle.hwp_words.proofs.FieldLaws.{or_one}
-use Rattle.hwp_words.proofs.FrameSteps.{FieldsAre, fields-lock}
-use Rattle.hwp_rule.specs.declared.log.Log.{Log}
-use Rattle.hwp_rule.specs.declared.step.Step.TheVariants as steps
-use Rattle.hwp_rule.specs.declared.view.FrameLock.{FrameLock}
-use Rattle.hwp_rule.specs.declared.view.Held.{Held}
-use Rattle.hwp_rule.specs.declared.view.Length.{Length}
 use Rattle.hwp_rule.specs.declared.view.PageLock.{PageLock}
-use Rattle.hwp_rule.specs.declared.view.Ref.{Ref}
-use Rattle.hwp_rule.specs.declared.view.View.{View}
-use Rattle.hwp_rule.specs.Asks.{CanLockFrame}
-use Rattle.hwp_rule.specs.Lists.{Homes, EachBody, EachMember, SomeMember, sum_bodies}
-use Rattle.hwp_rule.specs.Logs.{state_of, fitting, fitting_from, fitting_word}
-use Rattle.hwp_rule.specs.Moves.{IsIn}
-use Rattle.hwp_rule.specs.Rule.{FrameRule, holder_of}
-use Rattle.hwp_rule.specs.Views.{refs_on, locks_on, page_locks_on, lock_found, taken, knowing, changed, is_page_lock_of, stamp_of}
-use Rattle.hwp_rule.specs.Words.{Words}
-use Rattle.hwp_rule.specs.parts.Bodies.{Holder, IsAtHome, IsHolding, content_name}
-use Rattle.hwp_rule.specs.parts.Endings.{AreEnded}
-use Rattle.hwp_rule.specs.parts.Fits.{Fits, FitsWords, KnowsWords, KnowsOwn}
-use Rattle.hwp_rule.specs.parts.Holdings.{IsPast}
-use Rattle.hwp_rule.specs.parts.Locks.{IsLocked}
-use Rattle.hwp_rule.specs.parts.Owners.{HoldsBoth}
-use Rattle.hwp_rule.proofs.Lists.{at_map, map-was, same-or, same-number, set_again, set_here, term-le, each-set, each-push, each-weaken, each-changed, some-push, some-last, sum-changed, length-changed}
+use Rattle.hwp_rule.specs.Logs.{fitting_from, fitting_word}
+use Rattle.hwp_rule.specs.Views.{page_locks_on}
+use Rattle.hwp_rule.proofs.Lists.{same-number}
 
 -- a bit that is set stays so
 pub or-odd : (w : ℕ) → w % 2 ≡ 1 → bit_or w 1 ≡ w

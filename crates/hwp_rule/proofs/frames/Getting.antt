@@ -1,48 +1,31 @@
 -- References taken keep the frame rule.
-use Rattle.std.proofs.Common.{◌≡◌, ◌≢◌, ℕ, zero, suc, ◌+◌, ◌-◌, ◌*◌, ◌%◌, ◌^◌, ◌<◌, ◌≤◌, ◌==◌, ◌⊎◌, min, Bool, true, false, cond, List, [], ◌∷◌, ◌++◌, Option, Some, None, map, set, length, slice_get, slice_index, slice_set, length-append, inl, inr, refl, sym, ap, ◌∙◌, subst, arith}
-use Rattle.std.proofs.lemmas.Bool.{eqb-true, eqb-false, ne_eqb}
-use Rattle.std.proofs.lemmas.List.Sums.{sum_by_push, sum_by-cons}
-use Rattle.std.proofs.lemmas.Option.{none-some, same_Some, slice_get_within, slice_get-get_or}
-use Rattle.std.specs.Int.{from_bool}
-use Rattle.std.specs.List.{sum_by}
+use Rattle.std.proofs.Common.{◌≡◌, ℕ, ◌+◌, ◌*◌, ◌%◌, ◌^◌, ◌<◌, ◌≤◌, ◌==◌, min, Bool, true, false, cond, List, Some, map, set, length, slice_get, slice_index, slice_set, inl, inr, refl, sym, subst, arith}
+use Rattle.std.proofs.lemmas.Bool.{eqb-true}
 use prog.Atomic.{either}
 use Rattle.hwp_geom.specs.declared.Frame.{Frame}
-use Rattle.hwp_geom.specs.declared.Layout.{Layout}
-use Rattle.hwp_geom.specs.declared.Who.{Who}
-use Rattle.hwp_words.specs.Frames.{lock_of, poison_of, handled_of, count_of, owner_of, kernel_of, cycle_of, is_kernel}
-use Rattle.hwp_words.proofs.FrameSteps.{FieldsAre, fields-get_ref, fields-put_ref}
-use Rattle.hwp_rule.specs.declared.log.Log.{Log}
+use Rattle.hwp_words.specs.Frames.{lock_of, poison_of, handled_of, count_of, owner_of, kernel_of, cycle_of}
+use Rattle.hwp_words.proofs.FrameSteps.{FieldsAre, fields-get_ref}
 use Rattle.hwp_rule.specs.declared.step.Step.TheVariants as steps
 use Rattle.hwp_rule.specs.declared.place.Place.TheVariants as places
 use Rattle.hwp_rule.specs.declared.view.FrameLock.{FrameLock}
-use Rattle.hwp_rule.specs.declared.view.PageLock.{PageLock}
-use Rattle.hwp_rule.specs.declared.view.Part.{Part}
-use Rattle.hwp_rule.specs.declared.view.Ref.{Ref}
 use Rattle.hwp_rule.specs.declared.view.View.{View}
-use Rattle.hwp_rule.specs.Lists.{Homes, EachMember, SomeMember}
-use Rattle.hwp_rule.specs.Rule.{FrameRule, holdings_of, holder_of}
-use Rattle.hwp_rule.specs.Steps.{is_last}
-use Rattle.hwp_rule.specs.Views.{refs_on, with_refs, less_refs, locks_on, sighted, stamp_of, is_frame}
-use Rattle.hwp_rule.specs.Words.{Words, free_bit}
-use Rattle.hwp_rule.specs.parts.Counts.{CountsBalance, named}
-use Rattle.hwp_rule.specs.parts.Holdings.{AreOwn, Holdings, IsBounded, HoldingsBounded, IsPast, frames_held}
-use Rattle.hwp_rule.specs.parts.Locks.{FrameLocksHeld, IsLocked}
-use Rattle.hwp_rule.specs.parts.Owners.{HoldsBoth}
-use Rattle.hwp_rule.specs.parts.Places.{HasOnePlace, IsBare, in_hand}
-use Rattle.hwp_rule.proofs.Lists.{change, keep, at_map, map-was, same-or, same-number, set_again, sum-set, term-le, terms-le, each-set, each-push, each-weaken}
-use Rattle.hwp_rule.proofs.Given.{Given, Keeps, IsShaped}
-use Rattle.hwp_rule.proofs.FrameWord.{IsLike, bare-like, like-fields, like-translations, like-caches, like-handled, like-counter, like-marks, like-unpoisoned, like-locked, like-bodies, placed-again, counted-again, locked-again}
+use Rattle.hwp_rule.specs.Lists.{EachMember}
+use Rattle.hwp_rule.specs.Rule.{FrameRule, holdings_of}
+use Rattle.hwp_rule.specs.Views.{refs_on, with_refs, sighted}
+use Rattle.hwp_rule.specs.Words.{free_bit}
+use Rattle.hwp_rule.specs.parts.Counts.{CountsBalance}
+use Rattle.hwp_rule.specs.parts.Holdings.{IsBounded, frames_held}
+use Rattle.hwp_rule.specs.parts.Places.{HasOnePlace, in_hand}
+use Rattle.hwp_rule.proofs.Lists.{at_map, same-or, set_again}
+use Rattle.hwp_rule.proofs.Given.{Keeps}
+use Rattle.hwp_rule.proofs.FrameWord.{IsLike, bare-like, like-fields, placed-again, counted-again}
 use Rattle.hwp_rule.proofs.RefBounds.{count-fits}
 use Rattle.hwp_rule.proofs.Referring.{past-some, word-there, keeps-refs, keeps-shown}
 use Rattle.hwp_rule.proofs.Refs
-use Rattle.hwp_rule.proofs.Sights.{keeps-sight, explained-frame}
 
 pub keeps-get_ref : (frame : Frame) (seen count : ℕ) → Keeps (steps.GetRef frame seen count)
 keeps-get_ref frame seen count layout w homes views seat v who content given = which (found == seen) refl
   where
-    f : ℕ
-    f = frame.0
-
     found : ℕ
     found = slice_index w.frames frame.0
 
@@ -86,7 +69,7 @@ keeps-get_ref frame seen count layout w homes views seat v who content given = w
 
     which : (b : Bool) → (slice_index w.frames frame.0 == seen) ≡ b
         → FrameRule layout (record w { frames = slice_set w.frames frame.0 (either b (seen + count * 16) (slice_index w.frames frame.0)) }) homes
-            (set views seat (cond b (record v { refs = with_refs frame count v.refs }) (sighted who (places.Frame frame) (slice_index w.frames frame.0) v)))
+        (set views seat (cond b (record v { refs = with_refs frame count v.refs }) (sighted who (places.Frame frame) (slice_index w.frames frame.0) v)))
     which false e = keeps-shown layout w homes views seat v who frame given.me given.past there given.rule
     which true e = subst (λ (n : ℕ). FrameRule layout (record w { frames = slice_set w.frames frame.0 n }) homes (set views seat (record v { refs = with_refs frame count v.refs }))) now-is
         (keeps-refs layout w homes views seat v frame.0 found now (with_refs frame count v.refs) v.hands given.me h there like are.lock counts placed referenced bounded-more)
@@ -128,12 +111,12 @@ keeps-get_ref frame seen count layout w homes views seat v who content given = w
         placed : HasOnePlace layout.kernel (set w.frames frame.0 now) w.frees (set (map (λ (v : View). v.hands) views) seat v.hands)
         placed = subst (HasOnePlace layout.kernel (set w.frames frame.0 now) w.frees) (sym hands-same)
             (placed-again w.frames frame.0 found now there like layout.kernel w.frees hands hands counted (λ g differs. refl)
-                (λ usable.
-                  let was : free_bit w.frees frame.0 + in_hand frame.0 hands + min (count_of found) 1 ≡ 1 = h.places.placed frame.0 found there usable in
-                  let count_is : count_of now ≡ count_of found + count = are.count in
-                  omega (arith, counted))
-                (λ some. bare-like found now like are.lock (h.places.idle frame.0 found there some))
-                h.places.handed h.places)
+            (λ usable.
+            let was : free_bit w.frees frame.0 + in_hand frame.0 hands + min (count_of found) 1 ≡ 1 = h.places.placed frame.0 found there usable in
+            let count_is : count_of now ≡ count_of found + count = are.count in
+            omega (arith, counted))
+            (λ some. bare-like found now like are.lock (h.places.idle frame.0 found there some))
+            h.places.handed h.places)
 
         referenced : EachMember (λ (l : FrameLock). 0 < refs_on l.frame.0 (with_refs frame count v.refs)) v.locks
         referenced i l e' =

@@ -1,13 +1,12 @@
 -- A frame's lock freed keeps the frame rule: the body that goes home is listed first.
-use Rattle.std.proofs.Common.{◌≡◌, ◌≢◌, ℕ, zero, suc, ◌+◌, ◌^◌, ◌<◌, ◌≤◌, ◌==◌, ◌||◌, ◌⊎◌, Bool, true, false, List, [], ◌∷◌, ◌++◌, Option, Some, None, map, set, take, drop, take-append-drop, length, slice_get, slice_index, slice_set, bit_and, inl, inr, refl, sym, ap, ◌∙◌, subst, arith}
+use Rattle.std.proofs.Common.{◌≡◌, ℕ, ◌+◌, ◌<◌, ◌≤◌, ◌==◌, ◌||◌, ◌⊎◌, Bool, true, false, List, ◌++◌, Some, None, map, set, take, drop, take-append-drop, length, slice_get, slice_index, bit_and, inl, inr, refl, sym, ap, ◌∙◌, subst, arith}
 use Rattle.std.proofs.lemmas.Bool.{eqb-true}
 use Rattle.std.proofs.lemmas.List.Folds.{list_any-append}
-use Rattle.std.proofs.lemmas.Option.{none-some, same_Some, slice_get_within}
-use Rattle.std.specs.Int.{from_bool, bit_not, w64}
+use Rattle.std.proofs.lemmas.Option.{same_Some, slice_get_within}
+use Rattle.std.specs.Int.{from_bool}
 use Rattle.std.specs.List.{sum_by}
 use Rattle.hwp_geom.specs.declared.Frame.{Frame}
 use Rattle.hwp_geom.specs.declared.Layout.{Layout}
-use Rattle.hwp_geom.specs.declared.Page.{Page}
 use Rattle.hwp_geom.specs.declared.Proc.{Proc}
 use Rattle.hwp_geom.specs.declared.Who.{Who}
 use Rattle.hwp_page.specs.declared.Entry.{Entry}
@@ -19,22 +18,22 @@ use Rattle.hwp_rule.specs.declared.view.Held.{Held}
 use Rattle.hwp_rule.specs.declared.view.PageLock.{PageLock}
 use Rattle.hwp_rule.specs.declared.view.Ref.{Ref}
 use Rattle.hwp_rule.specs.declared.view.View.{View}
-use Rattle.hwp_rule.specs.Asks.{CanUnlockFrame, CanGoHome, HasSameWords}
-use Rattle.hwp_rule.specs.Lists.{Homes, EachMember, SomeMember}
-use Rattle.hwp_rule.specs.Logs.{state_of, has_ending, is_ending}
+use Rattle.hwp_rule.specs.Asks.{CanUnlockFrame, CanGoHome}
+use Rattle.hwp_rule.specs.Lists.{Homes, SomeMember}
+use Rattle.hwp_rule.specs.Logs.{has_ending, is_ending}
 use Rattle.hwp_rule.specs.Rule.{FrameRule}
-use Rattle.hwp_rule.specs.Views.{made_from, stamp_of, more_of, locks_on, page_locks_on, without, changed, put_home, listed, is_lock_of, is_body_of, is_page_lock_of}
+use Rattle.hwp_rule.specs.Views.{made_from, stamp_of, more_of, locks_on, page_locks_on, without, changed, put_home, is_lock_of, is_body_of, is_page_lock_of}
 use Rattle.hwp_rule.specs.Words.{Words}
 use Rattle.hwp_rule.specs.parts.Endings.{AreEnded}
 use Rattle.hwp_rule.specs.parts.Fits.{Fits, FitsWords, KnowsWords, KnowsOwn}
 use Rattle.hwp_rule.specs.parts.Owners.{HoldsBoth}
-use Rattle.hwp_rule.proofs.Given.{Given, Keeps, IsShaped}
-use Rattle.hwp_rule.proofs.Listed
+use Rattle.hwp_rule.proofs.Given.{Given, Keeps}
+use Rattle.hwp_rule.proofs.frames.Listed
 use Rattle.hwp_rule.proofs.Lists.{at_map, map-was, same-or, same-number, set_here, set-set, terms-le}
-use Rattle.hwp_rule.proofs.PageLocks.{first-lock, same-page}
+use Rattle.hwp_rule.proofs.frames.PageLocks.{first-lock, same-page}
 use Rattle.hwp_rule.proofs.Referring.{word-there}
-use Rattle.hwp_rule.proofs.UnlockFrame
-use Rattle.hwp_rule.proofs.Without.{find-is, changed-at}
+use Rattle.hwp_rule.proofs.frames.UnlockFrame
+use Rattle.hwp_rule.proofs.frames.Without.{find-is, changed-at}
 
 or-parts : (a b : Bool) → (a || b) ≡ true → (a ≡ true) ⊎ (b ≡ true)
 or-parts true b e = inl refl
@@ -73,25 +72,25 @@ module _ (layout : Layout) (w : Words) (homes : Homes) (views : List View) (seat
 
   cached : slice_get w.caches log.page.0 ≡ Some (frame.0 + 1)
   cached = elim (h.caches.named frame.0 (slice_index w.frames frame.0) log.page.0 there owner) [
-      | inl named ↦ named
-      | inr both ↦
-          let was : (x : View) × (slice_get views both.0 ≡ Some x) × ((x.locks, x.pages) ≡ both.1) = map-was (λ (v : View). (v.locks, v.pages)) views both.0 both.1 both.2 in
-          let holds : HoldsBoth frame.0 log.page.0 (was.0.locks, was.0.pages) = subst (HoldsBoth frame.0 log.page.0) (sym was.2) both.3 in
-          elim (same-or both.0 seat) [
-            | inl same ↦
-                let mine : was.0 ≡ v = same_Some was.0 v (sym was.1 ∙ ap (slice_get views) same ∙ given.me) in
-                UnlockFrame.both-cached layout w homes views seat v frame (slice_index w.frames frame.0) asks.has.listed.0 asks.has.lock given.me given.place there listed-lock asks.has.frame_is h
-                    asks.cached log.page.0 owner (subst (λ (x : View). HoldsBoth frame.0 log.page.0 (x.locks, x.pages)) mine holds)
-            | inr differs ↦
-                let held : List (List Ref × List FrameLock) = map (λ (v : View). (v.refs, v.locks)) views in
-                let one : sum_by (λ (o : List Ref × List FrameLock). locks_on frame.0 o.1) (map (λ (v : View). (v.refs, v.locks)) views) ≡ lock_of (slice_index w.frames frame.0) = h.frame_locks.one frame.0 (slice_index w.frames frame.0) there in
-                let two : locks_on frame.0 was.0.locks + locks_on frame.0 v.locks ≤ sum_by (λ (o : List Ref × List FrameLock). locks_on frame.0 o.1) (map (λ (v : View). (v.refs, v.locks)) views) =
-                terms-le (λ (o : List Ref × List FrameLock). locks_on frame.0 o.1) (map (λ (v : View). (v.refs, v.locks)) views) both.0 seat (was.0.refs, was.0.locks) (v.refs, v.locks) differs
-                    (at_map (λ (v : View). (v.refs, v.locks)) views both.0 was.0 was.1) (at_map (λ (v : View). (v.refs, v.locks)) views seat v given.me) in
-                let bit : lock_of (slice_index w.frames frame.0) < 2 = omega arith in
-                absurd (omega (arith, holds.frame, my-lock))
-          ]
-    ]
+    | inl named ↦ named
+    | inr both ↦
+        let was : (x : View) × (slice_get views both.0 ≡ Some x) × ((x.locks, x.pages) ≡ both.1) = map-was (λ (v : View). (v.locks, v.pages)) views both.0 both.1 both.2 in
+        let holds : HoldsBoth frame.0 log.page.0 (was.0.locks, was.0.pages) = subst (HoldsBoth frame.0 log.page.0) (sym was.2) both.3 in
+        elim (same-or both.0 seat) [
+          | inl same ↦
+              let mine : was.0 ≡ v = same_Some was.0 v (sym was.1 ∙ ap (slice_get views) same ∙ given.me) in
+              UnlockFrame.both-cached layout w homes views seat v frame (slice_index w.frames frame.0) asks.has.listed.0 asks.has.lock given.me given.place there listed-lock asks.has.frame_is h
+              asks.cached log.page.0 owner (subst (λ (x : View). HoldsBoth frame.0 log.page.0 (x.locks, x.pages)) mine holds)
+          | inr differs ↦
+              let held : List (List Ref × List FrameLock) = map (λ (v : View). (v.refs, v.locks)) views in
+              let one : sum_by (λ (o : List Ref × List FrameLock). locks_on frame.0 o.1) (map (λ (v : View). (v.refs, v.locks)) views) ≡ lock_of (slice_index w.frames frame.0) = h.frame_locks.one frame.0 (slice_index w.frames frame.0) there in
+              let two : locks_on frame.0 was.0.locks + locks_on frame.0 v.locks ≤ sum_by (λ (o : List Ref × List FrameLock). locks_on frame.0 o.1) (map (λ (v : View). (v.refs, v.locks)) views) =
+              terms-le (λ (o : List Ref × List FrameLock). locks_on frame.0 o.1) (map (λ (v : View). (v.refs, v.locks)) views) both.0 seat (was.0.refs, was.0.locks) (v.refs, v.locks) differs
+              (at_map (λ (v : View). (v.refs, v.locks)) views both.0 was.0 was.1) (at_map (λ (v : View). (v.refs, v.locks)) views seat v given.me) in
+              let bit : lock_of (slice_index w.frames frame.0) < 2 = omega arith in
+              absurd (omega (arith, holds.frame, my-lock))
+        ]
+  ]
 
   within : log.page.0 < length layout.pages
   within = subst (λ (n : ℕ). log.page.0 < n) given.shaped.caches (slice_get_within w.caches log.page.0 (frame.0 + 1) cached)
@@ -117,11 +116,11 @@ module _ (layout : Layout) (w : Words) (homes : Homes) (views : List View) (seat
   -- each process that the history ended has a word: from before, or by a `kill`
   ended : AreEnded layout w.processes log.entries
   ended process x at is = elim (or-parts (has_ending layout process (take can.body.since log.entries)) (has_ending layout process (drop can.body.since log.entries)) split) [
-      | inl before ↦ rule.endings.ended_before seat renewed.bodies (at_map (λ (v : View). v.bodies) (set views seat renewed) seat renewed me-renewed) found-body.0 (record can.body { log = log }) body-renewed process x at before
-      | inr late ↦
-          let killed : SomeMember (λ (p : Proc). p ≡ process) can.body.killed = can.killed process late in
-          h.stops.killed seat v.bodies (at_map (λ (v : View). v.bodies) views seat v given.me) found-body.0 can.body found-body.1 killed.0 killed.1 killed.2 x (ap (λ (p : Proc). slice_get w.processes p.0) killed.3 ∙ at)
-    ]
+    | inl before ↦ rule.endings.ended_before seat renewed.bodies (at_map (λ (v : View). v.bodies) (set views seat renewed) seat renewed me-renewed) found-body.0 (record can.body { log = log }) body-renewed process x at before
+    | inr late ↦
+        let killed : SomeMember (λ (p : Proc). p ≡ process) can.body.killed = can.killed process late in
+        h.stops.killed seat v.bodies (at_map (λ (v : View). v.bodies) views seat v given.me) found-body.0 can.body found-body.1 killed.0 killed.1 killed.2 x (ap (λ (p : Proc). slice_get w.processes p.0) killed.3 ∙ at)
+  ]
     where
       split : (has_ending layout process (take can.body.since log.entries) || has_ending layout process (drop can.body.since log.entries)) ≡ true
       split = sym (list_any-append (λ (e : Entry). is_ending layout process e.what) (take can.body.since log.entries) (drop can.body.since log.entries))
@@ -129,9 +128,9 @@ module _ (layout : Layout) (w : Words) (homes : Homes) (views : List View) (seat
 
   fit : Fits layout w.trans w.caches log
   fit = elim (same-or (page_locks_on log.page.0 v.pages) 0) [
-      | inl none ↦ rule.fits.in_hand seat (renewed.pages, renewed.bodies) (at_map (λ (v : View). (v.pages, v.bodies)) (set views seat renewed) seat renewed me-renewed) found-body.0 (record can.body { log = log }) body-renewed none
-      | inr some ↦ fit-locked (omega (arith, some))
-    ]
+    | inl none ↦ rule.fits.in_hand seat (renewed.pages, renewed.bodies) (at_map (λ (v : View). (v.pages, v.bodies)) (set views seat renewed) seat renewed me-renewed) found-body.0 (record can.body { log = log }) body-renewed none
+    | inr some ↦ fit-locked (omega (arith, some))
+  ]
     where
       fit-locked : 0 < page_locks_on log.page.0 v.pages → Fits layout w.trans w.caches log
       fit-locked some cache at = record {
@@ -176,21 +175,21 @@ module _ (layout : Layout) (w : Words) (homes : Homes) (views : List View) (seat
   keeps-home : FrameRule layout (record w { frames = set w.frames frame.0 (bit_and (slice_index w.frames frame.0) 18446744073709551614) }) (set homes frame.0 (Some (Some log)))
       (set views seat (record (put_home layout who (Some log) v) { locks = without (is_lock_of frame) v.locks }))
   keeps-home = subst (λ (x : View). FrameRule layout (record w { frames = set w.frames frame.0 (bit_and (slice_index w.frames frame.0) 18446744073709551614) }) (set homes frame.0 (Some (Some log)))
-        (set views seat (record x {
-          bodies = without (is_body_of log.page) x.bodies;
-          pages = changed (is_page_lock_of log.page) (λ (l : PageLock). record l { trans = None }) v.pages;
-          locks = without (is_lock_of frame) v.locks;
-        })))
+      (set views seat (record x {
+        bodies = without (is_body_of log.page) x.bodies;
+        pages = changed (is_page_lock_of log.page) (λ (l : PageLock). record l { trans = None }) v.pages;
+        locks = without (is_lock_of frame) v.locks;
+      })))
       (sym (Listed.listed-is layout w homes views seat v who log found-body.0 can.body given.me given.past found-body.1 found-body.2 can.extends within can.fits.unlocked h can.body_is))
       (subst (FrameRule layout (record w { frames = set w.frames frame.0 (bit_and (slice_index w.frames frame.0) 18446744073709551614) }) (set homes frame.0 (Some (Some log))))
-          (set-set views seat renewed (record renewed {
-            locks = without (is_lock_of frame) renewed.locks;
-            pages = changed (is_page_lock_of log.page) (λ (l : PageLock). record l { trans = None }) renewed.pages;
-            bodies = without (is_body_of log.page) renewed.bodies;
-          })) home)
+      (set-set views seat renewed (record renewed {
+        locks = without (is_lock_of frame) renewed.locks;
+        pages = changed (is_page_lock_of log.page) (λ (l : PageLock). record l { trans = None }) renewed.pages;
+        bodies = without (is_body_of log.page) renewed.bodies;
+      })) home)
 
 pub keeps-unlock_frame : (frame : Frame) → Keeps (steps.UnlockFrame frame)
 keeps-unlock_frame frame layout w homes views seat v who None given =
     UnlockFrame.keeps-unlock-empty layout w homes views seat v frame (slice_index w.frames frame.0) given.asks.has.listed.0 given.asks.has.lock given.me given.place
-        (word-there layout w homes frame.0 given.shaped given.place) (given.asks.has.listed.2 ∙ ap (λ (l : FrameLock). Some l) given.asks.has.listed.3) given.asks.has.frame_is given.rule (sym given.asks.named)
+    (word-there layout w homes frame.0 given.shaped given.place) (given.asks.has.listed.2 ∙ ap (λ (l : FrameLock). Some l) given.asks.has.listed.3) given.asks.has.frame_is given.rule (sym given.asks.named)
 keeps-unlock_frame frame layout w homes views seat v who (Some log) given = keeps-home layout w homes views seat v who frame log given

@@ -1,19 +1,17 @@
 -- A frame's lock freed keeps the frame rule.
-use Rattle.std.proofs.Common.{◌≡◌, ◌≢◌, ℕ, zero, suc, ◌+◌, ◌^◌, ◌<◌, ◌≤◌, ◌==◌, ◌⊎◌, Bool, true, false, cond, List, [], ◌∷◌, ◌++◌, Option, Some, None, map, set, take, length, slice_get, slice_index, slice_set, bit_and, inl, inr, refl, sym, ap, ◌∙◌, subst, arith}
+use Rattle.std.proofs.Common.{◌≡◌, ◌≢◌, ℕ, ◌+◌, ◌<◌, ◌≤◌, ◌==◌, Bool, true, false, cond, List, [], ◌∷◌, Some, None, map, set, take, length, slice_get, bit_and, inl, inr, refl, sym, ap, ◌∙◌, subst, arith}
 use Rattle.std.proofs.lemmas.Bool.{eqb-true, eqb-false, ne_eqb}
 use Rattle.std.proofs.lemmas.Option.{none-some, same_Some}
 use Rattle.std.specs.Int.{from_bool}
-use Rattle.std.specs.List.{sum_by, find}
+use Rattle.std.specs.List.{sum_by}
 use Rattle.hwp_geom.specs.declared.Frame.{Frame}
 use Rattle.hwp_geom.specs.declared.Layout.{Layout}
 use Rattle.hwp_geom.specs.declared.Proc.{Proc}
-use Rattle.hwp_geom.specs.declared.TransDecl.{TransDecl}
 use Rattle.hwp_words.specs.Frames.{lock_of, count_of, owner_of}
-use Rattle.hwp_words.proofs.FrameSteps.{FieldsAre, fields-unlock}
+use Rattle.hwp_words.proofs.FrameSteps.{fields-unlock}
 use Rattle.hwp_rule.specs.declared.log.Log.{Log}
 use Rattle.hwp_rule.specs.declared.view.FrameLock.{FrameLock}
 use Rattle.hwp_rule.specs.declared.view.Held.{Held}
-use Rattle.hwp_rule.specs.declared.view.Length.{Length}
 use Rattle.hwp_rule.specs.declared.view.PageLock.{PageLock}
 use Rattle.hwp_rule.specs.declared.view.Ref.{Ref}
 use Rattle.hwp_rule.specs.declared.view.View.{View}
@@ -21,19 +19,18 @@ use Rattle.hwp_rule.specs.Lists.{Homes, EachBody, EachMember, SomeMember, of_hom
 use Rattle.hwp_rule.specs.Rule.{FrameRule, holder_of}
 use Rattle.hwp_rule.specs.Views.{refs_on, locks_on, page_locks_on, without, changed, is_lock_of, is_page_lock_of, is_body_of}
 use Rattle.hwp_rule.specs.Words.{Words}
-use Rattle.hwp_rule.specs.parts.Bodies.{Holder, IsAtHome, IsHolding}
+use Rattle.hwp_rule.specs.parts.Bodies.{Holder, IsHolding}
 use Rattle.hwp_rule.specs.parts.Endings.{AreEnded}
 use Rattle.hwp_rule.specs.parts.Fits.{Fits, KnowsWords, KnowsOwn}
-use Rattle.hwp_rule.specs.parts.Holdings.{AreOwn}
 use Rattle.hwp_rule.specs.parts.Locks.{IsLocked}
 use Rattle.hwp_rule.specs.parts.Owners.{HoldsBoth}
 use Rattle.hwp_rule.proofs.Lists.{at_map, at_set, same-or, same-number, set_again, set_here, sum-set, term-le, each-set, each-weaken, each-changed, sum-changed, length-changed}
 use Rattle.hwp_rule.proofs.FrameWord.{IsLike, like-fields, like-locked}
-use Rattle.hwp_rule.proofs.Hands.{sum-without, length-without, each-without, not-both}
-use Rattle.hwp_rule.proofs.PageLocks.{first-lock}
-use Rattle.hwp_rule.proofs.Locking.{Locking, all_bodies, keeps-locking}
+use Rattle.hwp_rule.proofs.Hands.{sum-without, length-without, each-without}
+use Rattle.hwp_rule.proofs.frames.PageLocks.{first-lock}
+use Rattle.hwp_rule.proofs.Locking.{all_bodies, keeps-locking}
 use Rattle.hwp_rule.proofs.TakenBodies.{sum-empty, each-empty}
-use Rattle.hwp_rule.proofs.Without.{some-without, others-unfound, sum-without-one}
+use Rattle.hwp_rule.proofs.frames.Without.{some-without, others-unfound, sum-without-one}
 
 -- a lock that the view lists is freed
 module _ (layout : Layout) (w : Words) (homes : Homes) (views : List View) (seat : ℕ) (v : View) (frame : Frame) (found place : ℕ) (lock : FrameLock)
@@ -112,13 +109,13 @@ module _ (layout : Layout) (w : Words) (homes : Homes) (views : List View) (seat
   -- the page of another body than the frame's is still held
   holding-still : (q : ℕ) (pages : List PageLock) (bodies : List Held) → page_locks_on q pages ≡ page_locks_on q v.pages → lock.owner ≢ q + 1 → IsHolding q (holder_of v) → IsHolding q (record { locks = locks; pages = pages; bodies = bodies })
   holding-still q pages bodies same other holds = elim holds [
-      | inl page ↦ inl (subst (λ (n : ℕ). 0 < n) (sym same) page)
-      | inr some ↦
-          let mine : SomeMember (λ (l : FrameLock). (l.owner ≡ q + 1) × (is_lock_of frame l ≡ true → ⊥)) v.locks =
-          (some.0, some.1, some.2, (some.3, λ is. other (sym owner ∙ owner-of some.0 some.1 some.2 (eqb-true some.1.frame.0 frame.0 is) ∙ some.3))) in
-          let still : SomeMember (λ (l : FrameLock). (l.owner ≡ q + 1) × (is_lock_of frame l ≡ true → ⊥)) locks = some-without (is_lock_of frame) (λ (l : FrameLock). (l.owner ≡ q + 1) × (is_lock_of frame l ≡ true → ⊥)) v.locks (λ l both is. both.1 is) mine in
-          inr (still.0, still.1, still.2, still.3.0)
-    ]
+    | inl page ↦ inl (subst (λ (n : ℕ). 0 < n) (sym same) page)
+    | inr some ↦
+        let mine : SomeMember (λ (l : FrameLock). (l.owner ≡ q + 1) × (is_lock_of frame l ≡ true → ⊥)) v.locks =
+        (some.0, some.1, some.2, (some.3, λ is. other (sym owner ∙ owner-of some.0 some.1 some.2 (eqb-true some.1.frame.0 frame.0 is) ∙ some.3))) in
+        let still : SomeMember (λ (l : FrameLock). (l.owner ≡ q + 1) × (is_lock_of frame l ≡ true → ⊥)) locks = some-without (is_lock_of frame) (λ (l : FrameLock). (l.owner ≡ q + 1) × (is_lock_of frame l ≡ true → ⊥)) v.locks (λ l both is. both.1 is) mine in
+        inr (still.0, still.1, still.2, still.3.0)
+  ]
 
   my_bodies : slice_get (all_bodies views) seat ≡ Some v.bodies
   my_bodies = at_map (λ (v : View). v.bodies) views seat v me

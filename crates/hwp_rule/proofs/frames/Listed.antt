@@ -1,31 +1,18 @@
 -- Entries of a body in hand that are listed keep the frame rule.
-use Rattle.std.proofs.Common.{◌≡◌, ◌≢◌, ℕ, zero, suc, ◌+◌, ◌*◌, ◌^◌, ◌<◌, ◌≤◌, ◌==◌, ◌||◌, ◌⊎◌, Bool, true, false, true≢false, cond, List, [], ◌∷◌, ◌++◌, Option, Some, None, map, set, take, drop, length, slice_get, length-append, append-nil, inl, inr, refl, sym, ap, ◌∙◌, subst, arith}
-use Rattle.std.proofs.lemmas.Bool.{eqb-true}
+use Rattle.std.proofs.Common.{◌≡◌, ◌≢◌, ℕ, suc, ◌+◌, ◌<◌, ◌≤◌, ◌==◌, ◌||◌, true, false, cond, List, [], ◌∷◌, ◌++◌, Option, Some, map, set, take, length, slice_get, length-append, append-nil, inl, inr, refl, sym, ap, ◌∙◌, subst, arith}
 use Rattle.std.proofs.lemmas.List.{map-set, take-append-le}
 use Rattle.std.proofs.lemmas.List.Folds.{list_any-append}
 use Rattle.std.proofs.lemmas.List.Sums.{sum_by-cons, sum_by-append}
-use Rattle.std.proofs.lemmas.Option.{none-some, same_Some}
 use Rattle.std.specs.Int.{from_bool}
-use Rattle.std.specs.FinSet as sets
-use Rattle.std.specs.List.{sum_by, list_any, find}
-use Rattle.std.specs.Ordering.{nat_cmp}
+use Rattle.std.specs.List.{sum_by, list_any}
 use Rattle.hwp_geom.specs.declared.FileNo.{FileNo}
 use Rattle.hwp_geom.specs.declared.Frame.{Frame}
 use Rattle.hwp_geom.specs.declared.Layout.{Layout}
 use Rattle.hwp_geom.specs.declared.Page.{Page}
 use Rattle.hwp_geom.specs.declared.Proc.{Proc}
-use Rattle.hwp_geom.specs.declared.TransDecl.{TransDecl}
 use Rattle.hwp_geom.specs.declared.Who.{Who}
-use Rattle.hwp_kill.specs.declared.Seen.{Seen}
 use Rattle.hwp_page.specs.declared.Entry.{Entry}
-use Rattle.hwp_page.specs.declared.Met.TheVariants.{Word, Sigbus}
-use Rattle.hwp_page.specs.declared.PageState.{PageState}
-use Rattle.hwp_page.specs.declared.What.{What}
-use Rattle.hwp_page.specs.declared.What.TheVariants as entries
-use Rattle.hwp_words.specs.Policies.{policy_code}
 use Rattle.hwp_rule.specs.declared.log.Log.{Log}
-use Rattle.hwp_rule.specs.declared.place.Place.TheVariants as places
-use Rattle.hwp_rule.specs.declared.view.FrameLock.{FrameLock}
 use Rattle.hwp_rule.specs.declared.view.Held.{Held}
 use Rattle.hwp_rule.specs.declared.view.Length.{Length}
 use Rattle.hwp_rule.specs.declared.view.Made.{Made}
@@ -36,26 +23,25 @@ use Rattle.hwp_rule.specs.declared.view.Sight.{Sight}
 use Rattle.hwp_rule.specs.declared.view.Stamp.{Stamp}
 use Rattle.hwp_rule.specs.declared.view.View.{View}
 use Rattle.hwp_rule.specs.Asks.{Extends, HasSameWords}
-use Rattle.hwp_rule.specs.Lists.{Homes, EachBody, EachMember, EachListed, SomeMember, IsNotLater, sum_all, sum_bodies}
-use Rattle.hwp_rule.specs.Logs.{state_of, has_ending, is_ending, is_loss, losses_in, losses_of, file_of, is_file, fitting_word}
+use Rattle.hwp_rule.specs.Lists.{Homes, EachBody, EachMember, SomeMember, IsNotLater, sum_all, sum_bodies}
+use Rattle.hwp_rule.specs.Logs.{state_of, has_ending, is_ending, is_loss, losses_in, losses_of, file_of, is_file}
 use Rattle.hwp_rule.specs.Rule.{FrameRule, holder_of, losing_of}
-use Rattle.hwp_rule.specs.Views.{stamp_of, more_of, made_from, loss_made, losses_made, changed, is_body_of, body_of, listed, listed_of, page_locks_on}
+use Rattle.hwp_rule.specs.Views.{stamp_of, more_of, made_from, changed, is_body_of, body_of, listed, listed_of, page_locks_on}
 use Rattle.hwp_rule.specs.Words.{Words}
 use Rattle.hwp_rule.specs.parts.Bodies.{BodiesAtHome, Holder, IsHolding}
 use Rattle.hwp_rule.specs.parts.Counter.{is_poisoning}
 use Rattle.hwp_rule.specs.parts.Endings.{EndingsAgree, AreEnded}
-use Rattle.hwp_rule.specs.parts.Entries.{EntriesListed, weigh, weigh_from, HasSight, HasMask, HasPolicy, HasSeen}
-use Rattle.hwp_rule.specs.parts.Fits.{PageFits, Fits, FitsWords, KnowsWords, KnowsOwn}
+use Rattle.hwp_rule.specs.parts.Entries.{EntriesListed, weigh, weigh_from, HasSeen}
+use Rattle.hwp_rule.specs.parts.Fits.{PageFits, Fits, KnowsWords, KnowsOwn}
 use Rattle.hwp_rule.specs.parts.Holdings.{AreOwn, IsPast}
 use Rattle.hwp_rule.specs.parts.Losses.{Losing, LossesBalance, IsPoisonLoss}
 use Rattle.hwp_rule.specs.parts.Stops.{EndingsAndStopsStay}
 use Rattle.hwp_rule.specs.parts.Unpoisoned.{NothingPoisonedYet, is_failure}
-use Rattle.hwp_rule.proofs.Lists.{change, keep, at_map, at_longer, set_again, sum-set, term-le, each-set, each-weaken, each-changed}
+use Rattle.hwp_rule.proofs.Lists.{change, keep, at_map, at_longer, sum-set, term-le, each-set, each-weaken, each-changed}
 use Rattle.hwp_rule.proofs.Locking.{all_bodies}
-use Rattle.hwp_rule.proofs.Without.{find-is, sum-changed-one, each-changed-one}
-use Rattle.hwp_rule.proofs.Listing.{each-append, seen-drop, weigh-append, made-weigh, made-each, losses-none, losses-in-none, failures-none, or-left, fits-same}
+use Rattle.hwp_rule.proofs.frames.Without.{sum-changed-one, each-changed-one}
+use Rattle.hwp_rule.proofs.frames.Listing.{each-append, seen-drop, weigh-append, made-weigh, made-each, losses-none, losses-in-none, failures-none, or-left, fits-same}
 use Rattle.hwp_rule.proofs.Kept
-
 
 losses-of-made : (stamp : Stamp) (page : Page) (frame : Option Frame) (place : ℕ) (es : List Entry) → sum_by (λ (m : Made). from_bool (is_loss m.entry.what)) (made_from stamp page frame place es) ≡ losses_in es
 losses-of-made stamp page frame place [] = refl
@@ -140,12 +126,12 @@ module _ (layout : Layout) (w : Words) (homes : Homes) (views : List View) (seat
         subst (λ (l : List (List Held)). sum_bodies (λ (x : Log). from_bool (x.page.0 == q)) homes l ≡ 1) (sym lists) (omega (arith, sums (λ (x : Log). from_bool (x.page.0 == q)), was, page));
     in_hand = each-set (λ (o : Holder). EachMember (λ (b : Held). IsHolding b.log.page.0 o) o.bodies) (map holder_of views) seat (holder_of u)
         (each-changed-one (is_body_of log.page) (λ (b : Held). IsHolding b.log.page.0 (holder_of u)) renewed v.bodies place body once there test
-            (subst (λ (p : Page). IsHolding p.0 (holder_of u)) (sym extends.page_is) (mine place body there)) mine)
+        (subst (λ (p : Page). IsHolding p.0 (holder_of u)) (sym extends.page_is) (mine place body there)) mine)
         h.bodies.in_hand;
   }
     where
       mine : EachMember (λ (b : Held). IsHolding b.log.page.0 (holder_of u)) v.bodies
-      mine i b at = elim (h.bodies.in_hand seat (holder_of v) (at_map holder_of views seat v me) i b at) [ | inl page ↦ inl page | inr some ↦ inr some ]
+      mine i b at = elim (h.bodies.in_hand seat (holder_of v) (at_map holder_of views seat v me) i b at) [ inl page ↦ inl page | inr some ↦ inr some ]
 
   entries-listed : EntriesListed homes (set (all_bodies views) seat bodies) (set (map (λ (v : View). (v.made, v.sights)) views) seat (made, v.sights)) (map (λ (v : View). v.lengths) views)
   entries-listed = record {
@@ -166,9 +152,9 @@ module _ (layout : Layout) (w : Words) (homes : Homes) (views : List View) (seat
         omega (arith, sums (weigh g));
     shown = each-set (λ (x : List Made × List Sight). EachMember (λ (m : Made). HasSeen x.1 m.entry.who m.frame m.entry.what) x.0) (map (λ (v : View). (v.made, v.sights)) views) seat (made, v.sights)
         (each-append (λ (m : Made). HasSeen v.sights m.entry.who m.frame m.entry.what) v.made (made_from (stamp_of who v) log.page body.frame (length body.log.entries) more)
-            (h.entries.shown seat (v.made, v.sights) my_made)
-            (made-each (λ (m : Made). HasSeen v.sights m.entry.who m.frame m.entry.what) (stamp_of who v) log.page body.frame (length body.log.entries) more
-                (λ i e at n. subst (λ (z : Who). HasSeen v.sights z body.frame e.what) (sym (extends.own i e at)) (seen-drop body.from v.sights who body.frame e.what (extends.seen i e at)))))
+        (h.entries.shown seat (v.made, v.sights) my_made)
+        (made-each (λ (m : Made). HasSeen v.sights m.entry.who m.frame m.entry.what) (stamp_of who v) log.page body.frame (length body.log.entries) more
+        (λ i e at n. subst (λ (z : Who). HasSeen v.sights z body.frame e.what) (sym (extends.own i e at)) (seen-drop body.from v.sights who body.frame e.what (extends.seen i e at)))))
         h.entries.shown;
     lengths_reached = each-weaken (EachMember Was) (EachMember Reached) (map (λ (v : View). v.lengths) views)
         (λ list each. each-weaken Was Reached list (λ l was. eachs (λ (x : Log). x.page ≡ l.page → l.entries ≤ length x.entries) (λ old page. let enough : l.entries ≤ length body.log.entries = old (sym extends.page_is ∙ page) in omega (arith, reaches)) was) each)
@@ -193,18 +179,18 @@ module _ (layout : Layout) (w : Words) (homes : Homes) (views : List View) (seat
     ended = h.endings.ended;
     ended_before = each-set (EachMember (λ (b : Held). AreEnded layout w.processes (take b.since b.log.entries))) (all_bodies views) seat bodies
         (each-changed-one (is_body_of log.page) (λ (b : Held). AreEnded layout w.processes (take b.since b.log.entries)) renewed v.bodies place body once there test
-            (subst (AreEnded layout w.processes) (sym (ap (take body.since) extends.longer ∙ take-append-le body.since body.log.entries more since)) (h.endings.ended_before seat v.bodies my_bodies place body there))
-            (h.endings.ended_before seat v.bodies my_bodies))
+        (subst (AreEnded layout w.processes) (sym (ap (take body.since) extends.longer ∙ take-append-le body.since body.log.entries more since)) (h.endings.ended_before seat v.bodies my_bodies place body there))
+        (h.endings.ended_before seat v.bodies my_bodies))
         h.endings.ended_before;
     taken = each-set (EachMember (λ (b : Held). b.since ≤ length b.log.entries)) (all_bodies views) seat bodies
         (each-changed-one (is_body_of log.page) (λ (b : Held). b.since ≤ length b.log.entries) renewed v.bodies place body once there test (omega (arith, since, reaches)) (h.endings.taken seat v.bodies my_bodies))
         h.endings.taken;
     shown = λ i list at j s is process place'.
         eachs (λ (y : Log). s.word ≡ y.page.0 + 1 → SomeMember (λ (e : Entry). (is_ending layout process e.what ≡ true) × IsNotLater e.who s.stamp.who) y.entries)
-            (λ old names.
-              let some : SomeMember (λ (e : Entry). (is_ending layout process e.what ≡ true) × IsNotLater e.who s.stamp.who) body.log.entries = old (names ∙ ap (λ (p : Page). p.0 + 1) extends.page_is) in
-              (some.0, some.1, ap (λ (l : List Entry). slice_get l some.0) extends.longer ∙ at_longer body.log.entries more some.0 some.1 some.2, some.3))
-            (h.endings.shown i list at j s is process place');
+        (λ old names.
+        let some : SomeMember (λ (e : Entry). (is_ending layout process e.what ≡ true) × IsNotLater e.who s.stamp.who) body.log.entries = old (names ∙ ap (λ (p : Page). p.0 + 1) extends.page_is) in
+        (some.0, some.1, ap (λ (l : List Entry). slice_get l some.0) extends.longer ∙ at_longer body.log.entries more some.0 some.1 some.2, some.3))
+        (h.endings.shown i list at j s is process place');
   }
 
   no-loss : losses_in more ≡ 0
@@ -253,17 +239,17 @@ module _ (layout : Layout) (w : Words) (homes : Homes) (views : List View) (seat
     at_home = h.fits.at_home;
     in_hand = each-set (λ (o : List PageLock × List Held). EachMember (λ (b : Held). page_locks_on b.log.page.0 o.0 ≡ 0 → Fits layout w.trans w.caches b.log) o.1) (map (λ (v : View). (v.pages, v.bodies)) views) seat (v.pages, bodies)
         (each-changed-one (is_body_of log.page) (λ (b : Held). page_locks_on b.log.page.0 v.pages ≡ 0 → Fits layout w.trans w.caches b.log) renewed v.bodies place body once there test
-            (λ none. fits-same layout w.trans w.caches log body.log extends.page_is (same_words none)
-              (h.fits.in_hand seat (v.pages, v.bodies) my_fit place body there (ap (λ (p : Page). page_locks_on p.0 v.pages) (sym extends.page_is) ∙ none)))
-            (h.fits.in_hand seat (v.pages, v.bodies) my_fit))
+        (λ none. fits-same layout w.trans w.caches log body.log extends.page_is (same_words none)
+        (h.fits.in_hand seat (v.pages, v.bodies) my_fit place body there (ap (λ (p : Page). page_locks_on p.0 v.pages) (sym extends.page_is) ∙ none)))
+        (h.fits.in_hand seat (v.pages, v.bodies) my_fit))
         h.fits.in_hand;
     known = each-set (λ (o : List PageLock × List Held). EachMember (KnowsWords layout w.trans w.caches) o.0) (map (λ (v : View). (v.pages, v.bodies)) views) seat (v.pages, bodies) (h.fits.known seat (v.pages, v.bodies) my_fit) h.fits.known;
     own = each-set (λ (o : List PageLock × List Held). EachMember (λ (b : Held). 0 < page_locks_on b.log.page.0 o.0 → KnowsOwn o.0 b) o.1) (map (λ (v : View). (v.pages, v.bodies)) views) seat (v.pages, bodies)
         (each-changed-one (is_body_of log.page) (λ (b : Held). 0 < page_locks_on b.log.page.0 v.pages → KnowsOwn v.pages b) renewed v.bodies place body once there test
-            (λ some.
-              let own : KnowsOwn v.pages body = h.fits.own seat (v.pages, v.bodies) my_fit place body there (subst (λ (p : Page). 0 < page_locks_on p.0 v.pages) extends.page_is some) in
-              record { lock = own.lock; there = own.there; cache = own.cache; cache_is = own.cache_is; trans = own.trans; trans_is = own.trans_is })
-            (h.fits.own seat (v.pages, v.bodies) my_fit))
+        (λ some.
+        let own : KnowsOwn v.pages body = h.fits.own seat (v.pages, v.bodies) my_fit place body there (subst (λ (p : Page). 0 < page_locks_on p.0 v.pages) extends.page_is some) in
+        record { lock = own.lock; there = own.there; cache = own.cache; cache_is = own.cache_is; trans = own.trans; trans_is = own.trans_is })
+        (h.fits.own seat (v.pages, v.bodies) my_fit))
         h.fits.own;
   }
     where
@@ -276,7 +262,7 @@ module _ (layout : Layout) (w : Words) (homes : Homes) (views : List View) (seat
     unspoiled = h.unpoisoned.unspoiled;
     no_failure = eachs (λ (x : Log). list_any (λ (e : Entry). is_failure e.what) x.entries ≡ false)
         (λ none. ap (list_any (λ (e : Entry). is_failure e.what)) extends.longer ∙ list_any-append (λ (e : Entry). is_failure e.what) body.log.entries more
-          ∙ (λ i. none i || failures-none more extends.sound i)) h.unpoisoned.no_failure;
+        ∙ (λ i. none i || failures-none more extends.sound i)) h.unpoisoned.no_failure;
   }
 
   own-listed : AreOwn u
@@ -308,7 +294,7 @@ module _ (layout : Layout) (w : Words) (homes : Homes) (views : List View) (seat
     damage = Kept.kept-damage views seat v u me w.bads w.weaks refl refl h.damage;
     entries = keep (λ (v : View). v.lengths) (λ l. EntriesListed homes (map (λ (v : View). v.bodies) (set views seat u)) (map (λ (v : View). (v.made, v.sights)) (set views seat u)) l) views seat v u me refl
         (change (λ (v : View). (v.made, v.sights)) (λ l. EntriesListed homes (map (λ (v : View). v.bodies) (set views seat u)) l (map (λ (v : View). v.lengths) views)) views seat u
-            (change (λ (v : View). v.bodies) (λ l. EntriesListed homes l (set (map (λ (v : View). (v.made, v.sights)) views) seat (made, v.sights)) (map (λ (v : View). v.lengths) views)) views seat u entries-listed));
+        (change (λ (v : View). v.bodies) (λ l. EntriesListed homes l (set (map (λ (v : View). (v.made, v.sights)) views) seat (made, v.sights)) (map (λ (v : View). v.lengths) views)) views seat u entries-listed));
     endings = keep (λ (v : View). v.sights) (λ l. EndingsAgree layout w.processes homes (map (λ (v : View). v.bodies) (set views seat u)) l) views seat v u me refl
         (change (λ (v : View). v.bodies) (λ l. EndingsAgree layout w.processes homes l (map (λ (v : View). v.sights) views)) views seat u endings-listed);
     marks = Kept.kept-marks views seat v u me w.frames refl refl h.marks;
@@ -319,7 +305,7 @@ module _ (layout : Layout) (w : Words) (homes : Homes) (views : List View) (seat
     exhaustion = Kept.kept-exhaustion views seat v u me layout refl refl h.exhaustion;
     stops = keep (λ (v : View). v.stops) (λ l. EndingsAndStopsStay w.processes w.stop (map (λ (v : View). v.bodies) (set views seat u)) (map (λ (v : View). v.sights) (set views seat u)) l) views seat v u me refl
         (keep (λ (v : View). v.sights) (λ l. EndingsAndStopsStay w.processes w.stop (map (λ (v : View). v.bodies) (set views seat u)) l (map (λ (v : View). v.stops) views)) views seat v u me refl
-            (change (λ (v : View). v.bodies) (λ l. EndingsAndStopsStay w.processes w.stop l (map (λ (v : View). v.sights) views) (map (λ (v : View). v.stops) views)) views seat u stops-listed));
+        (change (λ (v : View). v.bodies) (λ l. EndingsAndStopsStay w.processes w.stop l (map (λ (v : View). v.sights) views) (map (λ (v : View). v.stops) views)) views seat u stops-listed));
     fits = change (λ (v : View). (v.pages, v.bodies)) (PageFits layout w.trans w.caches homes) views seat u fits-listed;
     processors = Kept.kept-processors views seat v u me layout refl h.processors;
     commands = Kept.kept-commands views seat v u me own-listed h.commands;

@@ -1,41 +1,32 @@
 -- References given back keep the frame rule.
-use Rattle.std.proofs.Common.{◌≡◌, ◌≢◌, ℕ, zero, suc, ◌+◌, ◌-◌, ◌*◌, ◌%◌, ◌^◌, ◌<◌, ◌≤◌, ◌==◌, ◌⊎◌, min, Bool, true, false, cond, List, [], ◌∷◌, ◌++◌, Option, Some, None, map, set, length, slice_get, slice_index, slice_set, length-append, inl, inr, refl, sym, ap, ◌∙◌, subst, arith}
+use Rattle.std.proofs.Common.{◌≡◌, ◌≢◌, ℕ, suc, ◌+◌, ◌-◌, ◌*◌, ◌%◌, ◌^◌, ◌<◌, ◌≤◌, ◌==◌, min, Bool, true, false, cond, List, [], ◌∷◌, ◌++◌, Some, map, set, length, slice_get, slice_index, length-append, inl, inr, refl, sym, ap, ◌∙◌, subst, arith}
 use Rattle.std.proofs.lemmas.Bool.{eqb-true, eqb-false, ne_eqb}
 use Rattle.std.proofs.lemmas.List.Sums.{sum_by_push, sum_by-cons}
-use Rattle.std.proofs.lemmas.Option.{none-some, same_Some, slice_get_within, slice_get-get_or}
+use Rattle.std.proofs.lemmas.Option.{same_Some}
 use Rattle.std.specs.Int.{from_bool}
 use Rattle.std.specs.List.{sum_by}
-use prog.Atomic.{either}
 use Rattle.hwp_geom.specs.declared.Frame.{Frame}
-use Rattle.hwp_geom.specs.declared.Layout.{Layout}
-use Rattle.hwp_geom.specs.declared.Who.{Who}
-use Rattle.hwp_words.specs.Frames.{lock_of, poison_of, handled_of, count_of, owner_of, kernel_of, cycle_of, is_kernel}
-use Rattle.hwp_words.proofs.FrameSteps.{FieldsAre, fields-get_ref, fields-put_ref}
-use Rattle.hwp_rule.specs.declared.log.Log.{Log}
+use Rattle.hwp_words.specs.Frames.{lock_of, poison_of, handled_of, count_of, owner_of, kernel_of, cycle_of}
+use Rattle.hwp_words.proofs.FrameSteps.{FieldsAre, fields-put_ref}
 use Rattle.hwp_rule.specs.declared.step.Step.TheVariants as steps
-use Rattle.hwp_rule.specs.declared.place.Place.TheVariants as places
 use Rattle.hwp_rule.specs.declared.view.FrameLock.{FrameLock}
-use Rattle.hwp_rule.specs.declared.view.PageLock.{PageLock}
-use Rattle.hwp_rule.specs.declared.view.Part.{Part}
 use Rattle.hwp_rule.specs.declared.view.Ref.{Ref}
 use Rattle.hwp_rule.specs.declared.view.View.{View}
-use Rattle.hwp_rule.specs.Lists.{Homes, EachMember, SomeMember}
-use Rattle.hwp_rule.specs.Rule.{FrameRule, holdings_of, holder_of}
+use Rattle.hwp_rule.specs.Lists.{EachMember}
+use Rattle.hwp_rule.specs.Rule.{FrameRule, holdings_of}
 use Rattle.hwp_rule.specs.Steps.{is_last}
-use Rattle.hwp_rule.specs.Views.{refs_on, with_refs, less_refs, locks_on, sighted, stamp_of, is_frame}
-use Rattle.hwp_rule.specs.Words.{Words, free_bit}
+use Rattle.hwp_rule.specs.Views.{refs_on, less_refs, locks_on}
+use Rattle.hwp_rule.specs.Words.{free_bit}
 use Rattle.hwp_rule.specs.parts.Counts.{CountsBalance, named}
-use Rattle.hwp_rule.specs.parts.Holdings.{AreOwn, Holdings, IsBounded, HoldingsBounded, IsPast, frames_held}
-use Rattle.hwp_rule.specs.parts.Locks.{FrameLocksHeld, IsLocked}
+use Rattle.hwp_rule.specs.parts.Holdings.{IsBounded, frames_held}
+use Rattle.hwp_rule.specs.parts.Locks.{IsLocked}
 use Rattle.hwp_rule.specs.parts.Owners.{HoldsBoth}
 use Rattle.hwp_rule.specs.parts.Places.{HasOnePlace, IsBare, in_hand}
-use Rattle.hwp_rule.proofs.Lists.{change, keep, at_map, map-was, same-or, same-number, set_again, sum-set, term-le, terms-le, each-set, each-push, each-weaken}
-use Rattle.hwp_rule.proofs.Given.{Given, Keeps, IsShaped}
-use Rattle.hwp_rule.proofs.FrameWord.{IsLike, bare-like, like-fields, like-translations, like-caches, like-handled, like-counter, like-marks, like-unpoisoned, like-locked, like-bodies, placed-again, counted-again, locked-again}
-use Rattle.hwp_rule.proofs.RefBounds.{count-fits}
-use Rattle.hwp_rule.proofs.Referring.{past-some, word-there, keeps-refs, keeps-shown}
+use Rattle.hwp_rule.proofs.Lists.{at_map, map-was, same-or, same-number, set_again, sum-set, term-le, terms-le, each-set, each-push}
+use Rattle.hwp_rule.proofs.Given.{Keeps}
+use Rattle.hwp_rule.proofs.FrameWord.{IsLike, bare-like, like-fields, placed-again, counted-again}
+use Rattle.hwp_rule.proofs.Referring.{past-some, word-there, keeps-refs}
 use Rattle.hwp_rule.proofs.Refs
-use Rattle.hwp_rule.proofs.Sights.{keeps-sight, explained-frame}
 
 -- a sum of which no member has any
 sum-none : {A : Type 0} (g : A → ℕ) (list : List A) → EachMember (λ (a : A). g a ≡ 0) list → sum_by g list ≡ 0
@@ -161,15 +152,15 @@ keeps-put_ref frame count layout w homes views seat v who content given =
           let two : refs_on frame.0 x.refs + refs_on frame.0 v.refs ≤ sum_by (refs_on frame.0) (map (λ (v : View). v.refs) views) = terms-le (refs_on frame.0) (map (λ (v : View). v.refs) views) i seat x.refs v.refs differs (at_map (λ (v : View). v.refs) views i x is) my_refs in
           let no_refs : refs_on frame.0 x.refs ≡ 0 = omega (arith, has, balance, last, two) in
           sum-none (λ (l : FrameLock). from_bool (l.frame.0 == frame.0)) x.locks (λ j l e.
-            let some_refs : 0 < refs_on l.frame.0 x.refs = (h.frame_locks.known i (x.refs, x.locks) (at_map (λ (v : View). (v.refs, v.locks)) views i x is) j l e).referenced in
-            ap from_bool (ne_eqb l.frame.0 frame.0 (λ same. absurd (omega (arith, no_refs, subst (λ (n : ℕ). 0 < refs_on n x.refs) same some_refs)))))
+          let some_refs : 0 < refs_on l.frame.0 x.refs = (h.frame_locks.known i (x.refs, x.locks) (at_map (λ (v : View). (v.refs, v.locks)) views i x is) j l e).referenced in
+          ap from_bool (ne_eqb l.frame.0 frame.0 (λ same. absurd (omega (arith, no_refs, subst (λ (n : ℕ). 0 < refs_on n x.refs) same some_refs)))))
     ]
 
     unlocked : count_of (slice_index w.frames frame.0) ≡ count → lock_of (slice_index w.frames frame.0) ≡ 0
     unlocked last = sym (h.frame_locks.one frame.0 (slice_index w.frames frame.0) there)
         ∙ sum-none (λ (o : List Ref × List FrameLock). locks_on frame.0 o.1) held (λ i o e.
-          let was : (x : View) × (slice_get views i ≡ Some x) × ((x.refs, x.locks) ≡ o) = map-was (λ (v : View). (v.refs, v.locks)) views i o e in
-          subst (λ (o : List Ref × List FrameLock). locks_on frame.0 o.1 ≡ 0) was.2 (no-lock last i was.0 was.1))
+        let was : (x : View) × (slice_get views i ≡ Some x) × ((x.refs, x.locks) ≡ o) = map-was (λ (v : View). (v.refs, v.locks)) views i o e in
+        subst (λ (o : List Ref × List FrameLock). locks_on frame.0 o.1 ≡ 0) was.2 (no-lock last i was.0 was.1))
 
     unowned : count_of (slice_index w.frames frame.0) ≡ count → owner_of (slice_index w.frames frame.0) ≡ 0
     unowned last = elim (same-or (owner_of (slice_index w.frames frame.0)) 0) [
@@ -204,26 +195,26 @@ keeps-put_ref frame count layout w homes views seat v who content given =
     placed-at true e = placed-again w.frames frame.0 found now there like layout.kernel w.frees hands (set hands seat (v.hands ++ frame ∷ [])) (omega (arith, some, enough))
         (λ g differs. omega (arith, hand-moved g (v.hands ++ frame ∷ []), pushed g, ap from_bool (ne_eqb frame.0 g (λ same. differs (sym same)))))
         (λ usable.
-          let was : free_bit w.frees frame.0 + in_hand frame.0 (map (λ (v : View). v.hands) views) + min (count_of (slice_index w.frames frame.0)) 1 ≡ 1 = h.places.placed frame.0 (slice_index w.frames frame.0) there usable in
-          let count_is : count_of ((slice_index w.frames frame.0 + (2 ^ 64 - count * 16)) % 2 ^ 64) ≡ count_of (slice_index w.frames frame.0) - count = are.count in
-          let last : count_of (slice_index w.frames frame.0) ≡ count = eqb-true (count_of (slice_index w.frames frame.0)) count e in
-          let one : from_bool (frame.0 == frame.0) ≡ 1 = ap from_bool (same-number frame.0 frame.0 refl) in
-          omega (arith, hand-moved frame.0 (v.hands ++ frame ∷ []), pushed frame.0, some))
+        let was : free_bit w.frees frame.0 + in_hand frame.0 (map (λ (v : View). v.hands) views) + min (count_of (slice_index w.frames frame.0)) 1 ≡ 1 = h.places.placed frame.0 (slice_index w.frames frame.0) there usable in
+        let count_is : count_of ((slice_index w.frames frame.0 + (2 ^ 64 - count * 16)) % 2 ^ 64) ≡ count_of (slice_index w.frames frame.0) - count = are.count in
+        let last : count_of (slice_index w.frames frame.0) ≡ count = eqb-true (count_of (slice_index w.frames frame.0)) count e in
+        let one : from_bool (frame.0 == frame.0) ≡ 1 = ap from_bool (same-number frame.0 frame.0 refl) in
+        omega (arith, hand-moved frame.0 (v.hands ++ frame ∷ []), pushed frame.0, some))
         (λ one. bare-like found now like are.lock (bare (eqb-true (count_of (slice_index w.frames frame.0)) count e)))
         (each-set (EachMember (λ (x : Frame). x.0 < length layout.kernel)) hands seat (v.hands ++ frame ∷ [])
-            (each-push (λ (x : Frame). x.0 < length layout.kernel) v.hands frame (subst (λ (n : ℕ). frame.0 < n) (sym given.sound.kernel) given.place)
-                (h.places.handed seat v.hands (at_map (λ (v : View). v.hands) views seat v given.me)))
-            h.places.handed)
+        (each-push (λ (x : Frame). x.0 < length layout.kernel) v.hands frame (subst (λ (n : ℕ). frame.0 < n) (sym given.sound.kernel) given.place)
+        (h.places.handed seat v.hands (at_map (λ (v : View). v.hands) views seat v given.me)))
+        h.places.handed)
         h.places
     placed-at false e = subst (HasOnePlace layout.kernel (set w.frames frame.0 now) w.frees) (sym (set_again hands seat v.hands (at_map (λ (v : View). v.hands) views seat v given.me)))
         (placed-again w.frames frame.0 found now there like layout.kernel w.frees hands hands (omega (arith, some, enough)) (λ g differs. refl)
-            (λ usable.
-              let was : free_bit w.frees frame.0 + in_hand frame.0 (map (λ (v : View). v.hands) views) + min (count_of (slice_index w.frames frame.0)) 1 ≡ 1 = h.places.placed frame.0 (slice_index w.frames frame.0) there usable in
-              let count_is : count_of ((slice_index w.frames frame.0 + (2 ^ 64 - count * 16)) % 2 ^ 64) ≡ count_of (slice_index w.frames frame.0) - count = are.count in
-              let not_last : count_of (slice_index w.frames frame.0) ≢ count = eqb-false (count_of (slice_index w.frames frame.0)) count e in
-              omega (arith, some, enough))
-            (λ one. bare-like found now like are.lock (h.places.idle frame.0 found there one))
-            h.places.handed h.places)
+        (λ usable.
+        let was : free_bit w.frees frame.0 + in_hand frame.0 (map (λ (v : View). v.hands) views) + min (count_of (slice_index w.frames frame.0)) 1 ≡ 1 = h.places.placed frame.0 (slice_index w.frames frame.0) there usable in
+        let count_is : count_of ((slice_index w.frames frame.0 + (2 ^ 64 - count * 16)) % 2 ^ 64) ≡ count_of (slice_index w.frames frame.0) - count = are.count in
+        let not_last : count_of (slice_index w.frames frame.0) ≢ count = eqb-false (count_of (slice_index w.frames frame.0)) count e in
+        omega (arith, some, enough))
+        (λ one. bare-like found now like are.lock (h.places.idle frame.0 found there one))
+        h.places.handed h.places)
 
     placed : HasOnePlace layout.kernel (set w.frames frame.0 now) w.frees (set (map (λ (v : View). v.hands) views) seat (cond (is_last count (slice_index w.frames frame.0)) (v.hands ++ frame ∷ []) v.hands))
     placed = placed-at (is_last count (slice_index w.frames frame.0)) refl

@@ -1,58 +1,34 @@
 -- Entries of a body in hand that are listed keep the frame rule.
-use Rattle.std.proofs.Common.{◌≡◌, ◌≢◌, ℕ, zero, suc, ◌+◌, ◌*◌, ◌^◌, ◌<◌, ◌≤◌, ◌==◌, ◌||◌, ◌⊎◌, Bool, true, false, true≢false, cond, List, [], ◌∷◌, ◌++◌, Option, Some, None, map, set, take, drop, length, slice_get, length-append, append-nil, inl, inr, refl, sym, ap, ◌∙◌, subst, arith}
-use Rattle.std.proofs.lemmas.Bool.{eqb-true}
-use Rattle.std.proofs.lemmas.List.{map-set, take-append-le}
-use Rattle.std.proofs.lemmas.List.Folds.{list_any-append}
-use Rattle.std.proofs.lemmas.List.Sums.{sum_by-cons, sum_by-append}
+use Rattle.std.proofs.Common.{◌≡◌, ℕ, zero, suc, ◌+◌, ◌*◌, ◌||◌, Bool, true, false, true≢false, List, [], ◌∷◌, ◌++◌, Option, Some, None, drop, length, slice_get, refl, sym, ap, ◌∙◌, subst, arith}
+use Rattle.std.proofs.lemmas.List.Sums.{sum_by-cons}
 use Rattle.std.proofs.lemmas.Option.{none-some, same_Some}
 use Rattle.std.specs.Int.{from_bool}
 use Rattle.std.specs.FinSet as sets
-use Rattle.std.specs.List.{sum_by, list_any, find}
+use Rattle.std.specs.List.{sum_by, list_any}
 use Rattle.std.specs.Ordering.{nat_cmp}
 use Rattle.hwp_geom.specs.declared.FileNo.{FileNo}
 use Rattle.hwp_geom.specs.declared.Frame.{Frame}
 use Rattle.hwp_geom.specs.declared.Layout.{Layout}
 use Rattle.hwp_geom.specs.declared.Page.{Page}
-use Rattle.hwp_geom.specs.declared.Proc.{Proc}
-use Rattle.hwp_geom.specs.declared.TransDecl.{TransDecl}
 use Rattle.hwp_geom.specs.declared.Who.{Who}
-use Rattle.hwp_kill.specs.declared.Seen.{Seen}
 use Rattle.hwp_page.specs.declared.Entry.{Entry}
-use Rattle.hwp_page.specs.declared.Met.TheVariants.{Word, Sigbus}
-use Rattle.hwp_page.specs.declared.PageState.{PageState}
+use Rattle.hwp_page.specs.declared.Met.TheVariants.{Word}
 use Rattle.hwp_page.specs.declared.What.{What}
 use Rattle.hwp_page.specs.declared.What.TheVariants as entries
 use Rattle.hwp_words.specs.Policies.{policy_code}
 use Rattle.hwp_rule.specs.declared.log.Log.{Log}
 use Rattle.hwp_rule.specs.declared.place.Place.TheVariants as places
-use Rattle.hwp_rule.specs.declared.view.FrameLock.{FrameLock}
-use Rattle.hwp_rule.specs.declared.view.Held.{Held}
-use Rattle.hwp_rule.specs.declared.view.Length.{Length}
 use Rattle.hwp_rule.specs.declared.view.Made.{Made}
-use Rattle.hwp_rule.specs.declared.view.Mark.{Mark}
-use Rattle.hwp_rule.specs.declared.view.PageLock.{PageLock}
 use Rattle.hwp_rule.specs.declared.view.Sight.{Sight}
 use Rattle.hwp_rule.specs.declared.view.Stamp.{Stamp}
-use Rattle.hwp_rule.specs.declared.view.View.{View}
-use Rattle.hwp_rule.specs.Asks.{Extends, HasSameWords}
-use Rattle.hwp_rule.specs.Lists.{Homes, EachBody, EachMember, EachListed, SomeMember, IsNotLater, sum_all, sum_bodies}
-use Rattle.hwp_rule.specs.Logs.{state_of, has_ending, is_ending, is_loss, losses_in, losses_of, file_of, is_file, fitting_word}
-use Rattle.hwp_rule.specs.Rule.{FrameRule, holder_of, losing_of}
-use Rattle.hwp_rule.specs.Views.{stamp_of, more_of, made_from, loss_made, losses_made, changed, is_body_of, body_of, listed, listed_of, page_locks_on}
-use Rattle.hwp_rule.specs.Words.{Words}
-use Rattle.hwp_rule.specs.parts.Bodies.{BodiesAtHome, Holder, IsHolding}
-use Rattle.hwp_rule.specs.parts.Counter.{is_poisoning}
-use Rattle.hwp_rule.specs.parts.Endings.{EndingsAgree, AreEnded}
-use Rattle.hwp_rule.specs.parts.Entries.{EntriesListed, weigh, weigh_from, HasSight, HasMask, HasPolicy, HasSeen}
-use Rattle.hwp_rule.specs.parts.Fits.{PageFits, Fits, FitsWords, KnowsWords, KnowsOwn}
-use Rattle.hwp_rule.specs.parts.Holdings.{AreOwn, IsPast}
-use Rattle.hwp_rule.specs.parts.Losses.{Losing, LossesBalance, IsPoisonLoss}
-use Rattle.hwp_rule.specs.parts.Stops.{EndingsAndStopsStay}
-use Rattle.hwp_rule.specs.parts.Unpoisoned.{NothingPoisonedYet, is_failure}
-use Rattle.hwp_rule.proofs.Lists.{change, keep, at_map, at_longer, set_again, sum-set, term-le, each-set, each-weaken, each-changed}
-use Rattle.hwp_rule.proofs.Locking.{all_bodies}
-use Rattle.hwp_rule.proofs.Without.{find-is, sum-changed-one, each-changed-one}
-use Rattle.hwp_rule.proofs.Kept
+use Rattle.hwp_rule.specs.Asks.{HasSameWords}
+use Rattle.hwp_rule.specs.Lists.{EachMember, SomeMember}
+use Rattle.hwp_rule.specs.Logs.{state_of, is_loss, losses_in, file_of, fitting_word}
+use Rattle.hwp_rule.specs.Views.{made_from, loss_made, losses_made}
+use Rattle.hwp_rule.specs.parts.Entries.{weigh_from, HasMask, HasPolicy, HasSeen}
+use Rattle.hwp_rule.specs.parts.Fits.{Fits, FitsWords}
+use Rattle.hwp_rule.specs.parts.Unpoisoned.{is_failure}
+use Rattle.hwp_rule.proofs.Lists.{each-weaken}
 
 -- ---- lists of entries
 
@@ -81,7 +57,7 @@ seen-drop n sights who frame entries.Out has = mask-drop n sights who frame 0 ha
 seen-drop n sights who frame entries.Soft has = mask-drop n sights who frame 0 has
 seen-drop n sights who frame (entries.Fail situation required seen signals) has =
     each-weaken (HasPolicy (drop n sights) who) (HasPolicy sights who) seen
-        (λ p some. some-drop (λ (s : Sight). (s.stamp.who ≡ who) × (s.place ≡ places.Policy p.thread) × (s.word ≡ p.n * 4 + policy_code p.policy)) n sights some) has
+    (λ p some. some-drop (λ (s : Sight). (s.stamp.who ≡ who) × (s.place ≡ places.Policy p.thread) × (s.word ≡ p.n * 4 + policy_code p.policy)) n sights some) has
 seen-drop n sights who frame _ has = has
 
 pub weigh-append : (g : Page → ℕ → Entry → ℕ) (page : Page) (place : ℕ) (xs ys : List Entry) → weigh_from g page place (xs ++ ys) ≡ weigh_from g page place xs + weigh_from g page (place + length xs) ys
