@@ -1,5 +1,5 @@
 -- The steps of `Pin`: what each asks, and that the state after it fits.
-use Rattle.std.proofs.Common.{◌≡◌, ℕ, ◌<◌, ◌==◌, Bool, true, false, cond, Option, Some, None, refl, sym, ap, ◌∙◌, subst}
+use Rattle.std.proofs.Common.{◌≡◌, ℕ, ◌==◌, Bool, true, false, cond, Option, refl, sym, ap, ◌∙◌, subst}
 use Rattle.hwp_geom.specs.declared.Frame.{Frame}
 use Rattle.hwp_geom.specs.declared.Layout.{Layout}
 use Rattle.hwp_geom.specs.declared.Who.{Who}
@@ -16,7 +16,7 @@ use Rattle.hwp_core.specs.declared.pin.PinAt.TheVariants as at
 use Rattle.hwp_core.specs.declared.turn.Turn.{Turn}
 use Rattle.hwp_core.specs.declared.turn.Turn.TheVariants.{Moved, Changed}
 use Rattle.hwp_core.specs.Calls.{Slots, Steps, load_frame, get_ref}
-use Rattle.hwp_core.specs.Turns.{IsOnTurn, Advances}
+use Rattle.hwp_core.specs.Turns.{Advances}
 use Rattle.hwp_core.specs.Pins.{is_gone, at_word, plan, plan_at, next, next_at, turn, turn_at, Fits, FitsAt}
 use Rattle.hwp_core.proofs.Stepping.{on-turn-after, advanced}
 
@@ -76,8 +76,8 @@ pub load-turn : {layout : Layout} {old new : View} {was now : Slots} {moves : Re
     → Advances layout p.who (plan p) (λ f. next p f) (λ f. turn p f) old new was now moves stays p (record p { at = after }) result
 load-turn {layout} {old} {new} {was} {now} {moves} {found} stays p is made after then result told =
     advanced (λ f. next p f) (λ f. turn p f) stays p (plan p) (ap (λ (a : PinAt). plan_at p.frame a) is) made
-        (ap (λ (a : PinAt). record p { at = a }) (then ∙ sym (ap (λ (a : PinAt). next_at a found) is)))
-        (told ∙ sym (ap (λ (a : PinAt). turn_at a found) is))
+    (ap (λ (a : PinAt). record p { at = a }) (then ∙ sym (ap (λ (a : PinAt). next_at a found) is)))
+    (told ∙ sym (ap (λ (a : PinAt). turn_at a found) is))
 
 pub get-fits : {layout layout_now : Layout} {old new : View} {was now : Slots} {moves : Rec → Option Log → Type 0} {found : ℕ}
     (p : Pin) (seen : ℕ) → p.at ≡ at.Get seen → layout_now ≡ layout → Fits layout old p → Steps layout p.who (get_ref p.frame seen 1) old new was now moves found
@@ -93,5 +93,5 @@ pub get-turn : {layout : Layout} {old new : View} {was now : Slots} {moves : Rec
     → Advances layout p.who (plan p) (λ f. next p f) (λ f. turn p f) old new was now moves stays p (record p { at = after }) result
 get-turn {layout} {old} {new} {was} {now} {moves} {found} stays p seen is made after then result told =
     advanced (λ f. next p f) (λ f. turn p f) stays p (plan p) (ap (λ (a : PinAt). plan_at p.frame a) is) made
-        (ap (λ (a : PinAt). record p { at = a }) (then ∙ sym (ap (λ (a : PinAt). next_at a found) is)))
-        (told ∙ sym (ap (λ (a : PinAt). turn_at a found) is))
+    (ap (λ (a : PinAt). record p { at = a }) (then ∙ sym (ap (λ (a : PinAt). next_at a found) is)))
+    (told ∙ sym (ap (λ (a : PinAt). turn_at a found) is))

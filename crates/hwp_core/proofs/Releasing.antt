@@ -1,5 +1,5 @@
 -- The steps of `Release`: the state after each fits.
-use Rattle.std.proofs.Common.{◌≡◌, ℕ, ◌+◌, ◌<◌, ◌==◌, Bool, true, false, cond, List, [], ◌∷◌, ◌++◌, Option, Some, None, refl, sym, ap, ◌∙◌, subst, arith}
+use Rattle.std.proofs.Common.{◌≡◌, ℕ, ◌+◌, Bool, true, false, cond, List, [], ◌∷◌, ◌++◌, Option, refl, sym, ap, ◌∙◌, subst, arith}
 use Rattle.std.proofs.lemmas.Bool.{eq-eqb, ne_eqb}
 use Rattle.hwp_geom.specs.declared.Frame.{Frame}
 use Rattle.hwp_geom.specs.declared.Layout.{Layout}
@@ -18,7 +18,7 @@ use Rattle.hwp_core.specs.declared.release.ReleaseAt.TheVariants as at
 use Rattle.hwp_core.specs.declared.turn.Turn.{Turn}
 use Rattle.hwp_core.specs.declared.turn.Turn.TheVariants.{Moved}
 use Rattle.hwp_core.specs.Calls.{Slots, Steps, put_ref, give_bit, unreserve}
-use Rattle.hwp_core.specs.Turns.{IsOnTurn, Advances}
+use Rattle.hwp_core.specs.Turns.{Advances}
 use Rattle.hwp_core.specs.Releases.{plan, plan_at, next, next_at, turn, Fits, FitsAt}
 use Rattle.hwp_core.proofs.Stepping.{on-turn-after, advanced}
 
@@ -69,8 +69,8 @@ pub put-turn : {layout : Layout} {old new : View} {was now : Slots} {moves : Rec
     → Advances layout r.who (plan r) (λ f. next r f) (λ f. turn r f) old new was now moves stays r (record r { at = after }) result
 put-turn {layout} {old} {new} {was} {now} {moves} {found} stays r is made after then result told =
     advanced (λ f. next r f) (λ f. turn r f) stays r (plan r) (ap (λ (a : ReleaseAt). plan_at r.frame r.count a) is) made
-        (ap (λ (a : ReleaseAt). record r { at = a }) (then ∙ sym (ap (λ (a : ReleaseAt). next_at r.count a found) is)))
-        (told ∙ sym (ap (λ (a : ReleaseAt). Moved) is))
+    (ap (λ (a : ReleaseAt). record r { at = a }) (then ∙ sym (ap (λ (a : ReleaseAt). next_at r.count a found) is)))
+    (told ∙ sym (ap (λ (a : ReleaseAt). Moved) is))
 
 pub give-fits : {layout layout_now : Layout} {old new : View} {was now : Slots} {moves : Rec → Option Log → Type 0} {found : ℕ}
     (r : Release) → r.at ≡ at.Give → layout_now ≡ layout → Fits layout old r → Steps layout r.who (give_bit r.frame) old new was now moves found
@@ -86,8 +86,8 @@ pub give-turn : {layout : Layout} {old new : View} {was now : Slots} {moves : Re
     → Advances layout r.who (plan r) (λ f. next r f) (λ f. turn r f) old new was now moves stays r (record r { at = after }) result
 give-turn {layout} {old} {new} {was} {now} {moves} {found} stays r is made after then result told =
     advanced (λ f. next r f) (λ f. turn r f) stays r (plan r) (ap (λ (a : ReleaseAt). plan_at r.frame r.count a) is) made
-        (ap (λ (a : ReleaseAt). record r { at = a }) (then ∙ sym (ap (λ (a : ReleaseAt). next_at r.count a found) is)))
-        (told ∙ sym (ap (λ (a : ReleaseAt). Moved) is))
+    (ap (λ (a : ReleaseAt). record r { at = a }) (then ∙ sym (ap (λ (a : ReleaseAt). next_at r.count a found) is)))
+    (told ∙ sym (ap (λ (a : ReleaseAt). Moved) is))
 
 pub unreserve-fits : {layout layout_now : Layout} {old new : View} {was now : Slots} {moves : Rec → Option Log → Type 0} {found : ℕ}
     (r : Release) → r.at ≡ at.Unreserve → layout_now ≡ layout → Fits layout old r → Steps layout r.who unreserve old new was now moves found
@@ -103,8 +103,8 @@ pub unreserve-turn : {layout : Layout} {old new : View} {was now : Slots} {moves
     → Advances layout r.who (plan r) (λ f. next r f) (λ f. turn r f) old new was now moves stays r (record r { at = after }) result
 unreserve-turn {layout} {old} {new} {was} {now} {moves} {found} stays r is made after then result told =
     advanced (λ f. next r f) (λ f. turn r f) stays r (plan r) (ap (λ (a : ReleaseAt). plan_at r.frame r.count a) is) made
-        (ap (λ (a : ReleaseAt). record r { at = a }) (then ∙ sym (ap (λ (a : ReleaseAt). next_at r.count a found) is)))
-        (told ∙ sym (ap (λ (a : ReleaseAt). Moved) is))
+    (ap (λ (a : ReleaseAt). record r { at = a }) (then ∙ sym (ap (λ (a : ReleaseAt). next_at r.count a found) is)))
+    (told ∙ sym (ap (λ (a : ReleaseAt). Moved) is))
 
 -- the last references were given back, by the word that was shown
 pub last-put : (count found : ℕ) (word : FrameWord) → word ≡ frame_reading found → word.count ≡ count → at.Give ≡ cond (is_last count found) at.Give at.Back

@@ -1,9 +1,9 @@
 -- What one step of a task leaves and shows: the processor keeps its turn, and the words are those of a board that keeps the
 -- frame rule.
-use Rattle.std.proofs.Common.{◌≡◌, ℕ, ◌+◌, ◌*◌, ◌/◌, ◌%◌, ◌^◌, ◌<◌, ◌≤◌, ◌==◌, Bool, true, false, cond, List, Option, Some, None, length, take, drop, min, slice_get, slice_index, ◌⊎◌, inl, inr, refl, sym, ap, ◌∙◌, subst, arith, w64}
+use Rattle.std.proofs.Common.{◌≡◌, ℕ, ◌+◌, ◌*◌, ◌/◌, ◌%◌, ◌^◌, ◌<◌, ◌≤◌, ◌==◌, Bool, true, false, cond, Option, Some, length, drop, min, slice_get, slice_index, ◌⊎◌, inl, inr, refl, sym, ap, ◌∙◌, subst, arith, w64}
 use Rattle.std.specs.Int.{trailing_zeros}
 use Rattle.std.proofs.lemmas.Bool.{cases_lt, both_ways}
-use Rattle.std.proofs.lemmas.List.{length-take, length-drop}
+use Rattle.std.proofs.lemmas.List.{length-take}
 use Rattle.std.proofs.lemmas.Nat.Bits.{bit_at-trailing_zeros}
 use Rattle.std.proofs.lemmas.Option.{slice_get-get_or}
 use Rattle.hwp_geom.specs.declared.Cpu.{Cpu}
@@ -11,7 +11,7 @@ use Rattle.hwp_geom.specs.declared.Frame.{Frame}
 use Rattle.hwp_geom.specs.declared.Layout.{Layout}
 use Rattle.hwp_geom.specs.declared.Who.{Who}
 use Rattle.hwp_words.specs.declared.FrameWord.{FrameWord}
-use Rattle.hwp_words.specs.Frames.{poison_of, is_poisoned, frame_reading}
+use Rattle.hwp_words.specs.Frames.{is_poisoned, frame_reading}
 use Rattle.hwp_rule.specs.declared.Log.{Log}
 use Rattle.hwp_rule.specs.declared.Place.{Place}
 use Rattle.hwp_rule.specs.declared.Place.TheVariants as places
@@ -22,14 +22,14 @@ use Rattle.hwp_rule.specs.declared.View.{View}
 use Rattle.hwp_rule.specs.Asks.{IsTurnOf}
 use Rattle.hwp_rule.specs.Rule.{Holds}
 use Rattle.hwp_rule.specs.Steps.{place_of, goes}
-use Rattle.hwp_rule.specs.Words.{words_of, segment, index, size, free_words, free_bit}
+use Rattle.hwp_rule.specs.Words.{words_of, segment, index, size, free_words}
 use Rattle.hwp_rule.proofs.Split.{words-read}
 use Rattle.hwp_rule.proofs.Turns.{turn-after, none-later-after}
 use Rattle.hwp_core.specs.declared.turn.Turn.{Turn}
 use Rattle.hwp_core.specs.declared.turn.Tried.{Tried}
 use Rattle.hwp_core.specs.declared.turn.Tried.TheVariants.{Busy, Changed}
 use Rattle.hwp_core.specs.Calls.{Slots, Steps, IsTried, IsLater}
-use Rattle.hwp_core.specs.Turns.{Advances, StepTaken, IsOnTurn}
+use Rattle.hwp_core.specs.Turns.{Advances, IsOnTurn}
 
 -- a step of the processor leaves it its turn
 pub on-turn-after : (layout : Layout) (who : Who) (step : Step) (old new : View) (was now : Slots) (moves : Rec → Option Log → Type 0) (found : ℕ)
@@ -113,7 +113,7 @@ pub advanced : {S : Type 0} {layout : Layout} {who : Who} {step : Step} {old new
     → Advances layout who plan next answer old new was now moves stays before after result
 advanced {S} {layout} {who} {step} {old} {new} {was} {now} {moves} {after} {result} {found} next answer stays before plan is made then told =
     subst (λ (p : Option Step). Advances layout who p next answer old new was now moves stays before after result) (sym is)
-        (record { found = found; steps = made; next_is = then; answered = told })
+    (record { found = found; steps = made; next_is = then; answered = told })
 
 -- no step shows a frame word with poison
 pub no-poison : {layout : Layout} {who : Who} {step : Step} {old new : View} {was now : Slots} {moves : Rec → Option Log → Type 0} {found : ℕ}

@@ -1,6 +1,5 @@
 -- The steps of `Take`: the state after each fits.
-use Rattle.std.proofs.Common.{◌≡◌, ℕ, ◌+◌, ◌-◌, ◌*◌, ◌/◌, ◌%◌, ◌^◌, ◌<◌, ◌≤◌, ◌==◌, nat_lt, Bool, true, false, cond, List, [], ◌∷◌, ◌++◌, Option, Some, None, length, slice_index, refl, sym, ap, ◌∙◌, subst, arith, w64}
-use Rattle.std.specs.Int.{trailing_zeros}
+use Rattle.std.proofs.Common.{◌≡◌, ℕ, ◌+◌, ◌/◌, ◌^◌, ◌<◌, ◌≤◌, ◌==◌, nat_lt, Bool, true, false, cond, Option, Some, None, slice_index, refl, sym, ap, ◌∙◌, subst, arith}
 use Rattle.std.proofs.lemmas.Bool.{ltb-true, eqb-false}
 use Rattle.hwp_geom.specs.declared.Frame.{Frame}
 use Rattle.hwp_geom.specs.declared.Layout.{Layout}
@@ -11,9 +10,8 @@ use Rattle.hwp_rule.specs.declared.Rec.{Rec}
 use Rattle.hwp_rule.specs.declared.State.{State}
 use Rattle.hwp_rule.specs.declared.View.{View}
 use Rattle.hwp_rule.specs.Asks.{HasInHand, HasRoom}
-use Rattle.hwp_rule.specs.Lists.{SomeMember}
 use Rattle.hwp_rule.specs.Rule.{Holds}
-use Rattle.hwp_rule.specs.Steps.{goes, place_of}
+use Rattle.hwp_rule.specs.Steps.{goes}
 use Rattle.hwp_rule.specs.Views.{noted, sighted}
 use Rattle.hwp_rule.specs.Words.{index, free_words}
 use Rattle.hwp_rule.proofs.Lists.{some-last}
@@ -23,7 +21,7 @@ use Rattle.hwp_core.specs.declared.take.TakeAt.TheVariants as at
 use Rattle.hwp_core.specs.declared.turn.Turn.{Turn}
 use Rattle.hwp_core.specs.declared.turn.Turn.TheVariants.{Moved, Changed}
 use Rattle.hwp_core.specs.Calls.{Slots, Steps, load_available, load_free, reserve, take_bit, adopt}
-use Rattle.hwp_core.specs.Turns.{IsOnTurn, Advances}
+use Rattle.hwp_core.specs.Turns.{Advances}
 use Rattle.hwp_core.specs.Takes.{at_available, after_word, lowest_free, at_free, plan, plan_at, next, next_at, turn, turn_at, HasLockRoom, Fits, FitsAt}
 use Rattle.hwp_core.proofs.Stepping.{on-turn-after, free-within, advanced}
 
@@ -81,7 +79,7 @@ after-reserve layout who seen old new was now moves found fits made = record {
       let some : 0 < free_words layout = omega arith in
       let one : 0 < old.reserved + 1 = omega arith in
       subst (λ (v : View). FitsAt layout v (cond (found == seen) (at.Scan 0) (at_available found))) (sym made.told.next)
-          (reserved-fits layout found (found == seen) _ _ some one fits.at.1.1 fits.at.1.0 fits.at.1.1);
+      (reserved-fits layout found (found == seen) _ _ some one fits.at.1.1 fits.at.1.0 fits.at.1.1);
 }
 
 pub after-scan : (layout : Layout) (who : Who) (number : ℕ) (old new : View) (was now : Slots) (moves : Rec → Option Log → Type 0) (found : ℕ)
@@ -91,7 +89,7 @@ after-scan layout who number old new was now moves found fits made = record {
   on_turn = on-turn-after layout who (load_free number) old new was now moves found fits.on_turn made;
   at = subst (λ (v : View). FitsAt layout v (cond (found == 0) (at.Scan (after_word layout number)) (at.TakeBit (lowest_free number found)))) (sym made.told.next)
       (free-fits layout (sighted who (places.Free number) found (noted (record { who = who; step = load_free number; found = found }) old)) made.told.board made.told.rule number found
-          (found == 0) refl fits.at.0 made.told.met made.told.fits fits.at.1.0 fits.at.1.1);
+      (found == 0) refl fits.at.0 made.told.met made.told.fits fits.at.1.0 fits.at.1.1);
 }
 
 pub after-bit : (layout : Layout) (who : Who) (frame : Frame) (old new : View) (was now : Slots) (moves : Rec → Option Log → Type 0) (found : ℕ)
@@ -125,8 +123,8 @@ pub available-turn : {layout : Layout} {old new : View} {was now : Slots} {moves
     → Advances layout t.who (plan t) (λ f. next layout t f) (λ f. turn t f) old new was now moves stays t (record t { at = after }) result
 available-turn {layout} {old} {new} {was} {now} {moves} {found} stays t is made after then result told =
     advanced (λ f. next layout t f) (λ f. turn t f) stays t (plan t) (ap (λ (a : TakeAt). plan_at a) is) made
-        (ap (λ (a : TakeAt). record t { at = a }) (then ∙ sym (ap (λ (a : TakeAt). next_at layout a found) is)))
-        (told ∙ sym (ap (λ (a : TakeAt). turn_at a found) is))
+    (ap (λ (a : TakeAt). record t { at = a }) (then ∙ sym (ap (λ (a : TakeAt). next_at layout a found) is)))
+    (told ∙ sym (ap (λ (a : TakeAt). turn_at a found) is))
 
 pub reserve-fits : {layout layout_now : Layout} {old new : View} {was now : Slots} {moves : Rec → Option Log → Type 0} {found : ℕ}
     (t : Take) (seen : ℕ) → t.at ≡ at.Reserve seen → layout_now ≡ layout → Fits layout old t → Steps layout t.who (reserve seen) old new was now moves found
@@ -142,8 +140,8 @@ pub reserve-turn : {layout : Layout} {old new : View} {was now : Slots} {moves :
     → Advances layout t.who (plan t) (λ f. next layout t f) (λ f. turn t f) old new was now moves stays t (record t { at = after }) result
 reserve-turn {layout} {old} {new} {was} {now} {moves} {found} stays t seen is made after then result told =
     advanced (λ f. next layout t f) (λ f. turn t f) stays t (plan t) (ap (λ (a : TakeAt). plan_at a) is) made
-        (ap (λ (a : TakeAt). record t { at = a }) (then ∙ sym (ap (λ (a : TakeAt). next_at layout a found) is)))
-        (told ∙ sym (ap (λ (a : TakeAt). turn_at a found) is))
+    (ap (λ (a : TakeAt). record t { at = a }) (then ∙ sym (ap (λ (a : TakeAt). next_at layout a found) is)))
+    (told ∙ sym (ap (λ (a : TakeAt). turn_at a found) is))
 
 pub scan-fits : {layout layout_now : Layout} {old new : View} {was now : Slots} {moves : Rec → Option Log → Type 0} {found : ℕ}
     (t : Take) (number : ℕ) → t.at ≡ at.Scan number → layout_now ≡ layout → Fits layout old t → Steps layout t.who (load_free number) old new was now moves found
@@ -159,8 +157,8 @@ pub scan-turn : {layout : Layout} {old new : View} {was now : Slots} {moves : Re
     → Advances layout t.who (plan t) (λ f. next layout t f) (λ f. turn t f) old new was now moves stays t (record t { at = after }) result
 scan-turn {layout} {old} {new} {was} {now} {moves} {found} stays t number is made after then result told =
     advanced (λ f. next layout t f) (λ f. turn t f) stays t (plan t) (ap (λ (a : TakeAt). plan_at a) is) made
-        (ap (λ (a : TakeAt). record t { at = a }) (then ∙ sym (ap (λ (a : TakeAt). next_at layout a found) is)))
-        (told ∙ sym (ap (λ (a : TakeAt). turn_at a found) is))
+    (ap (λ (a : TakeAt). record t { at = a }) (then ∙ sym (ap (λ (a : TakeAt). next_at layout a found) is)))
+    (told ∙ sym (ap (λ (a : TakeAt). turn_at a found) is))
 
 pub bit-fits : {layout layout_now : Layout} {old new : View} {was now : Slots} {moves : Rec → Option Log → Type 0} {found : ℕ}
     (t : Take) (frame : Frame) → t.at ≡ at.TakeBit frame → layout_now ≡ layout → Fits layout old t → Steps layout t.who (take_bit frame) old new was now moves found
@@ -176,8 +174,8 @@ pub bit-turn : {layout : Layout} {old new : View} {was now : Slots} {moves : Rec
     → Advances layout t.who (plan t) (λ f. next layout t f) (λ f. turn t f) old new was now moves stays t (record t { at = after }) result
 bit-turn {layout} {old} {new} {was} {now} {moves} {found} stays t frame is made after then result told =
     advanced (λ f. next layout t f) (λ f. turn t f) stays t (plan t) (ap (λ (a : TakeAt). plan_at a) is) made
-        (ap (λ (a : TakeAt). record t { at = a }) (then ∙ sym (ap (λ (a : TakeAt). next_at layout a found) is)))
-        (told ∙ sym (ap (λ (a : TakeAt). turn_at a found) is))
+    (ap (λ (a : TakeAt). record t { at = a }) (then ∙ sym (ap (λ (a : TakeAt). next_at layout a found) is)))
+    (told ∙ sym (ap (λ (a : TakeAt). turn_at a found) is))
 
 pub adopt-fits : {layout layout_now : Layout} {old new : View} {was now : Slots} {moves : Rec → Option Log → Type 0} {found : ℕ}
     (t : Take) (frame : Frame) → t.at ≡ at.Adopt frame → layout_now ≡ layout → Fits layout old t → Steps layout t.who (adopt frame) old new was now moves found
@@ -193,8 +191,8 @@ pub adopt-turn : {layout : Layout} {old new : View} {was now : Slots} {moves : R
     → Advances layout t.who (plan t) (λ f. next layout t f) (λ f. turn t f) old new was now moves stays t (record t { at = after }) result
 adopt-turn {layout} {old} {new} {was} {now} {moves} {found} stays t frame is made after then result told =
     advanced (λ f. next layout t f) (λ f. turn t f) stays t (plan t) (ap (λ (a : TakeAt). plan_at a) is) made
-        (ap (λ (a : TakeAt). record t { at = a }) (then ∙ sym (ap (λ (a : TakeAt). next_at layout a found) is)))
-        (told ∙ sym (ap (λ (a : TakeAt). turn_at a found) is))
+    (ap (λ (a : TakeAt). record t { at = a }) (then ∙ sym (ap (λ (a : TakeAt). next_at layout a found) is)))
+    (told ∙ sym (ap (λ (a : TakeAt). turn_at a found) is))
 
 -- the frame in hand is one of the layout
 pub hand-within : {layout : Layout} {view : View} (t : Take) (frame : Frame) → t.at ≡ at.Adopt frame → Fits layout view t → frame.0 < layout.frames

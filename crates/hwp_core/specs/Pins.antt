@@ -15,7 +15,7 @@ use Rattle.hwp_core.specs.declared.pin.PinAnswer.{PinAnswer}
 use Rattle.hwp_core.specs.declared.pin.PinAnswer.TheVariants as answers
 use Rattle.hwp_core.specs.declared.turn.Turn.{Turn}
 use Rattle.hwp_core.specs.declared.turn.Turn.TheVariants.{Moved, Changed}
-use Rattle.hwp_core.specs.Calls.{Slots, load_frame, get_ref}
+use Rattle.hwp_core.specs.Calls.{load_frame, get_ref}
 use Rattle.hwp_core.specs.Turns.{IsOnTurn, stale}
 
 -- a frame of this word can't be referenced: it is free or in a hand, or out of use

@@ -1,5 +1,5 @@
 -- References given back: the task's states, its steps and what they come to.
-use Rattle.std.specs.Prelude.{◌≡◌, ℕ, ◌+◌, ◌<◌, ◌≤◌, cond, Option, Some, None}
+use Rattle.std.specs.Prelude.{ℕ, ◌+◌, ◌<◌, ◌≤◌, cond, Option, Some, None}
 use Rattle.hwp_geom.specs.declared.Frame.{Frame}
 use Rattle.hwp_geom.specs.declared.Layout.{Layout}
 use Rattle.hwp_geom.specs.declared.Who.{Who}
@@ -16,7 +16,7 @@ use Rattle.hwp_core.specs.declared.release.ReleaseAnswer.{ReleaseAnswer}
 use Rattle.hwp_core.specs.declared.release.ReleaseAnswer.TheVariants as answers
 use Rattle.hwp_core.specs.declared.turn.Turn.{Turn}
 use Rattle.hwp_core.specs.declared.turn.Turn.TheVariants.{Moved}
-use Rattle.hwp_core.specs.Calls.{Slots, put_ref, give_bit, unreserve}
+use Rattle.hwp_core.specs.Calls.{put_ref, give_bit, unreserve}
 use Rattle.hwp_core.specs.Turns.{IsOnTurn}
 
 abbrev pub begin : Who → Frame → ℕ → Release

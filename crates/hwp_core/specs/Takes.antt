@@ -1,5 +1,5 @@
 -- A free frame taken: the task's states, its steps and what they come to.
-use Rattle.std.specs.Prelude.{◌≡◌, ℕ, ◌+◌, ◌-◌, ◌*◌, ◌/◌, ◌<◌, ◌==◌, nat_lt, Bool, not, cond, Option, Some, None, length, drop, slice_index}
+use Rattle.std.specs.Prelude.{ℕ, ◌+◌, ◌-◌, ◌*◌, ◌/◌, ◌<◌, ◌==◌, nat_lt, Bool, not, cond, Option, Some, None, length, drop}
 use Rattle.std.specs.Int.{w64, trailing_zeros}
 use Rattle.std.specs.List.{list_all}
 use Rattle.hwp_geom.specs.declared.Frame.{Frame}
@@ -17,7 +17,7 @@ use Rattle.hwp_core.specs.declared.take.TakeAnswer.{TakeAnswer}
 use Rattle.hwp_core.specs.declared.take.TakeAnswer.TheVariants as answers
 use Rattle.hwp_core.specs.declared.turn.Turn.{Turn}
 use Rattle.hwp_core.specs.declared.turn.Turn.TheVariants.{Moved, Changed}
-use Rattle.hwp_core.specs.Calls.{Slots, load_available, load_free, reserve, take_bit, adopt}
+use Rattle.hwp_core.specs.Calls.{load_available, load_free, reserve, take_bit, adopt}
 use Rattle.hwp_core.specs.Turns.{IsOnTurn, stale}
 
 -- what is to do about the number of available frames that was shown

@@ -38,7 +38,11 @@ impl Pin {
     pub fn new(who: Who, frame: Frame) -> Pin
         ensures { result ≡ begin who frame }
     {
-        Pin { who, frame, at: PinAt::Load }
+        Pin {
+            who,
+            frame,
+            at: PinAt::Load,
+        }
     }
 
     /// What the task came to; `None` until it is over.

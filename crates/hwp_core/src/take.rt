@@ -41,7 +41,10 @@ impl Take {
     pub fn new(who: Who) -> Take
         ensures { result ≡ begin who }
     {
-        Take { who, at: TakeAt::Available }
+        Take {
+            who,
+            at: TakeAt::Available,
+        }
     }
 
     /// What the task came to; `None` until it is over.
@@ -72,14 +75,13 @@ impl Take {
         ensures { result ≡ at_free layout.now number word }
     {
         let words = (u32::from(layout.frames) + 63) / 64;
-        if word == 0 {
-            TakeAt::Scan {
+        match word {
+            0 => TakeAt::Scan {
                 number: if number + 1 < words { number + 1 } else { 0 },
-            }
-        } else {
-            TakeAt::TakeBit {
+            },
+            _ => TakeAt::TakeBit {
                 frame: Frame((number * 64 + word.trailing_zeros()) as u16),
-            }
+            },
         }
     }
 }
@@ -140,7 +142,9 @@ impl Task for Take {
                         Turn::Moved
                     }
                     Tried::Busy(word) | Tried::Changed(word) => {
-                        self.at = TakeAt::Scan { number: u32::from(frame.0) / 64 };
+                        self.at = TakeAt::Scan {
+                            number: u32::from(frame.0) / 64,
+                        };
                         Turn::Changed(word)
                     }
                 }
@@ -160,7 +164,10 @@ impl Task for Take {
     fn class(&self) -> u8 {
         match self.at {
             TakeAt::Available | TakeAt::Reserve { .. } | TakeAt::Done { frame: None } => 4,
-            TakeAt::Scan { .. } | TakeAt::TakeBit { .. } | TakeAt::Adopt { .. } | TakeAt::Done { frame: Some(_) } => 1,
+            TakeAt::Scan { .. }
+            | TakeAt::TakeBit { .. }
+            | TakeAt::Adopt { .. }
+            | TakeAt::Done { frame: Some(_) } => 1,
         }
     }
 }

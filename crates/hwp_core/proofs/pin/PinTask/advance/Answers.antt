@@ -2,7 +2,7 @@ use Rattle.std.proofs.Common.{◌∙◌, refl, ap}
 use Rattle.hwp_core.specs.Pins.{at_word}
 use Rattle.hwp_core.specs.declared.turn.Turn.TheVariants.{Changed}
 use Rattle.hwp_core.proofs.pin.PinTask.advance.Goals as goal
-use Rattle.hwp_core.proofs.Stepping.{own-step, steps-on, no-poison, first-way, other-way, refused}
+use Rattle.hwp_core.proofs.Stepping.{own-step, steps-on, first-way, other-way, refused}
 use Rattle.hwp_core.proofs.Pinning.{load-fits, load-turn, get-fits, get-turn}
 
 pub returns-in-Load-clause-fits : goal.returns-in-Load-clause-fits
