@@ -1,5 +1,6 @@
 -- The parts of the rule under a change of a frame's word that leaves its poison, owner and cycle: references and the lock.
 use Rattle.std.proofs.Common.{◌≡◌, ◌≢◌, ℕ, ◌+◌, ◌<◌, ◌≤◌, ◌==◌, ◌^◌, nat_lt, min, Bool, true, false, cond, List, Some, length, set, slice_get, inl, inr, refl, sym, ap, ◌∙◌, subst, arith}
+use Rattle.std.proofs.lemmas.List.{length-set}
 use Rattle.std.proofs.lemmas.Option.{same_Some}
 use Rattle.std.specs.Int.{from_bool}
 use Rattle.std.specs.List.{sum_by}
@@ -121,6 +122,7 @@ module _ (frames : List ℕ) (f w u : ℕ) (there : slice_get frames f ≡ Some 
     revived = λ g x cycle a.
         let was : (y : ℕ) × (slice_get frames g ≡ Some y) × IsLike y x = word-was g x a in
         h.revived g was.0 cycle was.1 ∙ ap (λ (c : ℕ). from_bool (nat_lt cycle c)) (sym was.2.cycle);
+    framed = subst (λ (n : ℕ). EachListed (λ (m : Mark). m.frame.0 < n) marks) (sym (length-set frames f u)) h.framed;
     few = h.few;
     shown = λ frame x a.
         let was : (y : ℕ) × (slice_get frames frame.0 ≡ Some y) × IsLike y x = word-was frame.0 x a in

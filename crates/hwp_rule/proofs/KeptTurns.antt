@@ -1,5 +1,5 @@
 -- A step keeps the turn: the seat still has its processors and the right to their steps, and has come to no later command.
-use Rattle.std.proofs.Common.{◌≡◌, ℕ, ◌≤◌, ◌==◌, max, Bool, true, false, cond, List, Option, Some, None, refl, sym, ap, ◌∙◌, subst, arith}
+use Rattle.std.proofs.Common.{◌≡◌, ℕ, ◌≤◌, ◌==◌, max, Bool, true, false, cond, List, Option, Some, None, refl, sym, ap, subst, arith}
 use Rattle.hwp_geom.specs.declared.Cpu.{Cpu}
 use Rattle.hwp_geom.specs.declared.Frame.{Frame}
 use Rattle.hwp_geom.specs.declared.Layout.{Layout}
@@ -16,7 +16,7 @@ use Rattle.hwp_rule.specs.declared.view.View.{View}
 use Rattle.hwp_rule.specs.Asks.{IsTurnOf}
 use Rattle.hwp_rule.specs.Lists.{EachMember, SomeMember}
 use Rattle.hwp_rule.specs.Steps.{goes}
-use Rattle.hwp_rule.specs.Views.{loaded, taken, listed_of, listed, body_of, put_home, view_by, noted, view_after}
+use Rattle.hwp_rule.specs.Views.{loaded, taken, listed_of, body_of, put_home, view_by, noted, view_after}
 use Rattle.hwp_rule.proofs.Lists.{each-changed, some-changed}
 
 -- what a view says of its processors

@@ -329,6 +329,7 @@ module _ (layout : Layout) (sound : IsSound layout) (w : Words) (o : AreOpening 
     revived = λ f x cycle there.
         no-sum (λ (v : View). v.marks) (sum_by (λ (m : Mark). from_bool ((m.frame.0 == f) && ((m.cycle == cycle) && is_revival m.kind)))) (λ c. refl)
         ∙ sym (ap (λ (n : ℕ). from_bool (nat_lt cycle n)) (frame f x there).2.cycle ∙ ap from_bool (no-less cycle));
+    framed = unlisted (λ (v : View). v.marks) (λ (m : Mark). m.frame.0 < length w.frames) (λ c. refl);
     few = Opening.each-view (λ (v : View). v.marks) (λ (list : List Mark). (cpu : Cpu) → revivals_by cpu list ≤ command_limit) layout.cpus (λ c less cpu. omega arith);
     shown = λ frame x there. unlisted (λ (v : View). v.sights) (λ (s : Sight). s.place ≡ places.Frame frame → IsBefore x s) (λ c. refl);
   }

@@ -175,6 +175,7 @@ module _ (layout : Layout) (w : Words) (homes : Homes) (views : List View) (seat
           (change (λ (v : View). v.sights) (MarksAlternate w.frames (map (λ (v : View). v.marks) views)) views seat u (record {
             poisoned = h.marks.poisoned;
             revived = h.marks.revived;
+            framed = h.marks.framed;
             few = h.marks.few;
             shown = λ frame word there. each-sight (λ (s : Sight). s.place ≡ places.Frame frame → IsBefore word s) me (x.mark frame word there) (h.marks.shown frame word there);
           }));

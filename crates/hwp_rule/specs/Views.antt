@@ -148,6 +148,11 @@ losses_made layout page (e ∷ es) = loss_made (file_of layout page) (is_loss e.
 abbrev pub body_of : Page → View → Option Held
 body_of page v = find (is_body_of page) v.bodies
 
+-- a page's lock, just taken: where the page's body is in hand already, from a frame, the page's words fit it
+abbrev pub lock_of_page : Layout → Page → Option Log → Option Held → PageLock
+lock_of_page layout page content None = record { page = page; resident = is_none content; cache = None; trans = None }
+lock_of_page layout page content (Some body) = knowing layout body.log body.frame (record { page = page; resident = is_none content; cache = None; trans = None })
+
 -- the entries past those that are listed are listed now, and the losses that they make are owed
 abbrev pub listed_of : Layout → Who → Log → Option Held → View → View
 listed_of layout who log None v = v
@@ -233,7 +238,7 @@ view_by layout who (steps.SetOwner frame page owned) found content v =
     record v { locks = changed (is_lock_of frame) (λ (l : FrameLock). record l { owner = cond owned (page.0 + 1) 0 }) v.locks }
 view_by layout who (steps.LockPage page) found content v =
     cond (goes (steps.LockPage page) found)
-        (taken layout who None content (record v { pages = v.pages ++ (record { page = page; resident = is_none content; cache = None; trans = None }) ∷ [] }))
+        (taken layout who None content (record v { pages = v.pages ++ lock_of_page layout page content (body_of page v) ∷ [] }))
         v
 view_by layout who (steps.UnlockPage page) found content v =
     record (put_home layout who content v) { pages = without (is_page_lock_of page) v.pages }

@@ -3,6 +3,7 @@ use Rattle.std.proofs.Common.{◌≡◌, ◌≢◌, ℕ, ◌+◌, ◌^◌, ◌<�
 use Rattle.std.specs.Int.{from_bool}
 use Rattle.std.specs.List.{sum_by}
 use Rattle.std.proofs.lemmas.Bool.{eqb-false}
+use Rattle.std.proofs.lemmas.List.{length-set}
 use Rattle.std.proofs.lemmas.Option.{same_Some}
 use Rattle.hwp_geom.specs.declared.Frame.{Frame}
 use Rattle.hwp_geom.specs.declared.Layout.{Layout}
@@ -15,7 +16,7 @@ use Rattle.hwp_rule.specs.declared.view.Held.{Held}
 use Rattle.hwp_rule.specs.declared.view.Mark.{Mark}
 use Rattle.hwp_rule.specs.declared.view.Ref.{Ref}
 use Rattle.hwp_rule.specs.declared.view.View.{View}
-use Rattle.hwp_rule.specs.Lists.{Homes, EachMember, sum_bodies}
+use Rattle.hwp_rule.specs.Lists.{Homes, EachMember, EachListed, sum_bodies}
 use Rattle.hwp_rule.specs.Rule.{FrameRule, holder_of}
 use Rattle.hwp_rule.specs.Views.{changed, is_lock_of, refs_on, locks_on}
 use Rattle.hwp_rule.specs.Words.{Words, free_bit}
@@ -190,6 +191,7 @@ module _ (layout : Layout) (w : Words) (homes : Homes) (views : List View) (seat
           (λ g x differs at. h.marks.poisoned g x cycle at) g x at;
       revived = λ g x cycle at. at-frame (λ g x. revivals g cycle marks ≡ from_bool (nat_lt cycle (cycle_of x)))
           (h.marks.revived frame.0 word cycle there ∙ ap (λ (c : ℕ). from_bool (nat_lt cycle c)) (sym are.cycle)) (λ g x differs at. h.marks.revived g x cycle at) g x at;
+      framed = subst (λ (n : ℕ). EachListed (λ (m : Mark). m.frame.0 < n) marks) (sym (length-set w.frames frame.0 now)) h.marks.framed;
       few = h.marks.few;
       shown = λ g x at. elim (at_set w.frames frame.0 g.0 now x at) [
         | inl t ↦ λ i list is j s listed place.

@@ -1,5 +1,5 @@
 -- Poisonings and unpoisonings of a frame.
-use Rattle.std.specs.Prelude.{◌≡◌, ℕ, ◌<◌, ◌≤◌, ◌==◌, ◌&&◌, nat_lt, cond, Bool, List, Some, slice_get}
+use Rattle.std.specs.Prelude.{◌≡◌, ℕ, ◌<◌, ◌≤◌, ◌==◌, ◌&&◌, nat_lt, cond, Bool, List, Some, length, slice_get}
 use Rattle.std.specs.List.{sum_by}
 use Rattle.std.specs.Int.{from_bool}
 use Rattle.hwp_geom.specs.declared.Cpu.{Cpu}
@@ -32,10 +32,11 @@ pub record IsBefore (word : ℕ) (s : Sight) : Type 0 where
   pub poison : cycle_of s.word ≡ cycle_of word → poison_of s.word ≤ poison_of word
 
 -- Of each cycle below a frame's CYCLE the views list one poisoning and one unpoisoning; of its CYCLE one poisoning where
--- POISON is set; and no others. No processor lists more than 4,096 unpoisonings. Broken by: a poison that found the bit set
+-- POISON is set; and no others, nor any of a frame that the board lacks. No processor lists more than 4,096 unpoisonings. Broken by: a poison that found the bit set
 -- and marks all the same; a `revive` that leaves the cycle as it was.
 pub record MarksAlternate (frames : List ℕ) (marks : List (List Mark)) (sights : List (List Sight)) : Type 0 where
   pub poisoned : (f w cycle : ℕ) → slice_get frames f ≡ Some w → poisonings f cycle marks ≡ cond (nat_lt cycle (cycle_of w)) 1 (cond (cycle == cycle_of w) (poison_of w) 0)
   pub revived : (f w cycle : ℕ) → slice_get frames f ≡ Some w → revivals f cycle marks ≡ from_bool (nat_lt cycle (cycle_of w))
+  pub framed : EachListed (λ (m : Mark). m.frame.0 < length frames) marks
   pub few : EachMember (λ (list : List Mark). (cpu : Cpu) → revivals_by cpu list ≤ command_limit) marks
   pub shown : (frame : Frame) (w : ℕ) → slice_get frames frame.0 ≡ Some w → EachListed (λ (s : Sight). s.place ≡ places.Frame frame → IsBefore w s) sights
