@@ -1,6 +1,5 @@
 -- What a step asks doesn't depend on what every step notes.
-use Rattle.std.proofs.Common.{◌≡◌, ◌==◌, ℕ, Bool, true, false, Option, Some, None}
-use Rattle.hwp_geom.specs.declared.Cpu.{Cpu}
+use Rattle.std.proofs.Common.{◌≡◌, ◌==◌, Bool, true, false, Option, Some, None}
 use Rattle.hwp_geom.specs.declared.FileNo.{FileNo}
 use Rattle.hwp_geom.specs.declared.Frame.{Frame}
 use Rattle.hwp_geom.specs.declared.Layout.{Layout}
@@ -11,7 +10,7 @@ use Rattle.hwp_rule.specs.declared.record.Rec.{Rec}
 use Rattle.hwp_rule.specs.declared.step.Step.{Step}
 use Rattle.hwp_rule.specs.declared.step.Step.TheVariants as steps
 use Rattle.hwp_rule.specs.declared.view.View.{View}
-use Rattle.hwp_rule.specs.Asks.{AsksOf, HasLock, HasPageLock, HasPage, HasRefRoom, PutFits, CanGoHome, CanPut, CanUnlockFrame, CanUnlockPage, CanRetire, CanRevive, CanOwn, CanDisown, CanSetOwner, CanFree, CanName, CanChange, CanSetPte, CanSetCache, CanKill, CanLose, CanSetPolicy, CanLockFrame, OwesCount}
+use Rattle.hwp_rule.specs.Asks.{AsksOf, HasLock, HasPageLock, HasPage, CanPut, CanSetOwner, CanFree, CanName, CanChange, OwesCount}
 use Rattle.hwp_rule.specs.declared.view.Held.{Held}
 use Rattle.hwp_rule.specs.Lists.{SomeMember}
 use Rattle.hwp_rule.specs.Rule.{losing_of}

@@ -46,8 +46,8 @@ pub record Given (layout : Layout) (w : Words) (homes : Homes) (views : List Vie
 abbrev pub After : Layout → Words → Homes → List View → ℕ → View → Who → Step → Option Log → Type 0
 After layout w homes views seat v who step content =
     FrameRule layout (put (place_of step) (word_after step (read (place_of step) w)) w)
-        (homes_after layout step (read (place_of step) w) content homes)
-        (set views seat (view_by layout who step (read (place_of step) w) content v))
+    (homes_after layout step (read (place_of step) w) content homes)
+    (set views seat (view_by layout who step (read (place_of step) w) content v))
 
 -- the kind of step keeps the rule
 abbrev pub Keeps : Step → Type 0

@@ -55,41 +55,41 @@ module _ (views : List View) (seat : ℕ) (v u : View) (me : slice_get views sea
   kept-processors layout e0 h = keep (λ (v : View). v.parts) (ProcessorsApart layout) views seat v u me e0 (h)
 
   pub kept-page-locks : (pages : List ℕ) → (u.pages) ≡ (v.pages) → (u.locks) ≡ (v.locks) → PageLocksHeld pages (map (λ (v : View). v.pages) views) (map (λ (v : View). v.locks) views) → PageLocksHeld pages (map (λ (v : View). v.pages) (set views seat u)) (map (λ (v : View). v.locks) (set views seat u))
-  kept-page-locks pages e0 e1 h = keep (λ (v : View). v.locks) (λ l. PageLocksHeld pages (map (λ (v : View). v.pages) (set views seat u)) l ) views seat v u me e1 (keep (λ (v : View). v.pages) (λ l. PageLocksHeld pages l (map (λ (v : View). v.locks) views)) views seat v u me e0 (h))
+  kept-page-locks pages e0 e1 h = keep (λ (v : View). v.locks) (λ l. PageLocksHeld pages (map (λ (v : View). v.pages) (set views seat u)) l) views seat v u me e1 (keep (λ (v : View). v.pages) (λ l. PageLocksHeld pages l (map (λ (v : View). v.locks) views)) views seat v u me e0 (h))
 
   pub kept-counter : (frames : List ℕ) (counter : ℕ) → u.owed ≡ v.owed → u.marks ≡ v.marks → (u.sights) ≡ (v.sights) → CounterAgrees frames counter (map (λ (v : View). (v.owed, v.marks)) views) (map (λ (v : View). v.sights) views) → CounterAgrees frames counter (map (λ (v : View). (v.owed, v.marks)) (set views seat u)) (map (λ (v : View). v.sights) (set views seat u))
-  kept-counter frames counter e0a e0b e1 h = keep (λ (v : View). v.sights) (λ l. CounterAgrees frames counter (map (λ (v : View). (v.owed, v.marks)) (set views seat u)) l ) views seat v u me e1 (keep (λ (v : View). (v.owed, v.marks)) (λ l. CounterAgrees frames counter l (map (λ (v : View). v.sights) views)) views seat v u me (λ i. (e0a i, e0b i)) (h))
+  kept-counter frames counter e0a e0b e1 h = keep (λ (v : View). v.sights) (λ l. CounterAgrees frames counter (map (λ (v : View). (v.owed, v.marks)) (set views seat u)) l) views seat v u me e1 (keep (λ (v : View). (v.owed, v.marks)) (λ l. CounterAgrees frames counter l (map (λ (v : View). v.sights) views)) views seat v u me (λ i. (e0a i, e0b i)) (h))
 
   pub kept-damage : (bads weaks : List ℕ) → (u.spoiled) ≡ (v.spoiled) → (u.sights) ≡ (v.sights) → DamageListed bads weaks (map (λ (v : View). v.spoiled) views) (map (λ (v : View). v.sights) views) → DamageListed bads weaks (map (λ (v : View). v.spoiled) (set views seat u)) (map (λ (v : View). v.sights) (set views seat u))
-  kept-damage bads weaks e0 e1 h = keep (λ (v : View). v.sights) (λ l. DamageListed bads weaks (map (λ (v : View). v.spoiled) (set views seat u)) l ) views seat v u me e1 (keep (λ (v : View). v.spoiled) (λ l. DamageListed bads weaks l (map (λ (v : View). v.sights) views)) views seat v u me e0 (h))
+  kept-damage bads weaks e0 e1 h = keep (λ (v : View). v.sights) (λ l. DamageListed bads weaks (map (λ (v : View). v.spoiled) (set views seat u)) l) views seat v u me e1 (keep (λ (v : View). v.spoiled) (λ l. DamageListed bads weaks l (map (λ (v : View). v.sights) views)) views seat v u me e0 (h))
 
   pub kept-entries : (homes : Homes) → (u.bodies) ≡ (v.bodies) → u.made ≡ v.made → u.sights ≡ v.sights → (u.lengths) ≡ (v.lengths) → EntriesListed homes (map (λ (v : View). v.bodies) views) (map (λ (v : View). (v.made, v.sights)) views) (map (λ (v : View). v.lengths) views) → EntriesListed homes (map (λ (v : View). v.bodies) (set views seat u)) (map (λ (v : View). (v.made, v.sights)) (set views seat u)) (map (λ (v : View). v.lengths) (set views seat u))
-  kept-entries homes e0 e1a e1b e2 h = keep (λ (v : View). v.lengths) (λ l. EntriesListed homes (map (λ (v : View). v.bodies) (set views seat u)) (map (λ (v : View). (v.made, v.sights)) (set views seat u)) l ) views seat v u me e2 (keep (λ (v : View). (v.made, v.sights)) (λ l. EntriesListed homes (map (λ (v : View). v.bodies) (set views seat u)) l (map (λ (v : View). v.lengths) views)) views seat v u me (λ i. (e1a i, e1b i)) (keep (λ (v : View). v.bodies) (λ l. EntriesListed homes l (map (λ (v : View). (v.made, v.sights)) views) (map (λ (v : View). v.lengths) views)) views seat v u me e0 (h)))
+  kept-entries homes e0 e1a e1b e2 h = keep (λ (v : View). v.lengths) (λ l. EntriesListed homes (map (λ (v : View). v.bodies) (set views seat u)) (map (λ (v : View). (v.made, v.sights)) (set views seat u)) l) views seat v u me e2 (keep (λ (v : View). (v.made, v.sights)) (λ l. EntriesListed homes (map (λ (v : View). v.bodies) (set views seat u)) l (map (λ (v : View). v.lengths) views)) views seat v u me (λ i. (e1a i, e1b i)) (keep (λ (v : View). v.bodies) (λ l. EntriesListed homes l (map (λ (v : View). (v.made, v.sights)) views) (map (λ (v : View). v.lengths) views)) views seat v u me e0 (h)))
 
   pub kept-endings : (layout : Layout) (processes : List ℕ) (homes : Homes) → (u.bodies) ≡ (v.bodies) → (u.sights) ≡ (v.sights) → EndingsAgree layout processes homes (map (λ (v : View). v.bodies) views) (map (λ (v : View). v.sights) views) → EndingsAgree layout processes homes (map (λ (v : View). v.bodies) (set views seat u)) (map (λ (v : View). v.sights) (set views seat u))
-  kept-endings layout processes homes e0 e1 h = keep (λ (v : View). v.sights) (λ l. EndingsAgree layout processes homes (map (λ (v : View). v.bodies) (set views seat u)) l ) views seat v u me e1 (keep (λ (v : View). v.bodies) (λ l. EndingsAgree layout processes homes l (map (λ (v : View). v.sights) views)) views seat v u me e0 (h))
+  kept-endings layout processes homes e0 e1 h = keep (λ (v : View). v.sights) (λ l. EndingsAgree layout processes homes (map (λ (v : View). v.bodies) (set views seat u)) l) views seat v u me e1 (keep (λ (v : View). v.bodies) (λ l. EndingsAgree layout processes homes l (map (λ (v : View). v.sights) views)) views seat v u me e0 (h))
 
   pub kept-marks : (frames : List ℕ) → (u.marks) ≡ (v.marks) → (u.sights) ≡ (v.sights) → MarksAlternate frames (map (λ (v : View). v.marks) views) (map (λ (v : View). v.sights) views) → MarksAlternate frames (map (λ (v : View). v.marks) (set views seat u)) (map (λ (v : View). v.sights) (set views seat u))
-  kept-marks frames e0 e1 h = keep (λ (v : View). v.sights) (λ l. MarksAlternate frames (map (λ (v : View). v.marks) (set views seat u)) l ) views seat v u me e1 (keep (λ (v : View). v.marks) (λ l. MarksAlternate frames l (map (λ (v : View). v.sights) views)) views seat v u me e0 (h))
+  kept-marks frames e0 e1 h = keep (λ (v : View). v.sights) (λ l. MarksAlternate frames (map (λ (v : View). v.marks) (set views seat u)) l) views seat v u me e1 (keep (λ (v : View). v.marks) (λ l. MarksAlternate frames l (map (λ (v : View). v.sights) views)) views seat v u me e0 (h))
 
   pub kept-losses : (layout : Layout) (losses : List ℕ) (homes : Homes) → (u.bodies) ≡ (v.bodies) → (losing_of u) ≡ (losing_of v) → LossesBalance layout losses homes (map (λ (v : View). v.bodies) views) (map (λ (v : View). losing_of v) views) → LossesBalance layout losses homes (map (λ (v : View). v.bodies) (set views seat u)) (map (λ (v : View). losing_of v) (set views seat u))
-  kept-losses layout losses homes e0 e1 h = keep (λ (v : View). losing_of v) (λ l. LossesBalance layout losses homes (map (λ (v : View). v.bodies) (set views seat u)) l ) views seat v u me e1 (keep (λ (v : View). v.bodies) (λ l. LossesBalance layout losses homes l (map (λ (v : View). losing_of v) views)) views seat v u me e0 (h))
+  kept-losses layout losses homes e0 e1 h = keep (λ (v : View). losing_of v) (λ l. LossesBalance layout losses homes (map (λ (v : View). v.bodies) (set views seat u)) l) views seat v u me e1 (keep (λ (v : View). v.bodies) (λ l. LossesBalance layout losses homes l (map (λ (v : View). losing_of v) views)) views seat v u me e0 (h))
 
   pub kept-policies : (threads : List ThreadDecl) (policies : List ℕ) → u.parts ≡ v.parts → u.settings ≡ v.settings → (u.sights) ≡ (v.sights) → PoliciesListed threads policies (map (λ (v : View). (v.parts, v.settings)) views) (map (λ (v : View). v.sights) views) → PoliciesListed threads policies (map (λ (v : View). (v.parts, v.settings)) (set views seat u)) (map (λ (v : View). v.sights) (set views seat u))
-  kept-policies threads policies e0a e0b e1 h = keep (λ (v : View). v.sights) (λ l. PoliciesListed threads policies (map (λ (v : View). (v.parts, v.settings)) (set views seat u)) l ) views seat v u me e1 (keep (λ (v : View). (v.parts, v.settings)) (λ l. PoliciesListed threads policies l (map (λ (v : View). v.sights) views)) views seat v u me (λ i. (e0a i, e0b i)) (h))
+  kept-policies threads policies e0a e0b e1 h = keep (λ (v : View). v.sights) (λ l. PoliciesListed threads policies (map (λ (v : View). (v.parts, v.settings)) (set views seat u)) l) views seat v u me e1 (keep (λ (v : View). (v.parts, v.settings)) (λ l. PoliciesListed threads policies l (map (λ (v : View). v.sights) views)) views seat v u me (λ i. (e0a i, e0b i)) (h))
 
   pub kept-exhaustion : (layout : Layout) → (u.marks) ≡ (v.marks) → (u.sights) ≡ (v.sights) → ExhaustionExplained layout (map (λ (v : View). v.marks) views) (map (λ (v : View). v.sights) views) → ExhaustionExplained layout (map (λ (v : View). v.marks) (set views seat u)) (map (λ (v : View). v.sights) (set views seat u))
-  kept-exhaustion layout e0 e1 h = keep (λ (v : View). v.sights) (λ l. ExhaustionExplained layout (map (λ (v : View). v.marks) (set views seat u)) l ) views seat v u me e1 (keep (λ (v : View). v.marks) (λ l. ExhaustionExplained layout l (map (λ (v : View). v.sights) views)) views seat v u me e0 (h))
+  kept-exhaustion layout e0 e1 h = keep (λ (v : View). v.sights) (λ l. ExhaustionExplained layout (map (λ (v : View). v.marks) (set views seat u)) l) views seat v u me e1 (keep (λ (v : View). v.marks) (λ l. ExhaustionExplained layout l (map (λ (v : View). v.sights) views)) views seat v u me e0 (h))
 
   pub kept-stops : (processes : List ℕ) (stop : ℕ) → (u.bodies) ≡ (v.bodies) → (u.sights) ≡ (v.sights) → (u.stops) ≡ (v.stops) → EndingsAndStopsStay processes stop (map (λ (v : View). v.bodies) views) (map (λ (v : View). v.sights) views) (map (λ (v : View). v.stops) views) → EndingsAndStopsStay processes stop (map (λ (v : View). v.bodies) (set views seat u)) (map (λ (v : View). v.sights) (set views seat u)) (map (λ (v : View). v.stops) (set views seat u))
-  kept-stops processes stop e0 e1 e2 h = keep (λ (v : View). v.stops) (λ l. EndingsAndStopsStay processes stop (map (λ (v : View). v.bodies) (set views seat u)) (map (λ (v : View). v.sights) (set views seat u)) l ) views seat v u me e2 (keep (λ (v : View). v.sights) (λ l. EndingsAndStopsStay processes stop (map (λ (v : View). v.bodies) (set views seat u)) l (map (λ (v : View). v.stops) views)) views seat v u me e1 (keep (λ (v : View). v.bodies) (λ l. EndingsAndStopsStay processes stop l (map (λ (v : View). v.sights) views) (map (λ (v : View). v.stops) views)) views seat v u me e0 (h)))
+  kept-stops processes stop e0 e1 e2 h = keep (λ (v : View). v.stops) (λ l. EndingsAndStopsStay processes stop (map (λ (v : View). v.bodies) (set views seat u)) (map (λ (v : View). v.sights) (set views seat u)) l) views seat v u me e2 (keep (λ (v : View). v.sights) (λ l. EndingsAndStopsStay processes stop (map (λ (v : View). v.bodies) (set views seat u)) l (map (λ (v : View). v.stops) views)) views seat v u me e1 (keep (λ (v : View). v.bodies) (λ l. EndingsAndStopsStay processes stop l (map (λ (v : View). v.sights) views) (map (λ (v : View). v.stops) views)) views seat v u me e0 (h)))
 
   pub kept-unpoisoned : (frames : List ℕ) (homes : Homes) → u.spoiled ≡ v.spoiled → u.bodies ≡ v.bodies
       → NothingPoisonedYet frames (map (λ (v : View). v.spoiled) views) homes (map (λ (v : View). v.bodies) views)
       → NothingPoisonedYet frames (map (λ (v : View). v.spoiled) (set views seat u)) homes (map (λ (v : View). v.bodies) (set views seat u))
   kept-unpoisoned frames homes e0 e1 h =
       keep (λ (v : View). v.bodies) (λ l. NothingPoisonedYet frames (map (λ (v : View). v.spoiled) (set views seat u)) homes l) views seat v u me e1
-          (keep (λ (v : View). v.spoiled) (λ l. NothingPoisonedYet frames l homes (map (λ (v : View). v.bodies) views)) views seat v u me e0 h)
+      (keep (λ (v : View). v.spoiled) (λ l. NothingPoisonedYet frames l homes (map (λ (v : View). v.bodies) views)) views seat v u me e0 h)
 
   pub kept-commands : AreOwn u → CommandsOwn views → CommandsOwn (set views seat u)
   kept-commands own h = record { own = each-set AreOwn views seat u own h.own }

@@ -1,12 +1,12 @@
 -- Lists under the change of one member: reading, sums, and what each or some member is.
-use Rattle.std.proofs.Common.{◌≡◌, ◌≢◌, ℕ, suc, zero, ◌+◌, ◌<◌, ◌≤◌, ◌==◌, eq-eqb, Bool, true, false, cond, List, [], ◌∷◌, ◌++◌, Option, Some, None, map, length, slice_get, set, get_or, option_map, ◌⊎◌, inl, inr, refl, sym, ap, ◌∙◌, subst, arith}
+use Rattle.std.proofs.Common.{◌≡◌, ◌≢◌, ℕ, suc, zero, ◌+◌, ◌<◌, ◌≤◌, ◌==◌, eq-eqb, Bool, true, false, cond, List, [], ◌∷◌, ◌++◌, Some, map, length, slice_get, set, get_or, option_map, ◌⊎◌, inl, inr, refl, sym, ap, ◌∙◌, subst, arith}
 use Rattle.std.proofs.Math.Decide.{ℕ_discrete}
 use Rattle.std.specs.List.{sum_by}
 use Rattle.std.proofs.lemmas.List.{map-set, length-map}
-use Rattle.std.proofs.lemmas.List.Sums.{sum_by-cons, sum_by_push, sum_by-set, get_or-le-sum_by}
+use Rattle.std.proofs.lemmas.List.Sums.{sum_by-cons, sum_by-set, get_or-le-sum_by}
 use Rattle.std.proofs.lemmas.Option.{none-some, same_Some, slice_get-map, slice_get_within, get_or_from_slice_get}
-use Rattle.hwp_rule.specs.Lists.{EachMember, SomeMember, EachListed}
-use Rattle.hwp_rule.specs.Views.{without, changed}
+use Rattle.hwp_rule.specs.Lists.{EachMember, SomeMember}
+use Rattle.hwp_rule.specs.Views.{changed}
 
 -- two numbers are the same or not
 pub same-or : (n m : ℕ) → (n ≡ m) ⊎ (n ≢ m)
@@ -39,9 +39,9 @@ module _ {A : Type 0} where
   at_set (x ∷ xs) zero (suc j) a b e = inr ((λ h. omega arith), e)
   at_set (x ∷ xs) (suc i) zero a b e = inr ((λ h. omega arith), e)
   at_set (x ∷ xs) (suc i) (suc j) a b e = elim (at_set xs i j a b e) [
-      | inl t ↦ inl (ap suc t.0, t.1)
-      | inr t ↦ let other : j ≢ i = t.0 in inr ((λ h. other (omega arith)), t.1)
-    ]
+    | inl t ↦ inl (ap suc t.0, t.1)
+    | inr t ↦ let other : j ≢ i = t.0 in inr ((λ h. other (omega arith)), t.1)
+  ]
 
   pub set_here : (l : List A) (i : ℕ) (a b : A) → slice_get l i ≡ Some b → slice_get (set l i a) i ≡ Some a
   set_here [] i a b e = absurd (none-some b e)
@@ -113,15 +113,15 @@ module _ {A : Type 0} where
   -- each member, under a change of one
   pub each-set : (P : A → Type 0) (l : List A) (i : ℕ) (a : A) → P a → EachMember P l → EachMember P (set l i a)
   each-set P l i a here each j x e = elim (at_set l i j a x e) [
-      | inl t ↦ subst P t.1 here
-      | inr t ↦ each j x t.1
-    ]
+    | inl t ↦ subst P t.1 here
+    | inr t ↦ each j x t.1
+  ]
 
   pub each-push : (P : A → Type 0) (l : List A) (a : A) → P a → EachMember P l → EachMember P (l ++ a ∷ [])
   each-push P l a here each j x e = elim (at_push l a x j e) [
-      | inl was ↦ each j x was
-      | inr is ↦ subst P is here
-    ]
+    | inl was ↦ each j x was
+    | inr is ↦ subst P is here
+  ]
 
   pub each-map : {B : Type 0} (g : B → A) (P : A → Type 0) (l : List B) → EachMember (λ (b : B). P (g b)) l → EachMember P (map g l)
   each-map g P [] each i x e = absurd (none-some x e)

@@ -1,5 +1,5 @@
 -- A move keeps the frame rule, where its kind of step does.
-use Rattle.std.proofs.Common.{◌≡◌, ℕ, zero, suc, ◌+◌, ◌-◌, min, ◌^◌, ◌<◌, ◌≤◌, Bool, true, false, cond, List, [], ◌∷◌, Option, Some, None, map, set, length, take, drop, slice_get, slice_index, refl, sym, ap, ◌∙◌, subst, arith}
+use Rattle.std.proofs.Common.{◌≡◌, ℕ, ◌+◌, ◌-◌, min, ◌^◌, ◌<◌, ◌≤◌, Bool, true, false, cond, List, Option, Some, None, set, length, drop, refl, sym, ◌∙◌, subst, arith}
 use Rattle.std.proofs.lemmas.List.{length-set, length-take, length-drop}
 use Rattle.hwp_geom.specs.declared.Layout.{Layout}
 use Rattle.hwp_rule.specs.declared.log.Log.{Log}
@@ -13,7 +13,7 @@ use Rattle.hwp_rule.specs.Moves.{Move, Meets, moved}
 use Rattle.hwp_rule.specs.Rule.{FrameRule, Holds}
 use Rattle.hwp_rule.specs.Steps.{place_of, word_after, goes}
 use Rattle.hwp_rule.specs.Views.{noted, view_by, homes_after, frame_slot, shelf_slot}
-use Rattle.hwp_rule.specs.Words.{Words, words_of, read, put, index, size, segment, IsPlace, free_words, trans_from, caches_from, pages_from, frees_from, available_at, bads_from, weaks_from, counter_at, processes_from, policies_from, losses_from, stop_at}
+use Rattle.hwp_rule.specs.Words.{Words, words_of, read, put, index, size, segment, free_words, trans_from, caches_from, pages_from, frees_from, bads_from, weaks_from, processes_from, policies_from, losses_from}
 use Rattle.hwp_rule.proofs.AsksNoted.{asks-noted}
 use Rattle.hwp_rule.proofs.Given.{Given, IsShaped, Keeps}
 use Rattle.hwp_rule.proofs.Lists.{set_here, set-set}
@@ -82,21 +82,21 @@ rule-moved : (layout : Layout) (seat : ℕ) (r : Rec) (a b : State) → Keeps r.
 rule-moved layout seat r a b keeps h m =
     let known : read (place_of r.step) w ≡ r.found = words-read layout a.words (place_of r.step) m.asks.place ∙ sym m.met in
     let given : Given layout w a.homes noted-views seat (noted r m.view) r.who r.step m.content = record {
-          sound = h.sound;
-          shaped = shaped layout a h;
-          me = set_here a.views seat (noted r m.view) m.view m.me;
-          past = past-now r m.view m.asks.turn;
-          turn = turn-noted r m.view m.asks.turn;
-          place = m.asks.place;
-          asks = asks-noted layout r.who r m.view r.step m.content m.asks.kind;
-          fits = subst (λ (n : ℕ). n < 2 ^ 64) (sym known) m.fits;
-          meets = subst (λ (n : ℕ). Meets layout a.homes r.step n m.content) (sym known) m.slot;
-          rule = keeps-noted layout w a.homes a.views seat m.view r m.me h.rule;
-        } in
+      sound = h.sound;
+      shaped = shaped layout a h;
+      me = set_here a.views seat (noted r m.view) m.view m.me;
+      past = past-now r m.view m.asks.turn;
+      turn = turn-noted r m.view m.asks.turn;
+      place = m.asks.place;
+      asks = asks-noted layout r.who r m.view r.step m.content m.asks.kind;
+      fits = subst (λ (n : ℕ). n < 2 ^ 64) (sym known) m.fits;
+      meets = subst (λ (n : ℕ). Meets layout a.homes r.step n m.content) (sym known) m.slot;
+      rule = keeps-noted layout w a.homes a.views seat m.view r m.me h.rule;
+    } in
     let after = keeps layout w a.homes noted-views seat (noted r m.view) r.who m.content given in
     let there = subst (λ (n : ℕ). FrameRule layout (put (place_of r.step) (word_after r.step n) w) (homes_after layout r.step n m.content a.homes) (set noted-views seat (view_by layout r.who r.step n m.content (noted r m.view)))) known after in
     subst (λ (ws : Words). FrameRule layout ws (homes_after layout r.step r.found m.content a.homes) (set a.views seat (view_by layout r.who r.step r.found m.content (noted r m.view)))) (sym (words-put layout a.words (place_of r.step) (word_after r.step r.found) h.words m.asks.place))
-        (subst (λ (vs : List View). FrameRule layout (put (place_of r.step) (word_after r.step r.found) w) (homes_after layout r.step r.found m.content a.homes) vs) (set-set a.views seat (noted r m.view) (view_by layout r.who r.step r.found m.content (noted r m.view))) there)
+    (subst (λ (vs : List View). FrameRule layout (put (place_of r.step) (word_after r.step r.found) w) (homes_after layout r.step r.found m.content a.homes) vs) (set-set a.views seat (noted r m.view) (view_by layout r.who r.step r.found m.content (noted r m.view))) there)
   where
     w : Words
     w = words_of layout a.words

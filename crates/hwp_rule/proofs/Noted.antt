@@ -1,5 +1,5 @@
 -- What every step notes keeps the frame rule.
-use Rattle.std.proofs.Common.{◌≡◌, ℕ, ◌+◌, ◌<◌, ◌≤◌, ◌==◌, max, Bool, true, false, cond, List, Some, map, set, length, slice_get, inl, inr, refl, sym, ap, ◌∙◌, subst, arith}
+use Rattle.std.proofs.Common.{◌≡◌, ℕ, ◌+◌, ◌<◌, ◌≤◌, ◌==◌, max, Bool, true, false, cond, List, Some, map, set, slice_get, refl, sym, ap, ◌∙◌, arith}
 use Rattle.std.specs.List.{sum_by}
 use Rattle.std.specs.Int.{from_bool}
 use Rattle.hwp_geom.specs.declared.Cpu.{Cpu}
@@ -14,11 +14,11 @@ use Rattle.hwp_rule.specs.declared.view.Sight.{Sight}
 use Rattle.hwp_rule.specs.declared.view.Length.{Length}
 use Rattle.hwp_rule.specs.declared.view.View.{View}
 use Rattle.hwp_rule.specs.Asks.{IsTurnOf}
-use Rattle.hwp_rule.specs.Lists.{Homes, EachMember, SomeMember}
+use Rattle.hwp_rule.specs.Lists.{Homes, EachMember}
 use Rattle.hwp_rule.specs.Rule.{FrameRule, holdings_of}
 use Rattle.hwp_rule.specs.Views.{noted}
 use Rattle.hwp_rule.specs.Words.{Words}
-use Rattle.hwp_rule.specs.parts.Holdings.{Holdings, IsBounded, HoldingsBounded, ProcessorsApart, AreOwn, IsPast}
+use Rattle.hwp_rule.specs.parts.Holdings.{IsBounded, HoldingsBounded, ProcessorsApart, AreOwn, IsPast}
 use Rattle.hwp_rule.specs.parts.Policies.{PoliciesListed, PolicyAgrees, IsOf, settings_of}
 use Rattle.hwp_rule.proofs.Lists.{change, keep, at_map, map-was, same-number, each-set, each-weaken, each-changed, some-changed, sum-changed, sum-set, length-changed}
 use Rattle.hwp_rule.proofs.Kept
@@ -96,9 +96,9 @@ policies-noted : (layout : Layout) (w : Words) (homes : Homes) (views : List Vie
 policies-noted layout w homes views seat v r me h = record {
   agrees = λ thread d word there is.
       change (λ (v : View). (v.parts, v.settings)) (EachMember (λ (x : List Part × List Setting). IsOf d.cpu x.0 → PolicyAgrees thread word (map (λ (v : View). v.sights) views) (settings_of thread x.1))) views seat (noted r v)
-          (each-set (λ (x : List Part × List Setting). IsOf d.cpu x.0 → PolicyAgrees thread word (map (λ (v : View). v.sights) views) (settings_of thread x.1)) (map (λ (v : View). (v.parts, v.settings)) views) seat ((noted r v).parts, v.settings)
-              (λ of. h.policies.agrees thread d word there is seat (v.parts, v.settings) (at_map (λ (v : View). (v.parts, v.settings)) views seat v me) (before d.cpu of))
-              (h.policies.agrees thread d word there is));
+      (each-set (λ (x : List Part × List Setting). IsOf d.cpu x.0 → PolicyAgrees thread word (map (λ (v : View). v.sights) views) (settings_of thread x.1)) (map (λ (v : View). (v.parts, v.settings)) views) seat ((noted r v).parts, v.settings)
+      (λ of. h.policies.agrees thread d word there is seat (v.parts, v.settings) (at_map (λ (v : View). (v.parts, v.settings)) views seat v me) (before d.cpu of))
+      (h.policies.agrees thread d word there is));
 }
   where
     before : (cpu : Cpu) → IsOf cpu (noted r v).parts → IsOf cpu v.parts
@@ -141,7 +141,7 @@ keeps-noted layout w homes views seat v r me h = record {
   endings = Kept.kept-endings views seat v (noted r v) me layout w.processes homes refl refl h.endings;
   marks = Kept.kept-marks views seat v (noted r v) me w.frames refl refl h.marks;
   holdings = change holdings_of (HoldingsBounded layout) views seat (noted r v) (record {
-      bounded = each-set (IsBounded layout) (map holdings_of views) seat (holdings_of (noted r v)) bounded-noted h.holdings.bounded;
+    bounded = each-set (IsBounded layout) (map holdings_of views) seat (holdings_of (noted r v)) bounded-noted h.holdings.bounded;
   });
   losses = Kept.kept-losses views seat v (noted r v) me layout w.losses homes refl refl h.losses;
   policies = keep (λ (v : View). v.sights) (λ l. PoliciesListed layout.threads w.policies (map (λ (v : View). (v.parts, v.settings)) (set views seat (noted r v))) l) views seat v (noted r v) me refl

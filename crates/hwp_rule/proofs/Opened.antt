@@ -1,5 +1,5 @@
 -- A board of a sound layout at opening keeps the frame rule.
-use Rattle.std.proofs.Common.{◌≡◌, ◌≢◌, inl, inr, ℕ, zero, suc, ◌+◌, ◌-◌, ◌*◌, ◌/◌, ◌%◌, ◌^◌, ◌<◌, ◌≤◌, ◌==◌, ◌&&◌, nat_lt, min, Bool, true, false, true≢false, not, cond, List, [], ◌∷◌, ◌++◌, Option, Some, None, map, length, replicate, take, slice_get, refl, sym, ap, ◌∙◌, subst, arith, eqb, ne_eqb}
+use Rattle.std.proofs.Common.{◌≡◌, ◌≢◌, inl, inr, ℕ, zero, suc, ◌+◌, ◌-◌, ◌*◌, ◌%◌, ◌^◌, ◌<◌, ◌≤◌, ◌==◌, ◌&&◌, nat_lt, Bool, true, false, true≢false, not, cond, List, [], ◌∷◌, Option, Some, None, map, length, replicate, take, slice_get, refl, sym, ap, ◌∙◌, subst, arith, ne_eqb}
 use Rattle.std.specs.List.{sum_by, list_any}
 use Rattle.std.specs.Int.{from_bool, bit_at}
 use Rattle.std.specs.FinSet as set
@@ -10,19 +10,14 @@ use Rattle.std.proofs.lemmas.List.Sums.{sum_by-cons, sum_by_push, sum_by-append}
 use Rattle.std.proofs.lemmas.Option.{none-some, same_Some, slice_get_within}
 use Rattle.hwp_geom.specs.declared.Layout.{Layout}
 use Rattle.hwp_geom.specs.declared.PageKind.{PageKind}
-use Rattle.hwp_geom.specs.declared.PageKind.TheVariants.{Anon, File}
-use Rattle.hwp_geom.specs.declared.TransDecl.{TransDecl}
 use Rattle.hwp_geom.specs.Layout.{IsSound}
-use Rattle.hwp_page.specs.declared.PageState.{PageState}
-use Rattle.hwp_page.specs.Step.{opening_of}
 use Rattle.std.specs.Ordering.{nat_cmp}
 use Rattle.hwp_words.specs.declared.Pte.TheVariants as ptes
 use Rattle.hwp_words.specs.Translations.{pte_word}
-use Rattle.hwp_words.specs.Frames.{poison_of, count_of, owner_of, lock_of, handled_of, cycle_of}
+use Rattle.hwp_words.specs.Frames.{poison_of, count_of, owner_of, lock_of, handled_of}
 use Rattle.hwp_rule.specs.declared.log.Log.{Log}
-use Rattle.hwp_rule.specs.declared.record.State.{State}
 use Rattle.hwp_rule.specs.declared.view.View.{View}
-use Rattle.hwp_rule.specs.Lists.{Homes, EachMember, EachListed, EachBody, of_home, sum_all, sum_bodies}
+use Rattle.hwp_rule.specs.Lists.{Homes, EachMember, EachListed, EachBody, of_home, sum_all}
 use Rattle.hwp_rule.specs.Logs.{opening_at, fitting_word, state_of, has_ending, losses_of, is_file, file_of}
 use Rattle.hwp_rule.specs.Opening.{below, opening_frame, opening_free, opening_log, opening_homes, opening_view, opening_words, opening_available, opening_policy, opening}
 use Rattle.hwp_rule.specs.Rule.{FrameRule, Holds, holder_of, holdings_of, losing_of}
@@ -143,17 +138,17 @@ homes-length layout =
 -- each body at opening has no entry
 no-entry : (layout : Layout) (P : Log → Type 0) → ((q : ℕ) → q < length layout.pages → P (opening_log q)) → (i : ℕ) (log : Log) → slice_get (opening_homes layout) i ≡ Some (Some (Some log)) → P log
 no-entry layout P each i log e = elim (Opening.less-or i layout.frames) [
-    | inl less ↦ absurd (none-some log (same_Some None (Some log) (same_Some (Some None) (Some (Some log)) (sym (frame-home layout i less) ∙ e))))
-    | inr past ↦ elim (Opening.less-or (i - layout.frames) (length layout.pages)) [
-      | inl less ↦
-          let at : slice_get (opening_homes layout) i ≡ Some (Some (Some (opening_log (i - layout.frames)))) = ap (slice_get (opening_homes layout)) (let h : i ≡ layout.frames + (i - layout.frames) = omega arith in h) ∙ shelf-home layout (i - layout.frames) less in
-          subst P (same_Some (opening_log (i - layout.frames)) log (same_Some (Some (opening_log (i - layout.frames))) (Some log) (same_Some (Some (Some (opening_log (i - layout.frames)))) (Some (Some log)) (sym at ∙ e)))) (each (i - layout.frames) less)
-      | inr beyond ↦
-          let within : i < length (opening_homes layout) = slice_get_within (opening_homes layout) i (Some (Some log)) e in
-          let all : length (opening_homes layout) ≡ layout.frames + length layout.pages = homes-length layout in
-          absurd (omega arith)
-    ]
+  | inl less ↦ absurd (none-some log (same_Some None (Some log) (same_Some (Some None) (Some (Some log)) (sym (frame-home layout i less) ∙ e))))
+  | inr past ↦ elim (Opening.less-or (i - layout.frames) (length layout.pages)) [
+    | inl less ↦
+        let at : slice_get (opening_homes layout) i ≡ Some (Some (Some (opening_log (i - layout.frames)))) = ap (slice_get (opening_homes layout)) (let h : i ≡ layout.frames + (i - layout.frames) = omega arith in h) ∙ shelf-home layout (i - layout.frames) less in
+        subst P (same_Some (opening_log (i - layout.frames)) log (same_Some (Some (opening_log (i - layout.frames))) (Some log) (same_Some (Some (Some (opening_log (i - layout.frames)))) (Some (Some log)) (sym at ∙ e)))) (each (i - layout.frames) less)
+    | inr beyond ↦
+        let within : i < length (opening_homes layout) = slice_get_within (opening_homes layout) i (Some (Some log)) e in
+        let all : length (opening_homes layout) ≡ layout.frames + length layout.pages = homes-length layout in
+        absurd (omega arith)
   ]
+]
 
 opening-state : (layout : Layout) (q : ℕ) → (state_of layout (opening_log q)).cached ≡ false
 opening-state layout q = by-kind (slice_get layout.pages q)
@@ -325,7 +320,7 @@ module _ (layout : Layout) (sound : IsSound layout) (w : Words) (o : AreOpening 
     poisoned = λ f x cycle there.
         no-sum (λ (v : View). v.marks) (sum_by (λ (m : Mark). from_bool ((m.frame.0 == f) && ((m.cycle == cycle) && is_poisoning m.kind)))) (λ c. refl)
         ∙ sym (ap (λ (n : ℕ). cond (nat_lt cycle n) 1 (cond (cycle == n) (poison_of x) 0)) (frame f x there).2.cycle ∙ ap (λ (n : ℕ). cond (nat_lt cycle 0) 1 (cond (cycle == 0) n 0)) (frame f x there).2.poison
-            ∙ ap (λ (b : Bool). cond b 1 (cond (cycle == 0) 0 0)) (no-less cycle) ∙ either-zero (cycle == 0));
+        ∙ ap (λ (b : Bool). cond b 1 (cond (cycle == 0) 0 0)) (no-less cycle) ∙ either-zero (cycle == 0));
     revived = λ f x cycle there.
         no-sum (λ (v : View). v.marks) (sum_by (λ (m : Mark). from_bool ((m.frame.0 == f) && ((m.cycle == cycle) && is_revival m.kind)))) (λ c. refl)
         ∙ sym (ap (λ (n : ℕ). from_bool (nat_lt cycle n)) (frame f x there).2.cycle ∙ ap from_bool (no-less cycle));
@@ -350,9 +345,9 @@ module _ (layout : Layout) (sound : IsSound layout) (w : Words) (o : AreOpening 
   policies-opened = record {
     agrees = λ thread d x there is. Opening.each-view (λ (v : View). (v.parts, v.settings)) (λ (v : List Part × List Setting). IsOf d.cpu v.0 → PolicyAgrees thread x (map (λ (v : View). v.sights) (opening_views layout)) (settings_of thread v.1)) layout.cpus
         (λ c less of. record {
-            now = sym (Opening.at-replicate (length layout.threads) opening_policy x thread.0 (ap (λ (l : List ℕ). slice_get l thread.0) (sym o.policies) ∙ is));
-            few = omega arith;
-            shown = unlisted (λ (v : View). v.sights) (λ (s : Sight). s.place ≡ places.Policy thread → (n : ℕ) × (n ≤ 0) × (s.word ≡ policy_after (take n []))) (λ c. refl);
+          now = sym (Opening.at-replicate (length layout.threads) opening_policy x thread.0 (ap (λ (l : List ℕ). slice_get l thread.0) (sym o.policies) ∙ is));
+          few = omega arith;
+          shown = unlisted (λ (v : View). v.sights) (λ (s : Sight). s.place ≡ places.Policy thread → (n : ℕ) × (n ≤ 0) × (s.word ≡ policy_after (take n []))) (λ c. refl);
         });
   }
 
@@ -371,8 +366,8 @@ module _ (layout : Layout) (sound : IsSound layout) (w : Words) (o : AreOpening 
   fits-opened : PageFits layout w.trans w.caches (opening_homes layout) (map (λ (v : View). (v.pages, v.bodies)) (opening_views layout))
   fits-opened = record {
     at_home = no-entry layout (Fits layout w.trans w.caches) (λ q less cache is. record {
-        cached = ap (λ (n : ℕ). not (n == 0)) (is-zero w.caches (length layout.pages) q cache o.caches is) ∙ sym (opening-state layout q);
-        used = λ v x t there same at. is-zero w.trans (length layout.trans) v x o.trans at ∙ sym (opening-word layout q cache v);
+      cached = ap (λ (n : ℕ). not (n == 0)) (is-zero w.caches (length layout.pages) q cache o.caches is) ∙ sym (opening-state layout q);
+      used = λ v x t there same at. is-zero w.trans (length layout.trans) v x o.trans at ∙ sym (opening-word layout q cache v);
     });
     in_hand = Opening.each-view (λ (v : View). (v.pages, v.bodies)) (λ (h : List PageLock × List Held). EachMember (λ (b : Held). page_locks_on b.log.page.0 h.0 ≡ 0 → Fits layout w.trans w.caches b.log) h.1) layout.cpus (λ c less. each-none (λ (b : Held). page_locks_on b.log.page.0 [] ≡ 0 → Fits layout w.trans w.caches b.log));
     known = Opening.each-view (λ (v : View). (v.pages, v.bodies)) (λ (h : List PageLock × List Held). EachMember (KnowsWords layout w.trans w.caches) h.0) layout.cpus (λ c less. each-none (KnowsWords layout w.trans w.caches));
@@ -389,19 +384,19 @@ module _ (layout : Layout) (sound : IsSound layout) (w : Words) (o : AreOpening 
         sum-map (sum_by (λ (p : Part). from_bool (p.cpu.0 == c))) (λ (v : View). v.parts) (opening_views layout)
         ∙ sum-map (λ (v : View). sum_by (λ (p : Part). from_bool (p.cpu.0 == c)) v.parts) opening_view (below layout.cpus)
         ∙ sum-same (λ (m : ℕ). sum_by (λ (p : Part). from_bool (p.cpu.0 == c)) (opening_view m).parts) (λ (m : ℕ). from_bool (m == c)) (below layout.cpus)
-            (λ m. sum_by-cons (λ (p : Part). from_bool (p.cpu.0 == c)) (record { cpu = record { 0 = m }; latest = 0 }) [] ∙ omega arith)
+        (λ m. sum_by-cons (λ (p : Part). from_bool (p.cpu.0 == c)) (record { cpu = record { 0 = m }; latest = 0 }) [] ∙ omega arith)
         ∙ one-below layout.cpus c less;
     declared = Opening.each-view (λ (v : View). v.parts) (EachMember (λ (p : Part). p.cpu.0 < layout.cpus)) layout.cpus (λ c less. one-part c (λ (p : Part). p.cpu.0 < layout.cpus) less);
   }
 
   commands-opened : EachMember AreOwn (opening_views layout)
   commands-opened = each-map opening_view AreOwn (below layout.cpus) (λ i c e. record {
-      made = each-none (λ (m : Made). IsPast (opening_view c).parts m.entry.who);
-      marks = each-none (λ (m : Mark). IsPast (opening_view c).parts m.stamp.who);
-      sights = each-none (λ (s : Sight). IsPast (opening_view c).parts s.stamp.who);
-      lengths = each-none (λ (l : Length). IsPast (opening_view c).parts l.stamp.who);
-      settings = each-none (λ (s : Setting). IsPast (opening_view c).parts s.stamp.who);
-      stops = each-none (IsPast (opening_view c).parts);
+    made = each-none (λ (m : Made). IsPast (opening_view c).parts m.entry.who);
+    marks = each-none (λ (m : Mark). IsPast (opening_view c).parts m.stamp.who);
+    sights = each-none (λ (s : Sight). IsPast (opening_view c).parts s.stamp.who);
+    lengths = each-none (λ (l : Length). IsPast (opening_view c).parts l.stamp.who);
+    settings = each-none (λ (s : Setting). IsPast (opening_view c).parts s.stamp.who);
+    stops = each-none (IsPast (opening_view c).parts);
   })
 
   unpoisoned-opened : NothingPoisonedYet w.frames (map (λ (v : View). v.spoiled) (opening_views layout)) (opening_homes layout) (map (λ (v : View). v.bodies) (opening_views layout))
@@ -413,13 +408,15 @@ module _ (layout : Layout) (sound : IsSound layout) (w : Words) (o : AreOpening 
 
   rule-opened : FrameRule layout w (opening_homes layout) (opening_views layout)
   rule-opened = record {
-    counts = record { balance = λ f x there.
-        let no_count : count_of x ≡ 0 = (frame f x there).2.count in
-        let no_trans : named f w.trans ≡ 0 = ap (named f) o.trans ∙ named-zeros f (length layout.trans) in
-        let no_cache : named f w.caches ≡ 0 = ap (named f) o.caches ∙ named-zeros f (length layout.pages) in
-        let no_refs : sum_by (refs_on f) (map (λ (v : View). v.refs) (opening_views layout)) ≡ 0 = no-sum (λ (v : View). v.refs) (refs_on f) (λ c. refl) in
-        let no_handled : handled_of x ≡ 0 = (frame f x there).2.handled in
-        omega arith };
+    counts = record {
+      balance = λ f x there.
+          let no_count : count_of x ≡ 0 = (frame f x there).2.count in
+          let no_trans : named f w.trans ≡ 0 = ap (named f) o.trans ∙ named-zeros f (length layout.trans) in
+          let no_cache : named f w.caches ≡ 0 = ap (named f) o.caches ∙ named-zeros f (length layout.pages) in
+          let no_refs : sum_by (refs_on f) (map (λ (v : View). v.refs) (opening_views layout)) ≡ 0 = no-sum (λ (v : View). v.refs) (refs_on f) (λ c. refl) in
+          let no_handled : handled_of x ≡ 0 = (frame f x there).2.handled in
+          omega arith;
+    };
     places = record {
       declared = λ f x k there is. (frame f x there).2.is_kernel ∙ same_Some (frame f x there).0 k (sym (frame f x there).1 ∙ is);
       placed = λ f x there is.
@@ -464,8 +461,8 @@ module _ (layout : Layout) (sound : IsSound layout) (w : Words) (o : AreOpening 
           let shelf : sum_by (of_home (λ (log : Log). from_bool (log.page.0 == q))) (opening_homes layout) ≡ 1 = homes-sum layout (λ (log : Log). from_bool (log.page.0 == q)) ∙ one-below (length layout.pages) q less in
           let no_hand : sum_all (λ (b : Held). from_bool (b.log.page.0 == q)) (map (λ (h : Holder). h.bodies) (map holder_of (opening_views layout))) ≡ 0 =
           Opening.sum-zero (sum_by (λ (b : Held). from_bool (b.log.page.0 == q))) (map (λ (h : Holder). h.bodies) (map holder_of (opening_views layout)))
-              (each-map (λ (h : Holder). h.bodies) (λ (l : List Held). sum_by (λ (b : Held). from_bool (b.log.page.0 == q)) l ≡ 0) (map holder_of (opening_views layout))
-                  (Opening.each-view holder_of (λ (h : Holder). sum_by (λ (b : Held). from_bool (b.log.page.0 == q)) h.bodies ≡ 0) layout.cpus (λ c less. refl))) in
+          (each-map (λ (h : Holder). h.bodies) (λ (l : List Held). sum_by (λ (b : Held). from_bool (b.log.page.0 == q)) l ≡ 0) (map holder_of (opening_views layout))
+          (Opening.each-view holder_of (λ (h : Holder). sum_by (λ (b : Held). from_bool (b.log.page.0 == q)) h.bodies ≡ 0) layout.cpus (λ c less. refl))) in
           omega arith;
       in_hand = Opening.each-view holder_of (λ (h : Holder). EachMember (λ (b : Held). IsHolding b.log.page.0 h) h.bodies) layout.cpus (λ c less. each-none (λ (b : Held). IsHolding b.log.page.0 (holder_of (opening_view c))));
     };

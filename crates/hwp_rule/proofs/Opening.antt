@@ -1,5 +1,5 @@
 -- The board at opening keeps the frame rule.
-use Rattle.std.proofs.Common.{◌≡◌, ◌≢◌, ◌⊎◌, inl, inr, ℕ, zero, suc, ◌+◌, ◌-◌, ◌*◌, ◌/◌, ◌%◌, ◌^◌, ◌<◌, ◌≤◌, ◌==◌, min, Bool, true, false, not, cond, List, [], ◌∷◌, ◌++◌, Option, Some, None, map, length, replicate, take, drop, get_or, slice_get, slice_index, refl, sym, ap, ◌∙◌, subst, arith}
+use Rattle.std.proofs.Common.{◌≡◌, ◌⊎◌, inl, inr, ℕ, zero, suc, ◌+◌, ◌*◌, ◌/◌, ◌%◌, ◌^◌, ◌<◌, ◌≤◌, Bool, true, false, not, List, [], ◌∷◌, ◌++◌, Some, None, map, length, replicate, take, drop, get_or, slice_get, slice_index, refl, sym, ap, ◌∙◌, subst, arith}
 use Rattle.std.specs.List.{sum_by}
 use Rattle.std.specs.Int.{from_bool}
 use Rattle.std.proofs.lemmas.List.{length-append, length-map, length-replicate, get_or-drop, drop-drop}
@@ -12,8 +12,8 @@ use Rattle.hwp_geom.specs.declared.Layout.{Layout}
 use Rattle.hwp_geom.specs.Layout.{IsSound}
 use Rattle.hwp_rule.specs.declared.view.View.{View}
 use Rattle.hwp_rule.specs.Lists.{EachMember}
-use Rattle.hwp_rule.specs.Opening.{below, opening_frame, free_bits, opening_free, opening_available, opening_policy, opening_words, opening_homes, opening_view, opening}
-use Rattle.hwp_rule.specs.Words.{Words, words_of, segment, free_bit, sum_below, free_words, trans_from, caches_from, pages_from, frees_from, available_at, bads_from, weaks_from, counter_at, processes_from, policies_from, losses_from, stop_at, size}
+use Rattle.hwp_rule.specs.Opening.{below, opening_frame, free_bits, opening_free, opening_available, opening_policy, opening_words, opening_view}
+use Rattle.hwp_rule.specs.Words.{words_of, segment, free_bit, sum_below, free_words, trans_from, caches_from, pages_from, frees_from, available_at, bads_from, weaks_from, counter_at, processes_from, policies_from, losses_from, stop_at, size}
 use Rattle.hwp_rule.proofs.Lists.{each-map, each-push, same-or, at_longer, at_map, map-was}
 
 -- the first part of a list, and what follows it
@@ -294,9 +294,9 @@ get-past (x ∷ xs) m (suc n) i e = get-past xs m n i (let h : suc n ≡ length 
 pub below-at : (n i : ℕ) → i < n → slice_get (below n) i ≡ Some i
 below-at zero i less = absurd (omega arith)
 below-at (suc n) i less = elim (same-or i n) [
-    | inl same ↦ get-past (below n) (n ∷ []) i 0 (let l : length (below n) ≡ n = length-below n in omega arith) ∙ ap (λ (m : ℕ). Some m) (sym same)
-    | inr other ↦ get-front (below n) (n ∷ []) i i (below-at n i (omega arith))
-  ]
+  | inl same ↦ get-past (below n) (n ∷ []) i 0 (let l : length (below n) ≡ n = length-below n in omega arith) ∙ ap (λ (m : ℕ). Some m) (sym same)
+  | inr other ↦ get-front (below n) (n ∷ []) i i (below-at n i (omega arith))
+]
 
 -- the word of a frame at opening
 pub record IsOpened (kernel : Bool) (w : ℕ) : Type 0 where
@@ -376,19 +376,19 @@ pub less-or : (n m : ℕ) → (n < m) ⊎ (m ≤ n)
 less-or n zero = inr (omega arith)
 less-or zero (suc m) = inl (omega arith)
 less-or (suc n) (suc m) = elim (less-or n m) [
-    | inl less ↦ inl (omega arith)
-    | inr past ↦ inr (omega arith)
-  ]
+  | inl less ↦ inl (omega arith)
+  | inr past ↦ inr (omega arith)
+]
 
 pub free-bit-past : (layout : Layout) (sound : IsSound layout) (f : ℕ) → layout.frames ≤ f → free_bit (map (opening_free layout) (below (free_words layout))) f ≡ 0
 free-bit-past layout sound f past = elim (less-or (f / 64) (free_words layout)) [
-    | inl less ↦
-        ap (λ (w : ℕ). w / 2 ^ (f % 64) % 2) (index-at (opening_free layout) (free_words layout) (f / 64) less)
-        ∙ bits-past (take 64 (drop (f / 64 * 64) layout.kernel)) (f % 64) (window layout f ∙ slice_get_past layout.kernel f (let n : length layout.kernel ≡ layout.frames = sound.kernel in omega arith))
-    | inr beyond ↦
-        ap (λ (w : ℕ). w / 2 ^ (f % 64) % 2) (index-past (map (opening_free layout) (below (free_words layout))) (f / 64) (let n = frees-len layout in omega (arith, n)))
-        ∙ ap (λ (m : ℕ). m % 2) (zero-div (2 ^ (f % 64)))
-  ]
+  | inl less ↦
+      ap (λ (w : ℕ). w / 2 ^ (f % 64) % 2) (index-at (opening_free layout) (free_words layout) (f / 64) less)
+      ∙ bits-past (take 64 (drop (f / 64 * 64) layout.kernel)) (f % 64) (window layout f ∙ slice_get_past layout.kernel f (let n : length layout.kernel ≡ layout.frames = sound.kernel in omega arith))
+  | inr beyond ↦
+      ap (λ (w : ℕ). w / 2 ^ (f % 64) % 2) (index-past (map (opening_free layout) (below (free_words layout))) (f / 64) (let n = frees-len layout in omega (arith, n)))
+      ∙ ap (λ (m : ℕ). m % 2) (zero-div (2 ^ (f % 64)))
+]
 
 -- a sum over numbers is the sum over a list whose members it goes by
 below-sum : {A : Type 0} (g : ℕ → ℕ) (h : A → ℕ) (l : List A) (n : ℕ) → n ≤ length l → ((i : ℕ) (x : A) → i < n → slice_get l i ≡ Some x → g i ≡ h x) → sum_below g n ≡ sum_by h (take n l)

@@ -1,15 +1,14 @@
 -- A reservation given back keeps the frame rule.
-use Rattle.std.proofs.Common.{◌≡◌, ℕ, zero, suc, ◌+◌, ◌-◌, ◌<◌, ◌≤◌, ◌%◌, ◌^◌, List, Some, map, set, length, slice_get, refl, sym, ap, ◌∙◌, subst, arith}
+use Rattle.std.proofs.Common.{◌≡◌, ℕ, zero, suc, ◌+◌, ◌-◌, ◌<◌, ◌≤◌, ◌%◌, ◌^◌, List, Some, map, set, slice_get, refl, arith}
 use Rattle.std.specs.List.{sum_by}
-use Rattle.hwp_geom.specs.declared.Layout.{Layout}
 use Rattle.hwp_rule.specs.declared.step.Step.TheVariants as steps
 use Rattle.hwp_rule.specs.declared.view.View.{View}
 use Rattle.hwp_rule.specs.Rule.{FrameRule, holdings_of}
-use Rattle.hwp_rule.specs.Words.{Words, free_bit, sum_below}
+use Rattle.hwp_rule.specs.Words.{free_bit, sum_below}
 use Rattle.hwp_rule.specs.parts.Free.{FreeBitsAgree}
-use Rattle.hwp_rule.specs.parts.Holdings.{AreOwn, Holdings, IsBounded, HoldingsBounded}
+use Rattle.hwp_rule.specs.parts.Holdings.{AreOwn, IsBounded, HoldingsBounded}
 use Rattle.hwp_rule.proofs.Lists.{change, at_map, each-set, sum-set, term-le}
-use Rattle.hwp_rule.proofs.Given.{Given, Keeps}
+use Rattle.hwp_rule.proofs.Given.{Keeps}
 use Rattle.hwp_rule.proofs.Kept
 
 -- a sum of bits is at most their number

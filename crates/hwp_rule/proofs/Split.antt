@@ -1,10 +1,10 @@
 -- The one list of words and its kinds: a word read or set by its place is that of its kind.
-use Rattle.std.proofs.Common.{◌≡◌, ◌≢◌, ℕ, suc, zero, ◌+◌, ◌<◌, ◌≤◌, List, [], ◌∷◌, length, take, drop, set, get_or, slice_index, refl, sym, ap, ◌∙◌, arith}
+use Rattle.std.proofs.Common.{◌≡◌, ◌≢◌, ℕ, suc, zero, ◌+◌, ◌<◌, ◌≤◌, List, [], ◌∷◌, length, take, drop, set, slice_index, refl, ap, ◌∙◌, arith}
 use Rattle.std.proofs.lemmas.List.{get_or-set_same, get_or-set_other, drop-set-add, drop-set-lt, take-set-le, get_or-take, get_or-drop}
 use Rattle.hwp_geom.specs.declared.Layout.{Layout}
 use Rattle.hwp_rule.specs.declared.place.Place.{Place}
 use Rattle.hwp_rule.specs.declared.place.Place.TheVariants as places
-use Rattle.hwp_rule.specs.Words.{Words, words_of, segment, index, read, put, size, IsPlace, free_words, trans_from, caches_from, pages_from, frees_from, available_at, bads_from, weaks_from, counter_at, processes_from, policies_from, losses_from, stop_at}
+use Rattle.hwp_rule.specs.Words.{words_of, segment, index, read, put, size, IsPlace, free_words, trans_from, caches_from, pages_from, frees_from, available_at, bads_from, weaks_from, counter_at, processes_from, policies_from, losses_from, stop_at}
 
 take-set : (n i : ℕ) (ws : List ℕ) (x : ℕ) → take n (set ws i x) ≡ set (take n ws) i x
 take-set zero i ws x = refl

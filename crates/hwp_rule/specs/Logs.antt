@@ -1,5 +1,5 @@
 -- What a body's history says: the page's state, the processes that it ended, the losses of its file.
-use Rattle.std.specs.Prelude.{ℕ, ◌+◌, ◌*◌, ◌^◌, ◌==◌, ◌&&◌, Bool, true, false, not, cond, List, [], ◌∷◌, ◌++◌, Option, Some, None, length, drop, fold, suc, slice_get, option_and_then}
+use Rattle.std.specs.Prelude.{ℕ, ◌==◌, ◌&&◌, Bool, true, false, not, cond, List, [], ◌∷◌, Option, Some, None, fold, suc, slice_get, option_and_then}
 use Rattle.std.specs.List.{sum_by, list_any}
 use Rattle.std.specs.Int.{from_bool}
 use Rattle.std.specs.FinSet as set
@@ -14,7 +14,7 @@ use Rattle.hwp_geom.specs.declared.ThreadDecl.{ThreadDecl}
 use Rattle.hwp_geom.specs.declared.TransDecl.{TransDecl}
 use Rattle.hwp_kill.specs.declared.Signal.{Signal}
 use Rattle.hwp_page.specs.declared.Entry.{Entry}
-use Rattle.hwp_page.specs.declared.Met.TheVariants.{Word, Sigbus}
+use Rattle.hwp_page.specs.declared.Met.TheVariants.{Sigbus}
 use Rattle.hwp_page.specs.declared.PageState.{PageState}
 use Rattle.hwp_page.specs.declared.Situation.TheVariants as situations
 use Rattle.hwp_page.specs.declared.What.{What}

@@ -1,5 +1,5 @@
 -- The frame rule: what holds between any two steps.
-use Rattle.std.specs.Prelude.{◌≡◌, ℕ, ◌+◌, List, map, length}
+use Rattle.std.specs.Prelude.{◌≡◌, ◌+◌, List, map, length}
 use Rattle.hwp_geom.specs.declared.Layout.{Layout}
 use Rattle.hwp_geom.specs.Layout.{IsSound}
 use Rattle.hwp_rule.specs.declared.record.State.{State}

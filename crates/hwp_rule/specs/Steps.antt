@@ -1,5 +1,5 @@
 -- The table of steps: the word that a step touches, what the word is after it, and whether the step went through.
-use Rattle.std.specs.Prelude.{ℕ, ◌+◌, ◌-◌, ◌*◌, ◌/◌, ◌%◌, ◌^◌, ◌==◌, Bool, true, false, cond, not, Option, Some, None, bit_and, bit_or, bit_xor}
+use Rattle.std.specs.Prelude.{ℕ, ◌+◌, ◌-◌, ◌*◌, ◌/◌, ◌%◌, ◌^◌, ◌==◌, Bool, true, not, Option, Some, None, bit_and, bit_or, bit_xor}
 use Rattle.std.specs.Int.{bit_not, w64, from_bool}
 use prog.Atomic.{either}
 use Rattle.hwp_geom.specs.declared.Damage.{Damage}

@@ -1,5 +1,5 @@
 -- What a seat knows after a step.
-use Rattle.std.specs.Prelude.{ℕ, suc, ◌+◌, ◌-◌, ◌*◌, ◌/◌, ◌%◌, ◌^◌, ◌==◌, nat_le, max, Bool, true, false, not, cond, List, [], ◌∷◌, ◌++◌, Option, Some, None, is_some, is_none, map, length, drop, option_map, slice_get, slice_set}
+use Rattle.std.specs.Prelude.{ℕ, suc, ◌+◌, ◌-◌, ◌%◌, ◌^◌, ◌==◌, nat_le, max, Bool, true, cond, List, [], ◌∷◌, ◌++◌, Option, Some, None, is_some, is_none, map, length, drop, option_map, slice_get, slice_set}
 use Rattle.std.specs.List.{sum_by, find}
 use Rattle.std.specs.Int.{from_bool}
 use Rattle.hwp_geom.specs.declared.Cpu.{Cpu}
@@ -10,9 +10,7 @@ use Rattle.hwp_geom.specs.declared.Page.{Page}
 use Rattle.hwp_geom.specs.declared.Proc.{Proc}
 use Rattle.hwp_geom.specs.declared.Who.{Who}
 use Rattle.hwp_page.specs.declared.Entry.{Entry}
-use Rattle.hwp_words.specs.declared.Pte.{Pte}
-use Rattle.hwp_words.specs.declared.Pte.TheVariants as ptes
-use Rattle.hwp_words.specs.Frames.{count_of, owner_of, cycle_of, is_handled, is_poisoned}
+use Rattle.hwp_words.specs.Frames.{owner_of, cycle_of, is_handled, is_poisoned}
 use Rattle.hwp_words.specs.Names.{frame_name, frame_named}
 use Rattle.hwp_words.specs.Translations.{pte_word}
 use Rattle.hwp_rule.specs.declared.log.Log.{Log}
@@ -32,7 +30,7 @@ use Rattle.hwp_rule.specs.declared.view.Stamp.{Stamp}
 use Rattle.hwp_rule.specs.declared.view.Made.{Made}
 use Rattle.hwp_rule.specs.declared.view.MarkKind.{MarkKind}
 use Rattle.hwp_rule.specs.declared.view.MarkKind.TheVariants as mark_kinds
-use Rattle.hwp_rule.specs.Steps.{place_of, damage_place, goes, is_last}
+use Rattle.hwp_rule.specs.Steps.{place_of, goes, is_last}
 use Rattle.hwp_rule.specs.Logs.{state_of, is_loss, file_of, fitting}
 
 -- the list without the first member that the test finds
@@ -58,8 +56,8 @@ abbrev pub less_refs : Frame → ℕ → List Ref → List Ref
 less_refs frame count [] = []
 less_refs frame count (r ∷ rs) =
     cond (r.frame.0 == frame.0)
-        (cond (nat_le r.count count) (less_refs frame (count - r.count) rs) (record r { count = r.count - count } ∷ rs))
-        (r ∷ less_refs frame count rs)
+    (cond (nat_le r.count count) (less_refs frame (count - r.count) rs) (record r { count = r.count - count } ∷ rs))
+    (r ∷ less_refs frame count rs)
 
 -- the frame that a translation word or a cache word names
 abbrev pub frame_in : ℕ → Option Frame
@@ -195,8 +193,8 @@ poison_listed frame v = record v { locks = changed (is_lock_of frame) (λ (l : F
 abbrev pub poisoned : Who → Frame → Bool → ℕ → View → View
 poisoned who frame hardware found v =
     cond (goes (steps.Poison frame hardware) found)
-        (record (marked who frame found (mark_kinds.Poisoned hardware) v) { owed = owing_count hardware v.owed })
-        (sighted who (places.Frame frame) found v)
+    (record (marked who frame found (mark_kinds.Poisoned hardware) v) { owed = owing_count hardware v.owed })
+    (sighted who (places.Frame frame) found v)
 
 abbrev pub revived_by : Who → Frame → ℕ → View → View
 revived_by who frame found v =
@@ -214,8 +212,8 @@ view_by layout who (steps.Reserve seen) found content v =
     cond (found == seen) (record v { reserved = v.reserved + 1 }) (sighted who places.Available found v)
 view_by layout who (steps.TakeBit frame) found content v =
     cond (goes (steps.TakeBit frame) found)
-        (record v { reserved = v.reserved - 1; hands = v.hands ++ frame ∷ [] })
-        (sighted who (place_of (steps.TakeBit frame)) found v)
+    (record v { reserved = v.reserved - 1; hands = v.hands ++ frame ∷ [] })
+    (sighted who (place_of (steps.TakeBit frame)) found v)
 view_by layout who (steps.GiveBit frame) found content v = record v { reserved = v.reserved + 1; hands = without (is_frame frame) v.hands }
 view_by layout who steps.Unreserve found content v = record v { reserved = v.reserved - 1 }
 view_by layout who (steps.Adopt frame) found content v = record (sighted who (places.Frame frame) found v) {
@@ -238,8 +236,8 @@ view_by layout who (steps.SetOwner frame page owned) found content v =
     record v { locks = changed (is_lock_of frame) (λ (l : FrameLock). record l { owner = cond owned (page.0 + 1) 0 }) v.locks }
 view_by layout who (steps.LockPage page) found content v =
     cond (goes (steps.LockPage page) found)
-        (taken layout who None content (record v { pages = v.pages ++ lock_of_page layout page content (body_of page v) ∷ [] }))
-        v
+    (taken layout who None content (record v { pages = v.pages ++ lock_of_page layout page content (body_of page v) ∷ [] }))
+    v
 view_by layout who (steps.UnlockPage page) found content v =
     record (put_home layout who content v) { pages = without (is_page_lock_of page) v.pages }
 view_by layout who (steps.SetPte slot pte) found content v = record v {

@@ -1,6 +1,5 @@
 -- The shared words of a board: one list, and the same words by their kinds.
-use Rattle.std.specs.Prelude.{ℕ, zero, suc, ◌+◌, ◌-◌, ◌*◌, ◌/◌, ◌%◌, ◌^◌, ◌<◌, ◌==◌, Bool, List, [], ◌∷◌, ◌++◌, map, length, replicate, take, drop, slice_index, slice_set, slice_get, IsSomeAnd}
-use Rattle.std.specs.Int.{from_bool}
+use Rattle.std.specs.Prelude.{ℕ, zero, suc, ◌+◌, ◌/◌, ◌%◌, ◌^◌, ◌<◌, List, length, take, drop, slice_index, slice_set}
 use Rattle.hwp_geom.specs.declared.Layout.{Layout}
 use Rattle.hwp_rule.specs.declared.place.Place.{Place}
 use Rattle.hwp_rule.specs.declared.place.Place.TheVariants as places

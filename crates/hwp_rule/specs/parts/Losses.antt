@@ -9,7 +9,7 @@ use Rattle.hwp_rule.specs.declared.view.Made.{Made}
 use Rattle.hwp_rule.specs.declared.view.Mark.{Mark}
 use Rattle.hwp_rule.specs.declared.view.Reported.{Reported}
 use Rattle.hwp_rule.specs.parts.Counter.{is_poisoning}
-use Rattle.hwp_rule.specs.Lists.{Homes, EachMember, sum_all, sum_bodies}
+use Rattle.hwp_rule.specs.Lists.{Homes, EachMember, sum_bodies}
 use Rattle.hwp_rule.specs.Logs.{is_loss, losses_of}
 
 -- what a view has to do with losses
@@ -28,6 +28,6 @@ IsPoisonLoss v = sum_by (λ (m : Made). from_bool (is_loss m.entry.what)) v.made
 pub record LossesBalance (layout : Layout) (losses : List ℕ) (homes : Homes) (bodies : List (List Held)) (views : List Losing) : Type 0 where
   pub balance : (file : FileNo) (w : ℕ) → slice_get losses file.0 ≡ Some w
       → w + sum_by (λ (v : Losing). sum_by (λ (r : Reported). cond (r.file.0 == file.0) r.count 0) v.reported) views
-          + sum_by (λ (v : Losing). sum_by (λ (n : FileNo). from_bool (n.0 == file.0)) v.owed) views
-        ≡ sum_bodies (losses_of layout file) homes bodies
+      + sum_by (λ (v : Losing). sum_by (λ (n : FileNo). from_bool (n.0 == file.0)) v.owed) views
+      ≡ sum_bodies (losses_of layout file) homes bodies
   pub poisoned : EachMember IsPoisonLoss views
