@@ -42,7 +42,7 @@ on-turn-after layout who step old new was now moves found on made = record {
     r : Rec
     r = record { who = who; step = step; found = found }
 
--- the step of a command that was begun on another processor's object is one of this command
+-- a step made after `at` named the command, as a step of the command from before `at` on
 pub own-step : {layout layout_at : Layout} {cpu : Cpu} {who_at : Who} {step : Step} {old old_at new : View} {was was_at now : Slots} {moves : Rec → Option Log → Type 0} {found : ℕ}
     (who : Who) → (layout_at ≡ layout) × (old_at ≡ old) × (was_at ≡ was) → who_at ≡ record { cpu = cpu; seq = who.seq } → cpu ≡ who.cpu
     → Steps layout_at who_at step old_at new was_at now moves found → Steps layout who step old new was now moves found

@@ -36,7 +36,7 @@ pub record IsOnTurn (view : View) (who : Who) : Type 0 where
   pub turn : IsTurnOf view who
   pub later : IsLater view who who.seq
 
--- 1 where the test is not passed, as a part of a cost
+-- what a test that fails adds to a cost: more than all turns of a task together
 abbrev pub stale : Bool → ℕ
 stale test = cond test 0 4096
 
