@@ -1,4 +1,4 @@
--- The steps of `Pin`: what each asks, and that the state after it fits.
+-- The steps of `Pin`: the state after each fits, and the turn is the planned one.
 use Rattle.std.proofs.Common.{◌≡◌, ℕ, ◌==◌, Bool, true, false, cond, Option, refl, sym, ap, ◌∙◌, subst}
 use Rattle.hwp_geom.specs.declared.Frame.{Frame}
 use Rattle.hwp_geom.specs.declared.Layout.{Layout}

@@ -1,4 +1,4 @@
--- The steps of `Release`: the state after each fits.
+-- The steps of `Release`: the state after each fits, and the turn is the planned one.
 use Rattle.std.proofs.Common.{◌≡◌, ℕ, ◌+◌, Bool, true, false, cond, List, [], ◌∷◌, ◌++◌, Option, refl, sym, ap, ◌∙◌, subst, arith}
 use Rattle.std.proofs.lemmas.Bool.{eq-eqb, ne_eqb}
 use Rattle.hwp_geom.specs.declared.Frame.{Frame}

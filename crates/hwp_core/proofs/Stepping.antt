@@ -27,9 +27,9 @@ use Rattle.hwp_rule.proofs.Split.{words-read}
 use Rattle.hwp_rule.proofs.KeptTurns.{turn-after, none-later-after}
 use Rattle.hwp_core.specs.declared.turn.Turn.{Turn}
 use Rattle.hwp_core.specs.declared.turn.Tried.{Tried}
-use Rattle.hwp_core.specs.declared.turn.Tried.TheVariants.{Busy, Changed}
+use Rattle.hwp_core.specs.declared.turn.Tried.TheVariants as tries
 use Rattle.hwp_core.specs.Calls.{Slots, Steps, IsTried, IsLater}
-use Rattle.hwp_core.specs.Turns.{Advances, IsOnTurn}
+use Rattle.hwp_core.specs.Turns.{Advances, IsOnTurn, by_try}
 
 -- a step of the processor leaves it its turn
 pub on-turn-after : (layout : Layout) (who : Who) (step : Step) (old new : View) (was now : Slots) (moves : Rec → Option Log → Type 0) (found : ℕ)
@@ -42,7 +42,7 @@ on-turn-after layout who step old new was now moves found on made = record {
     r : Rec
     r = record { who = who; step = step; found = found }
 
--- the step of a command that was begun on another processor's object is one of this command
+-- a step made after `at` named the command, as a step of the command from before `at` on
 pub own-step : {layout layout_at : Layout} {cpu : Cpu} {who_at : Who} {step : Step} {old old_at new : View} {was was_at now : Slots} {moves : Rec → Option Log → Type 0} {found : ℕ}
     (who : Who) → (layout_at ≡ layout) × (old_at ≡ old) × (was_at ≡ was) → who_at ≡ record { cpu = cpu; seq = who.seq } → cpu ≡ who.cpu
     → Steps layout_at who_at step old_at new was_at now moves found → Steps layout who step old new was now moves found
@@ -124,16 +124,10 @@ no-poison {layout} {found} frame place inside made word reading poisoned = both_
     none : is_poisoned found ≡ false
     none = unpoisoned layout made.told.board made.told.rule frame found inside (made.told.met ∙ ap (λ (p : Place). slice_index made.told.board.words (index layout p)) place)
 
--- a choice, where it is known
-pub first-way : {A : Type 0} {b : Bool} (x y : A) → b ≡ true → x ≡ cond b x y
-first-way x y is = sym (ap (λ (b : Bool). cond b x y) is)
-
-pub other-way : {A : Type 0} {b : Bool} (x y : A) → b ≡ false → y ≡ cond b x y
-other-way x y is = sym (ap (λ (b : Bool). cond b x y) is)
-
--- a step that did not go through answers the word that it found
-pub refused : {T : Type 0} {layout : Layout} {who : Who} {step : Step} {old new : View} {was now : Slots} {moves : Rec → Option Log → Type 0} {found word : ℕ} {result : Tried T}
-    → Steps layout who step old new was now moves found → IsTried step found result → (result ≡ Busy word) ⊎ (result ≡ Changed word)
-    → (goes step found ≡ false) × (word ≡ found)
-refused {T} {layout} {who} {step} {old} {new} {was} {now} {moves} {found} {word} {result} made tried (inl busy) = let t = subst (λ (r : Tried T). IsTried step found r) busy tried in (t.0, t.1.1)
-refused {T} {layout} {who} {step} {old} {new} {was} {now} {moves} {found} {word} {result} made tried (inr changed) = let t = subst (λ (r : Tried T). IsTried step found r) changed tried in (t.0, t.1.1)
+-- the answer of a step chooses as the word that it found does
+pub tried-way : {T A : Type 0} {layout : Layout} {who : Who} {step : Step} {old new : View} {was now : Slots} {moves : Rec → Option Log → Type 0} {found : ℕ}
+    (got : A) (other : ℕ → A) → Steps layout who step old new was now moves found → (result : Tried T) → IsTried step found result
+    → by_try got other result ≡ cond (goes step found) got (other found)
+tried-way {T} {A} {layout} {who} {step} {old} {new} {was} {now} {moves} {found} got other made (tries.Got x) tried = sym (ap (λ (b : Bool). cond b got (other found)) tried)
+tried-way {T} {A} {layout} {who} {step} {old} {new} {was} {now} {moves} {found} got other made (tries.Busy word) tried = ap other tried.1.1 ∙ sym (ap (λ (b : Bool). cond b got (other found)) tried.0)
+tried-way {T} {A} {layout} {who} {step} {old} {new} {was} {now} {moves} {found} got other made (tries.Changed word) tried = ap other tried.1.1 ∙ sym (ap (λ (b : Bool). cond b got (other found)) tried.0)

@@ -1,4 +1,4 @@
--- The steps of `Take`: the state after each fits.
+-- The steps of `Take`: the state after each fits, and the turn is the planned one.
 use Rattle.std.proofs.Common.{◌≡◌, ℕ, ◌+◌, ◌/◌, ◌^◌, ◌<◌, ◌≤◌, ◌==◌, nat_lt, Bool, true, false, cond, Option, Some, None, slice_index, refl, sym, ap, ◌∙◌, subst, arith}
 use Rattle.std.proofs.lemmas.Bool.{ltb-true, eqb-false}
 use Rattle.hwp_geom.specs.declared.Frame.{Frame}

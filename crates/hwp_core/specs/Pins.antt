@@ -26,6 +26,10 @@ is_gone word = (count_of word == 0) || is_handled word
 abbrev pub at_word : ℕ → PinAt
 at_word word = cond (is_gone word) (at.Gone word) (at.Get word)
 
+-- the reference was taken
+abbrev pub held : ℕ → PinAt
+held word = at.Held word
+
 abbrev pub begin : Who → Frame → Pin
 begin who frame = record { who = who; frame = frame; at = at.Load }
 

@@ -36,6 +36,14 @@ lowest_free number word = record { 0 = number * 64 + trailing_zeros w64 word }
 abbrev pub at_free : Layout → ℕ → ℕ → TakeAt
 at_free layout number word = cond (word == 0) (at.Scan (after_word layout number)) (at.TakeBit (lowest_free number word))
 
+-- a frame is reserved, and looked for from this free word on
+abbrev pub scan : ℕ → TakeAt
+scan number = at.Scan number
+
+-- the frame is in hand
+abbrev pub in_hand : Frame → TakeAt
+in_hand frame = at.Adopt frame
+
 abbrev pub begin : Who → Take
 begin who = record { who = who; at = at.Available }
 

@@ -7,8 +7,10 @@ use Rattle.hwp_rule.specs.declared.Rec.{Rec}
 use Rattle.hwp_rule.specs.declared.Step.{Step}
 use Rattle.hwp_rule.specs.declared.View.{View}
 use Rattle.hwp_rule.specs.Asks.{IsTurnOf}
+use Rattle.hwp_core.specs.declared.turn.Tried.{Tried}
+use Rattle.hwp_core.specs.declared.turn.Tried.TheVariants as tries
 use Rattle.hwp_core.specs.declared.turn.Turn.{Turn}
-use Rattle.hwp_core.specs.declared.turn.Turn.TheVariants.{Finished}
+use Rattle.hwp_core.specs.declared.turn.Turn.TheVariants.{Moved, Changed, Finished}
 use Rattle.hwp_core.specs.Calls.{Slots, Steps, IsLater}
 
 -- the turn was one step, which met a word: the task is the next one, and the turn's answer is that of the word
@@ -34,6 +36,16 @@ pub record IsOnTurn (view : View) (who : Who) : Type 0 where
   pub turn : IsTurnOf view who
   pub later : IsLater view who who.seq
 
--- 1 where the test is not passed, as a part of a cost
+-- what a test that fails adds to a cost: more than all turns of a task together
 abbrev pub stale : Bool → ℕ
 stale test = cond test 0 4096
+
+-- one of two, by whether the step went through: the other may need the word that was found
+abbrev pub by_try : {T A : Type 0} → A → (ℕ → A) → Tried T → A
+by_try got other (tries.Got x) = got
+by_try got other (tries.Busy word) = other word
+by_try got other (tries.Changed word) = other word
+
+-- what a turn of such a step comes to, where it is tried again
+abbrev pub turn_of : {T : Type 0} → Tried T → Turn
+turn_of tried = by_try Moved (λ word. Changed word) tried

@@ -2,7 +2,7 @@ ghost use Rattle.std.specs.Prelude.{◌≡◌, is_some, is_none};
 
 use crate::ops::Ops;
 use crate::task::Task;
-use crate::turn::{Tried, Turn};
+use crate::turn::{Tried, Turn, turn_of};
 use hwp_geom::{Frame, Who};
 use hwp_words::FrameWord;
 
@@ -32,7 +32,8 @@ pub enum PinAnswer {
 }
 
 impl Pin {
-    ghost use Rattle.hwp_core.specs.Pins.{begin, plan, answer, at_word};
+    ghost use Rattle.hwp_core.specs.Turns.{by_try};
+    ghost use Rattle.hwp_core.specs.Pins.{begin, plan, answer, held, at_word};
 
     /// The command takes a reference to the frame.
     pub fn new(who: Who, frame: Frame) -> Pin
@@ -65,6 +66,15 @@ impl Pin {
             PinAt::Gone { word }
         } else {
             PinAt::Get { seen: word }
+        }
+    }
+
+    fn at_tried(seen: u64, tried: Tried<()>) -> PinAt
+        ensures { result ≡ by_try (held seen) (λ word. at_word word) tried }
+    {
+        match tried {
+            Tried::Got(()) => PinAt::Held { word: seen },
+            Tried::Busy(word) | Tried::Changed(word) => Pin::at_word(word),
         }
     }
 }
@@ -100,16 +110,9 @@ impl Task for Pin {
             }
             PinAt::Get { seen } => {
                 o.at(self.who.seq);
-                match o.get_ref(self.frame, seen, 1) {
-                    Tried::Got(()) => {
-                        self.at = PinAt::Held { word: seen };
-                        Turn::Moved
-                    }
-                    Tried::Busy(word) | Tried::Changed(word) => {
-                        self.at = Pin::at_word(word);
-                        Turn::Changed(word)
-                    }
-                }
+                let tried = o.get_ref(self.frame, seen, 1);
+                self.at = Pin::at_tried(seen, tried);
+                turn_of(tried)
             }
             PinAt::Held { .. } | PinAt::Gone { .. } => Turn::Finished,
         }

@@ -1,8 +1,8 @@
-ghost use Rattle.std.specs.Prelude.{◌≡◌, ◌<◌, is_some, is_none};
+ghost use Rattle.std.specs.Prelude.{◌≡◌, ◌<◌, ◌/◌, is_some, is_none};
 
 use crate::ops::Ops;
 use crate::task::Task;
-use crate::turn::{Tried, Turn};
+use crate::turn::{Tried, Turn, turn_of};
 use hwp_geom::{Frame, Layout, Who};
 use hwp_words::FrameWord;
 
@@ -35,7 +35,8 @@ pub enum TakeAnswer {
 
 impl Take {
     ghost use Rattle.hwp_rule.specs.Words.{free_words};
-    ghost use Rattle.hwp_core.specs.Takes.{begin, plan, answer, at_available, at_free};
+    ghost use Rattle.hwp_core.specs.Turns.{by_try};
+    ghost use Rattle.hwp_core.specs.Takes.{begin, plan, answer, scan, in_hand, at_available, at_free};
 
     /// The command takes a free frame.
     pub fn new(who: Who) -> Take
@@ -69,7 +70,15 @@ impl Take {
         }
     }
 
-    /// What is to be done about the free word of this number.
+    fn at_reserved(tried: Tried<()>) -> TakeAt
+        ensures { result ≡ by_try (scan 0) (λ word. at_available word) tried }
+    {
+        match tried {
+            Tried::Got(()) => TakeAt::Scan { number: 0 },
+            Tried::Busy(word) | Tried::Changed(word) => Take::at_available(word),
+        }
+    }
+
     fn at_free(layout: &Layout, number: u32, word: u64) -> TakeAt
         requires { number < free_words layout.now }
         ensures { result ≡ at_free layout.now number word }
@@ -81,6 +90,17 @@ impl Take {
             },
             _ => TakeAt::TakeBit {
                 frame: Frame((number * 64 + word.trailing_zeros()) as u16),
+            },
+        }
+    }
+
+    fn at_bit(frame: Frame, tried: Tried<()>) -> TakeAt
+        ensures { result ≡ by_try (in_hand frame) (λ word. scan (frame.0 / 64)) tried }
+    {
+        match tried {
+            Tried::Got(()) => TakeAt::Adopt { frame },
+            Tried::Busy(_) | Tried::Changed(_) => TakeAt::Scan {
+                number: u32::from(frame.0) / 64,
             },
         }
     }
@@ -117,16 +137,9 @@ impl Task for Take {
             }
             TakeAt::Reserve { seen } => {
                 o.at(self.who.seq);
-                match o.reserve(seen) {
-                    Tried::Got(()) => {
-                        self.at = TakeAt::Scan { number: 0 };
-                        Turn::Moved
-                    }
-                    Tried::Busy(word) | Tried::Changed(word) => {
-                        self.at = Take::at_available(word);
-                        Turn::Changed(word)
-                    }
-                }
+                let tried = o.reserve(seen);
+                self.at = Take::at_reserved(tried);
+                turn_of(tried)
             }
             TakeAt::Scan { number } => {
                 o.at(self.who.seq);
@@ -136,18 +149,9 @@ impl Task for Take {
             }
             TakeAt::TakeBit { frame } => {
                 o.at(self.who.seq);
-                match o.take_bit(frame) {
-                    Tried::Got(()) => {
-                        self.at = TakeAt::Adopt { frame };
-                        Turn::Moved
-                    }
-                    Tried::Busy(word) | Tried::Changed(word) => {
-                        self.at = TakeAt::Scan {
-                            number: u32::from(frame.0) / 64,
-                        };
-                        Turn::Changed(word)
-                    }
-                }
+                let tried = o.take_bit(frame);
+                self.at = Take::at_bit(frame, tried);
+                turn_of(tried)
             }
             TakeAt::Adopt { frame } => {
                 o.at(self.who.seq);

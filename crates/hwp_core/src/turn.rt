@@ -1,3 +1,6 @@
+ghost use Rattle.std.specs.Prelude.{◌≡◌};
+ghost use Rattle.hwp_core.specs.Turns.{turn_of};
+
 /// What a step that can fail answers. `Busy` and `Changed` have the word that it found.
 #[derive(Clone, Copy, Debug, PartialEq, Eq)]
 pub enum Tried<T> {
@@ -24,4 +27,14 @@ pub enum Turn {
     Finished,
     /// Want of memory; no step was made.
     NoMemory,
+}
+
+/// What a turn of this step comes to, where it is tried again until it goes through.
+pub fn turn_of(tried: Tried<()>) -> Turn
+    ensures { result ≡ turn_of tried }
+{
+    match tried {
+        Tried::Got(()) => Turn::Moved,
+        Tried::Busy(word) | Tried::Changed(word) => Turn::Changed(word),
+    }
 }
