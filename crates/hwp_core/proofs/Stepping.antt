@@ -24,7 +24,7 @@ use Rattle.hwp_rule.specs.Rule.{Holds}
 use Rattle.hwp_rule.specs.Steps.{place_of, goes}
 use Rattle.hwp_rule.specs.Words.{words_of, segment, index, size, free_words, free_bit}
 use Rattle.hwp_rule.proofs.Split.{words-read}
-use Rattle.hwp_rule.proofs.Turns.{turn-after, none-later-after}
+use Rattle.hwp_rule.proofs.KeptTurns.{turn-after, none-later-after}
 use Rattle.hwp_core.specs.declared.turn.Turn.{Turn}
 use Rattle.hwp_core.specs.declared.turn.Tried.{Tried}
 use Rattle.hwp_core.specs.declared.turn.Tried.TheVariants.{Busy, Changed}

@@ -1,4 +1,5 @@
--- The steps that the plain board serves.
+-- The steps that the plain board serves, and what keeps their numbers within bounds.
+use Rattle.std.specs.Prelude.{◌≡◌, ℕ, ◌+◌, ◌*◌, ◌^◌, ◌<◌}
 use Rattle.hwp_rule.specs.declared.Step.{Step}
 use Rattle.hwp_rule.specs.declared.Step.TheVariants as steps
 
@@ -14,3 +15,8 @@ IsServed (steps.PutRef frame count) = Unit {0}
 IsServed (steps.LockFrame frame) = Unit {0}
 IsServed (steps.UnlockFrame frame) = Unit {0}
 IsServed step = ⊥
+
+-- the references that the step takes have room in the word that it meets
+abbrev pub HasCountRoom : Step → ℕ → Type 0
+HasCountRoom (steps.GetRef frame seen count) found = found ≡ seen → seen + count * 16 < 2 ^ 64
+HasCountRoom step found = Unit {0}

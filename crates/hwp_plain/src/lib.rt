@@ -4,9 +4,11 @@
 
 mod board;
 mod ledger;
+mod lists;
+mod opening;
+mod ops;
+mod places;
 mod tables;
+mod turns;
 
 pub use board::PlainBoard;
-
-#[cfg(test)]
-mod tests;

@@ -1,9 +1,10 @@
 ghost use Rattle.std.specs.Prelude.{◌≡◌, ◌<◌};
 ghost use Rattle.hwp_rule.specs.Steps as tables;
-ghost use Rattle.hwp_plain.specs.Served.{IsServed};
+ghost use Rattle.hwp_plain.specs.Served.{IsServed, HasCountRoom};
 
+use hwp_geom::{Frame, Kind};
 use hwp_rule::{Place, Step};
-use hwp_geom::Frame;
+use hwp_words::FrameWord;
 
 /// The word that a step touches.
 pub fn place_of(step: &Step) -> Place
@@ -14,7 +15,8 @@ pub fn place_of(step: &Step) -> Place
         Step::Load { place } => *place,
         Step::Reserve { .. } | Step::Unreserve => Place::Available,
         Step::TakeBit { frame } | Step::GiveBit { frame } => Place::Free(u32::from(frame.0 / 64)),
-        Step::Adopt { frame } | Step::GetRef { frame, .. } | Step::PutRef { frame, .. } => Place::Frame(*frame),
+        Step::Adopt { frame } | Step::GetRef { frame, .. } | Step::PutRef { frame, .. } =>
+            Place::Frame(*frame),
         Step::LockFrame { frame } | Step::UnlockFrame { frame } => Place::Frame(*frame),
         _ => unreachable!(),
     }
@@ -30,13 +32,14 @@ fn free_mask(frame: Frame) -> u64
 /// What a step makes of the word that it found.
 pub fn word_after(step: &Step, found: u64) -> u64
     requires served { IsServed step.now }
+    requires room { HasCountRoom step.now found }
     ensures { result ≡ tables.word_after step.now found }
 {
     match step {
         Step::Load { .. } => found,
         Step::Reserve { seen } => {
             if found == *seen {
-                seen.wrapping_sub(1)
+                seen.saturating_sub(1)
             } else {
                 found
             }
@@ -67,7 +70,45 @@ pub fn goes(step: &Step, found: u64) -> bool
     match step {
         Step::Reserve { seen } | Step::GetRef { seen, .. } => found == *seen,
         Step::TakeBit { frame } => (found >> (frame.0 % 64)) % 2 == 1,
-        Step::LockFrame { .. } => found % 2 == 0,
+        Step::LockFrame { .. } => !FrameWord::unpack(found).locked,
         _ => true,
+    }
+}
+
+/// The kind of a step.
+pub fn kind_of(step: &Step) -> Option<Kind>
+    requires served { IsServed step.now }
+    ensures { result ≡ tables.kind_of step.now }
+{
+    match step {
+        Step::Load { place } => load_kind(*place),
+        Step::Reserve { .. } => Some(Kind::Reserve),
+        Step::TakeBit { .. } => Some(Kind::TakeBit),
+        Step::GiveBit { .. } => Some(Kind::GiveBit),
+        Step::Unreserve => Some(Kind::Unreserve),
+        Step::Adopt { .. } => Some(Kind::Adopt),
+        Step::GetRef { .. } => Some(Kind::GetRef),
+        Step::PutRef { .. } => Some(Kind::PutRef),
+        Step::LockFrame { .. } => Some(Kind::LockFrame),
+        Step::UnlockFrame { .. } => Some(Kind::UnlockFrame),
+        _ => unreachable!(),
+    }
+}
+
+fn load_kind(place: Place) -> Option<Kind>
+    ensures { result ≡ tables.load_kind place }
+{
+    match place {
+        Place::Frame(_) => Some(Kind::LoadFrame),
+        Place::Trans(_) => Some(Kind::LoadPte),
+        Place::Cache(_) => Some(Kind::LoadCache),
+        Place::Free(_) => Some(Kind::LoadFree),
+        Place::Available => Some(Kind::LoadAvail),
+        Place::Bad(_) | Place::Weak(_) => Some(Kind::LoadBad),
+        Place::Counter => Some(Kind::LoadCount),
+        Place::Process(_) => Some(Kind::LoadProc),
+        Place::Policy(_) => Some(Kind::LoadPolicy),
+        Place::Stop => Some(Kind::LoadStop),
+        Place::Page(_) | Place::Loss(_) => None,
     }
 }
