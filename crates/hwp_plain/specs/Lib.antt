@@ -1,0 +1,5 @@
+pub mod Boards
+pub mod Openings
+pub mod Served
+pub mod Sheets
+pub mod Turns
