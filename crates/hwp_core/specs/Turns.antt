@@ -1,16 +1,20 @@
 -- What a turn of a task comes to.
-use Rattle.std.specs.Prelude.{◌≡◌, ℕ, Bool, cond, Option, Some, None}
+use Rattle.std.specs.Prelude.{◌≡◌, ◌⊎◌, ℕ, Bool, cond, Option, Some, None}
 use Rattle.hwp_geom.specs.declared.Layout.{Layout}
 use Rattle.hwp_geom.specs.declared.Who.{Who}
 use Rattle.hwp_rule.specs.declared.Log.{Log}
+use Rattle.hwp_geom.specs.declared.Kind.{Kind}
 use Rattle.hwp_rule.specs.declared.Rec.{Rec}
+use Rattle.hwp_rule.specs.declared.State.{State}
+use Rattle.hwp_rule.specs.Moves.{Move}
+use Rattle.hwp_rule.specs.Steps.{kind_of}
 use Rattle.hwp_rule.specs.declared.Step.{Step}
 use Rattle.hwp_rule.specs.declared.View.{View}
 use Rattle.hwp_rule.specs.Asks.{IsTurnOf}
 use Rattle.hwp_core.specs.declared.turn.Tried.{Tried}
 use Rattle.hwp_core.specs.declared.turn.Tried.TheVariants as tries
 use Rattle.hwp_core.specs.declared.turn.Turn.{Turn}
-use Rattle.hwp_core.specs.declared.turn.Turn.TheVariants.{Moved, Changed, Finished}
+use Rattle.hwp_core.specs.declared.turn.Turn.TheVariants.{Moved, Changed, Finished, NoMemory}
 use Rattle.hwp_core.specs.Calls.{Slots, Steps, IsLater}
 
 -- the turn was one step, which met a word: the task is the next one, and the turn's answer is that of the word
@@ -49,3 +53,23 @@ by_try got other (tries.Changed word) = other word
 -- what a turn of such a step comes to, where it is tried again
 abbrev pub turn_of : {T : Type 0} → Tried T → Turn
 turn_of tried = by_try Moved (λ word. Changed word) tried
+
+-- the room for a step was refused: nothing changed
+pub record IsRefused {S : Type 0} (a b : State) (before after : S) (result : Turn × Option Kind) : Type 0 where
+  pub board : b ≡ a
+  pub task : after ≡ before
+  pub refused : result.0 ≡ NoMemory
+  pub no_kind : result.1 ≡ None
+
+-- a step of the processor moved the board, and its kind is told
+abbrev pub MovesBoard : Layout → ℕ → State → State → Option Kind → Rec → Option Log → Type 0
+MovesBoard layout cpu a b kind r content = Move layout cpu r a b × (kind ≡ kind_of r.step)
+
+-- no step was made
+abbrev pub IsSame : State → State → Option Kind → Type 0
+IsSame a b kind = (b ≡ a) × (kind ≡ None)
+
+-- a turn of a task on a board made the planned step, or none
+abbrev pub MakesTurn : {S : Type 0} → Layout → ℕ → Who → Option Step → (ℕ → S) → (ℕ → Turn) → View → View → Slots → Slots → State → State → S → S → Turn × Option Kind → Type 0
+MakesTurn layout cpu who plan next answer old new was now a b before after result =
+    IsRefused a b before after result ⊎ Advances layout who plan next answer old new was now (MovesBoard layout cpu a b result.1) (IsSame a b result.1) before after result.0

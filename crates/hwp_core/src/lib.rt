@@ -2,6 +2,7 @@
 //! made of such steps.
 #![tactic(auto)]
 
+mod board;
 mod ops;
 mod pin;
 mod release;
@@ -9,6 +10,7 @@ mod take;
 mod task;
 mod turn;
 
+pub use board::Board;
 pub use ops::Ops;
 pub use pin::{Pin, PinAnswer};
 pub use release::{Release, ReleaseAnswer};

@@ -2,4 +2,3 @@ pub mod Boards
 pub mod Openings
 pub mod Served
 pub mod Sheets
-pub mod Turns

@@ -2,6 +2,7 @@ ghost use Rattle.std.specs.Prelude.{◌≡◌, ℕ, ◌<◌, true, false, None, 
 ghost use Rattle.hwp_geom.specs.Layout.{IsSound};
 ghost use Rattle.hwp_rule.specs.Asks.{Asks};
 ghost use Rattle.hwp_rule.specs.Opening.{opening};
+ghost use Rattle.hwp_rule.specs.Rule.{Holds};
 ghost use Rattle.hwp_rule.specs.Steps.{kind_of};
 ghost use Rattle.hwp_rule.specs.Words.{IsPlace, read, words_of};
 ghost use Rattle.hwp_core.specs.Calls.{Steps};
@@ -129,6 +130,13 @@ impl PlainBoard {
         self.ready = false;
         self.made = kind_of(step);
         found
+    }
+
+    /// The board keeps the frame rule.
+    pub(crate) fn keeps(&self)
+        ensures { Holds self.now.layout self.now.state }
+    {
+        let _layout = &self.layout;
     }
 
     /// The kind of the step that this turn made.

@@ -1,5 +1,5 @@
 use Rattle.hwp_plain.proofs.Turning.{makes-turn, others-stay}
-use Rattle.hwp_plain.proofs.board.PlainBoard.advance.Goals as goal
+use Rattle.hwp_plain.proofs.turns.PlainBoardBoard.advance.Goals as goal
 
 pub returns-in-Ok-clause-turn : goal.returns-in-Ok-clause-turn
 returns-in-Ok-clause-turn g c =
