@@ -26,7 +26,7 @@ use Rattle.hwp_plain.proofs.Stepped
 
 module _ (layout : Layout) (words : List ℕ) (out : List Bool) (shelves : List Held) (ledgers : List Sheet) where
   -- the ledger of a processor, as it is read
-  read-there : (who : Who) (ready : Bool) → IsBoard layout words out shelves ledgers who ready → (cpu n : ℕ) (sheet : Sheet) → cpu < layout.cpus → n ≡ cpu → sheet ≡ get_or ledgers n sheet → slice_get ledgers cpu ≡ Some sheet
+  pub read-there : (who : Who) (ready : Bool) → IsBoard layout words out shelves ledgers who ready → (cpu n : ℕ) (sheet : Sheet) → cpu < layout.cpus → n ≡ cpu → sheet ≡ get_or ledgers n sheet → slice_get ledgers cpu ≡ Some sheet
   read-there who ready kept cpu n sheet less at value =
       slice_get_read ledgers layout.cpus cpu sheet (sym kept.cpus) less (value ∙ ap (λ (m : ℕ). get_or ledgers m sheet) at)
 

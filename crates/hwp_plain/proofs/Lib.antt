@@ -1,3 +1,4 @@
+mod Beginning
 mod Carried
 mod Firsts
 mod Kept

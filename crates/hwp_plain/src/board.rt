@@ -163,3 +163,6 @@ fn carry(out: &mut Vec<bool>, step: &Step, found: u64)
         _ => {}
     }
 }
+
+#[cfg(test)]
+pub mod tests;

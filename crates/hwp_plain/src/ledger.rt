@@ -271,3 +271,6 @@ fn lock_found(frame: Frame, found: u64) -> FrameLock
         poisoned: word.poisoned,
     }
 }
+
+#[cfg(test)]
+pub mod tests;

@@ -12,3 +12,6 @@ mod tables;
 mod turns;
 
 pub use board::PlainBoard;
+
+#[cfg(test)]
+mod tests;
