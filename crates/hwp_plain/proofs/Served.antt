@@ -2,15 +2,15 @@
 use Rattle.hwp_rule.specs.declared.Step.{Step}
 use Rattle.hwp_rule.specs.declared.Step.TheVariants as steps
 use Rattle.hwp_rule.proofs.Given.{Keeps}
-use Rattle.hwp_rule.proofs.Loading.{keeps-load}
-use Rattle.hwp_rule.proofs.Reserve.{keeps-reserve}
+use Rattle.hwp_rule.proofs.steps.Loading.{keeps-load}
+use Rattle.hwp_rule.proofs.steps.Reserve.{keeps-reserve}
 use Rattle.hwp_rule.proofs.Reserving.{keeps-unreserve}
 use Rattle.hwp_rule.proofs.Taking.{keeps-take_bit, keeps-give_bit}
 use Rattle.hwp_rule.proofs.Adopting.{keeps-adopt}
-use Rattle.hwp_rule.proofs.Getting.{keeps-get_ref}
-use Rattle.hwp_rule.proofs.Putting.{keeps-put_ref}
+use Rattle.hwp_rule.proofs.frames.Getting.{keeps-get_ref}
+use Rattle.hwp_rule.proofs.frames.Putting.{keeps-put_ref}
 use Rattle.hwp_rule.proofs.LockFrame.{keeps-lock_frame}
-use Rattle.hwp_rule.proofs.Unlocking.{keeps-unlock_frame}
+use Rattle.hwp_rule.proofs.frames.Unlocking.{keeps-unlock_frame}
 use Rattle.hwp_plain.specs.Served.{IsServed}
 
 pub keeps-served : (step : Step) → IsServed step → Keeps step

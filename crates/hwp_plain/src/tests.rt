@@ -7,7 +7,7 @@ ghost use Rattle.hwp_plain.specs.Boards.{view_at, slots_of};
 
 use crate::board::PlainBoard;
 use crate::board::tests::{can_release, can_unlock};
-use hwp_core::{Ops, Pin, PinAnswer, Release, ReleaseAnswer, Take, TakeAnswer, Task, Turn};
+use hwp_core::{Board, Ops, Pin, PinAnswer, Release, ReleaseAnswer, Take, TakeAnswer, Task, Turn};
 use hwp_geom::{Cpu, Frame, Kind, Layout, List, OutOfMemory, Who};
 use hwp_rule::Place;
 use std::alloc::Global;

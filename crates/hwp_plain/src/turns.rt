@@ -14,14 +14,16 @@ impl Board for PlainBoard {
     ghost slots = { λ b c. slots_of (view_at c b.state) };
 
     fn advance<T: Task>(&mut self, cpu: Cpu, task: &mut T) -> (Turn, Option<Kind>) {
-        let result = match self.prepare(cpu) {
+        match self.prepare(cpu) {
             Ok(()) => {
                 let turn = task.advance(self);
+                self.keeps();
                 (turn, self.made())
             }
-            Err(_) => (Turn::NoMemory, None),
-        };
-        self.keeps();
-        result
+            Err(_) => {
+                self.keeps();
+                (Turn::NoMemory, None)
+            }
+        }
     }
 }
