@@ -1,21 +1,18 @@
 -- A processor at opening can begin a task.
-use Rattle.std.proofs.Common.{◌≡◌, ℕ, zero, suc, ◌+◌, ◌<◌, ◌≤◌, ◌==◌, Bool, cond, None, List, [], ◌∷◌, Some, map, length, slice_get, get_or, refl, sym, ap, ◌∙◌, subst, arith}
-use Rattle.std.proofs.lemmas.List.Sums.{sum_by-cons}
+use Rattle.std.proofs.Common.{◌≡◌, ℕ, zero, suc, ◌+◌, ◌<◌, ◌≤◌, Bool, None, List, Some, map, length, slice_get, get_or, refl, sym, ap, ◌∙◌, subst, arith}
 use Rattle.std.proofs.lemmas.Option.{none-some, same_Some, slice_get-get_or, get_or_from_slice_get}
-use Rattle.hwp_geom.specs.declared.Cpu.{Cpu}
 use Rattle.hwp_geom.specs.declared.Frame.{Frame}
 use Rattle.hwp_geom.specs.declared.Layout.{Layout}
 use Rattle.hwp_geom.specs.declared.Who.{Who}
 use Rattle.hwp_rule.specs.declared.FrameLock.{FrameLock}
 use Rattle.hwp_rule.specs.declared.Part.{Part}
-use Rattle.hwp_rule.specs.declared.Ref.{Ref}
 use Rattle.hwp_rule.specs.declared.View.{View}
 use Rattle.hwp_rule.specs.Asks.{CanUnlockFrame}
 use Rattle.hwp_rule.specs.Views.{refs_on, locks_on}
 use Rattle.hwp_rule.specs.Opening.{below, opening, opening_view}
-use Rattle.hwp_rule.proofs.Lists.{at_map, same-number}
+use Rattle.hwp_rule.proofs.Lists.{at_map}
 use Rattle.hwp_rule.proofs.Opening.{below-at}
-use Rattle.hwp_core.specs.Calls.{IsLater, CanFreeFrame}
+use Rattle.hwp_core.specs.Calls.{CanFreeFrame}
 use Rattle.hwp_core.specs.Pins as pins
 use Rattle.hwp_core.specs.Releases as releases
 use Rattle.hwp_core.specs.Takes.{Fits, begin}

@@ -289,7 +289,7 @@ fn a_pin_in_any_order_holds_the_frame_that_a_take_took(rt: HostRuntime) -> Resul
         };
         assert_eq!(rt;
             board.word(Place::Frame(Frame(0))),
-            held,
+            word,
             "schedule {schedule}"
         );
     }

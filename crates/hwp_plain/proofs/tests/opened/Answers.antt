@@ -1,4 +1,4 @@
-use Rattle.std.proofs.Common.{◌≡◌, ℕ, ◌<◌, sym, ap, ◌∙◌, subst}
+use Rattle.std.proofs.Common.{ℕ, ◌<◌, sym, ap, ◌∙◌, subst}
 use Rattle.hwp_plain.specs.Boards.{view_at}
 use Rattle.hwp_plain.proofs.Beginning.{view-open}
 use Rattle.hwp_plain.proofs.tests.opened.Goals as goal

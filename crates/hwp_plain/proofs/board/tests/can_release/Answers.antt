@@ -1,4 +1,4 @@
-use Rattle.std.proofs.Common.{◌≡◌, ℕ, ◌<◌, subst, sym, ap, arith, rules}
+use Rattle.std.proofs.Common.{◌<◌, subst, sym, rules}
 use Rattle.std.specs.Arc.{arc_value}
 use Rattle.hwp_core.specs.Releases.{Fits, begin}
 use Rattle.hwp_core.specs.Turns.{IsOnTurn}

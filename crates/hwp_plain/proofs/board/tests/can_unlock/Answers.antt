@@ -1,4 +1,4 @@
-use Rattle.std.proofs.Common.{◌≡◌, ℕ, ◌<◌, subst, arith, rules}
+use Rattle.std.proofs.Common.{◌<◌, subst, rules}
 use Rattle.std.specs.Arc.{arc_value}
 use Rattle.hwp_core.specs.Calls.{CanFreeFrame}
 use Rattle.hwp_core.specs.Turns.{IsOnTurn}

@@ -1,4 +1,4 @@
-use Rattle.std.proofs.Common.{◌≡◌, ℕ, ◌<◌, false, None, length, get_or, eqb-true, subst, arith, rules}
+use Rattle.std.proofs.Common.{◌≡◌, ◌<◌, false, None, length, get_or, eqb-true, subst, arith, rules}
 use Rattle.hwp_rule.specs.Asks.{CanUnlockFrame}
 use Rattle.hwp_rule.specs.declared.FrameLock.{FrameLock}
 use Rattle.hwp_plain.specs.Sheets.{Sheet, view_of}

@@ -1,4 +1,4 @@
-use Rattle.std.proofs.Common.{◌≡◌, ℕ, ◌≤◌, eqb-true, ap, subst, arith, rules}
+use Rattle.std.proofs.Common.{ℕ, eqb-true, ap, subst, arith}
 use Rattle.hwp_geom.specs.declared.Cpu.{Cpu}
 use Rattle.hwp_core.specs.Turns.{IsOnTurn}
 use Rattle.hwp_plain.specs.Sheets.{Sheet, view_of}
