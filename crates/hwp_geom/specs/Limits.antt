@@ -1,7 +1,7 @@
 -- The limits of a machine and of a script, under names that crates above can cite.
 use Rattle.std.specs.Prelude.{ℕ}
 use Rattle.hwp_geom.specs.declared.line.TheConstants.{LINES}
-use Rattle.hwp_geom.specs.declared.layout.TheConstants.{MAX_CPUS, MAX_FRAMES, MAX_FILES, MAX_PROCS, MAX_THREADS, MAX_PAGES, MAX_TRANS}
+use Rattle.hwp_geom.specs.declared.layout.TheConstants.{MAX_CPUS, MAX_FRAMES, MAX_FILES, MAX_PROCS, MAX_THREADS, MAX_PAGES, MAX_TRANS, MAX_COMMANDS}
 
 -- the lines of a page
 abbrev pub line_limit : ℕ
@@ -27,3 +27,7 @@ page_limit = MAX_PAGES
 
 abbrev pub translation_limit : ℕ
 translation_limit = MAX_TRANS
+
+-- the commands of a script, over all processors
+abbrev pub command_limit : ℕ
+command_limit = MAX_COMMANDS

@@ -19,6 +19,8 @@ pub const MAX_THREADS: u8 = 32;
 pub const MAX_PAGES: u16 = 256;
 /// The most translations of a script.
 pub const MAX_TRANS: u16 = 512;
+/// The most commands of a script, over all processors.
+pub const MAX_COMMANDS: u32 = 4096;
 
 /// What stands behind a page: nothing (anonymous memory), or a file whose words are all `fill` at opening.
 #[derive(Clone, Copy, Debug, PartialEq, Eq)]

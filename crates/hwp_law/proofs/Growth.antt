@@ -11,6 +11,7 @@ use Rattle.hwp_page.specs.declared.Entry.{Entry}
 use Rattle.hwp_page.specs.declared.What.{What}
 use Rattle.hwp_page.specs.declared.What.TheVariants as entries
 use Rattle.hwp_page.specs.declared.PageState.{PageState}
+use Rattle.hwp_page.specs.History.{state_after}
 use Rattle.hwp_page.specs.Step.{opening_of}
 use Rattle.hwp_geom.specs.declared.Layout.{Layout}
 use Rattle.hwp_geom.specs.declared.VSlot.{VSlot}
@@ -26,7 +27,7 @@ use Rattle.hwp_report.specs.declared.CpuLine.TheVariants as lines
 use Rattle.hwp_law.specs.Places.{entry_at}
 use Rattle.hwp_law.specs.History.{AreMade, AreOrdered, IsMade}
 use Rattle.hwp_law.specs.Answers.{AreAnswers, IsAnswer, IsLoadAnswer, IsPageAnswer, StandsAt, AreNamed, IsNamed, is_answering}
-use Rattle.hwp_law.specs.States.{HadState, place_named, state_after}
+use Rattle.hwp_law.specs.States.{HadState, place_named}
 
 -- the new histories are the old ones with one entry more, at the end of its page
 pub record OneMore (old new : List (List Entry)) (at : At) (e : Entry) : Type 0 where

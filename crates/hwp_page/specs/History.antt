@@ -1,5 +1,5 @@
 -- Histories of a page, and what clauses see of a body.
-use Rattle.std.specs.Prelude.{◌≡◌, ℕ, List, [], ◌∷◌, Some, slice_get}
+use Rattle.std.specs.Prelude.{◌≡◌, ℕ, List, [], ◌∷◌, Some, fold, slice_get}
 use Rattle.hwp_geom.specs.declared.Layout.{Layout}
 use Rattle.hwp_geom.specs.declared.Page.{Page}
 use Rattle.hwp_geom.specs.declared.PageKind.{PageKind}
@@ -7,6 +7,10 @@ use Rattle.hwp_geom.specs.Layout.{IsSound}
 use Rattle.hwp_page.specs.declared.state.PageState.{PageState}
 use Rattle.hwp_page.specs.declared.entry.Entry.{Entry}
 use Rattle.hwp_page.specs.Step.{Allowed, after, opening_of}
+
+-- the state after entries
+abbrev pub state_after : PageState → List Entry → PageState
+state_after s entries = fold (λ (t : PageState) (e : Entry). after t e.what) s entries
 
 -- from the first state the entries lead, step by step, to the last
 abbrev pub Leads : Layout → Page → PageState → List Entry → PageState → Type 0

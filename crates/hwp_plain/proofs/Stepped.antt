@@ -36,7 +36,7 @@ use Rattle.hwp_rule.proofs.Hands.{in_hand-mine}
 use Rattle.hwp_rule.proofs.Lists.{at_map, at_set, at_longer, set_here, term-le}
 use Rattle.hwp_rule.proofs.Moving.{holds-moved, shaped}
 use Rattle.hwp_rule.proofs.RefBounds.{count-fits}
-use Rattle.hwp_rule.proofs.Referring.{word-there}
+use Rattle.hwp_rule.proofs.Split.{word-there}
 use Rattle.hwp_rule.proofs.Split.{words-read}
 use Rattle.hwp_core.specs.Calls.{Steps, Puts, slots_after}
 use Rattle.hwp_plain.specs.Boards.{IsBoard, Moves, IsFrameWithin, slot_of, shelf_of, state_of, out_after, view_at, slots_of}
@@ -154,7 +154,7 @@ module _ (layout : Layout) (words : List ℕ) (out : List Bool) (shelves : List 
   bounded = h.holdings.bounded who.cpu.0 (holdings_of (view_of sheet)) (at_map holdings_of (map view_of ledgers) who.cpu.0 (view_of sheet) me)
 
   there : (f : ℕ) → f < layout.frames → slice_get w.frames f ≡ Some (slice_index w.frames f)
-  there f less = word-there layout w (homes out shelves) f (shaped layout a kept.holds) less
+  there f less = word-there w.frames f layout.frames (shaped layout a kept.holds).frames less
 
   -- the numbers that the step changes stay within bounds
   within-of : (step : Step) → AsksOf layout who step None (view_of sheet) → IsWithin step sheet

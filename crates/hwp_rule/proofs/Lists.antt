@@ -110,6 +110,15 @@ module _ {A : Type 0} where
       let all : sum_by f (z ∷ zs) ≡ f z + sum_by f zs = sum_by-cons f z zs in
       omega arith
 
+  -- a sum of zeros
+  pub sum-zero : (f : A → ℕ) (l : List A) → EachMember (λ (x : A). f x ≡ 0) l → sum_by f l ≡ 0
+  sum-zero f [] each = refl
+  sum-zero f (x ∷ xs) each =
+      let first : f x ≡ 0 = each zero x refl in
+      let rest : sum_by f xs ≡ 0 = sum-zero f xs (λ i y e. each (suc i) y e) in
+      let all : sum_by f (x ∷ xs) ≡ f x + sum_by f xs = sum_by-cons f x xs in
+      omega arith
+
   -- each member, under a change of one
   pub each-set : (P : A → Type 0) (l : List A) (i : ℕ) (a : A) → P a → EachMember P l → EachMember P (set l i a)
   each-set P l i a here each j x e = elim (at_set l i j a x e) [

@@ -37,9 +37,9 @@ use Rattle.hwp_rule.specs.parts.Owners.{HoldsBoth}
 use Rattle.hwp_rule.proofs.Lists.{at_map, map-was, same-number, set_again, set_here, term-le, each-push, each-weaken, each-changed, some-push, some-last, sum-changed, length-changed}
 use Rattle.hwp_rule.proofs.FrameWord.{IsLike, like-fields, like-locked}
 use Rattle.hwp_rule.proofs.Given.{Keeps, IsShaped}
-use Rattle.hwp_rule.proofs.Locking.{all_bodies, keeps-locking}
+use Rattle.hwp_rule.proofs.Locking.{all_bodies, held-bodies, keeps-locking}
 use Rattle.hwp_rule.proofs.frames.PageLocks.{or-odd, same-page, fitting-at, first-lock}
-use Rattle.hwp_rule.proofs.Referring.{word-there}
+use Rattle.hwp_rule.proofs.Split.{word-there}
 use Rattle.hwp_rule.proofs.TakenBodies.{sum-empty, each-empty, sum-taken, each-taken, only-at-home}
 
 -- a free lock that is taken, of the frame that the view has a reference to
@@ -182,14 +182,10 @@ module _ (layout : Layout) (w : Words) (homes : Homes) (views : List View) (seat
     page_locks : (q : ℕ) → page_locks_on q pages ≡ page_locks_on q v.pages
     page_locks q = sum-changed (λ (l : PageLock). from_bool (l.page.0 == q)) (is_page_lock_of log.page) (knowing layout log (Some frame)) v.pages (λ l. refl)
 
-    map-map : (views : List View) → map (λ (o : Holder). o.bodies) (map holder_of views) ≡ all_bodies views
-    map-map [] = refl
-    map-map (v ∷ vs) = ap (λ (l : List (List Held)). v.bodies ∷ l) (map-map vs)
-
     -- the page has no other body
     alone : EachBody (λ (x : Log). from_bool (x.page.0 == log.page.0) ≡ 1 → x ≡ log) homes (all_bodies views)
     alone = only-at-home (λ (x : Log). from_bool (x.page.0 == log.page.0)) homes (all_bodies views) frame.0 log inside
-        (subst (λ (l : List (List Held)). sum_bodies (λ (x : Log). from_bool (x.page.0 == log.page.0)) homes l ≡ 1) (map-map views) (h.bodies.one log.page.0 within))
+        (subst (λ (l : List (List Held)). sum_bodies (λ (x : Log). from_bool (x.page.0 == log.page.0)) homes l ≡ 1) (held-bodies views) (h.bodies.one log.page.0 within))
         (ap from_bool (same-number log.page.0 log.page.0 refl))
 
     reached-now : EachBody (λ (x : Log). x.page ≡ log.page → length log.entries ≤ length x.entries) homes (all_bodies views)
@@ -289,7 +285,7 @@ pub keeps-lock_frame : (frame : Frame) → Keeps (steps.LockFrame frame)
 keeps-lock_frame frame layout w homes views seat v who content given = which (not (is_locked (slice_index w.frames frame.0))) refl
   where
     there : slice_get w.frames frame.0 ≡ Some (slice_index w.frames frame.0)
-    there = word-there layout w homes frame.0 given.shaped given.place
+    there = word-there w.frames frame.0 layout.frames given.shaped.frames given.place
 
     -- another has the lock: nothing changes
     busy : (slice_index w.frames frame.0 % 2 ≡ 1) → FrameRule layout (record w { frames = set w.frames frame.0 (bit_or (slice_index w.frames frame.0) 1) }) homes (set views seat v)

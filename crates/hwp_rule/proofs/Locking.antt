@@ -38,6 +38,11 @@ use Rattle.hwp_rule.proofs.Kept
 abbrev pub all_bodies : List View → List (List Held)
 all_bodies views = map (λ (v : View). v.bodies) views
 
+-- the same, by what holds them
+pub held-bodies : (views : List View) → map (λ (o : Holder). o.bodies) (map holder_of views) ≡ all_bodies views
+held-bodies [] = refl
+held-bodies (v ∷ vs) = ap (λ (l : List (List Held)). v.bodies ∷ l) (held-bodies vs)
+
 -- The word of frame f becomes `now`, its slot y; of a view v with references to the frame the locks, the page locks, the
 -- bodies in hand and the lengths become these. Of y, and of each new member, what the parts ask of it.
 pub record Locking (layout : Layout) (w : Words) (homes : Homes) (views : List View) (seat : ℕ) (v : View) (f word now : ℕ) (y : Option (Option Log)) (locks : List FrameLock) (pages : List PageLock) (bodies : List Held) (lengths : List Length) : Type 1 where
@@ -163,16 +168,12 @@ module _ (layout : Layout) (w : Words) (homes : Homes) (views : List View) (seat
       shelf_out = λ q p at locked. set_else homes f (layout.frames + q) y (λ e. absurd (omega (arith, less, e))) ∙ h.bodies.shelf_out q p at locked;
       one = λ q within.
           let lists : map (λ (o : Holder). o.bodies) (set (map holder_of views) seat (holder_of u)) ≡ set (all_bodies views) seat bodies =
-          map-set (λ (o : Holder). o.bodies) (map holder_of views) seat (holder_of u) ∙ ap (λ (l : List (List Held)). set l seat bodies) (map-map views) in
+          map-set (λ (o : Holder). o.bodies) (map holder_of views) seat (holder_of u) ∙ ap (λ (l : List (List Held)). set l seat bodies) (held-bodies views) in
           let was : sum_bodies (λ (log : Log). from_bool (log.page.0 == q)) homes (all_bodies views) ≡ 1 =
-          subst (λ (l : List (List Held)). sum_bodies (λ (log : Log). from_bool (log.page.0 == q)) homes l ≡ 1) (map-map views) (h.bodies.one q within) in
+          subst (λ (l : List (List Held)). sum_bodies (λ (log : Log). from_bool (log.page.0 == q)) homes l ≡ 1) (held-bodies views) (h.bodies.one q within) in
           subst (λ (l : List (List Held)). sum_bodies (λ (log : Log). from_bool (log.page.0 == q)) (set homes f y) l ≡ 1) (sym lists) (x.sums (λ (log : Log). from_bool (log.page.0 == q)) ∙ was);
       in_hand = each-set (λ (o : Holder). EachMember (λ (b : Held). IsHolding b.log.page.0 o) o.bodies) (map holder_of views) seat (holder_of u) x.in_hand h.bodies.in_hand;
     }
-      where
-        map-map : (views : List View) → map (λ (o : Holder). o.bodies) (map holder_of views) ≡ all_bodies views
-        map-map [] = refl
-        map-map (v ∷ vs) = ap (λ (l : List (List Held)). v.bodies ∷ l) (map-map vs)
 
     entries-locking : EntriesListed (set homes f y) (set (all_bodies views) seat bodies) (map (λ (v : View). (v.made, v.sights)) views) (set (map (λ (v : View). v.lengths) views) seat lengths)
     entries-locking = record {

@@ -65,20 +65,6 @@ past-now r v turn = (turn.part.0, cond-later, there, (cpus, below))
     below : r.who.seq ≤ cond-later.latest
     below = omega arith
 
--- and it is still the turn of the step's processor
-pub turn-now : (r : Rec) (v : View) → IsTurnOf v r.who → IsTurnOf (noted r v) r.who
-turn-now r v turn = record { right = turn.right; part = (turn.part.0, later r.who p, there, (turn.part.3.0, below)) }
-  where
-    p : Part
-    p = turn.part.1
-
-    there : slice_get (noted r v).parts turn.part.0 ≡ Some (later r.who p)
-    there = at_map (λ (x : Part). cond (is_part r.who x) (later r.who x) x) v.parts turn.part.0 p turn.part.2
-        ∙ ap (λ (b : Bool). Some (cond b (later r.who p) p)) (same-number p.cpu.0 r.who.cpu.0 (ap (λ (c : Cpu). c.0) turn.part.3.0))
-
-    below : max p.latest r.who.seq ≤ r.who.seq
-    below = let latest : p.latest ≤ r.who.seq = turn.part.3.1 in omega arith
-
 -- and it is still that processor's turn
 pub turn-noted : (r : Rec) (v : View) → IsTurnOf v r.who → IsTurnOf (noted r v) r.who
 turn-noted r v turn = record {

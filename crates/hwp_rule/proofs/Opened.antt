@@ -10,6 +10,7 @@ use Rattle.std.proofs.lemmas.List.Sums.{sum_by-cons, sum_by_push, sum_by-append}
 use Rattle.std.proofs.lemmas.Option.{none-some, same_Some, slice_get_within}
 use Rattle.hwp_geom.specs.declared.Layout.{Layout}
 use Rattle.hwp_geom.specs.declared.PageKind.{PageKind}
+use Rattle.hwp_geom.specs.Limits.{command_limit}
 use Rattle.hwp_geom.specs.Layout.{IsSound}
 use Rattle.std.specs.Ordering.{nat_cmp}
 use Rattle.hwp_words.specs.declared.Pte.TheVariants as ptes
@@ -25,14 +26,14 @@ use Rattle.hwp_rule.specs.Words.{Words, words_of, free_words, free_bit, sum_belo
 use Rattle.hwp_rule.specs.Views.{refs_on, locks_on, page_locks_on}
 use Rattle.hwp_rule.specs.parts.Counts.{named}
 use Rattle.hwp_rule.specs.parts.Bodies.{Holder, IsHolding}
-use Rattle.hwp_rule.proofs.Lists.{at_longer, at_map, same-or, same-number, each-map}
+use Rattle.hwp_rule.proofs.Lists.{at_longer, at_map, same-or, same-number, each-map, sum-zero}
 use Rattle.hwp_rule.specs.parts.Places.{in_hand, IsBare}
 use Rattle.hwp_rule.specs.parts.Locks.{IsLocked}
 use Rattle.hwp_rule.specs.parts.Counter.{CounterAgrees, IsCovered, SomeHardware, is_by_hardware, is_poisoning, is_revival}
 use Rattle.hwp_rule.specs.parts.Damage.{DamageListed, is_spoil}
 use Rattle.hwp_rule.specs.parts.Entries.{EntriesListed, HasSeen, weigh}
 use Rattle.hwp_rule.specs.parts.Endings.{EndingsAgree, AreEnded, ShowsEnding}
-use Rattle.hwp_rule.specs.parts.Marks.{MarksAlternate, IsBefore, command_limit, revivals_by}
+use Rattle.hwp_rule.specs.parts.Marks.{MarksAlternate, IsBefore, revivals_by}
 use Rattle.hwp_rule.specs.parts.Losses.{LossesBalance, Losing, IsPoisonLoss}
 use Rattle.hwp_rule.specs.parts.Policies.{PoliciesListed, PolicyAgrees, IsOf, settings_of, policy_after}
 use Rattle.hwp_rule.specs.parts.Exhaustion.{usable, is_marked}
@@ -109,7 +110,7 @@ unequal n m other = ne_eqb n m other
 
 -- no word of zeros names a frame
 named-zeros : (f n : ℕ) → named f (replicate n 0) ≡ 0
-named-zeros f n = Opening.sum-zero (λ (w : ℕ). from_bool (w == f + 1)) (replicate n 0) (λ i x e. ap from_bool (unequal x (f + 1) (let is : x ≡ 0 = Opening.zeros-are n x i e in λ h. omega arith)))
+named-zeros f n = sum-zero (λ (w : ℕ). from_bool (w == f + 1)) (replicate n 0) (λ i x e. ap from_bool (unequal x (f + 1) (let is : x ≡ 0 = Opening.zeros-are n x i e in λ h. omega arith)))
 
 -- the slots of the frames, and the shelves
 abbrev empties : Layout → Homes
@@ -175,7 +176,7 @@ one-below (suc n) c less =
     elim (same-or n c) [
       | inl same ↦
           let last : from_bool (n == c) ≡ 1 = ap from_bool (same-number n c same) in
-          let rest : sum_by (λ (m : ℕ). from_bool (m == c)) (below n) ≡ 0 = Opening.sum-zero (λ (m : ℕ). from_bool (m == c)) (below n) (λ i m e. ap from_bool (unequal m c (let under : m < n = Opening.each-below n i m e in λ h. omega arith))) in
+          let rest : sum_by (λ (m : ℕ). from_bool (m == c)) (below n) ≡ 0 = sum-zero (λ (m : ℕ). from_bool (m == c)) (below n) (λ i m e. ap from_bool (unequal m c (let under : m < n = Opening.each-below n i m e in λ h. omega arith))) in
           omega arith
       | inr other ↦
           let last : from_bool (n == c) ≡ 0 = ap from_bool (unequal n c other) in
@@ -204,12 +205,12 @@ sum-same f g (x ∷ xs) same =
 homes-sum : (layout : Layout) (f : Log → ℕ) → sum_by (of_home f) (opening_homes layout) ≡ sum_by (λ (q : ℕ). f (opening_log q)) (below (length layout.pages))
 homes-sum layout f =
     let both : sum_by (of_home f) (opening_homes layout) ≡ sum_by (of_home f) (empties layout) + sum_by (of_home f) (shelves layout) = sum_by-append (of_home f) (empties layout) (shelves layout) in
-    let none : sum_by (of_home f) (empties layout) ≡ 0 = Opening.sum-zero (of_home f) (empties layout) (λ i h e. ap (of_home f) (sym (Opening.at-replicate layout.frames (Some None) h i e))) in
+    let none : sum_by (of_home f) (empties layout) ≡ 0 = sum-zero (of_home f) (empties layout) (λ i h e. ap (of_home f) (sym (Opening.at-replicate layout.frames (Some None) h i e))) in
     let some : sum_by (of_home f) (shelves layout) ≡ sum_by (λ (q : ℕ). f (opening_log q)) (below (length layout.pages)) = sum-map (of_home f) (λ (q : ℕ). Some (Some (opening_log q))) (below (length layout.pages)) in
     omega arith
 
 homes-zero : (layout : Layout) (f : Log → ℕ) → ((q : ℕ) → f (opening_log q) ≡ 0) → sum_by (of_home f) (opening_homes layout) ≡ 0
-homes-zero layout f zero_each = homes-sum layout f ∙ Opening.sum-zero (λ (q : ℕ). f (opening_log q)) (below (length layout.pages)) (λ i q e. zero_each q)
+homes-zero layout f zero_each = homes-sum layout f ∙ sum-zero (λ (q : ℕ). f (opening_log q)) (below (length layout.pages)) (λ i q e. zero_each q)
 
 -- the views at opening
 abbrev opening_views : Layout → List View
@@ -239,7 +240,7 @@ module _ (layout : Layout) (sound : IsSound layout) (w : Words) (o : AreOpening 
   is-zero l n i x is there = Opening.zeros-are n x i (ap (λ (m : List ℕ). slice_get m i) (sym is) ∙ there)
 
   no-sum : {B : Type 0} (g : View → B) (f : B → ℕ) → ((c : ℕ) → f (g (opening_view c)) ≡ 0) → sum_by f (map g (opening_views layout)) ≡ 0
-  no-sum g f zero_each = Opening.sum-zero f (map g (opening_views layout)) (Opening.each-view g (λ b. f b ≡ 0) layout.cpus (λ c less. zero_each c))
+  no-sum g f zero_each = sum-zero f (map g (opening_views layout)) (Opening.each-view g (λ b. f b ≡ 0) layout.cpus (λ c less. zero_each c))
 
   bare : (f x : ℕ) → slice_get w.frames f ≡ Some x → IsBare x
   bare f x there = record { unowned = (frame f x there).2.owner; unlocked = (frame f x there).2.lock; unhandled = (frame f x there).2.handled }
@@ -260,7 +261,7 @@ module _ (layout : Layout) (sound : IsSound layout) (w : Words) (o : AreOpening 
         let biased : biased_poisoned_of w.counter ≡ 2 ^ 31 = ap biased_poisoned_of o.counter in
         let owed : sum_by (λ (d : Debts × List Mark). d.0.counts + d.0.hardware) (map (λ (v : View). (v.owed, v.marks)) (opening_views layout)) ≡ 0 = no-sum (λ (v : View). (v.owed, v.marks)) (λ (d : Debts × List Mark). d.0.counts + d.0.hardware) (λ c. refl) in
         let back : sum_by (λ (d : Debts × List Mark). d.0.uncounts) (map (λ (v : View). (v.owed, v.marks)) (opening_views layout)) ≡ 0 = no-sum (λ (v : View). (v.owed, v.marks)) (λ (d : Debts × List Mark). d.0.uncounts) (λ c. refl) in
-        let none : sum_by poison_of w.frames ≡ 0 = Opening.sum-zero poison_of w.frames (λ i x e. (frame i x e).2.poison) in
+        let none : sum_by poison_of w.frames ≡ 0 = sum-zero poison_of w.frames (λ i x e. (frame i x e).2.poison) in
         omega arith;
     hardware =
         let none : hardware_of w.counter ≡ 0 = ap hardware_of o.counter in
@@ -460,7 +461,7 @@ module _ (layout : Layout) (sound : IsSound layout) (w : Words) (o : AreOpening 
       one = λ q less.
           let shelf : sum_by (of_home (λ (log : Log). from_bool (log.page.0 == q))) (opening_homes layout) ≡ 1 = homes-sum layout (λ (log : Log). from_bool (log.page.0 == q)) ∙ one-below (length layout.pages) q less in
           let no_hand : sum_all (λ (b : Held). from_bool (b.log.page.0 == q)) (map (λ (h : Holder). h.bodies) (map holder_of (opening_views layout))) ≡ 0 =
-          Opening.sum-zero (sum_by (λ (b : Held). from_bool (b.log.page.0 == q))) (map (λ (h : Holder). h.bodies) (map holder_of (opening_views layout)))
+          sum-zero (sum_by (λ (b : Held). from_bool (b.log.page.0 == q))) (map (λ (h : Holder). h.bodies) (map holder_of (opening_views layout)))
           (each-map (λ (h : Holder). h.bodies) (λ (l : List Held). sum_by (λ (b : Held). from_bool (b.log.page.0 == q)) l ≡ 0) (map holder_of (opening_views layout))
           (Opening.each-view holder_of (λ (h : Holder). sum_by (λ (b : Held). from_bool (b.log.page.0 == q)) h.bodies ≡ 0) layout.cpus (λ c less. refl))) in
           omega arith;

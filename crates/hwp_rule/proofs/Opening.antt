@@ -5,7 +5,7 @@ use Rattle.std.specs.Int.{from_bool}
 use Rattle.std.proofs.lemmas.List.{length-append, length-map, length-replicate, get_or-drop, drop-drop}
 use Rattle.std.proofs.Math.Nat.{pow-succ', zero-div, div-div-eq-div-mul}
 use Rattle.std.proofs.lemmas.List.{take_all}
-use Rattle.std.proofs.lemmas.List.Sums.{sum_by-cons, sum_by_more}
+use Rattle.std.proofs.lemmas.List.Sums.{sum_by_more}
 use Rattle.hwp_words.specs.Frames.{count_of, owner_of, lock_of, handled_of, poison_of, cycle_of, is_kernel}
 use Rattle.std.proofs.lemmas.Option.{none-some, same_Some, get_or_from_slice_get, slice_get_past}
 use Rattle.hwp_geom.specs.declared.Layout.{Layout}
@@ -43,15 +43,6 @@ length-below (suc n) = length-append (below n) (n ∷ []) ∙ (let h : length (b
 pub each-below : (n : ℕ) → EachMember (λ (m : ℕ). m < n) (below n)
 each-below zero = λ i x e. absurd (none-some x e)
 each-below (suc n) = each-push (λ (m : ℕ). m < suc n) (below n) n (omega arith) (λ i x e. let h : x < n = each-below n i x e in omega arith)
-
--- a sum of zeros
-pub sum-zero : {A : Type 0} (f : A → ℕ) (l : List A) → EachMember (λ (x : A). f x ≡ 0) l → sum_by f l ≡ 0
-sum-zero f [] each = refl
-sum-zero f (x ∷ xs) each =
-    let first : f x ≡ 0 = each zero x refl in
-    let rest : sum_by f xs ≡ 0 = sum-zero f xs (λ i y e. each (suc i) y e) in
-    let all : sum_by f (x ∷ xs) ≡ f x + sum_by f xs = sum_by-cons f x xs in
-    omega arith
 
 -- a projection of the opening views that is the same for each of them
 pub each-view : {B : Type 0} (g : View → B) (P : B → Type 0) (n : ℕ) → ((c : ℕ) → c < n → P (g (opening_view c))) → EachMember P (map g (map opening_view (below n)))

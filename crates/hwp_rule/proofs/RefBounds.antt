@@ -15,18 +15,12 @@ use Rattle.hwp_rule.specs.Views.{refs_on}
 use Rattle.hwp_rule.specs.Words.{Words, sum_below}
 use Rattle.hwp_rule.specs.parts.Counts.{named}
 use Rattle.hwp_rule.specs.parts.Holdings.{Holdings, IsBounded, frames_held, ProcessorsApart}
+use Rattle.hwp_rule.proofs.Counting.{below-zero}
 use Rattle.hwp_rule.proofs.Given.{IsShaped}
 use Rattle.hwp_rule.proofs.Lists.{same-number, same-or}
 use Rattle.hwp_rule.proofs.Refs.{refs-none}
 
 -- ---- each processor once: no more parts than processors
-
-sum_below-zero : (f : ℕ → ℕ) (n : ℕ) → ((c : ℕ) → c < n → f c ≡ 0) → sum_below f n ≡ 0
-sum_below-zero f zero none = refl
-sum_below-zero f (suc n) none =
-    let rest : sum_below f n ≡ 0 = sum_below-zero f n (λ c less. none c (omega arith)) in
-    let last : f n ≡ 0 = none n (omega arith) in
-    omega arith
 
 sum_below-add : (f g h : ℕ → ℕ) (n : ℕ) → ((c : ℕ) → f c ≡ g c + h c) → sum_below f n ≡ sum_below g n + sum_below h n
 sum_below-add f g h zero each = refl
@@ -39,7 +33,7 @@ sum_below-one : (f : ℕ → ℕ) (k n : ℕ) → k < n → f k ≡ 1 → ((c : 
 sum_below-one f k zero less one none = absurd (omega arith)
 sum_below-one f k (suc n) less one none = elim (same-or n k) [
   | inl same ↦
-      let rest : sum_below f n ≡ 0 = sum_below-zero f n (λ c below. none c (λ e. absurd (omega (arith, same, e, below)))) in
+      let rest : sum_below f n ≡ 0 = below-zero f n (λ c below. none c (λ e. absurd (omega (arith, same, e, below)))) in
       let last : f n ≡ 1 = ap f same ∙ one in
       omega arith
   | inr differs ↦
@@ -53,7 +47,7 @@ abbrev of_cpu : ℕ → Part → ℕ
 of_cpu c p = from_bool (p.cpu.0 == c)
 
 parts-counted : (n : ℕ) (list : List Part) → EachMember (λ (p : Part). p.cpu.0 < n) list → sum_below (λ c. sum_by (of_cpu c) list) n ≡ length list
-parts-counted n [] each = sum_below-zero (λ c. sum_by (of_cpu c) []) n (λ c less. refl)
+parts-counted n [] each = below-zero (λ c. sum_by (of_cpu c) []) n (λ c less. refl)
 parts-counted n (p ∷ ps) each =
     let here : p.cpu.0 < n = each 0 p refl in
     let rest : sum_below (λ c. sum_by (of_cpu c) ps) n ≡ length ps = parts-counted n ps (λ i x e. each (suc i) x e) in
@@ -63,7 +57,7 @@ parts-counted n (p ∷ ps) each =
     omega arith
 
 all-parts-counted : (n : ℕ) (lists : List (List Part)) → EachListed (λ (p : Part). p.cpu.0 < n) lists → sum_below (λ c. sum_all (of_cpu c) lists) n ≡ sum_by (λ (l : List Part). length l) lists
-all-parts-counted n [] each = sum_below-zero (λ c. sum_all (of_cpu c) []) n (λ c less. refl)
+all-parts-counted n [] each = below-zero (λ c. sum_all (of_cpu c) []) n (λ c less. refl)
 all-parts-counted n (l ∷ ls) each =
     let here : sum_below (λ c. sum_by (of_cpu c) l) n ≡ length l = parts-counted n l (each 0 l refl) in
     let rest : sum_below (λ c. sum_all (of_cpu c) ls) n ≡ sum_by (λ (l : List Part). length l) ls = all-parts-counted n ls (λ i x e. each (suc i) x e) in

@@ -1,36 +1,29 @@
--- Steps on a frame's count keep the frame rule, where the parts on counts, places and locks do; and a word that is shown.
-use Rattle.std.proofs.Common.{◌≡◌, ◌≢◌, ℕ, ◌+◌, ◌<◌, List, Some, map, set, length, slice_get, slice_index, slice_set, refl, sym, ap, subst, arith}
-use Rattle.std.proofs.lemmas.Option.{slice_get_within, slice_get-get_or}
+-- Steps on a frame's count keep the frame rule, where the parts on counts, places and locks do.
+use Rattle.std.proofs.Common.{◌≡◌, ◌≢◌, ℕ, ◌+◌, ◌<◌, List, Some, map, set, length, slice_get, refl, ap, arith}
+use Rattle.std.proofs.lemmas.Option.{slice_get_within}
 use Rattle.hwp_geom.specs.declared.Frame.{Frame}
 use Rattle.hwp_geom.specs.declared.Layout.{Layout}
 use Rattle.hwp_geom.specs.declared.Who.{Who}
 use Rattle.hwp_words.specs.Frames.{lock_of}
-use Rattle.hwp_rule.specs.declared.place.Place.TheVariants as places
 use Rattle.hwp_rule.specs.declared.view.FrameLock.{FrameLock}
 use Rattle.hwp_rule.specs.declared.view.Part.{Part}
 use Rattle.hwp_rule.specs.declared.view.Ref.{Ref}
 use Rattle.hwp_rule.specs.declared.view.View.{View}
 use Rattle.hwp_rule.specs.Lists.{Homes, EachMember}
 use Rattle.hwp_rule.specs.Rule.{FrameRule, holdings_of, holder_of}
-use Rattle.hwp_rule.specs.Views.{refs_on, locks_on, sighted, stamp_of}
+use Rattle.hwp_rule.specs.Views.{refs_on, locks_on}
 use Rattle.hwp_rule.specs.Words.{Words}
 use Rattle.hwp_rule.specs.parts.Counts.{CountsBalance}
 use Rattle.hwp_rule.specs.parts.Holdings.{AreOwn, IsBounded, HoldingsBounded, IsPast}
 use Rattle.hwp_rule.specs.parts.Locks.{FrameLocksHeld}
 use Rattle.hwp_rule.specs.parts.Places.{HasOnePlace}
-use Rattle.hwp_rule.proofs.Lists.{change, at_map, set_again, each-set}
-use Rattle.hwp_rule.proofs.Given.{IsShaped}
+use Rattle.hwp_rule.proofs.Lists.{change, at_map, each-set}
 use Rattle.hwp_rule.proofs.FrameWord.{IsLike, like-translations, like-caches, like-handled, like-counter, like-marks, like-unpoisoned, like-locked, like-bodies, locked-again}
-use Rattle.hwp_rule.proofs.Sights.{keeps-sight, explained-frame}
 use Rattle.hwp_rule.proofs.Kept
 
 -- a processor's view is not without processors
 pub past-some : (parts : List Part) (who : Who) → IsPast parts who → length parts ≢ 0
 past-some parts who past = let within : past.0 < length parts = slice_get_within parts past.0 past.1 past.2 in λ e. omega (arith, e)
-
--- the word of a frame of the layout stands there
-pub word-there : (layout : Layout) (w : Words) (homes : Homes) (f : ℕ) → IsShaped layout w homes → f < layout.frames → slice_get w.frames f ≡ Some (slice_index w.frames f)
-word-there layout w homes f shaped less = slice_get-get_or w.frames f 0 (subst (λ (n : ℕ). f < n) (sym shaped.frames) less)
 
 -- a frame's count, a view's references and its frames in hand change
 module _ (layout : Layout) (w : Words) (homes : Homes) (views : List View) (seat : ℕ) (v : View) (f word now : ℕ) (refs : List Ref) (hands : List Frame) where
@@ -78,12 +71,3 @@ module _ (layout : Layout) (w : Words) (homes : Homes) (views : List View) (seat
 
       own : AreOwn v
       own = h.commands.own seat v me
-
--- an exchange that met another word shows it, and changes nothing
-pub keeps-shown : (layout : Layout) (w : Words) (homes : Homes) (views : List View) (seat : ℕ) (v : View) (who : Who) (frame : Frame)
-    → slice_get views seat ≡ Some v → IsPast v.parts who → slice_get w.frames frame.0 ≡ Some (slice_index w.frames frame.0) → FrameRule layout w homes views
-    → FrameRule layout (record w { frames = slice_set w.frames frame.0 (slice_index w.frames frame.0) }) homes (set views seat (sighted who (places.Frame frame) (slice_index w.frames frame.0) v))
-keeps-shown layout w homes views seat v who frame me past there h =
-    subst (λ (list : List ℕ). FrameRule layout (record w { frames = list }) homes (set views seat (sighted who (places.Frame frame) (slice_index w.frames frame.0) v)))
-    (sym (set_again w.frames frame.0 (slice_index w.frames frame.0) there))
-    (keeps-sight layout w homes views seat v who (places.Frame frame) (slice_index w.frames frame.0) me past (explained-frame layout w homes views (stamp_of who v) frame (slice_index w.frames frame.0) there) h)

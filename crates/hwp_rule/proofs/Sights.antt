@@ -14,7 +14,6 @@ use Rattle.hwp_page.specs.declared.What.{What}
 use Rattle.hwp_page.specs.declared.What.TheVariants as entries
 use Rattle.hwp_words.specs.Counters.{hardware_of}
 use Rattle.hwp_words.specs.Frames.{poison_of, cycle_of}
-use Rattle.hwp_words.specs.Policies.{policy_code}
 use Rattle.hwp_words.specs.Stops.{stopper_of}
 use Rattle.hwp_rule.specs.declared.place.Place.{Place}
 use Rattle.hwp_rule.specs.declared.place.Place.TheVariants as places
@@ -26,8 +25,9 @@ use Rattle.hwp_rule.specs.declared.view.Stamp.{Stamp}
 use Rattle.hwp_rule.specs.declared.view.View.{View}
 use Rattle.hwp_rule.specs.Lists.{Homes, EachMember, EachListed}
 use Rattle.hwp_rule.specs.Rule.{FrameRule}
+use Rattle.hwp_rule.specs.Steps.{policy_at}
 use Rattle.hwp_rule.specs.Views.{sighted, stamp_of}
-use Rattle.hwp_rule.specs.Words.{Words, sum_below}
+use Rattle.hwp_rule.specs.Words.{Words, sum_below, read, put}
 use Rattle.hwp_rule.specs.parts.Counter.{CounterAgrees, SomeHardware}
 use Rattle.hwp_rule.specs.parts.Damage.{DamageListed}
 use Rattle.hwp_rule.specs.parts.Endings.{EndingsAgree, ShowsEnding}
@@ -38,6 +38,7 @@ use Rattle.hwp_rule.specs.parts.Marks.{MarksAlternate, IsBefore}
 use Rattle.hwp_rule.specs.parts.Policies.{PoliciesListed, PolicyAgrees, IsOf, settings_of, policy_after}
 use Rattle.hwp_rule.specs.parts.Stops.{EndingsAndStopsStay}
 use Rattle.hwp_rule.proofs.Lists.{change, keep, at_map, each-set, each-push, each-weaken, some-push, sum-set}
+use Rattle.hwp_rule.proofs.Split.{same-put}
 use Rattle.hwp_rule.proofs.Kept
 
 -- what the parts ask of a sight, on a board that keeps the rule
@@ -69,7 +70,7 @@ seen-more sights s who frame entries.Out has = mask-more sights s who frame 0 ha
 seen-more sights s who frame entries.Soft has = mask-more sights s who frame 0 has
 seen-more sights s who frame (entries.Fail situation required seen signals) has =
     each-weaken (HasPolicy sights who) (HasPolicy (sights ++ s ∷ []) who) seen
-    (λ p some. some-push (λ (s : Sight). (s.stamp.who ≡ who) × (s.place ≡ places.Policy p.thread) × (s.word ≡ p.n * 4 + policy_code p.policy)) sights s some) has
+    (λ p some. some-push (λ (s : Sight). (s.stamp.who ≡ who) × (s.place ≡ places.Policy p.thread) × (s.word ≡ policy_at p.n p.policy)) sights s some) has
 seen-more sights s who frame _ has = has
 
 module _ (layout : Layout) (w : Words) (homes : Homes) (views : List View) (seat : ℕ) (v : View) (s : Sight) where
@@ -209,6 +210,15 @@ pub keeps-sight : (layout : Layout) (w : Words) (homes : Homes) (views : List Vi
     → IsExplained layout w homes views (record { stamp = stamp_of who v; place = place; word = word })
     → FrameRule layout w homes views → FrameRule layout w homes (set views seat (sighted who place word v))
 keeps-sight layout w homes views seat v who place word me past x h = kept-sight layout w homes views seat v (record { stamp = stamp_of who v; place = place; word = word }) me h past x
+
+-- a step that leaves the word of a place as it was, and shows it
+pub keeps-shown : (layout : Layout) (w : Words) (homes : Homes) (views : List View) (seat : ℕ) (v : View) (who : Who) (place : Place)
+    → slice_get views seat ≡ Some v → IsPast v.parts who
+    → IsExplained layout w homes views (record { stamp = stamp_of who v; place = place; word = read place w })
+    → FrameRule layout w homes views → FrameRule layout (put place (read place w) w) homes (set views seat (sighted who place (read place w) v))
+keeps-shown layout w homes views seat v who place me past x h =
+    subst (λ (other : Words). FrameRule layout other homes (set views seat (sighted who place (read place w) v))) (sym (same-put place w))
+    (keeps-sight layout w homes views seat v who place (read place w) me past x h)
 
 -- places tell apart; 0 for those of which no part says what a sight shows
 abbrev pub shown_place : Place → ℕ

@@ -1,10 +1,11 @@
--- The one list of words and its kinds: a word read or set by its place is that of its kind.
-use Rattle.std.proofs.Common.{◌≡◌, ◌≢◌, ℕ, suc, zero, ◌+◌, ◌<◌, ◌≤◌, List, [], ◌∷◌, length, take, drop, set, slice_index, refl, ap, ◌∙◌, arith}
-use Rattle.std.proofs.lemmas.List.{get_or-set_same, get_or-set_other, drop-set-add, drop-set-lt, take-set-le, get_or-take, get_or-drop}
+-- The words and their one list: a word read or set by its place is that of its kind.
+use Rattle.std.proofs.Common.{◌≡◌, ◌≢◌, ℕ, suc, zero, ◌+◌, ◌<◌, ◌≤◌, List, [], ◌∷◌, Some, length, take, drop, set, slice_get, slice_index, refl, ap, ◌∙◌, arith}
+use Rattle.std.proofs.lemmas.List.{get_or-set_same, get_or-set_other, drop-set-add, drop-set-lt, take-set-le, get_or-take, get_or-drop, set-get_or}
+use Rattle.std.proofs.lemmas.Option.{slice_get-get_or}
 use Rattle.hwp_geom.specs.declared.Layout.{Layout}
 use Rattle.hwp_rule.specs.declared.place.Place.{Place}
 use Rattle.hwp_rule.specs.declared.place.Place.TheVariants as places
-use Rattle.hwp_rule.specs.Words.{words_of, segment, index, read, put, size, IsPlace, free_words, trans_from, caches_from, pages_from, frees_from, available_at, bads_from, weaks_from, counter_at, processes_from, policies_from, losses_from, stop_at}
+use Rattle.hwp_rule.specs.Words.{Words, words_of, segment, index, read, put, size, IsPlace, free_words, trans_from, caches_from, pages_from, frees_from, available_at, bads_from, weaks_from, counter_at, processes_from, policies_from, losses_from, stop_at}
 
 take-set : (n i : ℕ) (ws : List ℕ) (x : ℕ) → take n (set ws i x) ≡ set (take n ws) i x
 take-set zero i ws x = refl
@@ -33,6 +34,26 @@ set-other ws i j x other = get_or-set_other ws i j x 0 other
 
 segment-at : (from count j : ℕ) (ws : List ℕ) → j < count → slice_index (segment from count ws) j ≡ slice_index ws (from + j)
 segment-at from count j ws less = get_or-take count (drop from ws) j 0 less ∙ get_or-drop from ws j 0
+
+-- a word of its kind is one of the board
+pub word-there : (words : List ℕ) (number count : ℕ) → length words ≡ count → number < count → slice_get words number ≡ Some (slice_index words number)
+word-there words number count wide inside = slice_get-get_or words number 0 (omega arith)
+
+-- the word of a place written to it again
+pub same-put : (place : Place) (w : Words) → put place (read place w) w ≡ w
+same-put (places.Frame frame) w = λ i. record w { frames = set-get_or w.frames frame.0 0 i }
+same-put (places.Trans slot) w = λ i. record w { trans = set-get_or w.trans slot.0 0 i }
+same-put (places.Cache page) w = λ i. record w { caches = set-get_or w.caches page.0 0 i }
+same-put (places.Page page) w = λ i. record w { pages = set-get_or w.pages page.0 0 i }
+same-put (places.Free number) w = λ i. record w { frees = set-get_or w.frees number 0 i }
+same-put places.Available w = refl
+same-put (places.Bad frame) w = λ i. record w { bads = set-get_or w.bads frame.0 0 i }
+same-put (places.Weak frame) w = λ i. record w { weaks = set-get_or w.weaks frame.0 0 i }
+same-put places.Counter w = refl
+same-put (places.Process process) w = λ i. record w { processes = set-get_or w.processes process.0 0 i }
+same-put (places.Policy thread) w = λ i. record w { policies = set-get_or w.policies thread.0 0 i }
+same-put (places.Loss file) w = λ i. record w { losses = set-get_or w.losses file.0 0 i }
+same-put places.Stop w = refl
 
 -- the word of a place is the one that stands at its number
 pub words-read : (layout : Layout) (words : List ℕ) (place : Place) → IsPlace layout place → read place (words_of layout words) ≡ slice_index words (index layout place)

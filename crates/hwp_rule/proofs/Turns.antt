@@ -2,7 +2,6 @@
 use Rattle.std.proofs.Common.{◌≡◌, ℕ, suc, zero, ◌+◌, ◌<◌, ◌≤◌, ◌==◌, ◌&&◌, nat_lt, eq-eqb, eqb-true, ltb-false, ltb-true, Bool, true, false, List, [], ◌∷◌, Some, map, slice_get, inl, inr, refl, sym, ap, ◌∙◌, subst, arith}
 use Rattle.std.specs.Int.{from_bool}
 use Rattle.std.specs.List.{sum_by}
-use Rattle.std.proofs.lemmas.List.Sums.{sum_by-cons}
 use Rattle.std.proofs.lemmas.Option.{none-some, same_Some}
 use Rattle.hwp_geom.specs.declared.Cpu.{Cpu}
 use Rattle.hwp_geom.specs.declared.Layout.{Layout}
@@ -21,15 +20,7 @@ use Rattle.hwp_rule.specs.Rule.{FrameRule}
 use Rattle.hwp_rule.specs.Words.{Words}
 use Rattle.hwp_rule.specs.parts.Entries.{weigh, weigh_from}
 use Rattle.hwp_rule.specs.parts.Holdings.{AreOwn, IsPast, ProcessorsApart}
-use Rattle.hwp_rule.proofs.Lists.{same-or, at_map, map-was, term-le, terms-le}
-
-all-zero : {A : Type 0} (f : A → ℕ) (l : List A) → EachMember (λ (x : A). f x ≡ 0) l → sum_by f l ≡ 0
-all-zero f [] each = refl
-all-zero f (x ∷ xs) each =
-    let first : f x ≡ 0 = each 0 x refl in
-    let rest : sum_by f xs ≡ 0 = all-zero f xs (λ i y e. each (suc i) y e) in
-    let all : sum_by f (x ∷ xs) ≡ f x + sum_by f xs = sum_by-cons f x xs in
-    omega arith
+use Rattle.hwp_rule.proofs.Lists.{same-or, at_map, map-was, term-le, terms-le, sum-zero}
 
 -- two views with a part of the same processor are one
 pub one-view : (layout : Layout) (parts : List (List Part)) → ProcessorsApart layout parts
@@ -123,11 +114,11 @@ module _ (layout : Layout) (w : Words) (homes : Homes) (views : List View) (seat
           absurd (omega arith)
 
   none-made : sum_by (λ (x : List Made × List Sight). sum_by (λ (m : Made). is_later m.entry) x.0) (map (λ (v : View). (v.made, v.sights)) views) ≡ 0
-  none-made = all-zero (λ (x : List Made × List Sight). sum_by (λ (m : Made). is_later m.entry) x.0) (map (λ (v : View). (v.made, v.sights)) views) (λ i y is.
+  none-made = sum-zero (λ (x : List Made × List Sight). sum_by (λ (m : Made). is_later m.entry) x.0) (map (λ (v : View). (v.made, v.sights)) views) (λ i y is.
       let was : (x : View) × (slice_get views i ≡ Some x) × ((x.made, x.sights) ≡ y) = map-was (λ (v : View). (v.made, v.sights)) views i y is in
       let own : AreOwn was.0 = h.commands.own i was.0 was.1 in
       subst (λ (z : List Made × List Sight). sum_by (λ (m : Made). is_later m.entry) z.0 ≡ 0) was.2
-      (all-zero (λ (m : Made). is_later m.entry) was.0.made (λ j m listed. was-not-later m.entry (not-later i was.0 m.entry.who was.1 (own.made j m listed)))))
+      (sum-zero (λ (m : Made). is_later m.entry) was.0.made (λ j m listed. was-not-later m.entry (not-later i was.0 m.entry.who was.1 (own.made j m listed)))))
 
   none-later : sum_bodies (weigh (λ (page : Page) (place : ℕ) (e : Entry). is_later e)) homes (map (λ (v : View). v.bodies) views) ≡ 0
   none-later = h.entries.balance (λ (page : Page) (place : ℕ) (e : Entry). is_later e) ∙ none-made

@@ -1,9 +1,7 @@
 -- Kinds of step that no board makes until memory failure is served, since no frame has POISON.
-use Rattle.std.proofs.Common.{◌≡◌, ℕ, ◌==◌, Bool, true, false, cond, List, Some, set, get_or, slice_get, refl, sym, ap, ◌∙◌, subst, arith}
+use Rattle.std.proofs.Common.{◌≡◌, ℕ, ◌==◌, Bool, true, false, cond, Some, set, get_or, slice_get, refl, ap, ◌∙◌, arith}
 use prog.Atomic.{either}
 use Rattle.std.proofs.lemmas.Bool.{eqb-true}
-use Rattle.std.proofs.lemmas.List.{set-get_or}
-use Rattle.std.proofs.lemmas.Option.{slice_get-get_or}
 use Rattle.hwp_geom.specs.declared.Frame.{Frame}
 use Rattle.hwp_words.specs.Frames.{poison_of, handled_of}
 use Rattle.hwp_rule.specs.declared.place.Place.TheVariants as places
@@ -16,8 +14,9 @@ use Rattle.hwp_rule.specs.Steps.{revived}
 use Rattle.hwp_rule.specs.Views.{sighted, revived_by, stamp_of}
 use Rattle.hwp_rule.specs.parts.Handled.{IsOutOfUse}
 use Rattle.hwp_rule.specs.parts.Locks.{IsLocked}
+use Rattle.hwp_rule.proofs.Split.{word-there}
 use Rattle.hwp_rule.proofs.Lists.{at_map}
-use Rattle.hwp_rule.proofs.Sights.{keeps-sight, explained-frame}
+use Rattle.hwp_rule.proofs.Sights.{keeps-shown, explained-frame}
 use Rattle.hwp_rule.proofs.Given.{Keeps}
 
 -- a locked frame would be poisoned
@@ -50,7 +49,7 @@ keeps-revive frame seen layout w homes views seat v who content given = which (w
     word = get_or w.frames frame.0 0
 
     there : slice_get w.frames frame.0 ≡ Some word
-    there = slice_get-get_or w.frames frame.0 0 (omega (arith, given.place, given.shaped.frames))
+    there = word-there w.frames frame.0 layout.frames given.shaped.frames given.place
 
     can : CanRevive v who.cpu seen
     can = given.asks
@@ -63,5 +62,4 @@ keeps-revive frame seen layout w homes views seat v who content given = which (w
         out : IsOutOfUse word
         out = given.rule.handled.out frame.0 word there (ap handled_of (eqb-true word seen is) ∙ can.handled)
     which false isnt =
-        subst (λ (frames : List ℕ). FrameRule layout (record w { frames = frames }) homes (set views seat (sighted who (places.Frame frame) word v))) (sym (set-get_or w.frames frame.0 0))
-        (keeps-sight layout w homes views seat v who (places.Frame frame) word given.me given.past (explained-frame layout w homes views (stamp_of who v) frame word there) given.rule)
+        keeps-shown layout w homes views seat v who (places.Frame frame) given.me given.past (explained-frame layout w homes views (stamp_of who v) frame word there) given.rule

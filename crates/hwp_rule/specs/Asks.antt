@@ -11,6 +11,7 @@ use Rattle.hwp_geom.specs.declared.ThreadDecl.{ThreadDecl}
 use Rattle.hwp_geom.specs.declared.TransDecl.{TransDecl}
 use Rattle.hwp_geom.specs.declared.VSlot.{VSlot}
 use Rattle.hwp_geom.specs.declared.Who.{Who}
+use Rattle.hwp_geom.specs.Limits.{command_limit}
 use Rattle.hwp_page.specs.declared.Entry.{Entry}
 use Rattle.hwp_page.specs.declared.PageState.{PageState}
 use Rattle.hwp_page.specs.History.{Leads}
@@ -36,7 +37,7 @@ use Rattle.hwp_rule.specs.parts.Entries.{HasSeen}
 use Rattle.hwp_rule.specs.parts.Fits.{FitsWords}
 use Rattle.hwp_rule.specs.parts.Holdings.{frames_held}
 use Rattle.hwp_rule.specs.parts.Losses.{IsPoisonLoss}
-use Rattle.hwp_rule.specs.parts.Marks.{command_limit, revivals_by}
+use Rattle.hwp_rule.specs.parts.Marks.{revivals_by}
 use Rattle.hwp_rule.specs.parts.Policies.{settings_of}
 use Rattle.hwp_rule.specs.parts.Unpoisoned.{is_failure}
 use Rattle.hwp_rule.specs.Rule.{holdings_of, losing_of}

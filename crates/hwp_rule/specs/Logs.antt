@@ -1,5 +1,5 @@
 -- What a body's history says: the page's state, the processes that it ended, the losses of its file.
-use Rattle.std.specs.Prelude.{ℕ, ◌==◌, ◌&&◌, Bool, true, false, not, cond, List, [], ◌∷◌, Option, Some, None, fold, suc, slice_get, option_and_then}
+use Rattle.std.specs.Prelude.{ℕ, ◌==◌, ◌&&◌, Bool, true, false, not, cond, List, [], ◌∷◌, Option, Some, None, suc, slice_get, option_and_then}
 use Rattle.std.specs.List.{sum_by, list_any}
 use Rattle.std.specs.Int.{from_bool}
 use Rattle.std.specs.FinSet as set
@@ -19,14 +19,11 @@ use Rattle.hwp_page.specs.declared.PageState.{PageState}
 use Rattle.hwp_page.specs.declared.Situation.TheVariants as situations
 use Rattle.hwp_page.specs.declared.What.{What}
 use Rattle.hwp_page.specs.declared.What.TheVariants as entries
-use Rattle.hwp_page.specs.Step.{after, opening_of}
+use Rattle.hwp_page.specs.History.{state_after}
+use Rattle.hwp_page.specs.Step.{opening_of}
 use Rattle.hwp_words.specs.declared.Pte.TheVariants as ptes
 use Rattle.hwp_words.specs.Translations.{pte_word}
 use Rattle.hwp_rule.specs.declared.log.Log.{Log}
-
--- the state after entries
-abbrev pub state_after : PageState → List Entry → PageState
-state_after s entries = fold (λ (t : PageState) (e : Entry). after t e.what) s entries
 
 -- the state at opening of a page that is declared so
 abbrev pub opening_at : Option PageKind → PageState

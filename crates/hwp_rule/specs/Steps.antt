@@ -7,6 +7,7 @@ use Rattle.hwp_geom.specs.declared.Damage.TheVariants as damages
 use Rattle.hwp_geom.specs.declared.Frame.{Frame}
 use Rattle.hwp_geom.specs.declared.Kind.{Kind}
 use Rattle.hwp_geom.specs.declared.Kind.TheVariants as kinds
+use Rattle.hwp_kill.specs.declared.Policy.{Policy}
 use Rattle.hwp_words.specs.Frames.{is_locked, count_of}
 use Rattle.hwp_words.specs.Names.{frame_name}
 use Rattle.hwp_words.specs.Policies.{policy_code}
@@ -118,6 +119,10 @@ exchanged seen new found = either (found == seen) new found
 abbrev pub revived : ℕ → ℕ
 revived seen = (seen + (2 ^ 44 - 22)) % 2 ^ 64
 
+-- the policy word after so many settings, of which this is the last policy
+abbrev pub policy_at : ℕ → Policy → ℕ
+policy_at settings policy = settings * 4 + policy_code policy
+
 -- what the step makes of the word that it found
 abbrev pub word_after : Step → ℕ → ℕ
 word_after (steps.Load place) found = found
@@ -144,7 +149,7 @@ word_after (steps.Spoil frame line damage) found = bit_or found (1 * 2 ^ line % 
 word_after (steps.Stop cpu) found = exchanged 0 (cpu.0 + 1) found
 word_after steps.GiveUp found = bit_or found (2 ^ 63)
 word_after (steps.Kill process log) found = exchanged 0 (log.page.0 + 1) found
-word_after (steps.SetPolicy thread policy settings) found = (settings + 1) * 4 + policy_code policy
+word_after (steps.SetPolicy thread policy settings) found = policy_at (settings + 1) policy
 word_after (steps.Lose file log) found = (found + 1) % 2 ^ 64
 word_after (steps.ReportLost file) found = 0
 

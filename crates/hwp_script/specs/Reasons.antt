@@ -4,7 +4,7 @@ use Rattle.hwp_geom.specs.declared.ThreadDecl.{ThreadDecl}
 use Rattle.hwp_geom.specs.declared.TransDecl.{TransDecl}
 use Rattle.hwp_geom.specs.declared.PageKind.{PageKind}
 use Rattle.hwp_geom.specs.declared.PageKind.TheVariants as kinds
-use Rattle.hwp_geom.specs.Limits.{line_limit, cpu_limit, frame_limit, file_limit, process_limit, thread_limit, page_limit, translation_limit}
+use Rattle.hwp_geom.specs.Limits.{line_limit, cpu_limit, frame_limit, file_limit, process_limit, thread_limit, page_limit, translation_limit, command_limit}
 use Rattle.hwp_form.specs.declared.Form.{Form}
 use Rattle.hwp_form.specs.declared.Form.TheVariants as forms
 use Rattle.hwp_form.specs.declared.Order.{Order}
@@ -12,7 +12,7 @@ use Rattle.hwp_form.specs.declared.Order.TheVariants as orders
 use Rattle.hwp_form.specs.declared.Backing.{Backing}
 use Rattle.hwp_form.specs.declared.Backing.TheVariants as backings
 use Rattle.hwp_form.specs.declared.GoWord.{GoWord}
-use Rattle.hwp_script.specs.Limits.{command_limit, schedule_limit}
+use Rattle.hwp_script.specs.Limits.{schedule_limit}
 use Rattle.hwp_script.specs.Context.{cpus_in, frames_in, kernel_in, recovery_in, early_in, files_in, procs_in, threads_in, pages_in, trans_in, lists_in, commands_in, go_in, place_in, highest}
 use Rattle.hwp_script.specs.declared.why.Why.{Why}
 use Rattle.hwp_script.specs.declared.why.Why.TheVariants as whys

@@ -1,7 +1,7 @@
 -- What every script has that some text gives.
 use Rattle.std.specs.Prelude.{◌≡◌, ℕ, ◌<◌, ◌≤◌, ◌+◌, ◌^◌, length, sum_by, All, IsSomeAnd, slice_get, List, [], ◌∷◌}
 use Rattle.hwp_geom.specs.Layout.{IsSound}
-use Rattle.hwp_geom.specs.Limits.{line_limit}
+use Rattle.hwp_geom.specs.Limits.{line_limit, command_limit}
 use Rattle.hwp_geom.specs.declared.Layout.{Layout}
 use Rattle.hwp_geom.specs.declared.Thread.{Thread}
 use Rattle.hwp_geom.specs.declared.VSlot.{VSlot}
@@ -13,7 +13,7 @@ use Rattle.hwp_script.specs.declared.script.Script.{Script}
 use Rattle.hwp_script.specs.declared.script.Go.{Go}
 use Rattle.hwp_script.specs.declared.script.Command.{Command}
 use Rattle.hwp_script.specs.declared.script.Command.TheVariants as commands
-use Rattle.hwp_script.specs.Limits.{command_limit, schedule_limit}
+use Rattle.hwp_script.specs.Limits.{schedule_limit}
 
 -- a thread of the processor
 abbrev pub IsThreadOf : Layout → ℕ → Thread → Type 0

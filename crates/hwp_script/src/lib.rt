@@ -15,6 +15,7 @@ mod tests;
 mod why;
 
 pub use hwp_form::{PrctlArgs, Until};
+pub use hwp_geom::MAX_COMMANDS;
 pub use reading::{ReadScript, read};
-pub use script::{Command, Go, MAX_COMMANDS, MAX_SCHEDULE, MAX_SCRIPT, Script};
+pub use script::{Command, Go, MAX_SCHEDULE, MAX_SCRIPT, Script};
 pub use why::{Refused, Why};

@@ -5,10 +5,9 @@ ghost use Rattle.hwp_script.specs.Sums.{Sums};
 use crate::commands::command;
 use crate::context::Summary;
 use crate::faults::is_misplaced;
-use crate::script::MAX_COMMANDS;
 use crate::why::Why;
 use hwp_form::{Form, Order};
-use hwp_geom::PageKind;
+use hwp_geom::{MAX_COMMANDS, PageKind};
 
 /// Whether a thread and a translation are not both declared, or are of two processes.
 fn is_foreign(summary: &Summary, thread: u64, slot: u64) -> bool

@@ -1,9 +1,6 @@
 use hwp_form::{PrctlArgs, Until};
 use hwp_geom::{Cpu, FileNo, Frame, Layout, Line, List, Page, Thread, VSlot};
 
-/// The most commands of a script, over all processors.
-pub const MAX_COMMANDS: u32 = 4096;
-
 /// The most words of a schedule.
 pub const MAX_SCHEDULE: u32 = 100_000;
 

@@ -26,7 +26,7 @@ use Rattle.hwp_page.specs.declared.Situation.{Situation}
 use Rattle.hwp_page.specs.declared.Situation.TheVariants as situations
 use Rattle.hwp_page.specs.Actions.{acted}
 use Rattle.hwp_page.specs.Step.{Allowed, after, is_file, opening_of}
-use Rattle.hwp_page.specs.History.{Held, Leads}
+use Rattle.hwp_page.specs.History.{Held, Leads, state_after}
 use Rattle.hwp_script.specs.declared.Command.{Command}
 use Rattle.hwp_script.specs.declared.Script.{Script}
 use Rattle.hwp_report.specs.declared.Answer.{Answer}
@@ -36,7 +36,7 @@ use Rattle.hwp_report.specs.declared.Place.TheVariants as places
 use Rattle.hwp_law.specs.Report.{is_of}
 use Rattle.hwp_law.specs.History.{Fits, IsMade}
 use Rattle.hwp_law.specs.Answers.{IsAnswer, StandsAt}
-use Rattle.hwp_law.specs.States.{HadState, place_named, state_after}
+use Rattle.hwp_law.specs.States.{HadState, place_named}
 use Rattle.hwp_top.specs.Bench.{Answers, Appended, IsBackedBy, IsNow, Leaves, Machine, Serves, at_command, logs}
 use Rattle.hwp_top.proofs.Following.{Answers-entry, Answers-refused, NamesNow, OneMore-appended}
 use Rattle.hwp_top.proofs.Machines.{IsStill, Machine-left}

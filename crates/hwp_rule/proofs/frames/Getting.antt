@@ -11,7 +11,7 @@ use Rattle.hwp_rule.specs.declared.view.FrameLock.{FrameLock}
 use Rattle.hwp_rule.specs.declared.view.View.{View}
 use Rattle.hwp_rule.specs.Lists.{EachMember}
 use Rattle.hwp_rule.specs.Rule.{FrameRule, holdings_of}
-use Rattle.hwp_rule.specs.Views.{refs_on, with_refs, sighted}
+use Rattle.hwp_rule.specs.Views.{refs_on, with_refs, sighted, stamp_of}
 use Rattle.hwp_rule.specs.Words.{free_bit}
 use Rattle.hwp_rule.specs.parts.Counts.{CountsBalance}
 use Rattle.hwp_rule.specs.parts.Holdings.{IsBounded, frames_held}
@@ -20,7 +20,9 @@ use Rattle.hwp_rule.proofs.Lists.{at_map, same-or, set_again}
 use Rattle.hwp_rule.proofs.Given.{Keeps}
 use Rattle.hwp_rule.proofs.FrameWord.{IsLike, bare-like, like-fields, placed-again, counted-again}
 use Rattle.hwp_rule.proofs.RefBounds.{count-fits}
-use Rattle.hwp_rule.proofs.Referring.{past-some, word-there, keeps-refs, keeps-shown}
+use Rattle.hwp_rule.proofs.Referring.{past-some, keeps-refs}
+use Rattle.hwp_rule.proofs.Split.{word-there}
+use Rattle.hwp_rule.proofs.Sights.{keeps-shown, explained-frame}
 use Rattle.hwp_rule.proofs.Refs
 
 pub keeps-get_ref : (frame : Frame) (seen count : ℕ) → Keeps (steps.GetRef frame seen count)
@@ -33,7 +35,7 @@ keeps-get_ref frame seen count layout w homes views seat v who content given = w
     h = given.rule
 
     there : slice_get w.frames frame.0 ≡ Some (slice_index w.frames frame.0)
-    there = word-there layout w homes frame.0 given.shaped given.place
+    there = word-there w.frames frame.0 layout.frames given.shaped.frames given.place
 
     some : 0 < count_of seen
     some = given.asks.0
@@ -70,7 +72,7 @@ keeps-get_ref frame seen count layout w homes views seat v who content given = w
     which : (b : Bool) → (slice_index w.frames frame.0 == seen) ≡ b
         → FrameRule layout (record w { frames = slice_set w.frames frame.0 (either b (seen + count * 16) (slice_index w.frames frame.0)) }) homes
         (set views seat (cond b (record v { refs = with_refs frame count v.refs }) (sighted who (places.Frame frame) (slice_index w.frames frame.0) v)))
-    which false e = keeps-shown layout w homes views seat v who frame given.me given.past there given.rule
+    which false e = keeps-shown layout w homes views seat v who (places.Frame frame) given.me given.past (explained-frame layout w homes views (stamp_of who v) frame (slice_index w.frames frame.0) there) given.rule
     which true e = subst (λ (n : ℕ). FrameRule layout (record w { frames = slice_set w.frames frame.0 n }) homes (set views seat (record v { refs = with_refs frame count v.refs }))) now-is
         (keeps-refs layout w homes views seat v frame.0 found now (with_refs frame count v.refs) v.hands given.me h there like are.lock counts placed referenced bounded-more)
       where

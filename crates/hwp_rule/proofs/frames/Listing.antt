@@ -1,5 +1,5 @@
 -- Entries of a body in hand that are listed keep the frame rule.
-use Rattle.std.proofs.Common.{◌≡◌, ℕ, zero, suc, ◌+◌, ◌*◌, ◌||◌, Bool, true, false, true≢false, List, [], ◌∷◌, ◌++◌, Option, Some, None, drop, length, slice_get, refl, sym, ap, ◌∙◌, subst, arith}
+use Rattle.std.proofs.Common.{◌≡◌, ℕ, zero, suc, ◌+◌, ◌||◌, Bool, true, false, true≢false, List, [], ◌∷◌, ◌++◌, Option, Some, None, drop, length, slice_get, refl, sym, ap, ◌∙◌, subst, arith}
 use Rattle.std.proofs.lemmas.List.Sums.{sum_by-cons}
 use Rattle.std.proofs.lemmas.Option.{none-some, same_Some}
 use Rattle.std.specs.Int.{from_bool}
@@ -15,7 +15,6 @@ use Rattle.hwp_page.specs.declared.Entry.{Entry}
 use Rattle.hwp_page.specs.declared.Met.TheVariants.{Word}
 use Rattle.hwp_page.specs.declared.What.{What}
 use Rattle.hwp_page.specs.declared.What.TheVariants as entries
-use Rattle.hwp_words.specs.Policies.{policy_code}
 use Rattle.hwp_rule.specs.declared.log.Log.{Log}
 use Rattle.hwp_rule.specs.declared.place.Place.TheVariants as places
 use Rattle.hwp_rule.specs.declared.view.Made.{Made}
@@ -24,6 +23,7 @@ use Rattle.hwp_rule.specs.declared.view.Stamp.{Stamp}
 use Rattle.hwp_rule.specs.Asks.{HasSameWords}
 use Rattle.hwp_rule.specs.Lists.{EachMember, SomeMember}
 use Rattle.hwp_rule.specs.Logs.{state_of, is_loss, losses_in, file_of, fitting_word}
+use Rattle.hwp_rule.specs.Steps.{policy_at}
 use Rattle.hwp_rule.specs.Views.{made_from, loss_made, losses_made}
 use Rattle.hwp_rule.specs.parts.Entries.{weigh_from, HasMask, HasPolicy, HasSeen}
 use Rattle.hwp_rule.specs.parts.Fits.{Fits, FitsWords}
@@ -57,7 +57,7 @@ seen-drop n sights who frame entries.Out has = mask-drop n sights who frame 0 ha
 seen-drop n sights who frame entries.Soft has = mask-drop n sights who frame 0 has
 seen-drop n sights who frame (entries.Fail situation required seen signals) has =
     each-weaken (HasPolicy (drop n sights) who) (HasPolicy sights who) seen
-    (λ p some. some-drop (λ (s : Sight). (s.stamp.who ≡ who) × (s.place ≡ places.Policy p.thread) × (s.word ≡ p.n * 4 + policy_code p.policy)) n sights some) has
+    (λ p some. some-drop (λ (s : Sight). (s.stamp.who ≡ who) × (s.place ≡ places.Policy p.thread) × (s.word ≡ policy_at p.n p.policy)) n sights some) has
 seen-drop n sights who frame _ has = has
 
 pub weigh-append : (g : Page → ℕ → Entry → ℕ) (page : Page) (place : ℕ) (xs ys : List Entry) → weigh_from g page place (xs ++ ys) ≡ weigh_from g page place xs + weigh_from g page (place + length xs) ys

@@ -25,7 +25,8 @@ use Rattle.hwp_rule.specs.parts.Places.{HasOnePlace, IsBare, in_hand}
 use Rattle.hwp_rule.proofs.Lists.{at_map, map-was, same-or, same-number, set_again, sum-set, term-le, terms-le, each-set, each-push}
 use Rattle.hwp_rule.proofs.Given.{Keeps}
 use Rattle.hwp_rule.proofs.FrameWord.{IsLike, bare-like, like-fields, placed-again, counted-again}
-use Rattle.hwp_rule.proofs.Referring.{past-some, word-there, keeps-refs}
+use Rattle.hwp_rule.proofs.Referring.{past-some, keeps-refs}
+use Rattle.hwp_rule.proofs.Split.{word-there}
 use Rattle.hwp_rule.proofs.Refs
 
 -- a sum of which no member has any
@@ -57,7 +58,7 @@ keeps-put_ref frame count layout w homes views seat v who content given =
     after = cond (is_last count (slice_index w.frames frame.0)) (v.hands ++ frame ∷ []) v.hands
 
     there : slice_get w.frames frame.0 ≡ Some (slice_index w.frames frame.0)
-    there = word-there layout w homes frame.0 given.shaped given.place
+    there = word-there w.frames frame.0 layout.frames given.shaped.frames given.place
 
     some : 0 < count
     some = given.asks.0

@@ -1,5 +1,5 @@
 -- A frame's lock freed keeps the frame rule.
-use Rattle.std.proofs.Common.{◌≡◌, ◌≢◌, ℕ, ◌+◌, ◌<◌, ◌≤◌, ◌==◌, Bool, true, false, cond, List, [], ◌∷◌, Some, None, map, set, take, length, slice_get, bit_and, inl, inr, refl, sym, ap, ◌∙◌, subst, arith}
+use Rattle.std.proofs.Common.{◌≡◌, ◌≢◌, ℕ, ◌+◌, ◌<◌, ◌≤◌, ◌==◌, Bool, true, false, cond, List, Some, None, map, set, take, length, slice_get, bit_and, inl, inr, refl, sym, ap, ◌∙◌, subst, arith}
 use Rattle.std.proofs.lemmas.Bool.{eqb-true, eqb-false, ne_eqb}
 use Rattle.std.proofs.lemmas.Option.{none-some, same_Some}
 use Rattle.std.specs.Int.{from_bool}
@@ -19,7 +19,7 @@ use Rattle.hwp_rule.specs.Lists.{Homes, EachBody, EachMember, SomeMember, of_hom
 use Rattle.hwp_rule.specs.Rule.{FrameRule, holder_of}
 use Rattle.hwp_rule.specs.Views.{refs_on, locks_on, page_locks_on, without, changed, is_lock_of, is_page_lock_of, is_body_of}
 use Rattle.hwp_rule.specs.Words.{Words}
-use Rattle.hwp_rule.specs.parts.Bodies.{Holder, IsHolding}
+use Rattle.hwp_rule.specs.parts.Bodies.{IsHolding}
 use Rattle.hwp_rule.specs.parts.Endings.{AreEnded}
 use Rattle.hwp_rule.specs.parts.Fits.{Fits, KnowsWords, KnowsOwn}
 use Rattle.hwp_rule.specs.parts.Locks.{IsLocked}
@@ -28,7 +28,7 @@ use Rattle.hwp_rule.proofs.Lists.{at_map, at_set, same-or, same-number, set_agai
 use Rattle.hwp_rule.proofs.FrameWord.{IsLike, like-fields, like-locked}
 use Rattle.hwp_rule.proofs.Hands.{sum-without, length-without, each-without}
 use Rattle.hwp_rule.proofs.frames.PageLocks.{first-lock}
-use Rattle.hwp_rule.proofs.Locking.{all_bodies, keeps-locking}
+use Rattle.hwp_rule.proofs.Locking.{all_bodies, held-bodies, keeps-locking}
 use Rattle.hwp_rule.proofs.TakenBodies.{sum-empty, each-empty}
 use Rattle.hwp_rule.proofs.frames.Without.{some-without, others-unfound, sum-without-one}
 
@@ -192,15 +192,11 @@ module _ (layout : Layout) (w : Words) (homes : Homes) (views : List View) (seat
     page_locks : (q : ℕ) → page_locks_on q pages ≡ page_locks_on q v.pages
     page_locks q = sum-changed (λ (l : PageLock). from_bool (l.page.0 == q)) (is_page_lock_of log.page) forgetting v.pages (λ l. refl)
 
-    map-map : (views : List View) → map (λ (o : Holder). o.bodies) (map holder_of views) ≡ all_bodies views
-    map-map [] = refl
-    map-map (v ∷ vs) = ap (λ (l : List (List Held)). v.bodies ∷ l) (map-map vs)
-
     -- the page's body is in hand once
     once : sum_by (λ (b : Held). from_bool (is_body_of log.page b)) v.bodies ≡ 1
     once =
         let all : sum_bodies (λ (x : Log). from_bool (x.page.0 == log.page.0)) homes (all_bodies views) ≡ 1 =
-        subst (λ (l : List (List Held)). sum_bodies (λ (x : Log). from_bool (x.page.0 == log.page.0)) homes l ≡ 1) (map-map views) (h.bodies.one log.page.0 within) in
+        subst (λ (l : List (List Held)). sum_bodies (λ (x : Log). from_bool (x.page.0 == log.page.0)) homes l ≡ 1) (held-bodies views) (h.bodies.one log.page.0 within) in
         let mine : sum_by (λ (b : Held). from_bool (b.log.page.0 == log.page.0)) v.bodies ≤ sum_all (λ (b : Held). from_bool (b.log.page.0 == log.page.0)) (all_bodies views) =
         term-le (sum_by (λ (b : Held). from_bool (b.log.page.0 == log.page.0))) (all_bodies views) seat v.bodies my_bodies in
         let this : from_bool (body.log.page.0 == log.page.0) ≤ sum_by (λ (b : Held). from_bool (b.log.page.0 == log.page.0)) v.bodies = term-le (λ (b : Held). from_bool (b.log.page.0 == log.page.0)) v.bodies place' body body_there in

@@ -31,7 +31,7 @@ use Rattle.hwp_rule.proofs.Given.{Given, Keeps}
 use Rattle.hwp_rule.proofs.frames.Listed
 use Rattle.hwp_rule.proofs.Lists.{at_map, map-was, same-or, same-number, set_here, set-set, terms-le}
 use Rattle.hwp_rule.proofs.frames.PageLocks.{first-lock, same-page}
-use Rattle.hwp_rule.proofs.Referring.{word-there}
+use Rattle.hwp_rule.proofs.Split.{word-there}
 use Rattle.hwp_rule.proofs.frames.UnlockFrame
 use Rattle.hwp_rule.proofs.frames.Without.{find-is, changed-at}
 
@@ -55,7 +55,7 @@ module _ (layout : Layout) (w : Words) (homes : Homes) (views : List View) (seat
   can = asks.put
 
   there : slice_get w.frames frame.0 ≡ Some (slice_index w.frames frame.0)
-  there = word-there layout w homes frame.0 given.shaped given.place
+  there = word-there w.frames frame.0 layout.frames given.shaped.frames given.place
 
   listed-lock : slice_get v.locks asks.has.listed.0 ≡ Some asks.has.lock
   listed-lock = asks.has.listed.2 ∙ ap (λ (l : FrameLock). Some l) asks.has.listed.3
@@ -191,5 +191,5 @@ module _ (layout : Layout) (w : Words) (homes : Homes) (views : List View) (seat
 pub keeps-unlock_frame : (frame : Frame) → Keeps (steps.UnlockFrame frame)
 keeps-unlock_frame frame layout w homes views seat v who None given =
     UnlockFrame.keeps-unlock-empty layout w homes views seat v frame (slice_index w.frames frame.0) given.asks.has.listed.0 given.asks.has.lock given.me given.place
-    (word-there layout w homes frame.0 given.shaped given.place) (given.asks.has.listed.2 ∙ ap (λ (l : FrameLock). Some l) given.asks.has.listed.3) given.asks.has.frame_is given.rule (sym given.asks.named)
+    (word-there w.frames frame.0 layout.frames given.shaped.frames given.place) (given.asks.has.listed.2 ∙ ap (λ (l : FrameLock). Some l) given.asks.has.listed.3) given.asks.has.frame_is given.rule (sym given.asks.named)
 keeps-unlock_frame frame layout w homes views seat v who (Some log) given = keeps-home layout w homes views seat v who frame log given

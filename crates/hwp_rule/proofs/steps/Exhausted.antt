@@ -29,6 +29,7 @@ use Rattle.hwp_rule.specs.parts.Marks.{poisonings}
 use Rattle.hwp_rule.specs.parts.Places.{in_hand}
 use Rattle.hwp_rule.proofs.Counting.{below-le, below-add, below-swap, hit-one, sum-le, sum-ones, sum-add, some-term, hits-all-le, hits-within}
 use Rattle.hwp_rule.proofs.Given.{IsShaped}
+use Rattle.hwp_rule.proofs.Hands.{from_bool-same}
 use Rattle.hwp_rule.proofs.Sights.{IsExplained, explained-exhausted}
 use Rattle.hwp_rule.proofs.Lists.{same-or, at_map, map-was, term-le}
 
@@ -40,9 +41,6 @@ is-equal a b false e above = absurd (omega arith)
 counted-equal : (a b n : ℕ) (c : Bool) → (a == b) ≡ c → 0 < cond c n 0 → a ≡ b
 counted-equal a b n true e above = eqb-true a b e
 counted-equal a b n false e above = absurd (omega arith)
-
-one-equal : (a b : ℕ) → a ≡ b → from_bool (a == b) ≡ 1
-one-equal a b e = ap from_bool (eq-eqb a b e)
 
 both-le : (a b : Bool) → from_bool (a && b) ≤ from_bool a
 both-le true true = omega arith
@@ -84,7 +82,7 @@ module _ (layout : Layout) (w : Words) (homes : Homes) (views : List View) (soun
         let some : SomeMember (λ (l : List Ref). 0 < refs_on f l) refs = some-term (refs_on f) refs above in
         let one : SomeMember (λ (r : Ref). 0 < cond (r.frame.0 == f) r.count 0) some.1 = some-term (λ (r : Ref). cond (r.frame.0 == f) r.count 0) some.1 some.3 in
         let same : one.1.frame.0 ≡ f = counted-equal one.1.frame.0 f one.1.count (one.1.frame.0 == f) refl one.3 in
-        let is : from_bool (one.1.frame.0 == f) ≡ 1 = one-equal one.1.frame.0 f same in
+        let is : from_bool (one.1.frame.0 == f) ≡ 1 = from_bool-same one.1.frame.0 f same in
         let in_list : from_bool (one.1.frame.0 == f) ≤ sum_by (λ (r : Ref). from_bool (r.frame.0 == f)) some.1 = term-le (λ (r : Ref). from_bool (r.frame.0 == f)) some.1 one.0 one.1 one.2 in
         let in_all : sum_by (λ (r : Ref). from_bool (r.frame.0 == f)) some.1 ≤ listed_on f = term-le (λ (l : List Ref). sum_by (λ (r : Ref). from_bool (r.frame.0 == f)) l) refs some.0 some.1 some.2 in
         omega arith
@@ -101,7 +99,7 @@ module _ (layout : Layout) (w : Words) (homes : Homes) (views : List View) (soun
     by-owner : (q : ℕ) → owner_of word ≡ q + 1 → 0 < named f w.caches + listed_on f
     by-owner q owned = elim (h.caches.named f word q there owned) [
       | inl cached ↦
-          let one : from_bool (f + 1 == f + 1) ≡ 1 = one-equal (f + 1) (f + 1) refl in
+          let one : from_bool (f + 1 == f + 1) ≡ 1 = from_bool-same (f + 1) (f + 1) refl in
           let more : from_bool (f + 1 == f + 1) ≤ named f w.caches = term-le (λ (x : ℕ). from_bool (x == f + 1)) w.caches q (f + 1) cached in
           omega arith
       | inr some ↦

@@ -1,61 +1,28 @@
 -- A load keeps the frame rule: it changes no word, and what it shows is explained.
-use Rattle.std.proofs.Common.{◌≡◌, ℕ, ◌<◌, eqb-true, Bool, true, false, cond, List, Some, length, set, slice_get, slice_index, refl, sym, ap, ◌∙◌, subst, arith}
-use Rattle.std.proofs.lemmas.List.{set-get_or}
-use Rattle.std.proofs.lemmas.Option.{slice_get-get_or}
+use Rattle.std.proofs.Common.{◌≡◌, ℕ, eqb-true, Bool, true, false, cond, Some, length, set, slice_get, slice_index, refl, sym, ap, ◌∙◌, subst}
 use Rattle.hwp_geom.specs.declared.Frame.{Frame}
-use Rattle.hwp_geom.specs.declared.Layout.{Layout}
 use Rattle.hwp_geom.specs.declared.Page.{Page}
 use Rattle.hwp_geom.specs.declared.Proc.{Proc}
 use Rattle.hwp_geom.specs.declared.Thread.{Thread}
 use Rattle.hwp_geom.specs.declared.VSlot.{VSlot}
-use Rattle.hwp_geom.specs.declared.Who.{Who}
 use Rattle.hwp_rule.specs.declared.place.Place.{Place}
 use Rattle.hwp_rule.specs.declared.place.Place.TheVariants as places
 use Rattle.hwp_rule.specs.declared.step.Step.TheVariants as steps
 use Rattle.hwp_rule.specs.declared.view.Held.{Held}
 use Rattle.hwp_rule.specs.declared.view.PageLock.{PageLock}
 use Rattle.hwp_rule.specs.declared.view.View.{View}
-use Rattle.hwp_rule.specs.Lists.{Homes, EachMember}
+use Rattle.hwp_rule.specs.Lists.{EachMember}
 use Rattle.hwp_rule.specs.Rule.{FrameRule}
 use Rattle.hwp_rule.specs.Views.{sighted, stamp_of, changed, is_page_lock_of}
-use Rattle.hwp_rule.specs.Words.{Words, read, put}
+use Rattle.hwp_rule.specs.Words.{Words}
 use Rattle.hwp_rule.specs.parts.Fits.{KnowsWords, KnowsOwn}
-use Rattle.hwp_rule.specs.parts.Holdings.{IsPast}
 use Rattle.hwp_rule.proofs.steps.Exhausted.{explained-available}
 use Rattle.hwp_rule.proofs.Given.{Keeps}
 use Rattle.hwp_rule.proofs.steps.Knowing.{keeps-listing}
+use Rattle.hwp_rule.proofs.Split.{word-there, same-put}
 use Rattle.hwp_rule.proofs.Lists.{at_map, set_here, set-set, each-changed}
 use Rattle.hwp_rule.proofs.steps.Shown.{explained-bad, explained-weak, explained-stop, explained-policy, explained-counter, explained-process}
-use Rattle.hwp_rule.proofs.Sights.{IsExplained, keeps-sight, explained-frame, explained-free, explained-quiet}
-
--- the word of a place written to it again
-pub same-put : (place : Place) (w : Words) → put place (read place w) w ≡ w
-same-put (places.Frame frame) w = λ i. record w { frames = set-get_or w.frames frame.0 0 i }
-same-put (places.Trans slot) w = λ i. record w { trans = set-get_or w.trans slot.0 0 i }
-same-put (places.Cache page) w = λ i. record w { caches = set-get_or w.caches page.0 0 i }
-same-put (places.Page page) w = λ i. record w { pages = set-get_or w.pages page.0 0 i }
-same-put (places.Free number) w = λ i. record w { frees = set-get_or w.frees number 0 i }
-same-put places.Available w = refl
-same-put (places.Bad frame) w = λ i. record w { bads = set-get_or w.bads frame.0 0 i }
-same-put (places.Weak frame) w = λ i. record w { weaks = set-get_or w.weaks frame.0 0 i }
-same-put places.Counter w = refl
-same-put (places.Process process) w = λ i. record w { processes = set-get_or w.processes process.0 0 i }
-same-put (places.Policy thread) w = λ i. record w { policies = set-get_or w.policies thread.0 0 i }
-same-put (places.Loss file) w = λ i. record w { losses = set-get_or w.losses file.0 0 i }
-same-put places.Stop w = refl
-
--- a step that leaves the word of a place as it was, and shows it
-pub keeps-shown : (layout : Layout) (w : Words) (homes : Homes) (views : List View) (seat : ℕ) (v : View) (who : Who) (place : Place)
-    → slice_get views seat ≡ Some v → IsPast v.parts who
-    → IsExplained layout w homes views (record { stamp = stamp_of who v; place = place; word = read place w })
-    → FrameRule layout w homes views → FrameRule layout (put place (read place w) w) homes (set views seat (sighted who place (read place w) v))
-keeps-shown layout w homes views seat v who place me past x h =
-    subst (λ (other : Words). FrameRule layout other homes (set views seat (sighted who place (read place w) v))) (sym (same-put place w))
-    (keeps-sight layout w homes views seat v who place (read place w) me past x h)
-
--- a word of its kind is one of the board
-pub word-there : (words : List ℕ) (number count : ℕ) → length words ≡ count → number < count → slice_get words number ≡ Some (slice_index words number)
-word-there words number count wide inside = slice_get-get_or words number 0 (omega arith)
+use Rattle.hwp_rule.proofs.Sights.{keeps-sight, keeps-shown, explained-frame, explained-free, explained-quiet}
 
 pub keeps-load-frame : (frame : Frame) → Keeps (steps.Load (places.Frame frame))
 keeps-load-frame frame layout w homes views seat v who content given =

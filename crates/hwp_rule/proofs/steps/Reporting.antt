@@ -17,7 +17,7 @@ use Rattle.hwp_rule.specs.parts.Holdings.{AreOwn}
 use Rattle.hwp_rule.specs.parts.Losses.{Losing, IsPoisonLoss, LossesBalance}
 use Rattle.hwp_rule.proofs.Given.{Keeps}
 use Rattle.hwp_rule.proofs.Lists.{change, keep, at_map, at_set, set_here, set-set, each-set, sum-set}
-use Rattle.hwp_rule.proofs.steps.Loading.{word-there}
+use Rattle.hwp_rule.proofs.Split.{word-there}
 use Rattle.hwp_rule.proofs.Sights.{keeps-sight, explained-quiet}
 use Rattle.hwp_rule.proofs.Kept
 

@@ -25,7 +25,7 @@ use Rattle.hwp_rule.specs.parts.Locks.{IsLocked}
 use Rattle.hwp_rule.specs.parts.Owners.{TranslationsOwned, CacheWordsOwned, NamesOwn, HoldsBoth}
 use Rattle.hwp_rule.proofs.Given.{Keeps}
 use Rattle.hwp_rule.proofs.Lists.{at_map, at_set, same-or, set_here, set_else, each-weaken, some-set, term-le}
-use Rattle.hwp_rule.proofs.steps.Loading.{word-there}
+use Rattle.hwp_rule.proofs.Split.{word-there}
 use Rattle.hwp_rule.proofs.steps.Owning.{owning, same-locks, kept-owning}
 
 unhandled-word : (word : ℕ) → is_handled word ≡ false → handled_of word ≡ 0

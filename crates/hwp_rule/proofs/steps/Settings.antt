@@ -1,13 +1,13 @@
 -- A policy that is set keeps the frame rule.
-use Rattle.std.proofs.Common.{◌≡◌, ◌≢◌, ℕ, ◌+◌, ◌*◌, ◌<◌, ◌≤◌, ◌==◌, eq-eqb, ne_eqb, Bool, true, false, cond, List, [], ◌∷◌, ◌++◌, Some, map, set, take, length, append-nil, slice_get, slice_index, inl, inr, refl, sym, ap, ◌∙◌, subst, arith}
+use Rattle.std.proofs.Common.{◌≡◌, ◌≢◌, ℕ, ◌+◌, ◌<◌, ◌≤◌, ◌==◌, eq-eqb, ne_eqb, Bool, true, false, cond, List, [], ◌∷◌, ◌++◌, Some, map, set, take, length, append-nil, slice_get, slice_index, inl, inr, refl, sym, ap, ◌∙◌, subst, arith}
 use Rattle.std.proofs.lemmas.List.{length-append, take-append-le}
 use Rattle.std.proofs.lemmas.List.Elements.{filter-append}
 use Rattle.std.proofs.lemmas.Option.{same_Some}
 use Rattle.hwp_geom.specs.declared.Thread.{Thread}
 use Rattle.hwp_geom.specs.declared.ThreadDecl.{ThreadDecl}
+use Rattle.hwp_geom.specs.Limits.{command_limit}
 use Rattle.hwp_kill.specs.declared.Policy.{Policy}
 use Rattle.hwp_kill.specs.declared.Policy.TheVariants as policy_names
-use Rattle.hwp_words.specs.Policies.{policy_code}
 use Rattle.hwp_rule.specs.declared.place.Place.TheVariants as places
 use Rattle.hwp_rule.specs.declared.step.Step.TheVariants as steps
 use Rattle.hwp_rule.specs.declared.view.Part.{Part}
@@ -16,12 +16,13 @@ use Rattle.hwp_rule.specs.declared.view.Sight.{Sight}
 use Rattle.hwp_rule.specs.declared.view.View.{View}
 use Rattle.hwp_rule.specs.Lists.{EachMember}
 use Rattle.hwp_rule.specs.Rule.{FrameRule}
+use Rattle.hwp_rule.specs.Steps.{policy_at}
 use Rattle.hwp_rule.specs.Views.{stamp_of}
 use Rattle.hwp_rule.specs.parts.Holdings.{AreOwn, IsPast}
 use Rattle.hwp_rule.specs.parts.Policies.{PoliciesListed, PolicyAgrees, IsOf, settings_of, last_policy, policy_after}
 use Rattle.hwp_rule.proofs.Given.{Keeps}
 use Rattle.hwp_rule.proofs.Lists.{change, keep, at_map, at_set, map-was, each-push, each-weaken}
-use Rattle.hwp_rule.proofs.steps.Loading.{word-there}
+use Rattle.hwp_rule.proofs.Split.{word-there}
 use Rattle.hwp_rule.proofs.Turns.{one-view}
 use Rattle.hwp_rule.proofs.Kept
 
@@ -41,10 +42,10 @@ module _ (t : Thread) (list : List Setting) (s : Setting) where
   set-other differs = filter-append (λ (s : Setting). s.thread.0 == t.0) list (s ∷ []) ∙ ap (λ (more : List Setting). settings_of t list ++ more) (one-setting false (ne_eqb s.thread.0 t.0 differs)) ∙ append-nil (settings_of t list)
 
 -- the word after one setting more agrees with the settings
-agrees-more : (thread : Thread) (word : ℕ) (sights : List (List Sight)) (list : List Setting) (s : Setting) → length list + 1 ≤ 4096 → PolicyAgrees thread word sights list
-    → PolicyAgrees thread ((length list + 1) * 4 + policy_code s.policy) sights (list ++ s ∷ [])
+agrees-more : (thread : Thread) (word : ℕ) (sights : List (List Sight)) (list : List Setting) (s : Setting) → length list + 1 ≤ command_limit → PolicyAgrees thread word sights list
+    → PolicyAgrees thread (policy_at (length list + 1) s.policy) sights (list ++ s ∷ [])
 agrees-more thread word sights list s few was = record {
-  now = ap (λ (n : ℕ). n * 4 + policy_code s.policy) (sym longer) ∙ ap (λ (p : Policy). length (list ++ s ∷ []) * 4 + policy_code p) (sym (last-set policy_names.Default list s));
+  now = ap (λ (n : ℕ). policy_at n s.policy) (sym longer) ∙ ap (policy_at (length (list ++ s ∷ []))) (sym (last-set policy_names.Default list s));
   few = omega (arith, longer, few);
   shown = each-weaken (EachMember (IsSome list)) (EachMember (IsSome (list ++ s ∷ []))) sights
       (λ l each. each-weaken (IsSome list) (IsSome (list ++ s ∷ [])) l (λ x some e. more (some e)) each) was.shown;
@@ -88,7 +89,7 @@ keeps-set-policy thread policy settings layout w homes views seat v who content 
 }
   where
     word : ℕ
-    word = (settings + 1) * 4 + policy_code policy
+    word = policy_at (settings + 1) policy
 
     new : Setting
     new = record { stamp = stamp_of who v; thread = thread; policy = policy }
@@ -121,9 +122,9 @@ keeps-set-policy thread policy settings layout w homes views seat v who content 
         h.policies.agrees thread given.asks.decl (slice_index w.policies thread.0) given.asks.declared (word-there w.policies thread.0 (length layout.threads) given.shaped.policies given.place) seat (v.parts, v.settings)
         (at_map (λ (v : View). (v.parts, v.settings)) views seat v me) (given.past.0, given.past.1, given.past.2, given.past.3.0 ∙ sym given.asks.own) in
         let number : settings ≡ length (settings_of thread v.settings) = given.asks.number in
-        let few : settings < 4096 = given.asks.few in
+        let few : settings < command_limit = given.asks.few in
         subst (λ (l : List Setting). PolicyAgrees thread word sights l) (sym (set-own thread v.settings new refl))
-        (subst (λ (n : ℕ). PolicyAgrees thread ((n + 1) * 4 + policy_code policy) sights (settings_of thread v.settings ++ new ∷ [])) (sym number)
+        (subst (λ (n : ℕ). PolicyAgrees thread (policy_at (n + 1) policy) sights (settings_of thread v.settings ++ new ∷ [])) (sym number)
         (agrees-more thread (slice_index w.policies thread.0) sights (settings_of thread v.settings) new (omega arith) was))
 
     -- the thread's processor is part of no other view

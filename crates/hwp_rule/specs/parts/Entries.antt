@@ -1,5 +1,5 @@
 -- The entries of the pages' histories.
-use Rattle.std.specs.Prelude.{◌≡◌, ℕ, suc, ◌+◌, ◌*◌, ◌≤◌, List, [], ◌∷◌, Option, Some, None, length}
+use Rattle.std.specs.Prelude.{◌≡◌, ℕ, suc, ◌+◌, ◌≤◌, List, [], ◌∷◌, Option, Some, None, length}
 use Rattle.std.specs.List.{sum_by}
 use Rattle.hwp_geom.specs.declared.Frame.{Frame}
 use Rattle.hwp_geom.specs.declared.Page.{Page}
@@ -9,7 +9,6 @@ use Rattle.hwp_page.specs.declared.Entry.{Entry}
 use Rattle.hwp_page.specs.declared.Met.TheVariants.{Word}
 use Rattle.hwp_page.specs.declared.What.{What}
 use Rattle.hwp_page.specs.declared.What.TheVariants as entries
-use Rattle.hwp_words.specs.Policies.{policy_code}
 use Rattle.hwp_rule.specs.declared.log.Log.{Log}
 use Rattle.hwp_rule.specs.declared.place.Place.{Place}
 use Rattle.hwp_rule.specs.declared.place.Place.TheVariants as places
@@ -18,6 +17,7 @@ use Rattle.hwp_rule.specs.declared.view.Length.{Length}
 use Rattle.hwp_rule.specs.declared.view.Made.{Made}
 use Rattle.hwp_rule.specs.declared.view.Sight.{Sight}
 use Rattle.hwp_rule.specs.Lists.{Homes, EachBody, EachListed, EachMember, SomeMember, sum_bodies}
+use Rattle.hwp_rule.specs.Steps.{policy_at}
 
 -- what f says of the entries of a page, from a place on
 abbrev pub weigh_from : (Page → ℕ → Entry → ℕ) → Page → ℕ → List Entry → ℕ
@@ -38,7 +38,7 @@ HasMask sights who (Some frame) mask = HasSight sights who (places.Bad frame) ma
 
 -- a step of this command showed the policy of the thread, and the number of its settings
 abbrev pub HasPolicy : List Sight → Who → Seen → Type 0
-HasPolicy sights who seen = HasSight sights who (places.Policy seen.thread) (seen.n * 4 + policy_code seen.policy)
+HasPolicy sights who seen = HasSight sights who (places.Policy seen.thread) (policy_at seen.n seen.policy)
 
 -- the command has seen what an entry says that it saw: the bad lines of a load, a store or a machine check, no bad line
 -- for one that copies the content, and the policies of a failure

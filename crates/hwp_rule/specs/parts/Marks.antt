@@ -4,6 +4,7 @@ use Rattle.std.specs.List.{sum_by}
 use Rattle.std.specs.Int.{from_bool}
 use Rattle.hwp_geom.specs.declared.Cpu.{Cpu}
 use Rattle.hwp_geom.specs.declared.Frame.{Frame}
+use Rattle.hwp_geom.specs.Limits.{command_limit}
 use Rattle.hwp_words.specs.Frames.{poison_of, cycle_of}
 use Rattle.hwp_rule.specs.declared.place.Place.TheVariants as places
 use Rattle.hwp_rule.specs.declared.view.Mark.{Mark}
@@ -21,10 +22,6 @@ revivals f cycle marks = sum_all (λ (m : Mark). from_bool ((m.frame.0 == f) && 
 -- how often the processor cleared a poison
 abbrev pub revivals_by : Cpu → List Mark → ℕ
 revivals_by cpu marks = sum_by (λ (m : Mark). from_bool ((m.stamp.who.cpu.0 == cpu.0) && is_revival m.kind)) marks
-
--- the most commands of a script, and so the most revivals of a processor
-abbrev pub command_limit : ℕ
-command_limit = 4096
 
 -- a sight of the frame word is of no later cycle, and of the same cycle only without a poison that the word lacks
 pub record IsBefore (word : ℕ) (s : Sight) : Type 0 where

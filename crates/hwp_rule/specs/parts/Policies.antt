@@ -1,18 +1,18 @@
 -- The policies of threads.
-use Rattle.std.specs.Prelude.{◌≡◌, ℕ, ◌+◌, ◌*◌, ◌≤◌, ◌==◌, List, [], ◌∷◌, Some, length, take, slice_get}
+use Rattle.std.specs.Prelude.{◌≡◌, ℕ, ◌≤◌, ◌==◌, List, [], ◌∷◌, Some, length, take, slice_get}
 use Rattle.std.specs.List.{filter}
 use Rattle.hwp_geom.specs.declared.Cpu.{Cpu}
 use Rattle.hwp_geom.specs.declared.Thread.{Thread}
 use Rattle.hwp_geom.specs.declared.ThreadDecl.{ThreadDecl}
+use Rattle.hwp_geom.specs.Limits.{command_limit}
 use Rattle.hwp_kill.specs.declared.Policy.{Policy}
 use Rattle.hwp_kill.specs.declared.Policy.TheVariants as policy_names
-use Rattle.hwp_words.specs.Policies.{policy_code}
 use Rattle.hwp_rule.specs.declared.place.Place.TheVariants as places
 use Rattle.hwp_rule.specs.declared.view.Part.{Part}
 use Rattle.hwp_rule.specs.declared.view.Setting.{Setting}
 use Rattle.hwp_rule.specs.declared.view.Sight.{Sight}
-use Rattle.hwp_rule.specs.parts.Marks.{command_limit}
 use Rattle.hwp_rule.specs.Lists.{EachMember, EachListed, SomeMember}
+use Rattle.hwp_rule.specs.Steps.{policy_at}
 
 -- the settings of a thread, in their order
 abbrev pub settings_of : Thread → List Setting → List Setting
@@ -25,7 +25,7 @@ last_policy policy (s ∷ list) = last_policy s.policy list
 
 -- the policy word after these settings
 abbrev pub policy_after : List Setting → ℕ
-policy_after list = length list * 4 + policy_code (last_policy policy_names.Default list)
+policy_after list = policy_at (length list) (last_policy policy_names.Default list)
 
 -- the view is that of the processor
 abbrev pub IsOf : Cpu → List Part → Type 0
