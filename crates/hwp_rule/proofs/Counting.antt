@@ -3,7 +3,7 @@ use Rattle.std.proofs.Common.{◌≡◌, ◌≢◌, ℕ, suc, zero, ◌+◌, ◌
 use Rattle.std.specs.Int.{from_bool}
 use Rattle.std.specs.List.{sum_by}
 use Rattle.std.proofs.lemmas.List.Sums.{sum_by-cons}
-use Rattle.hwp_rule.specs.Lists.{EachMember, EachListed, SomeMember, sum_all}
+use Rattle.hwp_rule.specs.Lists.{EachMember, SomeMember, sum_all}
 use Rattle.hwp_rule.specs.Words.{sum_below}
 use Rattle.hwp_rule.proofs.Lists.{same-or}
 
@@ -46,19 +46,6 @@ hit-one a at (suc n) apart = elim (same-or a (at n)) [
   | inr other ↦
       let last : from_bool (a == at n) ≡ 0 = ap from_bool (ne_eqb a (at n) other) in
       let rest : sum_below (λ i. from_bool (a == at i)) n ≤ 1 = hit-one a at n apart in
-      omega arith
-]
-
-pub hit-itself : (a n : ℕ) → a < n → sum_below (λ i. from_bool (a == i)) n ≡ 1
-hit-itself a zero before = absurd (omega arith)
-hit-itself a (suc n) before = elim (same-or a n) [
-  | inl same ↦
-      let last : from_bool (a == n) ≡ 1 = ap from_bool (eq-eqb a n same) in
-      let rest : sum_below (λ i. from_bool (a == i)) n ≡ 0 = below-zero (λ i. from_bool (a == i)) n (λ i less. ap from_bool (ne_eqb a i (λ e. let e : a ≡ i = e in omega arith))) in
-      omega arith
-  | inr other ↦
-      let last : from_bool (a == n) ≡ 0 = ap from_bool (ne_eqb a n other) in
-      let rest : sum_below (λ i. from_bool (a == i)) n ≡ 1 = hit-itself a n (omega arith) in
       omega arith
 ]
 
@@ -119,21 +106,3 @@ module _ {A : Type 0} where
       let few : sum_by (λ (l : List A). sum_below (λ i. sum_by (λ (x : A). from_bool (at x == i)) l) n) ls ≤ sum_by (λ (l : List A). length l) ls =
       sum-le (λ (l : List A). sum_below (λ i. sum_by (λ (x : A). from_bool (at x == i)) l) n) (λ (l : List A). length l) ls (λ j l e. hits-le at l n) in
       omega arith
-
-  -- and each on one, where all are below n
-  pub hits-within : (at : A → ℕ) (ls : List (List A)) (n : ℕ) → EachListed (λ (x : A). at x < n) ls
-      → sum_by (λ (l : List A). length l) ls ≤ sum_below (λ i. sum_all (λ (x : A). from_bool (at x == i)) ls) n
-  hits-within at ls n within =
-      let swapped : sum_below (λ i. sum_all (λ (x : A). from_bool (at x == i)) ls) n ≡ sum_by (λ (l : List A). sum_below (λ i. sum_by (λ (x : A). from_bool (at x == i)) l) n) ls =
-      below-swap (λ i (l : List A). sum_by (λ (x : A). from_bool (at x == i)) l) ls n in
-      let many : sum_by (λ (l : List A). length l) ls ≤ sum_by (λ (l : List A). sum_below (λ i. sum_by (λ (x : A). from_bool (at x == i)) l) n) ls =
-      sum-le (λ (l : List A). length l) (λ (l : List A). sum_below (λ i. sum_by (λ (x : A). from_bool (at x == i)) l) n) ls (λ j l e. one l (within j l e)) in
-      omega arith
-    where
-      one : (l : List A) → EachMember (λ (x : A). at x < n) l → length l ≤ sum_below (λ i. sum_by (λ (x : A). from_bool (at x == i)) l) n
-      one l within =
-          let swapped : sum_below (λ i. sum_by (λ (x : A). from_bool (at x == i)) l) n ≡ sum_by (λ (x : A). sum_below (λ i. from_bool (at x == i)) n) l = below-swap (λ i (x : A). from_bool (at x == i)) l n in
-          let many : sum_by (λ (x : A). 1) l ≤ sum_by (λ (x : A). sum_below (λ i. from_bool (at x == i)) n) l =
-          sum-le (λ (x : A). 1) (λ (x : A). sum_below (λ i. from_bool (at x == i)) n) l (λ j x e. let one : sum_below (λ i. from_bool (at x == i)) n ≡ 1 = hit-itself (at x) n (within j x e) in omega arith) in
-          let ones : sum_by (λ (x : A). 1) l ≡ length l = sum-ones l in
-          omega arith

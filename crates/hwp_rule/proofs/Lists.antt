@@ -110,6 +110,15 @@ module _ {A : Type 0} where
       let all : sum_by f (z ∷ zs) ≡ f z + sum_by f zs = sum_by-cons f z zs in
       omega arith
 
+  -- a sum over a mapped list
+  pub sum-map : {B : Type 0} (f : B → ℕ) (g : A → B) (l : List A) → sum_by f (map g l) ≡ sum_by (λ (x : A). f (g x)) l
+  sum-map f g [] = refl
+  sum-map f g (x ∷ xs) =
+      let left : sum_by f (map g (x ∷ xs)) ≡ f (g x) + sum_by f (map g xs) = sum_by-cons f (g x) (map g xs) in
+      let right : sum_by (λ (y : A). f (g y)) (x ∷ xs) ≡ f (g x) + sum_by (λ (y : A). f (g y)) xs = sum_by-cons (λ (y : A). f (g y)) x xs in
+      let rest : sum_by f (map g xs) ≡ sum_by (λ (y : A). f (g y)) xs = sum-map f g xs in
+      omega arith
+
   -- a sum of zeros
   pub sum-zero : (f : A → ℕ) (l : List A) → EachMember (λ (x : A). f x ≡ 0) l → sum_by f l ≡ 0
   sum-zero f [] each = refl

@@ -26,7 +26,7 @@ use Rattle.hwp_rule.specs.Words.{Words, words_of, free_words, free_bit, sum_belo
 use Rattle.hwp_rule.specs.Views.{refs_on, locks_on, page_locks_on}
 use Rattle.hwp_rule.specs.parts.Counts.{named}
 use Rattle.hwp_rule.specs.parts.Bodies.{Holder, IsHolding}
-use Rattle.hwp_rule.proofs.Lists.{at_longer, at_map, same-or, same-number, each-map, sum-zero}
+use Rattle.hwp_rule.proofs.Lists.{at_longer, at_map, same-or, same-number, each-map, sum-map, sum-zero}
 use Rattle.hwp_rule.specs.parts.Places.{in_hand, IsBare}
 use Rattle.hwp_rule.specs.parts.Locks.{IsLocked}
 use Rattle.hwp_rule.specs.parts.Counter.{CounterAgrees, IsCovered, SomeHardware, is_by_hardware, is_poisoning, is_revival}
@@ -183,14 +183,6 @@ one-below (suc n) c less =
           let rest : sum_by (λ (m : ℕ). from_bool (m == c)) (below n) ≡ 1 = one-below n c (omega arith) in
           omega arith
     ]
-
-sum-map : {A B : Type 0} (f : B → ℕ) (g : A → B) (l : List A) → sum_by f (map g l) ≡ sum_by (λ (x : A). f (g x)) l
-sum-map f g [] = refl
-sum-map {A} f g (x ∷ xs) =
-    let left : sum_by f (map g (x ∷ xs)) ≡ f (g x) + sum_by f (map g xs) = sum_by-cons f (g x) (map g xs) in
-    let right : sum_by (λ (y : A). f (g y)) (x ∷ xs) ≡ f (g x) + sum_by (λ (y : A). f (g y)) xs = sum_by-cons (λ (y : A). f (g y)) x xs in
-    let rest : sum_by f (map g xs) ≡ sum_by (λ (y : A). f (g y)) xs = sum-map f g xs in
-    omega arith
 
 sum-same : {A : Type 0} (f g : A → ℕ) (l : List A) → ((x : A) → f x ≡ g x) → sum_by f l ≡ sum_by g l
 sum-same f g [] same = refl

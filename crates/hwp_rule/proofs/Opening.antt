@@ -274,9 +274,6 @@ replicate-at (suc n) a (suc i) less = replicate-at n a i (omega arith)
 pub zeros-are : (n x i : ℕ) → slice_get (zeros n) i ≡ Some x → x ≡ 0
 zeros-are n x i e = sym (at-replicate n 0 x i e)
 
-get-front : {A : Type 0} (l m : List A) (i : ℕ) (x : A) → slice_get l i ≡ Some x → slice_get (l ++ m) i ≡ Some x
-get-front = at_longer
-
 pub get-past : {A : Type 0} (l m : List A) (n i : ℕ) → n ≡ length l + i → slice_get (l ++ m) n ≡ slice_get m i
 get-past [] m n i e = ap (slice_get m) (let h : n ≡ i = e ∙ omega arith in h)
 get-past (x ∷ xs) m zero i e = absurd (let h : 0 ≡ length (x ∷ xs) + i = e in omega arith)
@@ -286,7 +283,7 @@ pub below-at : (n i : ℕ) → i < n → slice_get (below n) i ≡ Some i
 below-at zero i less = absurd (omega arith)
 below-at (suc n) i less = elim (same-or i n) [
   | inl same ↦ get-past (below n) (n ∷ []) i 0 (let l : length (below n) ≡ n = length-below n in omega arith) ∙ ap (λ (m : ℕ). Some m) (sym same)
-  | inr other ↦ get-front (below n) (n ∷ []) i i (below-at n i (omega arith))
+  | inr other ↦ at_longer (below n) (n ∷ []) i i (below-at n i (omega arith))
 ]
 
 -- the word of a frame at opening

@@ -1,7 +1,7 @@
 -- References given back keep the frame rule.
-use Rattle.std.proofs.Common.{◌≡◌, ◌≢◌, ℕ, suc, ◌+◌, ◌-◌, ◌*◌, ◌%◌, ◌^◌, ◌<◌, ◌≤◌, ◌==◌, min, Bool, true, false, cond, List, [], ◌∷◌, ◌++◌, Some, map, set, length, slice_get, slice_index, length-append, inl, inr, refl, sym, ap, ◌∙◌, subst, arith}
+use Rattle.std.proofs.Common.{◌≡◌, ◌≢◌, ℕ, ◌+◌, ◌-◌, ◌*◌, ◌%◌, ◌^◌, ◌<◌, ◌≤◌, ◌==◌, min, Bool, true, false, cond, List, [], ◌∷◌, ◌++◌, Some, map, set, length, slice_get, slice_index, length-append, inl, inr, refl, sym, ap, ◌∙◌, subst, arith}
 use Rattle.std.proofs.lemmas.Bool.{eqb-true, eqb-false, ne_eqb}
-use Rattle.std.proofs.lemmas.List.Sums.{sum_by_push, sum_by-cons}
+use Rattle.std.proofs.lemmas.List.Sums.{sum_by_push}
 use Rattle.std.proofs.lemmas.Option.{same_Some}
 use Rattle.std.specs.Int.{from_bool}
 use Rattle.std.specs.List.{sum_by}
@@ -22,21 +22,12 @@ use Rattle.hwp_rule.specs.parts.Holdings.{IsBounded, frames_held}
 use Rattle.hwp_rule.specs.parts.Locks.{IsLocked}
 use Rattle.hwp_rule.specs.parts.Owners.{HoldsBoth}
 use Rattle.hwp_rule.specs.parts.Places.{HasOnePlace, IsBare, in_hand}
-use Rattle.hwp_rule.proofs.Lists.{at_map, map-was, same-or, same-number, set_again, sum-set, term-le, terms-le, each-set, each-push}
+use Rattle.hwp_rule.proofs.Lists.{at_map, map-was, same-or, same-number, set_again, sum-set, term-le, terms-le, each-set, each-push, sum-zero}
 use Rattle.hwp_rule.proofs.Given.{Keeps}
 use Rattle.hwp_rule.proofs.FrameWord.{IsLike, bare-like, like-fields, placed-again, counted-again}
 use Rattle.hwp_rule.proofs.Referring.{past-some, keeps-refs}
 use Rattle.hwp_rule.proofs.Split.{word-there}
 use Rattle.hwp_rule.proofs.Refs
-
--- a sum of which no member has any
-sum-none : {A : Type 0} (g : A → ℕ) (list : List A) → EachMember (λ (a : A). g a ≡ 0) list → sum_by g list ≡ 0
-sum-none g [] each = refl
-sum-none g (x ∷ xs) each =
-    let rest : sum_by g xs ≡ 0 = sum-none g xs (λ i y e. each (suc i) y e) in
-    let here : g x ≡ 0 = each 0 x refl in
-    let all : sum_by g (x ∷ xs) ≡ g x + sum_by g xs = sum_by-cons g x xs in
-    omega arith
 
 pub keeps-put_ref : (frame : Frame) (count : ℕ) → Keeps (steps.PutRef frame count)
 keeps-put_ref frame count layout w homes views seat v who content given =
@@ -152,14 +143,14 @@ keeps-put_ref frame count layout w homes views seat v who content given =
       | inr differs ↦
           let two : refs_on frame.0 x.refs + refs_on frame.0 v.refs ≤ sum_by (refs_on frame.0) (map (λ (v : View). v.refs) views) = terms-le (refs_on frame.0) (map (λ (v : View). v.refs) views) i seat x.refs v.refs differs (at_map (λ (v : View). v.refs) views i x is) my_refs in
           let no_refs : refs_on frame.0 x.refs ≡ 0 = omega (arith, has, balance, last, two) in
-          sum-none (λ (l : FrameLock). from_bool (l.frame.0 == frame.0)) x.locks (λ j l e.
+          sum-zero (λ (l : FrameLock). from_bool (l.frame.0 == frame.0)) x.locks (λ j l e.
           let some_refs : 0 < refs_on l.frame.0 x.refs = (h.frame_locks.known i (x.refs, x.locks) (at_map (λ (v : View). (v.refs, v.locks)) views i x is) j l e).referenced in
           ap from_bool (ne_eqb l.frame.0 frame.0 (λ same. absurd (omega (arith, no_refs, subst (λ (n : ℕ). 0 < refs_on n x.refs) same some_refs)))))
     ]
 
     unlocked : count_of (slice_index w.frames frame.0) ≡ count → lock_of (slice_index w.frames frame.0) ≡ 0
     unlocked last = sym (h.frame_locks.one frame.0 (slice_index w.frames frame.0) there)
-        ∙ sum-none (λ (o : List Ref × List FrameLock). locks_on frame.0 o.1) held (λ i o e.
+        ∙ sum-zero (λ (o : List Ref × List FrameLock). locks_on frame.0 o.1) held (λ i o e.
         let was : (x : View) × (slice_get views i ≡ Some x) × ((x.refs, x.locks) ≡ o) = map-was (λ (v : View). (v.refs, v.locks)) views i o e in
         subst (λ (o : List Ref × List FrameLock). locks_on frame.0 o.1 ≡ 0) was.2 (no-lock last i was.0 was.1))
 

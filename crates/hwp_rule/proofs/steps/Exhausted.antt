@@ -1,8 +1,7 @@
 -- Why no frame is available: each that isn't the kernel's is free, in hand, named by a cache word, referenced or marked.
-use Rattle.std.proofs.Common.{◌≡◌, ◌≢◌, ℕ, suc, zero, ◌+◌, ◌*◌, ◌^◌, ◌<◌, ◌≤◌, ◌==◌, ◌&&◌, nat_lt, not, min, eq-eqb, eqb-true, le-ltb, Bool, true, false, cond, List, [], ◌∷◌, Some, map, length, slice_get, slice_index, slice_index_or, inl, inr, refl, sym, ap, ◌∙◌, subst, arith}
+use Rattle.std.proofs.Common.{◌≡◌, ◌≢◌, ℕ, ◌+◌, ◌*◌, ◌^◌, ◌<◌, ◌≤◌, ◌==◌, ◌&&◌, nat_lt, not, min, eq-eqb, eqb-true, le-ltb, Bool, true, false, cond, List, Some, map, length, slice_get, slice_index, slice_index_or, inl, inr, refl, sym, ap, ◌∙◌, subst, arith}
 use Rattle.std.specs.Int.{from_bool}
 use Rattle.std.specs.List.{sum_by}
-use Rattle.std.proofs.lemmas.List.Sums.{sum_by-cons}
 use Rattle.std.proofs.lemmas.Option.{same_Some, slice_get_within, slice_get-get_or, slice_get_cases}
 use Rattle.hwp_geom.specs.declared.Frame.{Frame}
 use Rattle.hwp_geom.specs.declared.Layout.{Layout}
@@ -27,11 +26,12 @@ use Rattle.hwp_rule.specs.parts.Holdings.{IsBounded, frames_held}
 use Rattle.hwp_rule.specs.parts.Locks.{IsLocked}
 use Rattle.hwp_rule.specs.parts.Marks.{poisonings}
 use Rattle.hwp_rule.specs.parts.Places.{in_hand}
-use Rattle.hwp_rule.proofs.Counting.{below-le, below-add, below-swap, hit-one, sum-le, sum-ones, sum-add, some-term, hits-all-le, hits-within}
+use Rattle.hwp_rule.proofs.Counting.{below-le, below-add, below-swap, hit-one, sum-le, sum-ones, sum-add, some-term, hits-all-le}
 use Rattle.hwp_rule.proofs.Given.{IsShaped}
 use Rattle.hwp_rule.proofs.Hands.{from_bool-same}
+use Rattle.hwp_rule.proofs.RefBounds.{parts-number}
 use Rattle.hwp_rule.proofs.Sights.{IsExplained, explained-exhausted}
-use Rattle.hwp_rule.proofs.Lists.{same-or, at_map, map-was, term-le}
+use Rattle.hwp_rule.proofs.Lists.{same-or, at_map, map-was, term-le, sum-map}
 
 -- a term above 0 of equal numbers
 is-equal : (a b : ℕ) (c : Bool) → (a == b) ≡ c → 0 < from_bool c → a ≡ b
@@ -49,18 +49,6 @@ both-le false b = omega arith
 
 handled-one : (word : ℕ) → handled_of word ≢ 0 → handled_of word ≡ 1
 handled-one word some = omega arith
-
-below-ones : (n : ℕ) → sum_below (λ i. 1) n ≡ n
-below-ones zero = refl
-below-ones (suc n) = let rest : sum_below (λ i. 1) n ≡ n = below-ones n in omega arith
-
-sum-mapped : {A B : Type 0} (g : A → B) (f : B → ℕ) (l : List A) → sum_by f (map g l) ≡ sum_by (λ (x : A). f (g x)) l
-sum-mapped g f [] = refl
-sum-mapped {A} g f (x ∷ xs) =
-    let rest : sum_by f (map g xs) ≡ sum_by (λ (x : A). f (g x)) xs = sum-mapped g f xs in
-    let left : sum_by f (g x ∷ map g xs) ≡ f (g x) + sum_by f (map g xs) = sum_by-cons f (g x) (map g xs) in
-    let right : sum_by (λ (x : A). f (g x)) (x ∷ xs) ≡ f (g x) + sum_by (λ (x : A). f (g x)) xs = sum_by-cons (λ (x : A). f (g x)) x xs in
-    omega arith
 
 module _ (layout : Layout) (w : Words) (homes : Homes) (views : List View) (sound : IsSound layout) (shaped : IsShaped layout w homes) (h : FrameRule layout w homes views) where
   abbrev refs : List (List Ref)
@@ -194,11 +182,8 @@ module _ (layout : Layout) (w : Words) (homes : Homes) (views : List View) (soun
       let few : sum_by (λ (v : View). frames_held (holdings_of v)) views ≤ sum_by (λ (v : View). length v.parts + length v.parts) views =
       sum-le (λ (v : View). frames_held (holdings_of v)) (λ (v : View). length v.parts + length v.parts) views (λ i v is. bounded v (h.holdings.bounded i (holdings_of v) (at_map holdings_of views i v is))) in
       let twice : sum_by (λ (v : View). length v.parts + length v.parts) views ≡ sum_by (λ (v : View). length v.parts) views + sum_by (λ (v : View). length v.parts) views = sum-add (λ (v : View). length v.parts) (λ (v : View). length v.parts) views in
-      let mapped : sum_by (λ (l : List Part). length l) parts ≡ sum_by (λ (v : View). length v.parts) views = sum-mapped (λ (v : View). v.parts) (λ (l : List Part). length l) views in
-      let within : sum_by (λ (l : List Part). length l) parts ≤ sum_below (λ c. sum_all (λ (p : Part). from_bool (p.cpu.0 == c)) parts) layout.cpus = hits-within (λ (p : Part). p.cpu.0) parts layout.cpus h.processors.declared in
-      let once : sum_below (λ c. sum_all (λ (p : Part). from_bool (p.cpu.0 == c)) parts) layout.cpus ≤ sum_below (λ c. 1) layout.cpus = below-le (λ c. sum_all (λ (p : Part). from_bool (p.cpu.0 == c)) parts) (λ c. 1) layout.cpus
-      (λ c before. let one : sum_all (λ (p : Part). from_bool (p.cpu.0 == c)) parts ≡ 1 = h.processors.one c before in omega arith) in
-      let number : sum_below (λ c. 1) layout.cpus ≡ layout.cpus = below-ones layout.cpus in
+      let mapped : sum_by (λ (l : List Part). length l) parts ≡ sum_by (λ (v : View). length v.parts) views = sum-map (λ (l : List Part). length l) (λ (v : View). v.parts) views in
+      let number : sum_by (λ (l : List Part). length l) parts ≡ layout.cpus = parts-number layout parts h.processors in
       omega arith
     where
       bounded : (v : View) → IsBounded layout (holdings_of v) → frames_held (holdings_of v) ≤ length v.parts + length v.parts
@@ -227,11 +212,11 @@ module _ (layout : Layout) (w : Words) (homes : Homes) (views : List View) (soun
       below-add (λ f. named f w.caches) (λ f. is_marked layout marks f + listed_on f) layout.frames in
       let four : sum_below (λ f. is_marked layout marks f + listed_on f) layout.frames ≡ sum_below (is_marked layout marks) layout.frames + sum_below listed_on layout.frames = below-add (is_marked layout marks) listed_on layout.frames in
       let free : sum_below (free_bit w.frees) layout.frames ≡ w.available + sum_by (λ (n : ℕ). n) (map (λ (v : View). v.reserved) views) = h.free.number in
-      let free_held : sum_by (λ (n : ℕ). n) (map (λ (v : View). v.reserved) views) ≡ sum_by (λ (v : View). v.reserved) views = sum-mapped (λ (v : View). v.reserved) (λ (n : ℕ). n) views in
+      let free_held : sum_by (λ (n : ℕ). n) (map (λ (v : View). v.reserved) views) ≡ sum_by (λ (v : View). v.reserved) views = sum-map (λ (n : ℕ). n) (λ (v : View). v.reserved) views in
       let handed : sum_below (λ f. in_hand f hands) layout.frames ≤ sum_by (λ (l : List Frame). length l) hands = hits-all-le (λ (h : Frame). h.0) hands layout.frames in
-      let handed_held : sum_by (λ (l : List Frame). length l) hands ≡ sum_by (λ (v : View). length v.hands) views = sum-mapped (λ (v : View). v.hands) (λ (l : List Frame). length l) views in
+      let handed_held : sum_by (λ (l : List Frame). length l) hands ≡ sum_by (λ (v : View). length v.hands) views = sum-map (λ (l : List Frame). length l) (λ (v : View). v.hands) views in
       let listed : sum_below listed_on layout.frames ≤ sum_by (λ (l : List Ref). length l) refs = hits-all-le (λ (r : Ref). r.frame.0) refs layout.frames in
-      let listed_held : sum_by (λ (l : List Ref). length l) refs ≡ sum_by (λ (v : View). length v.refs) views = sum-mapped (λ (v : View). v.refs) (λ (l : List Ref). length l) views in
+      let listed_held : sum_by (λ (l : List Ref). length l) refs ≡ sum_by (λ (v : View). length v.refs) views = sum-map (λ (l : List Ref). length l) (λ (v : View). v.refs) views in
       let held : sum_by (λ (v : View). v.reserved + length v.hands + length v.refs) views ≡ sum_by (λ (v : View). v.reserved + length v.hands) views + sum_by (λ (v : View). length v.refs) views =
       sum-add (λ (v : View). v.reserved + length v.hands) (λ (v : View). length v.refs) views in
       let held_more : sum_by (λ (v : View). v.reserved + length v.hands) views ≡ sum_by (λ (v : View). v.reserved) views + sum_by (λ (v : View). length v.hands) views = sum-add (λ (v : View). v.reserved) (λ (v : View). length v.hands) views in
