@@ -28,7 +28,7 @@ use Rattle.hwp_rule.specs.Moves.{IsIn}
 use Rattle.hwp_rule.specs.Rule.{FrameRule, holder_of}
 use Rattle.hwp_rule.specs.Views.{locks_on, page_locks_on, lock_found, taken, knowing, changed, is_page_lock_of, stamp_of}
 use Rattle.hwp_rule.specs.Words.{Words}
-use Rattle.hwp_rule.specs.parts.Bodies.{Holder, IsAtHome, IsHolding, content_name}
+use Rattle.hwp_rule.specs.parts.Bodies.{Holder, IsAtHome, IsHolding, IsLockFor, content_name}
 use Rattle.hwp_rule.specs.parts.Endings.{AreEnded}
 use Rattle.hwp_rule.specs.parts.Fits.{Fits, KnowsWords, KnowsOwn}
 use Rattle.hwp_rule.specs.parts.Holdings.{IsPast}
@@ -95,10 +95,10 @@ module _ (layout : Layout) (w : Words) (homes : Homes) (views : List View) (seat
   holder pages bodies = record { locks = locks; pages = pages; bodies = bodies }
 
   -- what a view holds it still holds
-  holding-more : (q : ℕ) (pages : List PageLock) (bodies : List Held) → page_locks_on q pages ≡ page_locks_on q v.pages → IsHolding q (holder_of v) → IsHolding q (holder pages bodies)
-  holding-more q pages bodies same holds = elim holds [
+  holding-more : (b : Held) (pages : List PageLock) (bodies : List Held) → page_locks_on b.log.page.0 pages ≡ page_locks_on b.log.page.0 v.pages → IsHolding b (holder_of v) → IsHolding b (holder pages bodies)
+  holding-more b pages bodies same holds = elim holds [
     | inl page ↦ inl (subst (λ (n : ℕ). 0 < n) (sym same) page)
-    | inr some ↦ inr (some-push (λ (l : FrameLock). l.owner ≡ q + 1) v.locks lock some)
+    | inr some ↦ inr (some-push (IsLockFor b) v.locks lock some)
   ]
 
   my_bodies : slice_get (all_bodies views) seat ≡ Some v.bodies
@@ -110,7 +110,7 @@ module _ (layout : Layout) (w : Words) (homes : Homes) (views : List View) (seat
   my_fit : slice_get {X = List PageLock × List Held} (map (λ (v : View). (v.pages, v.bodies)) views) seat ≡ Some (v.pages, v.bodies)
   my_fit = at_map (λ (v : View). (v.pages, v.bodies)) views seat v me
 
-  old-in_hand : EachMember (λ (b : Held). IsHolding b.log.page.0 (holder_of v)) v.bodies
+  old-in_hand : EachMember (λ (b : Held). IsHolding b (holder_of v)) v.bodies
   old-in_hand = h.bodies.in_hand seat (holder_of v) (at_map holder_of views seat v me)
 
   pub keeps-lock-empty : IsIn homes frame.0 None → FrameRule layout (record w { frames = set w.frames frame.0 now }) (set homes frame.0 None) (set views seat (record v { locks = locks }))
@@ -130,7 +130,7 @@ module _ (layout : Layout) (w : Words) (homes : Homes) (views : List View) (seat
     cached = λ g x q at owner both. inr (both-more g q both);
     free_home = λ none. absurd (locked-now none);
     out = λ locked. set_here homes frame.0 None (Some None) empty;
-    in_hand = each-weaken (λ (b : Held). IsHolding b.log.page.0 (holder_of v)) (λ (b : Held). IsHolding b.log.page.0 (holder v.pages v.bodies)) v.bodies (λ b holds. holding-more b.log.page.0 v.pages v.bodies refl holds) old-in_hand;
+    in_hand = each-weaken (λ (b : Held). IsHolding b (holder_of v)) (λ (b : Held). IsHolding b (holder v.pages v.bodies)) v.bodies (λ b holds. holding-more b v.pages v.bodies refl holds) old-in_hand;
     reached = h.entries.lengths_reached seat v.lengths (at_map (λ (v : View). v.lengths) views seat v me);
     before = h.endings.ended_before seat v.bodies my_bodies;
     taken = h.endings.taken seat v.bodies my_bodies;
@@ -265,10 +265,10 @@ module _ (layout : Layout) (w : Words) (homes : Homes) (views : List View) (seat
       cached = λ g x q at is both. inr (both-more g q both);
       free_home = λ none. absurd (locked-now none);
       out = λ locked. set_here homes frame.0 None (Some (Some log)) inside;
-      in_hand = each-push (λ (b : Held). IsHolding b.log.page.0 (holder pages bodies)) v.bodies body
-          (inr (some-last (λ (l : FrameLock). l.owner ≡ log.page.0 + 1) v.locks lock owner))
-          (each-weaken (λ (b : Held). IsHolding b.log.page.0 (holder_of v)) (λ (b : Held). IsHolding b.log.page.0 (holder pages bodies)) v.bodies
-          (λ b holds. holding-more b.log.page.0 pages bodies (page_locks b.log.page.0) holds) old-in_hand);
+      in_hand = each-push (λ (b : Held). IsHolding b (holder pages bodies)) v.bodies body
+          (inr (some-last (IsLockFor body) v.locks lock (owner, refl)))
+          (each-weaken (λ (b : Held). IsHolding b (holder_of v)) (λ (b : Held). IsHolding b (holder pages bodies)) v.bodies
+          (λ b holds. holding-more b pages bodies (page_locks b.log.page.0) holds) old-in_hand);
       reached = each-push (λ (l : Length). EachBody (λ (x : Log). x.page ≡ l.page → l.entries ≤ length x.entries) homes (all_bodies views)) v.lengths seen reached-now
           (h.entries.lengths_reached seat v.lengths (at_map (λ (v : View). v.lengths) views seat v me));
       before = each-push (λ (b : Held). AreEnded layout w.processes (take b.since b.log.entries)) v.bodies body

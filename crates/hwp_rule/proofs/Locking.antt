@@ -59,7 +59,7 @@ pub record Locking (layout : Layout) (w : Words) (homes : Homes) (views : List V
   pub free_home : lock_of now ≡ 0 → IsAtHome (set homes f y) f (owner_of now)
   pub out : lock_of now ≡ 1 → slice_get (set homes f y) f ≡ Some None
   -- the bodies in hand
-  pub in_hand : EachMember (λ (b : Held). IsHolding b.log.page.0 (record { locks = locks; pages = pages; bodies = bodies })) bodies
+  pub in_hand : EachMember (λ (b : Held). IsHolding b (record { locks = locks; pages = pages; bodies = bodies })) bodies
   pub reached : EachMember (λ (l : Length). EachBody (λ (log : Log). log.page ≡ l.page → l.entries ≤ length log.entries) homes (all_bodies views)) lengths
   pub before : EachMember (λ (b : Held). AreEnded layout w.processes (take b.since b.log.entries)) bodies
   pub taken : EachMember (λ (b : Held). b.since ≤ length b.log.entries) bodies
@@ -167,7 +167,7 @@ module _ (layout : Layout) (w : Words) (homes : Homes) (views : List View) (seat
           let was : sum_bodies (λ (log : Log). from_bool (log.page.0 == q)) homes (all_bodies views) ≡ 1 =
           subst (λ (l : List (List Held)). sum_bodies (λ (log : Log). from_bool (log.page.0 == q)) homes l ≡ 1) (map-map views) (h.bodies.one q within) in
           subst (λ (l : List (List Held)). sum_bodies (λ (log : Log). from_bool (log.page.0 == q)) (set homes f y) l ≡ 1) (sym lists) (x.sums (λ (log : Log). from_bool (log.page.0 == q)) ∙ was);
-      in_hand = each-set (λ (o : Holder). EachMember (λ (b : Held). IsHolding b.log.page.0 o) o.bodies) (map holder_of views) seat (holder_of u) x.in_hand h.bodies.in_hand;
+      in_hand = each-set (λ (o : Holder). EachMember (λ (b : Held). IsHolding b o) o.bodies) (map holder_of views) seat (holder_of u) x.in_hand h.bodies.in_hand;
     }
       where
         map-map : (views : List View) → map (λ (o : Holder). o.bodies) (map holder_of views) ≡ all_bodies views

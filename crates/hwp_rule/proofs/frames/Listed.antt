@@ -124,13 +124,13 @@ module _ (layout : Layout) (w : Words) (homes : Homes) (views : List View) (seat
         subst (λ (l : List (List Held)). sum_bodies (λ (x : Log). from_bool (x.page.0 == q)) homes l ≡ 1) (map-map views) (h.bodies.one q inside) in
         let page : from_bool (log.page.0 == q) ≡ from_bool (body.log.page.0 == q) = ap (λ (p : Page). from_bool (p.0 == q)) extends.page_is in
         subst (λ (l : List (List Held)). sum_bodies (λ (x : Log). from_bool (x.page.0 == q)) homes l ≡ 1) (sym lists) (omega (arith, sums (λ (x : Log). from_bool (x.page.0 == q)), was, page));
-    in_hand = each-set (λ (o : Holder). EachMember (λ (b : Held). IsHolding b.log.page.0 o) o.bodies) (map holder_of views) seat (holder_of u)
-        (each-changed-one (is_body_of log.page) (λ (b : Held). IsHolding b.log.page.0 (holder_of u)) renewed v.bodies place body once there test
-        (subst (λ (p : Page). IsHolding p.0 (holder_of u)) (sym extends.page_is) (mine place body there)) mine)
+    in_hand = each-set (λ (o : Holder). EachMember (λ (b : Held). IsHolding b o) o.bodies) (map holder_of views) seat (holder_of u)
+        (each-changed-one (is_body_of log.page) (λ (b : Held). IsHolding b (holder_of u)) renewed v.bodies place body once there test
+        (subst (λ (p : Page). IsHolding (record body { log = record log { page = p } }) (holder_of u)) (sym extends.page_is) (mine place body there)) mine)
         h.bodies.in_hand;
   }
     where
-      mine : EachMember (λ (b : Held). IsHolding b.log.page.0 (holder_of u)) v.bodies
+      mine : EachMember (λ (b : Held). IsHolding b (holder_of u)) v.bodies
       mine i b at = elim (h.bodies.in_hand seat (holder_of v) (at_map holder_of views seat v me) i b at) [ inl page ↦ inl page | inr some ↦ inr some ]
 
   entries-listed : EntriesListed homes (set (all_bodies views) seat bodies) (set (map (λ (v : View). (v.made, v.sights)) views) seat (made, v.sights)) (map (λ (v : View). v.lengths) views)

@@ -19,7 +19,7 @@ use Rattle.hwp_rule.specs.Lists.{Homes, EachBody, EachMember, SomeMember, of_hom
 use Rattle.hwp_rule.specs.Rule.{FrameRule, holder_of}
 use Rattle.hwp_rule.specs.Views.{refs_on, locks_on, page_locks_on, without, changed, is_lock_of, is_page_lock_of, is_body_of}
 use Rattle.hwp_rule.specs.Words.{Words}
-use Rattle.hwp_rule.specs.parts.Bodies.{Holder, IsHolding}
+use Rattle.hwp_rule.specs.parts.Bodies.{Holder, IsHolding, IsLockFor}
 use Rattle.hwp_rule.specs.parts.Endings.{AreEnded}
 use Rattle.hwp_rule.specs.parts.Fits.{Fits, KnowsWords, KnowsOwn}
 use Rattle.hwp_rule.specs.parts.Locks.{IsLocked}
@@ -107,13 +107,13 @@ module _ (layout : Layout) (w : Words) (homes : Homes) (views : List View) (seat
   both-still g q differs both = record { frame = subst (λ (n : ℕ). 0 < n) (sym (others g differs)) both.frame; page = both.page }
 
   -- the page of another body than the frame's is still held
-  holding-still : (q : ℕ) (pages : List PageLock) (bodies : List Held) → page_locks_on q pages ≡ page_locks_on q v.pages → lock.owner ≢ q + 1 → IsHolding q (holder_of v) → IsHolding q (record { locks = locks; pages = pages; bodies = bodies })
-  holding-still q pages bodies same other holds = elim holds [
+  holding-still : (b : Held) (pages : List PageLock) (bodies : List Held) → page_locks_on b.log.page.0 pages ≡ page_locks_on b.log.page.0 v.pages → lock.owner ≢ b.log.page.0 + 1 → IsHolding b (holder_of v) → IsHolding b (record { locks = locks; pages = pages; bodies = bodies })
+  holding-still b pages bodies same other holds = elim holds [
     | inl page ↦ inl (subst (λ (n : ℕ). 0 < n) (sym same) page)
     | inr some ↦
-        let mine : SomeMember (λ (l : FrameLock). (l.owner ≡ q + 1) × (is_lock_of frame l ≡ true → ⊥)) v.locks =
-        (some.0, some.1, some.2, (some.3, λ is. other (sym owner ∙ owner-of some.0 some.1 some.2 (eqb-true some.1.frame.0 frame.0 is) ∙ some.3))) in
-        let still : SomeMember (λ (l : FrameLock). (l.owner ≡ q + 1) × (is_lock_of frame l ≡ true → ⊥)) locks = some-without (is_lock_of frame) (λ (l : FrameLock). (l.owner ≡ q + 1) × (is_lock_of frame l ≡ true → ⊥)) v.locks (λ l both is. both.1 is) mine in
+        let mine : SomeMember (λ (l : FrameLock). IsLockFor b l × (is_lock_of frame l ≡ true → ⊥)) v.locks =
+        (some.0, some.1, some.2, (some.3, λ is. other (sym owner ∙ owner-of some.0 some.1 some.2 (eqb-true some.1.frame.0 frame.0 is) ∙ some.3.0))) in
+        let still : SomeMember (λ (l : FrameLock). IsLockFor b l × (is_lock_of frame l ≡ true → ⊥)) locks = some-without (is_lock_of frame) (λ (l : FrameLock). IsLockFor b l × (is_lock_of frame l ≡ true → ⊥)) v.locks (λ l both is. both.1 is) mine in
         inr (still.0, still.1, still.2, still.3.0)
   ]
 
@@ -123,7 +123,7 @@ module _ (layout : Layout) (w : Words) (homes : Homes) (views : List View) (seat
   my_fit : slice_get {X = List PageLock × List Held} (map (λ (v : View). (v.pages, v.bodies)) views) seat ≡ Some (v.pages, v.bodies)
   my_fit = at_map (λ (v : View). (v.pages, v.bodies)) views seat v me
 
-  old-in_hand : EachMember (λ (b : Held). IsHolding b.log.page.0 (holder_of v)) v.bodies
+  old-in_hand : EachMember (λ (b : Held). IsHolding b (holder_of v)) v.bodies
   old-in_hand = h.bodies.in_hand seat (holder_of v) (at_map holder_of views seat v me)
 
   -- what the page's lock lists of the owner's cache word
@@ -157,8 +157,8 @@ module _ (layout : Layout) (w : Words) (homes : Homes) (views : List View) (seat
     ];
     free_home = λ free. record { content = None; there = set_here homes frame.0 (Some None) None out; named = sym (like.owner ∙ owner ∙ unowned) };
     out = λ set_still. absurd (unlocked-now set_still);
-    in_hand = each-weaken (λ (b : Held). IsHolding b.log.page.0 (holder_of v)) (λ (b : Held). IsHolding b.log.page.0 (record { locks = locks; pages = v.pages; bodies = v.bodies })) v.bodies
-        (λ b holds. holding-still b.log.page.0 v.pages v.bodies refl (λ e. absurd (omega (arith, e, unowned))) holds) old-in_hand;
+    in_hand = each-weaken (λ (b : Held). IsHolding b (holder_of v)) (λ (b : Held). IsHolding b (record { locks = locks; pages = v.pages; bodies = v.bodies })) v.bodies
+        (λ b holds. holding-still b v.pages v.bodies refl (λ e. absurd (omega (arith, e, unowned))) holds) old-in_hand;
     reached = h.entries.lengths_reached seat v.lengths (at_map (λ (v : View). v.lengths) views seat v me);
     before = h.endings.ended_before seat v.bodies my_bodies;
     taken = h.endings.taken seat v.bodies my_bodies;
@@ -271,9 +271,9 @@ module _ (layout : Layout) (w : Words) (homes : Homes) (views : List View) (seat
       free_home = λ free. record { content = Some log; there = set_here homes frame.0 (Some (Some log)) None out; named = named ∙ sym (like.owner ∙ owner) };
       out = λ set_still. absurd (unlocked-now set_still);
       in_hand = λ i b at.
-          let was : IsHolding b.log.page.0 (holder_of v) = each-without (λ (b : Held). IsHolding b.log.page.0 (holder_of v)) (is_body_of log.page) v.bodies old-in_hand i b at in
+          let was : IsHolding b (holder_of v) = each-without (λ (b : Held). IsHolding b (holder_of v)) (is_body_of log.page) v.bodies old-in_hand i b at in
           let other : b.log.page.0 ≢ log.page.0 = eqb-false b.log.page.0 log.page.0 (another i b at) in
-          holding-still b.log.page.0 pages bodies (page_locks b.log.page.0) (λ e. other (omega (arith, e, named))) was;
+          holding-still b pages bodies (page_locks b.log.page.0) (λ e. other (omega (arith, e, named))) was;
       reached = h.entries.lengths_reached seat v.lengths (at_map (λ (v : View). v.lengths) views seat v me);
       before = each-without (λ (b : Held). AreEnded layout w.processes (take b.since b.log.entries)) (is_body_of log.page) v.bodies (h.endings.ended_before seat v.bodies my_bodies);
       taken = each-without (λ (b : Held). b.since ≤ length b.log.entries) (is_body_of log.page) v.bodies (h.endings.taken seat v.bodies my_bodies);
