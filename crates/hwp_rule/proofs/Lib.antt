@@ -24,6 +24,7 @@ pub mod RefBounds
 pub mod Referring
 pub mod Locking
 pub mod TakenBodies
+pub mod Carrying
 pub mod LockFrame
 pub mod frames
 pub mod KeptTurns

@@ -38,7 +38,7 @@ use Rattle.hwp_rule.specs.parts.Losses.{Losing, LossesBalance, IsPoisonLoss}
 use Rattle.hwp_rule.specs.parts.Stops.{EndingsAndStopsStay}
 use Rattle.hwp_rule.specs.parts.Unpoisoned.{NothingPoisonedYet, is_failure}
 use Rattle.hwp_rule.proofs.Lists.{change, keep, at_map, at_longer, sum-set, term-le, each-set, each-weaken, each-changed}
-use Rattle.hwp_rule.proofs.Locking.{all_bodies}
+use Rattle.hwp_rule.proofs.Carrying.{all_bodies, held-bodies}
 use Rattle.hwp_rule.proofs.frames.Without.{sum-changed-one, each-changed-one}
 use Rattle.hwp_rule.proofs.frames.Listing.{each-append, seen-drop, weigh-append, made-weigh, made-each, losses-none, losses-in-none, failures-none, or-left, fits-same}
 use Rattle.hwp_rule.proofs.Kept
@@ -75,15 +75,11 @@ module _ (layout : Layout) (w : Words) (homes : Homes) (views : List View) (seat
   my_bodies : slice_get (all_bodies views) seat ≡ Some v.bodies
   my_bodies = at_map (λ (v : View). v.bodies) views seat v me
 
-  map-map : (views : List View) → map (λ (o : Holder). o.bodies) (map holder_of views) ≡ all_bodies views
-  map-map [] = refl
-  map-map (v ∷ vs) = ap (λ (l : List (List Held)). v.bodies ∷ l) (map-map vs)
-
   -- the page's body is in hand once
   once : sum_by (λ (b : Held). from_bool (is_body_of log.page b)) v.bodies ≡ 1
   once =
       let all : sum_bodies (λ (x : Log). from_bool (x.page.0 == log.page.0)) homes (all_bodies views) ≡ 1 =
-      subst (λ (l : List (List Held)). sum_bodies (λ (x : Log). from_bool (x.page.0 == log.page.0)) homes l ≡ 1) (map-map views) (h.bodies.one log.page.0 within) in
+      subst (λ (l : List (List Held)). sum_bodies (λ (x : Log). from_bool (x.page.0 == log.page.0)) homes l ≡ 1) (held-bodies views) (h.bodies.one log.page.0 within) in
       let mine : sum_by (λ (b : Held). from_bool (b.log.page.0 == log.page.0)) v.bodies ≤ sum_all (λ (b : Held). from_bool (b.log.page.0 == log.page.0)) (all_bodies views) =
       term-le (sum_by (λ (b : Held). from_bool (b.log.page.0 == log.page.0))) (all_bodies views) seat v.bodies my_bodies in
       let this : from_bool (body.log.page.0 == log.page.0) ≤ sum_by (λ (b : Held). from_bool (b.log.page.0 == log.page.0)) v.bodies = term-le (λ (b : Held). from_bool (b.log.page.0 == log.page.0)) v.bodies place body there in
@@ -119,9 +115,9 @@ module _ (layout : Layout) (w : Words) (homes : Homes) (views : List View) (seat
     shelf_out = h.bodies.shelf_out;
     one = λ q inside.
         let lists : map (λ (o : Holder). o.bodies) (set (map holder_of views) seat (holder_of u)) ≡ set (all_bodies views) seat bodies =
-        map-set (λ (o : Holder). o.bodies) (map holder_of views) seat (holder_of u) ∙ ap (λ (l : List (List Held)). set l seat bodies) (map-map views) in
+        map-set (λ (o : Holder). o.bodies) (map holder_of views) seat (holder_of u) ∙ ap (λ (l : List (List Held)). set l seat bodies) (held-bodies views) in
         let was : sum_bodies (λ (x : Log). from_bool (x.page.0 == q)) homes (all_bodies views) ≡ 1 =
-        subst (λ (l : List (List Held)). sum_bodies (λ (x : Log). from_bool (x.page.0 == q)) homes l ≡ 1) (map-map views) (h.bodies.one q inside) in
+        subst (λ (l : List (List Held)). sum_bodies (λ (x : Log). from_bool (x.page.0 == q)) homes l ≡ 1) (held-bodies views) (h.bodies.one q inside) in
         let page : from_bool (log.page.0 == q) ≡ from_bool (body.log.page.0 == q) = ap (λ (p : Page). from_bool (p.0 == q)) extends.page_is in
         subst (λ (l : List (List Held)). sum_bodies (λ (x : Log). from_bool (x.page.0 == q)) homes l ≡ 1) (sym lists) (omega (arith, sums (λ (x : Log). from_bool (x.page.0 == q)), was, page));
     in_hand = each-set (λ (o : Holder). EachMember (λ (b : Held). IsHolding b o) o.bodies) (map holder_of views) seat (holder_of u)
