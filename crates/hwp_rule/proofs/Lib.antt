@@ -26,6 +26,7 @@ pub mod Locking
 pub mod TakenBodies
 pub mod Carrying
 pub mod LockFrame
+pub mod GoingHome
 pub mod frames
 pub mod KeptTurns
 pub mod steps
