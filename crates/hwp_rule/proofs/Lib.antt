@@ -28,5 +28,6 @@ pub mod Carrying
 pub mod LockFrame
 pub mod GoingHome
 pub mod frames
+pub mod pages
 pub mod KeptTurns
 pub mod steps
