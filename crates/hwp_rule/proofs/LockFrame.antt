@@ -39,7 +39,7 @@ use Rattle.hwp_rule.proofs.FrameWord.{IsLike, like-fields, like-locked}
 use Rattle.hwp_rule.proofs.Given.{Keeps, IsShaped}
 use Rattle.hwp_rule.proofs.Carrying.{carry-none, carry-out}
 use Rattle.hwp_rule.proofs.Locking.{keeps-locking}
-use Rattle.hwp_rule.proofs.frames.PageLocks.{or-odd, first-lock, knows-knowing}
+use Rattle.hwp_rule.proofs.frames.PageLocks.{or-odd, not-is, first-lock, knows-knowing}
 use Rattle.hwp_rule.proofs.Referring.{word-there}
 
 -- a free lock that is taken, of the frame that the view has a reference to
@@ -244,15 +244,8 @@ keeps-lock_frame frame layout w homes views seat v who content given = which (no
     free-at e (Some log) inside = keeps-lock-body layout w homes views seat v who frame (slice_index w.frames frame.0) given.shaped given.me given.past given.place given.asks there
         (let unset : lock_of (slice_index w.frames frame.0) ≢ 1 = eqb-false (lock_of (slice_index w.frames frame.0)) 1 e in omega arith) given.rule log inside
 
-    locked-is : (b : Bool) → not (is_locked (slice_index w.frames frame.0)) ≡ b → is_locked (slice_index w.frames frame.0) ≡ not b
-    locked-is b e = by (is_locked (slice_index w.frames frame.0)) e
-      where
-        by : (c : Bool) → not c ≡ b → c ≡ not b
-        by true e = ap not e
-        by false e = ap not e
-
     which : (b : Bool) → not (is_locked (slice_index w.frames frame.0)) ≡ b
         → FrameRule layout (record w { frames = slice_set w.frames frame.0 (bit_or (slice_index w.frames frame.0) 1) }) (cond b (slice_set homes frame.0 None) homes)
         (set views seat (cond b (taken layout who (Some frame) content (record v { locks = v.locks ++ lock_found frame (slice_index w.frames frame.0) ∷ [] })) v))
-    which false e = busy (let set_it : lock_of (slice_index w.frames frame.0) ≡ 1 = eqb-true (lock_of (slice_index w.frames frame.0)) 1 (locked-is false e) in omega arith)
-    which true e = free-at (locked-is true e) content (given.meets e)
+    which false e = busy (let set_it : lock_of (slice_index w.frames frame.0) ≡ 1 = eqb-true (lock_of (slice_index w.frames frame.0)) 1 (not-is (is_locked (slice_index w.frames frame.0)) false e) in omega arith)
+    which true e = free-at (not-is (is_locked (slice_index w.frames frame.0)) true e) content (given.meets e)

@@ -27,6 +27,11 @@ or-odd w odd =
     let low : bit_or w 1 % 2 ^ 1 ≡ 1 = or_mod w 1 1 ∙ or_one (w % 2 ^ 1) (omega arith) in
     omega arith
 
+-- what isn't, and what is
+pub not-is : (c b : Bool) → not c ≡ b → c ≡ not b
+not-is true b e = ap not e
+not-is false b e = ap not e
+
 pub same-page : (p q : Page) → p.0 ≡ q.0 → p ≡ q
 same-page p q e = λ i. record { 0 = e i }
 
