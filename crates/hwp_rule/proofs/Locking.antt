@@ -1,12 +1,8 @@
 -- A step on a frame's lock keeps the frame rule: what is to be known of the locks, of the slot and of the bodies in hand.
-use Rattle.std.proofs.Common.{◌≡◌, ◌≢◌, ℕ, ◌+◌, ◌<◌, ◌≤◌, ◌==◌, ◌⊎◌, min, Bool, true, false, cond, List, [], ◌∷◌, Option, Some, None, map, set, take, length, slice_get, inl, inr, refl, sym, ap, ◌∙◌, subst, arith}
-use Rattle.std.proofs.lemmas.List.{map-set}
+use Rattle.std.proofs.Common.{◌≡◌, ◌≢◌, ℕ, ◌+◌, ◌<◌, ◌≤◌, ◌==◌, ◌⊎◌, min, Bool, true, false, cond, List, Option, Some, None, map, set, length, slice_get, inl, inr, refl, sym, ap, ◌∙◌, subst, arith}
 use Rattle.std.proofs.lemmas.Option.{same_Some}
-use Rattle.std.specs.Int.{from_bool}
-use Rattle.std.specs.List.{sum_by, list_any}
+use Rattle.std.specs.List.{sum_by}
 use Rattle.hwp_geom.specs.declared.Layout.{Layout}
-use Rattle.hwp_geom.specs.declared.Proc.{Proc}
-use Rattle.hwp_page.specs.declared.Entry.{Entry}
 use Rattle.hwp_words.specs.Frames.{lock_of, count_of, owner_of, handled_of, is_kernel}
 use Rattle.hwp_rule.specs.declared.log.Log.{Log}
 use Rattle.hwp_rule.specs.declared.view.FrameLock.{FrameLock}
@@ -14,24 +10,16 @@ use Rattle.hwp_rule.specs.declared.view.Held.{Held}
 use Rattle.hwp_rule.specs.declared.view.Length.{Length}
 use Rattle.hwp_rule.specs.declared.view.PageLock.{PageLock}
 use Rattle.hwp_rule.specs.declared.view.View.{View}
-use Rattle.hwp_rule.specs.Lists.{Homes, EachBody, EachMember, SomeMember, IsNotLater, sum_bodies}
-use Rattle.hwp_rule.specs.Logs.{has_ending, is_ending, losses_of}
-use Rattle.hwp_rule.specs.Rule.{FrameRule, holder_of, losing_of}
+use Rattle.hwp_rule.specs.Lists.{Homes, EachMember}
+use Rattle.hwp_rule.specs.Rule.{FrameRule, holder_of}
 use Rattle.hwp_rule.specs.Views.{refs_on, locks_on, page_locks_on}
 use Rattle.hwp_rule.specs.Words.{Words, free_bit}
 use Rattle.hwp_rule.specs.parts.Bodies.{BodiesAtHome, Holder, IsAtHome, IsHolding}
 use Rattle.hwp_rule.specs.parts.Counts.{CountsBalance, named}
-use Rattle.hwp_rule.specs.parts.Endings.{EndingsAgree, AreEnded}
-use Rattle.hwp_rule.specs.parts.Entries.{EntriesListed, weigh}
-use Rattle.hwp_rule.specs.parts.Fits.{PageFits, Fits, KnowsWords, KnowsOwn}
-use Rattle.hwp_rule.specs.parts.Holdings.{AreOwn, IsPast}
 use Rattle.hwp_rule.specs.parts.Locks.{FrameLocksHeld, PageLocksHeld, IsLocked}
-use Rattle.hwp_rule.specs.parts.Losses.{LossesBalance}
 use Rattle.hwp_rule.specs.parts.Owners.{CacheWordsOwned, HoldsBoth}
 use Rattle.hwp_rule.specs.parts.Places.{HasOnePlace, in_hand}
-use Rattle.hwp_rule.specs.parts.Stops.{EndingsAndStopsStay}
-use Rattle.hwp_rule.specs.parts.Unpoisoned.{NothingPoisonedYet, is_failure}
-use Rattle.hwp_rule.proofs.Lists.{change, keep, at_map, at_set, set_here, set_else, same-or, set_again, sum-set, term-le, each-set, each-weaken}
+use Rattle.hwp_rule.proofs.Lists.{change, at_map, at_set, set_here, set_else, same-or, set_again, sum-set, term-le, each-set}
 use Rattle.hwp_rule.proofs.FrameWord.{IsLike, word-was, like-translations, like-caches, like-handled, like-counter, like-marks, like-unpoisoned, placed-again, counted-again, locked-again}
 use Rattle.hwp_rule.proofs.Carrying
 use Rattle.hwp_rule.proofs.Carrying.{Carries}

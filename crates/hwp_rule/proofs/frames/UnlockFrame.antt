@@ -1,12 +1,11 @@
 -- A frame's lock freed keeps the frame rule.
-use Rattle.std.proofs.Common.{◌≡◌, ◌≢◌, ℕ, ◌+◌, ◌<◌, ◌≤◌, ◌==◌, Bool, true, false, cond, List, [], ◌∷◌, Some, None, map, set, take, length, slice_get, bit_and, inl, inr, refl, sym, ap, ◌∙◌, subst, arith}
+use Rattle.std.proofs.Common.{◌≡◌, ◌≢◌, ℕ, ◌+◌, ◌<◌, ◌≤◌, ◌==◌, Bool, true, false, cond, List, Some, None, map, set, length, slice_get, bit_and, inl, inr, refl, sym, ap, ◌∙◌, subst, arith}
 use Rattle.std.proofs.lemmas.Bool.{eqb-true, eqb-false, ne_eqb}
 use Rattle.std.proofs.lemmas.Option.{none-some, same_Some}
 use Rattle.std.specs.Int.{from_bool}
 use Rattle.std.specs.List.{sum_by}
 use Rattle.hwp_geom.specs.declared.Frame.{Frame}
 use Rattle.hwp_geom.specs.declared.Layout.{Layout}
-use Rattle.hwp_geom.specs.declared.Proc.{Proc}
 use Rattle.hwp_words.specs.Frames.{lock_of, count_of, owner_of}
 use Rattle.hwp_words.proofs.FrameSteps.{fields-unlock}
 use Rattle.hwp_rule.specs.declared.log.Log.{Log}
@@ -15,16 +14,16 @@ use Rattle.hwp_rule.specs.declared.view.Held.{Held}
 use Rattle.hwp_rule.specs.declared.view.PageLock.{PageLock}
 use Rattle.hwp_rule.specs.declared.view.Ref.{Ref}
 use Rattle.hwp_rule.specs.declared.view.View.{View}
-use Rattle.hwp_rule.specs.Lists.{Homes, EachBody, EachMember, SomeMember, of_home, sum_all, sum_bodies}
+use Rattle.hwp_rule.specs.Lists.{Homes, EachMember, SomeMember}
 use Rattle.hwp_rule.specs.Rule.{FrameRule, holder_of}
 use Rattle.hwp_rule.specs.Views.{refs_on, locks_on, page_locks_on, without, changed, is_lock_of, is_page_lock_of, is_body_of}
 use Rattle.hwp_rule.specs.Words.{Words}
-use Rattle.hwp_rule.specs.parts.Bodies.{Holder, IsHolding, IsLockFor}
+use Rattle.hwp_rule.specs.parts.Bodies.{IsHolding, IsLockFor}
 use Rattle.hwp_rule.specs.parts.Endings.{AreEnded}
 use Rattle.hwp_rule.specs.parts.Fits.{Fits, KnowsWords, KnowsOwn}
 use Rattle.hwp_rule.specs.parts.Locks.{IsLocked}
 use Rattle.hwp_rule.specs.parts.Owners.{HoldsBoth}
-use Rattle.hwp_rule.proofs.Lists.{at_map, at_set, same-or, same-number, set_again, set_here, sum-set, term-le, each-set, each-weaken, each-changed, sum-changed, length-changed}
+use Rattle.hwp_rule.proofs.Lists.{at_map, same-or, same-number, set_here, term-le, each-weaken, each-changed, sum-changed, length-changed}
 use Rattle.hwp_rule.proofs.FrameWord.{IsLike, like-fields, like-locked}
 use Rattle.hwp_rule.proofs.Hands.{sum-without, length-without, each-without}
 use Rattle.hwp_rule.proofs.frames.PageLocks.{first-lock}

@@ -1,36 +1,27 @@
 -- A frame's lock freed keeps the frame rule: the body that goes home is listed first.
-use Rattle.std.proofs.Common.{◌≡◌, ℕ, ◌+◌, ◌<◌, ◌≤◌, ◌==◌, ◌||◌, ◌⊎◌, Bool, true, false, List, ◌++◌, Some, None, map, set, take, drop, take-append-drop, length, slice_get, slice_index, bit_and, inl, inr, refl, sym, ap, ◌∙◌, subst, arith}
-use Rattle.std.proofs.lemmas.Bool.{eqb-true}
-use Rattle.std.proofs.lemmas.List.Folds.{list_any-append}
+use Rattle.std.proofs.Common.{◌≡◌, ℕ, ◌+◌, ◌<◌, ◌≤◌, ◌==◌, List, Some, None, map, set, length, slice_get, slice_index, bit_and, inl, inr, refl, sym, ap, ◌∙◌, subst, arith}
 use Rattle.std.proofs.lemmas.Option.{same_Some, slice_get_within}
 use Rattle.std.specs.Int.{from_bool}
 use Rattle.std.specs.List.{sum_by}
 use Rattle.hwp_geom.specs.declared.Frame.{Frame}
 use Rattle.hwp_geom.specs.declared.Layout.{Layout}
-use Rattle.hwp_geom.specs.declared.Proc.{Proc}
 use Rattle.hwp_geom.specs.declared.Who.{Who}
-use Rattle.hwp_page.specs.declared.Entry.{Entry}
 use Rattle.hwp_words.specs.Frames.{lock_of, owner_of}
 use Rattle.hwp_rule.specs.declared.log.Log.{Log}
 use Rattle.hwp_rule.specs.declared.step.Step.TheVariants as steps
 use Rattle.hwp_rule.specs.declared.view.FrameLock.{FrameLock}
-use Rattle.hwp_rule.specs.declared.view.Held.{Held}
 use Rattle.hwp_rule.specs.declared.view.PageLock.{PageLock}
 use Rattle.hwp_rule.specs.declared.view.Ref.{Ref}
 use Rattle.hwp_rule.specs.declared.view.View.{View}
 use Rattle.hwp_rule.specs.Asks.{CanUnlockFrame, CanGoHome}
-use Rattle.hwp_rule.specs.Lists.{Homes, SomeMember}
-use Rattle.hwp_rule.specs.Logs.{has_ending, is_ending}
+use Rattle.hwp_rule.specs.Lists.{Homes}
 use Rattle.hwp_rule.specs.Rule.{FrameRule}
-use Rattle.hwp_rule.specs.Views.{made_from, stamp_of, more_of, locks_on, page_locks_on, without, changed, put_home, is_lock_of, is_body_of, is_page_lock_of}
+use Rattle.hwp_rule.specs.Views.{locks_on, without, changed, put_home, is_lock_of, is_body_of, is_page_lock_of}
 use Rattle.hwp_rule.specs.Words.{Words}
-use Rattle.hwp_rule.specs.parts.Endings.{AreEnded}
-use Rattle.hwp_rule.specs.parts.Fits.{Fits, FitsWords, KnowsWords, KnowsOwn}
 use Rattle.hwp_rule.specs.parts.Owners.{HoldsBoth}
 use Rattle.hwp_rule.proofs.Given.{Given, Keeps}
 use Rattle.hwp_rule.proofs.GoingHome
-use Rattle.hwp_rule.proofs.Lists.{at_map, map-was, same-or, same-number, set_here, set-set, terms-le}
-use Rattle.hwp_rule.proofs.frames.PageLocks.{first-lock, same-page}
+use Rattle.hwp_rule.proofs.Lists.{at_map, map-was, same-or, same-number, set-set, terms-le}
 use Rattle.hwp_rule.proofs.Referring.{word-there}
 use Rattle.hwp_rule.proofs.frames.UnlockFrame
 

@@ -10,15 +10,13 @@ use Rattle.hwp_geom.specs.declared.Frame.{Frame}
 use Rattle.hwp_geom.specs.declared.Layout.{Layout}
 use Rattle.hwp_geom.specs.declared.Page.{Page}
 use Rattle.hwp_geom.specs.declared.Who.{Who}
-use Rattle.hwp_words.specs.Frames.{lock_of, owner_of, is_locked}
+use Rattle.hwp_words.specs.Frames.{lock_of, is_locked}
 use Rattle.hwp_words.specs.Names.{frame_name}
 use Rattle.hwp_words.proofs.FrameSteps.{fields-lock}
 use Rattle.hwp_rule.specs.declared.log.Log.{Log}
 use Rattle.hwp_rule.specs.declared.step.Step.TheVariants as steps
-use Rattle.hwp_rule.specs.declared.view.FrameLock.{FrameLock}
 use Rattle.hwp_rule.specs.declared.view.Held.{Held}
 use Rattle.hwp_rule.specs.declared.view.PageLock.{PageLock}
-use Rattle.hwp_rule.specs.declared.view.Ref.{Ref}
 use Rattle.hwp_rule.specs.declared.view.Stamp.{Stamp}
 use Rattle.hwp_rule.specs.declared.view.View.{View}
 use Rattle.hwp_rule.specs.Lists.{Homes, EachMember}
@@ -36,7 +34,7 @@ use Rattle.hwp_rule.proofs.Lists.{at_map, map-was, same-number, set_again, set_h
 use Rattle.hwp_rule.proofs.Carrying.{carry-none, carry-out}
 use Rattle.hwp_rule.proofs.Given.{Keeps, IsShaped}
 use Rattle.hwp_rule.proofs.Hands.{from_bool-same, from_bool-other}
-use Rattle.hwp_rule.proofs.frames.PageLocks.{or-odd, not-is, same-page, knows-knowing}
+use Rattle.hwp_rule.proofs.frames.PageLocks.{or-odd, not-is, knows-knowing}
 use Rattle.hwp_rule.proofs.frames.Without.{find-is, find-none}
 use Rattle.hwp_rule.proofs.pages.Paging.{keeps-paging}
 use Rattle.hwp_rule.proofs.steps.Loading.{word-there}

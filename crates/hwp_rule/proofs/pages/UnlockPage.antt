@@ -1,5 +1,5 @@
 -- A page's lock freed keeps the frame rule.
-use Rattle.std.proofs.Common.{◌≡◌, ◌≢◌, ℕ, ◌+◌, ◌<◌, ◌≤◌, ◌==◌, Bool, true, false, not, cond, List, [], ◌∷◌, Option, Some, None, map, set, length, slice_get, slice_index, bit_and, inl, inr, refl, sym, ap, ◌∙◌, subst, arith}
+use Rattle.std.proofs.Common.{◌≡◌, ◌≢◌, ℕ, ◌+◌, ◌<◌, ◌≤◌, ◌==◌, Bool, true, false, not, cond, List, [], Option, Some, None, map, set, length, slice_get, slice_index, bit_and, inl, inr, refl, sym, ap, ◌∙◌, subst, arith}
 use Rattle.std.proofs.lemmas.Bool.{eqb-true, eqb-false}
 use Rattle.std.proofs.lemmas.List.{nil_from_length}
 use Rattle.std.proofs.lemmas.Option.{none-some, same_Some}
@@ -16,23 +16,22 @@ use Rattle.hwp_rule.specs.declared.view.FrameLock.{FrameLock}
 use Rattle.hwp_rule.specs.declared.view.Held.{Held}
 use Rattle.hwp_rule.specs.declared.view.PageLock.{PageLock}
 use Rattle.hwp_rule.specs.declared.view.View.{View}
-use Rattle.hwp_rule.specs.Asks.{HasPageLock, CanUnlockPage, CanGoHome}
+use Rattle.hwp_rule.specs.Asks.{CanUnlockPage, CanGoHome}
 use Rattle.hwp_rule.specs.Lists.{Homes, EachMember, SomeMember}
 use Rattle.hwp_rule.specs.Rule.{FrameRule, holder_of}
-use Rattle.hwp_rule.specs.Views.{locks_on, page_locks_on, without, changed, put_home, body_of, is_body_of, is_page_lock_of}
+use Rattle.hwp_rule.specs.Views.{page_locks_on, without, put_home, body_of, is_body_of, is_page_lock_of}
 use Rattle.hwp_rule.specs.Words.{Words}
-use Rattle.hwp_rule.specs.parts.Bodies.{IsAtHome, IsHolding, content_name}
+use Rattle.hwp_rule.specs.parts.Bodies.{IsHolding, content_name}
 use Rattle.hwp_rule.specs.parts.Endings.{AreEnded}
-use Rattle.hwp_rule.specs.parts.Fits.{Fits, KnowsWords, KnowsOwn}
+use Rattle.hwp_rule.specs.parts.Fits.{Fits}
 use Rattle.hwp_rule.specs.parts.Locks.{IsLocked}
 use Rattle.hwp_rule.specs.parts.Owners.{HoldsBoth}
-use Rattle.hwp_rule.proofs.Lists.{at_map, same-number, set_here, set-set, term-le, each-weaken}
+use Rattle.hwp_rule.proofs.Lists.{at_map, same-number, set_here, set-set, term-le}
 use Rattle.hwp_rule.proofs.Carrying.{carry-none, carry-home, another}
 use Rattle.hwp_rule.proofs.Counting.{some-term}
 use Rattle.hwp_rule.proofs.Given.{Given, Keeps, IsShaped}
 use Rattle.hwp_rule.proofs.GoingHome
 use Rattle.hwp_rule.proofs.Hands.{sum-without, length-without, each-without, from_bool-same, from_bool-other}
-use Rattle.hwp_rule.proofs.frames.PageLocks.{first-lock}
 use Rattle.hwp_rule.proofs.frames.Without.{find-none}
 use Rattle.hwp_rule.proofs.pages.Paging.{keeps-paging}
 use Rattle.hwp_rule.proofs.steps.Loading.{word-there}
@@ -170,3 +169,56 @@ module _ (layout : Layout) (w : Words) (homes : Homes) (views : List View) (seat
 
       other : (i : ℕ) (b : Held) → slice_get left i ≡ Some b → b.log.page.0 ≢ page.0
       other i b there e = eqb-false b.log.page.0 log.page.0 (another layout w homes views seat v me h log place body at is within i b there) (e ∙ sym same)
+
+-- the page's body goes home to its shelf
+module _ (layout : Layout) (w : Words) (homes : Homes) (views : List View) (seat : ℕ) (v : View) (who : Who) (page : Page) (log : Log)
+    (given : Given layout w homes views seat v who (steps.UnlockPage page) (Some log)) where
+  asks : CanUnlockPage layout who v page (Some log)
+  asks = given.asks
+
+  can : CanGoHome layout who v log
+  can = asks.put
+
+  there : slice_get w.pages page.0 ≡ Some (slice_index w.pages page.0)
+  there = word-there w.pages page.0 (length layout.pages) given.shaped.pages given.place
+
+  same : log.page.0 ≡ page.0
+  same = which asks.has.lock.resident asks.named
+    where
+      which : (b : Bool) → log.page.0 + 1 ≡ cond b 0 (page.0 + 1) → log.page.0 ≡ page.0
+      which true e = absurd (omega (arith, e))
+      which false e = omega (arith, e)
+
+  within : log.page.0 < length layout.pages
+  within = subst (λ (n : ℕ). n < length layout.pages) (sym same) given.place
+
+  abbrev renewed : View
+  renewed = GoingHome.renewed layout w homes views seat v who log given.me given.past given.rule can within
+
+  abbrev after : View → List View
+  after x = set views seat (record x { pages = without (is_page_lock_of page) v.pages; bodies = without (is_body_of log.page) x.bodies })
+
+  abbrev freed : Words
+  freed = record w { pages = set w.pages page.0 (bit_and (slice_index w.pages page.0) 18446744073709551614) }
+
+  abbrev home : Homes
+  home = set homes (layout.frames + page.0) (Some (Some log))
+
+  keeps-renewed : FrameRule layout freed home (after renewed)
+  keeps-renewed = subst (FrameRule layout freed home) (set-set views seat renewed (record renewed { pages = without (is_page_lock_of page) v.pages; bodies = without (is_body_of log.page) renewed.bodies }))
+      (keeps-unlock-body layout w homes (set views seat renewed) seat renewed page (slice_index w.pages page.0) asks.has.lock given.shaped
+      (GoingHome.me-renewed layout w homes views seat v who log given.me given.past given.rule can within) there asks.has.listed asks.has.page_is asks.no_frame
+      (GoingHome.rule layout w homes views seat v who log given.me given.past given.rule can within)
+      log (GoingHome.found-body layout w homes views seat v who log given.me given.past given.rule can within).0 (record can.body { log = log })
+      (GoingHome.body-renewed layout w homes views seat v who log given.me given.past given.rule can within) (same-number log.page.0 log.page.0 refl) refl within same asks.named
+      (GoingHome.ended layout w homes views seat v who log given.me given.past given.rule can within)
+      (GoingHome.fit layout w homes views seat v who log given.me given.past given.rule can within))
+
+  keeps-home : FrameRule layout freed home (set views seat (record (put_home layout who (Some log) v) { pages = without (is_page_lock_of page) v.pages }))
+  keeps-home = subst (λ (x : View). FrameRule layout freed home (after x)) (sym (GoingHome.listed-renewed layout w homes views seat v who log given.me given.past given.rule can within)) keeps-renewed
+
+pub keeps-unlock_page : (page : Page) → Keeps (steps.UnlockPage page)
+keeps-unlock_page page layout w homes views seat v who None given =
+    keeps-unlock-empty layout w homes views seat v page (slice_index w.pages page.0) given.asks.has.lock given.shaped given.me (word-there w.pages page.0 (length layout.pages) given.shaped.pages given.place)
+    given.asks.has.listed given.asks.has.page_is given.asks.no_frame given.rule given.asks.named (given.asks.put_away refl)
+keeps-unlock_page page layout w homes views seat v who (Some log) given = keeps-home layout w homes views seat v who page log given
