@@ -17,6 +17,7 @@ pub mod Taking
 pub mod Unreached
 pub mod Slots
 pub mod Holders
+pub mod Having
 pub mod Adopting
 pub mod Refs
 pub mod FrameWord
