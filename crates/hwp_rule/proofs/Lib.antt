@@ -27,5 +27,6 @@ pub mod Locking
 pub mod TakenBodies
 pub mod LockFrame
 pub mod frames
+pub mod Naming
 pub mod KeptTurns
 pub mod steps

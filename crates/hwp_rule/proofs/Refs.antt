@@ -220,11 +220,12 @@ length-less-named : (name : Option Frame) (rs : List Ref) → length (less_named
 length-less-named None rs = omega arith
 length-less-named (Some frame) rs = length-less frame 1 rs
 
--- a word names the frame `new` in the place of `old`; of references to `new` one is spent and one stays
-module _ (old new : Option Frame) (rs : List Ref) (spare : (frame : Frame) → new ≡ Some frame → 2 ≤ refs_on frame.0 rs) where
-  abbrev pub renamed : List Ref
-  renamed = with_named old (less_named new rs)
+-- the references after a word names the frame `new` in the place of `old`
+abbrev pub renamed : Option Frame → Option Frame → List Ref → List Ref
+renamed old new rs = with_named old (less_named new rs)
 
+-- of those to `new` one is spent, and one stays
+module _ (old new : Option Frame) (rs : List Ref) (spare : (frame : Frame) → new ≡ Some frame → 2 ≤ refs_on frame.0 rs) where
   spare-hits : (f : ℕ) → hits f new * 2 ≤ refs_on f rs
   spare-hits f = which new spare
     where
@@ -238,20 +239,20 @@ module _ (old new : Option Frame) (rs : List Ref) (spare : (frame : Frame) → n
         | inr differs ↦ let none : from_bool (frame.0 == f) ≡ 0 = ap from_bool (ne_eqb frame.0 f differs) in omega arith
       ]
 
-  less : (f : ℕ) → refs_on f renamed ≡ refs_on f rs - hits f new + hits f old
+  less : (f : ℕ) → refs_on f (renamed old new rs) ≡ refs_on f rs - hits f new + hits f old
   less f =
-      let with_old : refs_on f renamed ≡ refs_on f (less_named new rs) + hits f old = refs-with-named f old (less_named new rs) in
+      let with_old : refs_on f (renamed old new rs) ≡ refs_on f (less_named new rs) + hits f old = refs-with-named f old (less_named new rs) in
       let less_new : refs_on f (less_named new rs) ≡ refs_on f rs - hits f new = refs-less-named f new rs in
       omega arith
 
-  pub refs-renamed : (f : ℕ) → refs_on f renamed + hits f new ≡ refs_on f rs + hits f old
+  pub refs-renamed : (f : ℕ) → refs_on f (renamed old new rs) + hits f new ≡ refs_on f rs + hits f old
   refs-renamed f = omega (arith, less f, spare-hits f)
 
-  pub some-renamed : (f : ℕ) → 0 < refs_on f rs → 0 < refs_on f renamed
+  pub some-renamed : (f : ℕ) → 0 < refs_on f rs → 0 < refs_on f (renamed old new rs)
   some-renamed f some = omega (arith, some, less f, spare-hits f)
 
   -- no frame more is listed, where `old` was
-  pub length-renamed : ((frame : Frame) → old ≡ Some frame → 0 < refs_on frame.0 rs) → length renamed ≤ length rs
+  pub length-renamed : ((frame : Frame) → old ≡ Some frame → 0 < refs_on frame.0 rs) → length (renamed old new rs) ≤ length rs
   length-renamed listed = which old listed
     where
       which : (name : Option Frame) → ((frame : Frame) → name ≡ Some frame → 0 < refs_on frame.0 rs) → length (with_named name (less_named new rs)) ≤ length rs
@@ -263,10 +264,10 @@ module _ (old new : Option Frame) (rs : List Ref) (spare : (frame : Frame) → n
           omega arith
 
   -- nor are there too many references, where one more to `old` had room
-  pub shares-renamed : (most : ℕ) → ((f : ℕ) → refs_on f rs ≤ most) → ((frame : Frame) → old ≡ Some frame → refs_on frame.0 rs + 1 ≤ most) → (f : ℕ) → refs_on f renamed ≤ most
+  pub shares-renamed : (most : ℕ) → ((f : ℕ) → refs_on f rs ≤ most) → ((frame : Frame) → old ≡ Some frame → refs_on frame.0 rs + 1 ≤ most) → (f : ℕ) → refs_on f (renamed old new rs) ≤ most
   shares-renamed most few room f = which old room (less f)
     where
-      which : (name : Option Frame) → ((frame : Frame) → name ≡ Some frame → refs_on frame.0 rs + 1 ≤ most) → refs_on f renamed ≡ refs_on f rs - hits f new + hits f name → refs_on f renamed ≤ most
+      which : (name : Option Frame) → ((frame : Frame) → name ≡ Some frame → refs_on frame.0 rs + 1 ≤ most) → refs_on f (renamed old new rs) ≡ refs_on f rs - hits f new + hits f name → refs_on f (renamed old new rs) ≤ most
       which None room is = omega (arith, few f, is)
       which (Some frame) room is = elim (same-or frame.0 f) [
         | inl same ↦
