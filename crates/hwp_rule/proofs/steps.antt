@@ -8,3 +8,4 @@ pub mod Settings
 pub mod Reporting
 pub mod Owning
 pub mod SetOwner
+pub mod SetCache
