@@ -9,3 +9,4 @@ pub mod Reporting
 pub mod Owning
 pub mod SetOwner
 pub mod SetCache
+pub mod SetPte
