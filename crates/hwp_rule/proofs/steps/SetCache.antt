@@ -97,7 +97,7 @@ keeps-set-cache page frame layout w homes views seat v who content given =
     -- the frame that the word names is the page's
     now-owned : (name : Option Frame) → ((f : Frame) → name ≡ Some f → CanName v page f) → (frame_name name ≡ 0) ⊎ NamesOwn w.frames page.0 (frame_name name)
     now-owned None names = inl refl
-    now-owned (Some f) names = inr (lock-names v f (names f refl).has w.frames known page.0 (names f refl).owned)
+    now-owned (Some f) names = inr (lock-names v f (names f refl).has w.frames known page.0 (names f refl).owner_is)
 
     both : List (List FrameLock × List PageLock)
     both = map (λ (v : View). (v.locks, v.pages)) views

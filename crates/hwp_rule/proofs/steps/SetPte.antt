@@ -105,7 +105,7 @@ keeps-set-pte slot pte layout w homes views seat v who content given =
 
     -- the frame that the entry leads to is the page's
     own : (frame : Frame) → CanName v page frame → NamesOwn w.frames page.0 (frame.0 + 1)
-    own frame name = lock-names v frame name.has w.frames known page.0 name.owned
+    own frame name = lock-names v frame name.has w.frames known page.0 name.owner_is
 
     named-now : frame_in (pte_word pte) ≡ frame_of pte
     named-now = pte-name pte (λ frame is.
