@@ -1,6 +1,6 @@
 -- A word of a page whose lock and body a view has begins to name another frame: the frame rule stays, where the parts that
 -- read the word do.
-use Rattle.std.proofs.Common.{◌≡◌, ◌≢◌, ◌⊎◌, ℕ, ◌+◌, ◌%◌, ◌^◌, ◌<◌, ◌≤◌, ◌==◌, ne_eqb, Bool, true, false, cond, List, Option, Some, None, map, set, length, slice_get, slice_index, inl, inr, refl, sym, ap, ◌∙◌, subst, arith}
+use Rattle.std.proofs.Common.{◌≡◌, ◌≢◌, ◌⊎◌, ℕ, ◌+◌, ◌%◌, ◌^◌, ◌<◌, ◌≤◌, ◌==◌, ne_eqb, Bool, true, cond, List, Option, Some, None, map, set, length, slice_get, slice_index, inl, inr, refl, sym, ap, ◌∙◌, subst, arith}
 use Rattle.std.specs.Int.{from_bool}
 use Rattle.std.specs.List.{sum_by}
 use Rattle.std.specs.Option.{IfSome}
@@ -10,6 +10,7 @@ use Rattle.hwp_geom.specs.declared.Layout.{Layout}
 use Rattle.hwp_geom.specs.declared.Page.{Page}
 use Rattle.hwp_geom.specs.declared.TransDecl.{TransDecl}
 use Rattle.hwp_geom.specs.declared.Who.{Who}
+use Rattle.hwp_geom.specs.Layout.{IsSound}
 use Rattle.hwp_words.specs.declared.Pte.TheVariants as ptes
 use Rattle.hwp_words.specs.Frames.{count_of, lock_of, handled_of}
 use Rattle.hwp_words.specs.Names.{frame_name, frame_named}
@@ -21,7 +22,7 @@ use Rattle.hwp_rule.specs.declared.view.Held.{Held}
 use Rattle.hwp_rule.specs.declared.view.PageLock.{PageLock}
 use Rattle.hwp_rule.specs.declared.view.Ref.{Ref}
 use Rattle.hwp_rule.specs.declared.view.View.{View}
-use Rattle.hwp_rule.specs.Asks.{HasPage, CanFree, CanName, CanChange}
+use Rattle.hwp_rule.specs.Asks.{HasPage, CanName, CanChange}
 use Rattle.hwp_rule.specs.Lists.{Homes, EachMember, of_home, sum_all, sum_bodies}
 use Rattle.hwp_rule.specs.Rule.{FrameRule, holder_of, holdings_of}
 use Rattle.hwp_rule.specs.Views.{frame_in, refs_on, locks_on, page_locks_on, changed, is_body_of}
@@ -89,7 +90,7 @@ only-member P l a few at here i x e =
     subst P (same_Some a x (sym at ∙ ap (slice_get l) (sym first) ∙ e)) here
 
 module _ (layout : Layout) (w : Words) (homes : Homes) (views : List View) (seat : ℕ) (v : View) (page : Page) (has : HasPage v page)
-    (shaped : IsShaped layout w homes) (within : page.0 < length layout.pages) (me : slice_get views seat ≡ Some v) (h : FrameRule layout w homes views) where
+    (sound : IsSound layout) (shaped : IsShaped layout w homes) (within : page.0 < length layout.pages) (me : slice_get views seat ≡ Some v) (h : FrameRule layout w homes views) where
   abbrev of_page : Log → ℕ
   of_page log = from_bool (log.page.0 == page.0)
 
@@ -148,6 +149,16 @@ module _ (layout : Layout) (w : Words) (homes : Homes) (views : List View) (seat
   -- what the page's lock lists
   pub page-knows : KnowsWords layout w.trans w.caches has.lock.lock
   page-knows = h.fits.known seat (v.pages, v.bodies) my_fit 0 has.lock.lock has.lock.listed
+
+  pub frames-few : length w.frames ≤ 2 ^ 16
+  frames-few = let limit : layout.frames ≤ 256 = sound.frames in subst (λ (n : ℕ). n ≤ 2 ^ 16) (sym shaped.frames) (omega arith)
+
+  pub my-locks : EachMember (IsLocked w.frames v.refs) v.locks
+  my-locks = h.frame_locks.known seat (v.refs, v.locks) (at_map (λ (v : View). (v.refs, v.locks)) views seat v me)
+
+  -- a frame that a word begins to name is the page's
+  pub names-own : (frame : Frame) → CanName v page frame → NamesOwn w.frames page.0 (frame.0 + 1)
+  names-own frame name = lock-names v frame name.has w.frames my-locks page.0 name.owner_is
 
   -- ---- words of the page that become others, and what its lock lists then
   module _ (test : PageLock → Bool) (to : PageLock → PageLock) (same : (l : PageLock) → (to l).page ≡ l.page) (trans caches : List ℕ) where
@@ -224,14 +235,11 @@ module _ (layout : Layout) (w : Words) (homes : Homes) (views : List View) (seat
       spare : (frame : Frame) → new ≡ Some frame → 2 ≤ refs_on frame.0 v.refs
       spare frame is = (can.1 frame is).refs
 
-      known : EachMember (IsLocked w.frames v.refs) v.locks
-      known = h.frame_locks.known seat (v.refs, v.locks) (at_map (λ (v : View). (v.refs, v.locks)) views seat v me)
-
-      counts-naming : layout.frames ≤ 2 ^ 16 → ((f : ℕ) → f < 2 ^ 16 → named f trans + named f caches + hits f old ≡ named f w.trans + named f w.caches + hits f new) → CountsBalance w.frames trans caches (set refs seat u.refs)
-      counts-naming few words = record {
+      counts-naming : ((f : ℕ) → f < 2 ^ 16 → named f trans + named f caches + hits f old ≡ named f w.trans + named f w.caches + hits f new) → CountsBalance w.frames trans caches (set refs seat u.refs)
+      counts-naming words = record {
         balance = λ f x at.
             let less : f < length w.frames = slice_get_within w.frames f x at in
-            let wide : length w.frames ≡ layout.frames = shaped.frames in
+            let few : length w.frames ≤ 2 ^ 16 = frames-few in
             let was : count_of x ≡ named f w.trans + named f w.caches + sum_by (refs_on f) refs + handled_of x = h.counts.balance f x at in
             let word : named f trans + named f caches + hits f old ≡ named f w.trans + named f w.caches + hits f new = words f (omega arith) in
             let mine : refs_on f u.refs + hits f new ≡ refs_on f v.refs + hits f old = refs-renamed old new v.refs spare f in
@@ -248,7 +256,7 @@ module _ (layout : Layout) (w : Words) (homes : Homes) (views : List View) (seat
             omega arith;
         known = each-set (λ (o : List Ref × List FrameLock). EachMember (IsLocked w.frames o.0) o.1) held seat (u.refs, v.locks)
             (each-weaken (IsLocked w.frames v.refs) (IsLocked w.frames u.refs) v.locks
-            (λ l k. record { word = k.word; there = k.there; owner = k.owner; handled = k.handled; poisoned = k.poisoned; referenced = some-renamed old new v.refs spare l.frame.0 k.referenced }) known)
+            (λ l k. record { word = k.word; there = k.there; owner = k.owner; handled = k.handled; poisoned = k.poisoned; referenced = some-renamed old new v.refs spare l.frame.0 k.referenced }) my-locks)
             h.frame_locks.known;
       }
 
@@ -256,7 +264,7 @@ module _ (layout : Layout) (w : Words) (homes : Homes) (views : List View) (seat
       bounded-naming who past = record {
         few =
             let few : frames_held (holdings_of v) ≤ 2 = bounded.few in
-            let no_more : length u.refs ≤ length v.refs = length-renamed old new v.refs spare (λ frame is. lock-referenced v frame (can.0 frame is).has w.frames known) in
+            let no_more : length u.refs ≤ length v.refs = length-renamed old new v.refs spare (λ frame is. lock-referenced v frame (can.0 frame is).has w.frames my-locks) in
             omega arith;
         none = λ empty. absurd (past-some v.parts who past empty);
         shares = shares-renamed old new v.refs spare (length layout.trans + 2) bounded.shares (λ frame is. (can.0 frame is).room);
@@ -265,15 +273,15 @@ module _ (layout : Layout) (w : Words) (homes : Homes) (views : List View) (seat
           bounded : IsBounded layout (holdings_of v)
           bounded = h.holdings.bounded seat (holdings_of v) (at_map holdings_of views seat v me)
 
-      pub keeps-naming : (who : Who) → IsPast v.parts who → layout.frames ≤ 2 ^ 16
+      pub keeps-naming : (who : Who) → IsPast v.parts who
           → ((f : ℕ) → f < 2 ^ 16 → named f trans + named f caches + hits f old ≡ named f w.trans + named f w.caches + hits f new)
           → TranslationsOwned layout.trans w.frames trans
           → CacheWordsOwned w.frames caches (set (map (λ (v : View). (v.locks, v.pages)) views) seat (v.locks, pages))
           → BodiesAtHome layout w.frames caches w.pages homes (set (map holder_of views) seat (holder_of (record v { pages = pages })))
           → PageFits layout trans caches homes (set fitting seat (pages, v.bodies))
           → FrameRule layout (record w { trans = trans; caches = caches }) homes (set views seat u)
-      keeps-naming who past few words translations owned at_home fits = record {
-        counts = change (λ (v : View). v.refs) (CountsBalance w.frames trans caches) views seat u (counts-naming few words);
+      keeps-naming who past words translations owned at_home fits = record {
+        counts = change (λ (v : View). v.refs) (CountsBalance w.frames trans caches) views seat u (counts-naming words);
         places = Kept.kept-places views seat v u me layout.kernel w.frames w.frees refl h.places;
         frame_locks = change (λ (v : View). (v.refs, v.locks)) (FrameLocksHeld w.frames) views seat u locks-naming;
         page_locks = keep (λ (v : View). v.locks) (λ l. PageLocksHeld w.pages (map (λ (v : View). v.pages) (set views seat u)) l) views seat v u me refl

@@ -1,28 +1,27 @@
 -- A cache word that is written keeps the frame rule.
-use Rattle.std.proofs.Common.{◌≡◌, ◌≢◌, ◌⊎◌, ℕ, ◌+◌, ◌^◌, ◌<◌, ◌≤◌, ◌==◌, ne_eqb, Bool, true, false, not, List, Option, Some, None, is_some, map, set, length, slice_get, slice_index, inl, inr, refl, sym, ap, ◌∙◌, subst, arith}
+use Rattle.std.proofs.Common.{◌≡◌, ◌⊎◌, ℕ, ◌+◌, ◌^◌, ◌<◌, ◌≤◌, ◌==◌, ne_eqb, Bool, not, List, Option, Some, None, is_some, map, set, length, slice_get, slice_index, inl, inr, refl, sym, ap, ◌∙◌, subst, arith}
 use Rattle.std.specs.Int.{from_bool}
 use Rattle.std.proofs.lemmas.Option.{same_Some, slice_get_within}
 use Rattle.hwp_geom.specs.declared.Frame.{Frame}
 use Rattle.hwp_geom.specs.declared.Page.{Page}
-use Rattle.hwp_words.specs.Frames.{lock_of, owner_of}
+use Rattle.hwp_words.specs.Frames.{lock_of}
 use Rattle.hwp_words.specs.Names.{frame_name}
 use Rattle.hwp_rule.specs.declared.step.Step.TheVariants as steps
 use Rattle.hwp_rule.specs.declared.view.FrameLock.{FrameLock}
 use Rattle.hwp_rule.specs.declared.view.PageLock.{PageLock}
 use Rattle.hwp_rule.specs.declared.view.View.{View}
 use Rattle.hwp_rule.specs.Asks.{HasPage, CanName, CanChange}
-use Rattle.hwp_rule.specs.Lists.{EachMember, SomeMember}
+use Rattle.hwp_rule.specs.Lists.{SomeMember}
 use Rattle.hwp_rule.specs.Rule.{FrameRule, holder_of}
 use Rattle.hwp_rule.specs.Views.{frame_in, page_locks_on, changed, is_page_lock_of}
 use Rattle.hwp_rule.specs.parts.Bodies.{BodiesAtHome}
 use Rattle.hwp_rule.specs.parts.Counts.{named}
 use Rattle.hwp_rule.specs.parts.Fits.{PageFits, KnowsWords}
-use Rattle.hwp_rule.specs.parts.Locks.{IsLocked}
 use Rattle.hwp_rule.specs.parts.Owners.{CacheWordsOwned, NamesOwn, HoldsBoth}
 use Rattle.hwp_rule.proofs.Given.{Keeps}
-use Rattle.hwp_rule.proofs.Having.{lock-listed, page-listed, lock-names}
+use Rattle.hwp_rule.proofs.Having.{lock-listed, page-listed}
 use Rattle.hwp_rule.proofs.Lists.{at_map, at_set, same-or, same-number, set_here, set_else}
-use Rattle.hwp_rule.proofs.Naming.{names-name, names-in, frame_in-name, named-set, page-locked, page-knows, fits-naming, keeps-naming}
+use Rattle.hwp_rule.proofs.Naming.{names-name, names-in, frame_in-name, named-set, page-locked, page-knows, frames-few, names-own, fits-naming, keeps-naming}
 use Rattle.hwp_rule.proofs.Refs.{hits}
 use Rattle.hwp_rule.proofs.steps.Knowing.{same-locks, caches-listed, bodies-listed}
 use Rattle.hwp_rule.proofs.steps.Loading.{word-there}
@@ -33,7 +32,7 @@ resident-name (Some frame) = ap not (ne_eqb (frame.0 + 1) 0 (λ e. omega (arith,
 
 pub keeps-set-cache : (page : Page) (frame : Option Frame) → Keeps (steps.SetCache page frame)
 keeps-set-cache page frame layout w homes views seat v who content given =
-    keeps-naming layout w homes views seat v page has given.shaped given.place me h test to (λ l. refl) w.trans caches (frame_in found) frame can who given.past few words h.translations owned at_home fits
+    keeps-naming layout w homes views seat v page has given.sound given.shaped given.place me h test to (λ l. refl) w.trans caches (frame_in found) frame can who given.past words h.translations owned at_home fits
   where
     found : ℕ
     found = slice_index w.caches page.0
@@ -69,7 +68,7 @@ keeps-set-cache page frame layout w homes views seat v who content given =
     number = ap (λ (p : Page). p.0) has.lock.page_is
 
     knows : KnowsWords layout w.trans w.caches has.lock.lock
-    knows = page-knows layout w homes views seat v page has given.shaped given.place me h
+    knows = page-knows layout w homes views seat v page has given.sound given.shaped given.place me h
 
     -- the word is the one that the page's lock lists
     listed : has.cache ≡ found
@@ -78,11 +77,8 @@ keeps-set-cache page frame layout w homes views seat v who content given =
     can : CanChange layout v page (frame_in found) frame
     can = subst (λ (n : ℕ). CanChange layout v page (frame_in n) frame) listed given.asks.frames
 
-    few : layout.frames ≤ 2 ^ 16
-    few = let limit : layout.frames ≤ 256 = given.sound.frames in omega arith
-
     few-words : length w.frames ≤ 2 ^ 16
-    few-words = subst (λ (n : ℕ). n ≤ 2 ^ 16) (sym given.shaped.frames) few
+    few-words = frames-few layout w homes views seat v page has given.sound given.shaped given.place me h
 
     words : (f : ℕ) → f < 2 ^ 16 → named f w.trans + named f caches + hits f (frame_in found) ≡ named f w.trans + named f w.caches + hits f frame
     words f less =
@@ -91,13 +87,10 @@ keeps-set-cache page frame layout w homes views seat v who content given =
         let after : from_bool (frame_name frame == f + 1) ≡ hits f frame = names-name frame f less in
         omega arith
 
-    known : EachMember (IsLocked w.frames v.refs) v.locks
-    known = h.frame_locks.known seat (v.refs, v.locks) (at_map (λ (v : View). (v.refs, v.locks)) views seat v me)
-
     -- the frame that the word names is the page's
     now-owned : (name : Option Frame) → ((f : Frame) → name ≡ Some f → CanName v page f) → (frame_name name ≡ 0) ⊎ NamesOwn w.frames page.0 (frame_name name)
     now-owned None names = inl refl
-    now-owned (Some f) names = inr (lock-names v f (names f refl).has w.frames known page.0 (names f refl).owner_is)
+    now-owned (Some f) names = inr (names-own layout w homes views seat v page has given.sound given.shaped given.place me h f (names f refl))
 
     both : List (List FrameLock × List PageLock)
     both = map (λ (v : View). (v.locks, v.pages)) views
@@ -148,7 +141,7 @@ keeps-set-cache page frame layout w homes views seat v who content given =
       frame_out = still.frame_out;
       shelf_home = λ q x c at word free. elim (at_set w.caches page.0 q (frame_name frame) c word) [
         | inl t ↦
-            let locked : lock_of x ≡ 1 = page-locked layout w homes views seat v page has given.shaped given.place me h x (ap (slice_get w.pages) (sym t.0) ∙ at) in
+            let locked : lock_of x ≡ 1 = page-locked layout w homes views seat v page has given.sound given.shaped given.place me h x (ap (slice_get w.pages) (sym t.0) ∙ at) in
             absurd (omega (arith, free, locked))
         | inr t ↦ still.shelf_home q x c at t.1 free
       ];
@@ -168,5 +161,5 @@ keeps-set-cache page frame layout w homes views seat v who content given =
     }
 
     fits : PageFits layout w.trans caches homes (set (map (λ (v : View). (v.pages, v.bodies)) views) seat (pages, v.bodies))
-    fits = fits-naming layout w homes views seat v page has given.shaped given.place me h test to (λ l. refl) w.trans caches (same-number has.lock.lock.page.0 page.0 number)
+    fits = fits-naming layout w homes views seat v page has given.sound given.shaped given.place me h test to (λ l. refl) w.trans caches (same-number has.lock.lock.page.0 page.0 number)
         (λ q differs. set_else w.caches page.0 q (frame_name frame) differs) (λ s t declared differs. refl) knows-now (frame_name frame) refl has.trans has.trans_is

@@ -1,5 +1,5 @@
 -- A page that becomes the owner of a frame, or gives it up, keeps the frame rule.
-use Rattle.std.proofs.Common.{◌≡◌, ◌≢◌, ℕ, ◌+◌, ◌*◌, ◌^◌, ◌<◌, ◌≤◌, ◌==◌, bit_xor, eq-eqb, ne_eqb, Bool, true, false, cond, List, Some, map, set, length, slice_get, slice_index, inl, inr, refl, sym, ap, ◌∙◌, subst, arith}
+use Rattle.std.proofs.Common.{◌≡◌, ◌≢◌, ℕ, ◌+◌, ◌*◌, ◌^◌, ◌<◌, ◌≤◌, bit_xor, eq-eqb, ne_eqb, Bool, true, false, cond, List, Some, map, set, length, slice_get, slice_index, inl, inr, refl, sym, ap, ◌∙◌, subst, arith}
 use Rattle.std.specs.Int.{from_bool}
 use Rattle.std.specs.Int.Bits.{xor_zero_l, xor_zero_r}
 use Rattle.std.proofs.lemmas.Option.{same_Some}
@@ -14,10 +14,10 @@ use Rattle.hwp_rule.specs.declared.view.FrameLock.{FrameLock}
 use Rattle.hwp_rule.specs.declared.view.Held.{Held}
 use Rattle.hwp_rule.specs.declared.view.PageLock.{PageLock}
 use Rattle.hwp_rule.specs.declared.view.View.{View}
-use Rattle.hwp_rule.specs.Asks.{HasLock, HasPageLock, CanOwn, CanDisown}
+use Rattle.hwp_rule.specs.Asks.{HasLock, CanOwn, CanDisown}
 use Rattle.hwp_rule.specs.Lists.{Homes, EachMember}
 use Rattle.hwp_rule.specs.Rule.{FrameRule, holder_of}
-use Rattle.hwp_rule.specs.Views.{is_lock_of, locks_on, page_locks_on}
+use Rattle.hwp_rule.specs.Views.{is_lock_of, page_locks_on}
 use Rattle.hwp_rule.specs.Words.{Words}
 use Rattle.hwp_rule.specs.parts.Bodies.{IsHolding}
 use Rattle.hwp_rule.specs.parts.Fits.{KnowsWords}
@@ -25,7 +25,7 @@ use Rattle.hwp_rule.specs.parts.Locks.{IsLocked}
 use Rattle.hwp_rule.specs.parts.Owners.{TranslationsOwned, CacheWordsOwned, NamesOwn, HoldsBoth}
 use Rattle.hwp_rule.proofs.Given.{Keeps}
 use Rattle.hwp_rule.proofs.Having.{lock-listed, page-listed}
-use Rattle.hwp_rule.proofs.Lists.{at_map, at_set, same-or, set_here, set_else, each-weaken, some-set, term-le}
+use Rattle.hwp_rule.proofs.Lists.{at_map, at_set, same-or, set_here, set_else, each-weaken, some-set}
 use Rattle.hwp_rule.proofs.steps.Loading.{word-there}
 use Rattle.hwp_rule.proofs.steps.Owning.{owning, same-locks, kept-owning}
 

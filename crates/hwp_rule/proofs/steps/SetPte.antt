@@ -1,5 +1,5 @@
 -- A translation that is written keeps the frame rule.
-use Rattle.std.proofs.Common.{◌≡◌, ◌≢◌, ◌⊎◌, ℕ, ◌+◌, ◌^◌, ◌<◌, ◌≤◌, ◌==◌, Bool, true, List, Option, Some, None, option_map, get_or, map, set, length, slice_get, slice_index, slice_set, inl, inr, refl, sym, ap, ◌∙◌, subst, arith}
+use Rattle.std.proofs.Common.{◌≡◌, ◌≢◌, ◌⊎◌, ℕ, ◌+◌, ◌^◌, ◌<◌, ◌≤◌, ◌==◌, Bool, true, List, Some, None, option_map, set, length, slice_get, slice_index, slice_set, inl, inr, refl, sym, ap, ◌∙◌, subst, arith}
 use Rattle.std.specs.Int.{from_bool}
 use Rattle.std.proofs.lemmas.List.Elements.{All-get_or}
 use Rattle.std.proofs.lemmas.Option.{same_Some, slice_get_within, get_or_from_slice_get}
@@ -12,19 +12,15 @@ use Rattle.hwp_words.specs.declared.Pte.TheVariants as ptes
 use Rattle.hwp_words.specs.Translations.{pte_word}
 use Rattle.hwp_rule.specs.declared.step.Step.TheVariants as steps
 use Rattle.hwp_rule.specs.declared.view.PageLock.{PageLock}
-use Rattle.hwp_rule.specs.declared.view.View.{View}
 use Rattle.hwp_rule.specs.Asks.{HasPage, CanName, CanChange, frame_of}
-use Rattle.hwp_rule.specs.Lists.{EachMember}
 use Rattle.hwp_rule.specs.Rule.{FrameRule}
 use Rattle.hwp_rule.specs.Views.{frame_in}
 use Rattle.hwp_rule.specs.parts.Counts.{named}
 use Rattle.hwp_rule.specs.parts.Fits.{KnowsWords}
-use Rattle.hwp_rule.specs.parts.Locks.{IsLocked}
 use Rattle.hwp_rule.specs.parts.Owners.{TranslationsOwned, NamesOwn}
 use Rattle.hwp_rule.proofs.Given.{Keeps}
-use Rattle.hwp_rule.proofs.Having.{lock-names}
-use Rattle.hwp_rule.proofs.Lists.{at_map, at_set, same-or, set_here, set_else}
-use Rattle.hwp_rule.proofs.Naming.{Names, names-name, names-poison, names-in, frame_in-name, named-set, page-knows, fits-naming, keeps-naming}
+use Rattle.hwp_rule.proofs.Lists.{at_set, same-or, set_here, set_else}
+use Rattle.hwp_rule.proofs.Naming.{Names, names-name, names-poison, names-in, frame_in-name, named-set, page-knows, frames-few, names-own, fits-naming, keeps-naming}
 use Rattle.hwp_rule.proofs.Refs.{hits}
 use Rattle.hwp_rule.proofs.steps.Knowing.{caches-listed, bodies-listed}
 use Rattle.hwp_rule.proofs.steps.Loading.{word-there}
@@ -46,9 +42,9 @@ pte-name ptes.Poison fits = refl
 
 pub keeps-set-pte : (slot : VSlot) (pte : Pte) → Keeps (steps.SetPte slot pte)
 keeps-set-pte slot pte layout w homes views seat v who content given =
-    keeps-naming layout w homes views seat v page has given.shaped within me h test to (λ l. refl) trans w.caches (frame_in found) (frame_in (pte_word pte)) can who given.past few words translations
+    keeps-naming layout w homes views seat v page has given.sound given.shaped within me h test to (λ l. refl) trans w.caches (frame_in found) (frame_in (pte_word pte)) can who given.past words translations
     (caches-listed layout w homes views seat v me h test to (λ l. refl)) (bodies-listed layout w homes views seat v me h test to (λ l. refl))
-    (fits-naming layout w homes views seat v page has given.shaped within me h test to (λ l. refl) trans w.caches refl (λ q differs. refl) other_words knows-now has.cache has.cache_is (set has.trans slot.0 (pte_word pte)) trans-now)
+    (fits-naming layout w homes views seat v page has given.sound given.shaped within me h test to (λ l. refl) trans w.caches refl (λ q differs. refl) other_words knows-now has.cache has.cache_is (set has.trans slot.0 (pte_word pte)) trans-now)
   where
     found : ℕ
     found = slice_index w.trans slot.0
@@ -88,24 +84,18 @@ keeps-set-pte slot pte layout w homes views seat v who content given =
     to l = record l { trans = option_map (λ (ws : List ℕ). slice_set ws slot.0 (pte_word pte)) l.trans }
 
     knows : KnowsWords layout w.trans w.caches has.lock.lock
-    knows = page-knows layout w homes views seat v page has given.shaped within me h
+    knows = page-knows layout w homes views seat v page has given.sound given.shaped within me h
 
     -- the word is the one that the page's lock lists
     listed : given.asks.old ≡ found
     listed = same_Some given.asks.old found (sym given.asks.old_is ∙ knows.words has.trans has.trans_is slot.0 decl declared (sym has.lock.page_is) ∙ there)
 
-    few : layout.frames ≤ 2 ^ 16
-    few = let limit : layout.frames ≤ 256 = given.sound.frames in omega arith
-
     few-words : length w.frames ≤ 2 ^ 16
-    few-words = subst (λ (n : ℕ). n ≤ 2 ^ 16) (sym given.shaped.frames) few
-
-    known : EachMember (IsLocked w.frames v.refs) v.locks
-    known = h.frame_locks.known seat (v.refs, v.locks) (at_map (λ (v : View). (v.refs, v.locks)) views seat v me)
+    few-words = frames-few layout w homes views seat v page has given.sound given.shaped within me h
 
     -- the frame that the entry leads to is the page's
     own : (frame : Frame) → CanName v page frame → NamesOwn w.frames page.0 (frame.0 + 1)
-    own frame name = lock-names v frame name.has w.frames known page.0 name.owner_is
+    own = names-own layout w homes views seat v page has given.sound given.shaped within me h
 
     named-now : frame_in (pte_word pte) ≡ frame_of pte
     named-now = pte-name pte (λ frame is.
