@@ -73,10 +73,10 @@ load-fits {layout} {layout_now} {old} {new} {was} {now} {moves} {found} p is sam
 pub load-turn : {layout : Layout} {old new : View} {was now : Slots} {moves : Rec → Option Log → Type 0} {found : ℕ}
     (stays : Type 0) (p : Pin) → p.at ≡ at.Load → Steps layout p.who (load_frame p.frame) old new was now moves found
     → (after : PinAt) → after ≡ at_word found → (result : Turn) → result ≡ Moved
-    → Advances layout p.who (plan p) (λ f. next p f) (λ f. turn p f) old new was now moves stays p (record p { at = after }) result
+    → Advances layout p.who (plan p) (λ f was now s. (s ≡ next p f) × (now ≡ was)) (λ f. turn p f) old new was now moves stays p (record p { at = after }) result
 load-turn {layout} {old} {new} {was} {now} {moves} {found} stays p is made after then result told =
-    advanced (λ f. next p f) (λ f. turn p f) stays p (plan p) (ap (λ (a : PinAt). plan_at p.frame a) is) made
-    (ap (λ (a : PinAt). record p { at = a }) (then ∙ sym (ap (λ (a : PinAt). next_at a found) is)))
+    advanced (λ f was now s. (s ≡ next p f) × (now ≡ was)) (λ f. turn p f) stays p (plan p) (ap (λ (a : PinAt). plan_at p.frame a) is) made
+    ((ap (λ (a : PinAt). record p { at = a }) (then ∙ sym (ap (λ (a : PinAt). next_at a found) is))), made.carried)
     (told ∙ sym (ap (λ (a : PinAt). turn_at a found) is))
 
 pub get-fits : {layout layout_now : Layout} {old new : View} {was now : Slots} {moves : Rec → Option Log → Type 0} {found : ℕ}
@@ -90,8 +90,8 @@ get-fits {layout} {layout_now} {old} {new} {was} {now} {moves} {found} p seen is
 pub get-turn : {layout : Layout} {old new : View} {was now : Slots} {moves : Rec → Option Log → Type 0} {found : ℕ}
     (stays : Type 0) (p : Pin) (seen : ℕ) → p.at ≡ at.Get seen → Steps layout p.who (get_ref p.frame seen 1) old new was now moves found
     → (after : PinAt) → after ≡ cond (found == seen) (at.Held seen) (at_word found) → (result : Turn) → result ≡ cond (found == seen) Moved (Changed found)
-    → Advances layout p.who (plan p) (λ f. next p f) (λ f. turn p f) old new was now moves stays p (record p { at = after }) result
+    → Advances layout p.who (plan p) (λ f was now s. (s ≡ next p f) × (now ≡ was)) (λ f. turn p f) old new was now moves stays p (record p { at = after }) result
 get-turn {layout} {old} {new} {was} {now} {moves} {found} stays p seen is made after then result told =
-    advanced (λ f. next p f) (λ f. turn p f) stays p (plan p) (ap (λ (a : PinAt). plan_at p.frame a) is) made
-    (ap (λ (a : PinAt). record p { at = a }) (then ∙ sym (ap (λ (a : PinAt). next_at a found) is)))
+    advanced (λ f was now s. (s ≡ next p f) × (now ≡ was)) (λ f. turn p f) stays p (plan p) (ap (λ (a : PinAt). plan_at p.frame a) is) made
+    ((ap (λ (a : PinAt). record p { at = a }) (then ∙ sym (ap (λ (a : PinAt). next_at a found) is))), made.carried)
     (told ∙ sym (ap (λ (a : PinAt). turn_at a found) is))

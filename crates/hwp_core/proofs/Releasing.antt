@@ -66,10 +66,10 @@ put-fits {layout} {layout_now} {old} {new} {was} {now} {moves} {found} r is same
 pub put-turn : {layout : Layout} {old new : View} {was now : Slots} {moves : Rec → Option Log → Type 0} {found : ℕ}
     (stays : Type 0) (r : Release) → r.at ≡ at.Put → Steps layout r.who (put_ref r.frame r.count) old new was now moves found
     → (after : ReleaseAt) → after ≡ cond (is_last r.count found) at.Give at.Back → (result : Turn) → result ≡ Moved
-    → Advances layout r.who (plan r) (λ f. next r f) (λ f. turn r f) old new was now moves stays r (record r { at = after }) result
+    → Advances layout r.who (plan r) (λ f was now s. (s ≡ next r f) × (now ≡ was)) (λ f. turn r f) old new was now moves stays r (record r { at = after }) result
 put-turn {layout} {old} {new} {was} {now} {moves} {found} stays r is made after then result told =
-    advanced (λ f. next r f) (λ f. turn r f) stays r (plan r) (ap (λ (a : ReleaseAt). plan_at r.frame r.count a) is) made
-    (ap (λ (a : ReleaseAt). record r { at = a }) (then ∙ sym (ap (λ (a : ReleaseAt). next_at r.count a found) is)))
+    advanced (λ f was now s. (s ≡ next r f) × (now ≡ was)) (λ f. turn r f) stays r (plan r) (ap (λ (a : ReleaseAt). plan_at r.frame r.count a) is) made
+    ((ap (λ (a : ReleaseAt). record r { at = a }) (then ∙ sym (ap (λ (a : ReleaseAt). next_at r.count a found) is))), made.carried)
     (told ∙ sym (ap (λ (a : ReleaseAt). Moved) is))
 
 pub give-fits : {layout layout_now : Layout} {old new : View} {was now : Slots} {moves : Rec → Option Log → Type 0} {found : ℕ}
@@ -83,10 +83,10 @@ give-fits {layout} {layout_now} {old} {new} {was} {now} {moves} {found} r is sam
 pub give-turn : {layout : Layout} {old new : View} {was now : Slots} {moves : Rec → Option Log → Type 0} {found : ℕ}
     (stays : Type 0) (r : Release) → r.at ≡ at.Give → Steps layout r.who (give_bit r.frame) old new was now moves found
     → (after : ReleaseAt) → after ≡ at.Unreserve → (result : Turn) → result ≡ Moved
-    → Advances layout r.who (plan r) (λ f. next r f) (λ f. turn r f) old new was now moves stays r (record r { at = after }) result
+    → Advances layout r.who (plan r) (λ f was now s. (s ≡ next r f) × (now ≡ was)) (λ f. turn r f) old new was now moves stays r (record r { at = after }) result
 give-turn {layout} {old} {new} {was} {now} {moves} {found} stays r is made after then result told =
-    advanced (λ f. next r f) (λ f. turn r f) stays r (plan r) (ap (λ (a : ReleaseAt). plan_at r.frame r.count a) is) made
-    (ap (λ (a : ReleaseAt). record r { at = a }) (then ∙ sym (ap (λ (a : ReleaseAt). next_at r.count a found) is)))
+    advanced (λ f was now s. (s ≡ next r f) × (now ≡ was)) (λ f. turn r f) stays r (plan r) (ap (λ (a : ReleaseAt). plan_at r.frame r.count a) is) made
+    ((ap (λ (a : ReleaseAt). record r { at = a }) (then ∙ sym (ap (λ (a : ReleaseAt). next_at r.count a found) is))), made.carried)
     (told ∙ sym (ap (λ (a : ReleaseAt). Moved) is))
 
 pub unreserve-fits : {layout layout_now : Layout} {old new : View} {was now : Slots} {moves : Rec → Option Log → Type 0} {found : ℕ}
@@ -100,10 +100,10 @@ unreserve-fits {layout} {layout_now} {old} {new} {was} {now} {moves} {found} r i
 pub unreserve-turn : {layout : Layout} {old new : View} {was now : Slots} {moves : Rec → Option Log → Type 0} {found : ℕ}
     (stays : Type 0) (r : Release) → r.at ≡ at.Unreserve → Steps layout r.who unreserve old new was now moves found
     → (after : ReleaseAt) → after ≡ at.Back → (result : Turn) → result ≡ Moved
-    → Advances layout r.who (plan r) (λ f. next r f) (λ f. turn r f) old new was now moves stays r (record r { at = after }) result
+    → Advances layout r.who (plan r) (λ f was now s. (s ≡ next r f) × (now ≡ was)) (λ f. turn r f) old new was now moves stays r (record r { at = after }) result
 unreserve-turn {layout} {old} {new} {was} {now} {moves} {found} stays r is made after then result told =
-    advanced (λ f. next r f) (λ f. turn r f) stays r (plan r) (ap (λ (a : ReleaseAt). plan_at r.frame r.count a) is) made
-    (ap (λ (a : ReleaseAt). record r { at = a }) (then ∙ sym (ap (λ (a : ReleaseAt). next_at r.count a found) is)))
+    advanced (λ f was now s. (s ≡ next r f) × (now ≡ was)) (λ f. turn r f) stays r (plan r) (ap (λ (a : ReleaseAt). plan_at r.frame r.count a) is) made
+    ((ap (λ (a : ReleaseAt). record r { at = a }) (then ∙ sym (ap (λ (a : ReleaseAt). next_at r.count a found) is))), made.carried)
     (told ∙ sym (ap (λ (a : ReleaseAt). Moved) is))
 
 -- the last references were given back, by the word that was shown

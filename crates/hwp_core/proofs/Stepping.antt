@@ -1,17 +1,17 @@
 -- What one step of a task leaves and shows: the processor keeps its turn, and the words are those of a board that keeps the
 -- frame rule.
-use Rattle.std.proofs.Common.{◌≡◌, ℕ, ◌+◌, ◌*◌, ◌/◌, ◌%◌, ◌^◌, ◌<◌, ◌≤◌, ◌==◌, Bool, true, false, cond, Option, Some, length, drop, min, slice_get, slice_index, ◌⊎◌, inl, inr, refl, sym, ap, ◌∙◌, subst, arith, w64}
+use Rattle.std.proofs.Common.{◌≡◌, ℕ, ◌+◌, ◌*◌, ◌/◌, ◌%◌, ◌^◌, ◌<◌, ◌≤◌, ◌==◌, Bool, true, false, cond, Option, Some, None, map, length, drop, min, slice_get, slice_index, ◌⊎◌, inl, inr, refl, sym, ap, ◌∙◌, subst, arith, w64}
 use Rattle.std.specs.Int.{trailing_zeros}
 use Rattle.std.proofs.lemmas.Bool.{cases_lt, both_ways}
 use Rattle.std.proofs.lemmas.List.{length-take}
 use Rattle.std.proofs.lemmas.Nat.Bits.{bit_at-trailing_zeros}
-use Rattle.std.proofs.lemmas.Option.{slice_get-get_or}
+use Rattle.std.proofs.lemmas.Option.{slice_get-get_or, same_Some}
 use Rattle.hwp_geom.specs.declared.Cpu.{Cpu}
 use Rattle.hwp_geom.specs.declared.Frame.{Frame}
 use Rattle.hwp_geom.specs.declared.Layout.{Layout}
 use Rattle.hwp_geom.specs.declared.Who.{Who}
 use Rattle.hwp_words.specs.declared.FrameWord.{FrameWord}
-use Rattle.hwp_words.specs.Frames.{is_poisoned, frame_reading}
+use Rattle.hwp_words.specs.Frames.{is_poisoned, owner_of, frame_reading}
 use Rattle.hwp_rule.specs.declared.Log.{Log}
 use Rattle.hwp_rule.specs.declared.Place.{Place}
 use Rattle.hwp_rule.specs.declared.Place.TheVariants as places
@@ -19,10 +19,16 @@ use Rattle.hwp_rule.specs.declared.Rec.{Rec}
 use Rattle.hwp_rule.specs.declared.State.{State}
 use Rattle.hwp_rule.specs.declared.Step.{Step}
 use Rattle.hwp_rule.specs.declared.View.{View}
-use Rattle.hwp_rule.specs.Asks.{IsTurnOf}
+use Rattle.hwp_rule.specs.Asks.{IsTurnOf, HasInHand}
+use Rattle.hwp_rule.specs.Moves.{IsIn}
 use Rattle.hwp_rule.specs.Rule.{Holds}
 use Rattle.hwp_rule.specs.Steps.{place_of, goes}
+use Rattle.hwp_rule.specs.Views.{frame_slot}
+use Rattle.hwp_rule.specs.parts.Bodies.{IsAtHome, content_name}
+use Rattle.hwp_rule.specs.parts.Places.{in_hand, IsBare}
 use Rattle.hwp_rule.specs.Words.{words_of, segment, index, size, free_words}
+use Rattle.hwp_rule.proofs.Hands.{in_hand-mine}
+use Rattle.hwp_rule.proofs.Lists.{at_map}
 use Rattle.hwp_rule.proofs.Split.{words-read}
 use Rattle.hwp_rule.proofs.KeptTurns.{turn-after, none-later-after}
 use Rattle.hwp_core.specs.declared.turn.Turn.{Turn}
@@ -107,13 +113,36 @@ free-within layout s h number found inside met some fits = (lowest.0, within (ca
         let set : found / 2 ^ trailing_zeros w64 found % 2 ≡ 1 = lowest.1 in
         absurd (omega arith)
 
+-- what is of no page is nothing
+no-content : (content : Option Log) → content_name content ≡ 0 → content ≡ None
+no-content None none = refl
+no-content (Some log) none = absurd (omega arith)
+
+-- the slot of a frame in hand is empty
+pub hand-empty : (layout : Layout) (s : State) → Holds layout s → (seat : ℕ) (view : View) (frame : Frame) (content : Option Log) (found : ℕ) → slice_get s.views seat ≡ Some view
+    → HasInHand view frame → frame.0 < layout.frames → found ≡ slice_index s.words (index layout (places.Frame frame)) → IsIn s.homes (frame_slot frame) content → content ≡ None
+hand-empty layout s h seat view frame content found me has inside met slot =
+    no-content content (ap content_name (same_Some content home.content (same_Some (Some content) (Some home.content) (sym slot ∙ home.there))) ∙ home.named ∙ bare.unowned)
+  where
+    there : slice_get (words_of layout s.words).frames frame.0 ≡ Some found
+    there = frame-word layout s h frame found inside met
+
+    some : 1 ≤ in_hand frame.0 (map (λ (v : View). v.hands) s.views)
+    some = in_hand-mine (map (λ (v : View). v.hands) s.views) seat view.hands frame (at_map (λ (v : View). v.hands) s.views seat view me) has.0 (has.2 ∙ ap Some has.3)
+
+    bare : IsBare found
+    bare = h.rule.places.idle frame.0 found there (omega (arith, some))
+
+    home : IsAtHome s.homes frame.0 (owner_of found)
+    home = h.rule.bodies.frame_home frame.0 found there bare.unlocked
+
 -- a turn made the planned step
 pub advanced : {S : Type 0} {layout : Layout} {who : Who} {step : Step} {old new : View} {was now : Slots} {moves : Rec → Option Log → Type 0} {after : S} {result : Turn} {found : ℕ}
-    (next : ℕ → S) (answer : ℕ → Turn) (stays : Type 0) (before : S) (plan : Option Step) → plan ≡ Some step → Steps layout who step old new was now moves found → after ≡ next found → result ≡ answer found
+    (next : ℕ → Slots → Slots → S → Type 0) (answer : ℕ → Turn) (stays : Type 0) (before : S) (plan : Option Step) → plan ≡ Some step → Steps layout who step old new was now moves found → next found was now after → result ≡ answer found
     → Advances layout who plan next answer old new was now moves stays before after result
 advanced {S} {layout} {who} {step} {old} {new} {was} {now} {moves} {after} {result} {found} next answer stays before plan is made then told =
     subst (λ (p : Option Step). Advances layout who p next answer old new was now moves stays before after result) (sym is)
-    (record { found = found; steps = made; next_is = then; answered = told })
+    (record { found = found; before = was; carried = now; steps = made; next_is = then; answered = told })
 
 -- no step shows a frame word with poison
 pub no-poison : {layout : Layout} {who : Who} {step : Step} {old new : View} {was now : Slots} {moves : Rec → Option Log → Type 0} {found : ℕ}

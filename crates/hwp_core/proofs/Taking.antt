@@ -12,7 +12,7 @@ use Rattle.hwp_rule.specs.declared.View.{View}
 use Rattle.hwp_rule.specs.Asks.{HasInHand, HasRoom}
 use Rattle.hwp_rule.specs.Rule.{Holds}
 use Rattle.hwp_rule.specs.Steps.{goes}
-use Rattle.hwp_rule.specs.Views.{noted, sighted}
+use Rattle.hwp_rule.specs.Views.{noted, sighted, frame_slot}
 use Rattle.hwp_rule.specs.Words.{index, free_words}
 use Rattle.hwp_rule.proofs.Lists.{some-last}
 use Rattle.hwp_core.specs.declared.take.Take.{Take}
@@ -20,10 +20,10 @@ use Rattle.hwp_core.specs.declared.take.TakeAt.{TakeAt}
 use Rattle.hwp_core.specs.declared.take.TakeAt.TheVariants as at
 use Rattle.hwp_core.specs.declared.turn.Turn.{Turn}
 use Rattle.hwp_core.specs.declared.turn.Turn.TheVariants.{Moved, Changed}
-use Rattle.hwp_core.specs.Calls.{Slots, Steps, load_available, load_free, reserve, take_bit, adopt}
+use Rattle.hwp_core.specs.Calls.{Slots, Steps, with_slot, load_available, load_free, reserve, take_bit, adopt}
 use Rattle.hwp_core.specs.Turns.{Advances}
-use Rattle.hwp_core.specs.Takes.{at_available, after_word, lowest_free, at_free, plan, plan_at, next, next_at, turn, turn_at, HasLockRoom, Fits, FitsAt}
-use Rattle.hwp_core.proofs.Stepping.{on-turn-after, free-within, advanced}
+use Rattle.hwp_core.specs.Takes.{at_available, after_word, lowest_free, at_free, plan, plan_at, next, next_at, carried_at, carried_after, turn, turn_at, HasLockRoom, Fits, FitsAt}
+use Rattle.hwp_core.proofs.Stepping.{on-turn-after, free-within, hand-empty, advanced}
 
 -- the state after a number of available frames
 number-fits : (layout : Layout) (view : View) (word : ℕ) (none : Bool) → (word == 0) ≡ none → HasRoom view → HasLockRoom view
@@ -120,10 +120,10 @@ available-fits {layout} {layout_now} {old} {new} {was} {now} {moves} {found} t i
 pub available-turn : {layout : Layout} {old new : View} {was now : Slots} {moves : Rec → Option Log → Type 0} {found : ℕ}
     (stays : Type 0) (t : Take) → t.at ≡ at.Available → Steps layout t.who load_available old new was now moves found
     → (after : TakeAt) → after ≡ at_available found → (result : Turn) → result ≡ Moved
-    → Advances layout t.who (plan t) (λ f. next layout t f) (λ f. turn t f) old new was now moves stays t (record t { at = after }) result
+    → Advances layout t.who (plan t) (λ f was now s. (s ≡ next layout t f) × (now ≡ carried_after t was)) (λ f. turn t f) old new was now moves stays t (record t { at = after }) result
 available-turn {layout} {old} {new} {was} {now} {moves} {found} stays t is made after then result told =
-    advanced (λ f. next layout t f) (λ f. turn t f) stays t (plan t) (ap (λ (a : TakeAt). plan_at a) is) made
-    (ap (λ (a : TakeAt). record t { at = a }) (then ∙ sym (ap (λ (a : TakeAt). next_at layout a found) is)))
+    advanced (λ f was now s. (s ≡ next layout t f) × (now ≡ carried_after t was)) (λ f. turn t f) stays t (plan t) (ap (λ (a : TakeAt). plan_at a) is) made
+    ((ap (λ (a : TakeAt). record t { at = a }) (then ∙ sym (ap (λ (a : TakeAt). next_at layout a found) is))), made.carried ∙ sym (ap (λ (a : TakeAt). carried_at a was) is))
     (told ∙ sym (ap (λ (a : TakeAt). turn_at a found) is))
 
 pub reserve-fits : {layout layout_now : Layout} {old new : View} {was now : Slots} {moves : Rec → Option Log → Type 0} {found : ℕ}
@@ -137,10 +137,10 @@ reserve-fits {layout} {layout_now} {old} {new} {was} {now} {moves} {found} t see
 pub reserve-turn : {layout : Layout} {old new : View} {was now : Slots} {moves : Rec → Option Log → Type 0} {found : ℕ}
     (stays : Type 0) (t : Take) (seen : ℕ) → t.at ≡ at.Reserve seen → Steps layout t.who (reserve seen) old new was now moves found
     → (after : TakeAt) → after ≡ cond (found == seen) (at.Scan 0) (at_available found) → (result : Turn) → result ≡ cond (found == seen) Moved (Changed found)
-    → Advances layout t.who (plan t) (λ f. next layout t f) (λ f. turn t f) old new was now moves stays t (record t { at = after }) result
+    → Advances layout t.who (plan t) (λ f was now s. (s ≡ next layout t f) × (now ≡ carried_after t was)) (λ f. turn t f) old new was now moves stays t (record t { at = after }) result
 reserve-turn {layout} {old} {new} {was} {now} {moves} {found} stays t seen is made after then result told =
-    advanced (λ f. next layout t f) (λ f. turn t f) stays t (plan t) (ap (λ (a : TakeAt). plan_at a) is) made
-    (ap (λ (a : TakeAt). record t { at = a }) (then ∙ sym (ap (λ (a : TakeAt). next_at layout a found) is)))
+    advanced (λ f was now s. (s ≡ next layout t f) × (now ≡ carried_after t was)) (λ f. turn t f) stays t (plan t) (ap (λ (a : TakeAt). plan_at a) is) made
+    ((ap (λ (a : TakeAt). record t { at = a }) (then ∙ sym (ap (λ (a : TakeAt). next_at layout a found) is))), made.carried ∙ sym (ap (λ (a : TakeAt). carried_at a was) is))
     (told ∙ sym (ap (λ (a : TakeAt). turn_at a found) is))
 
 pub scan-fits : {layout layout_now : Layout} {old new : View} {was now : Slots} {moves : Rec → Option Log → Type 0} {found : ℕ}
@@ -154,10 +154,10 @@ scan-fits {layout} {layout_now} {old} {new} {was} {now} {moves} {found} t number
 pub scan-turn : {layout : Layout} {old new : View} {was now : Slots} {moves : Rec → Option Log → Type 0} {found : ℕ}
     (stays : Type 0) (t : Take) (number : ℕ) → t.at ≡ at.Scan number → Steps layout t.who (load_free number) old new was now moves found
     → (after : TakeAt) → after ≡ at_free layout number found → (result : Turn) → result ≡ Moved
-    → Advances layout t.who (plan t) (λ f. next layout t f) (λ f. turn t f) old new was now moves stays t (record t { at = after }) result
+    → Advances layout t.who (plan t) (λ f was now s. (s ≡ next layout t f) × (now ≡ carried_after t was)) (λ f. turn t f) old new was now moves stays t (record t { at = after }) result
 scan-turn {layout} {old} {new} {was} {now} {moves} {found} stays t number is made after then result told =
-    advanced (λ f. next layout t f) (λ f. turn t f) stays t (plan t) (ap (λ (a : TakeAt). plan_at a) is) made
-    (ap (λ (a : TakeAt). record t { at = a }) (then ∙ sym (ap (λ (a : TakeAt). next_at layout a found) is)))
+    advanced (λ f was now s. (s ≡ next layout t f) × (now ≡ carried_after t was)) (λ f. turn t f) stays t (plan t) (ap (λ (a : TakeAt). plan_at a) is) made
+    ((ap (λ (a : TakeAt). record t { at = a }) (then ∙ sym (ap (λ (a : TakeAt). next_at layout a found) is))), made.carried ∙ sym (ap (λ (a : TakeAt). carried_at a was) is))
     (told ∙ sym (ap (λ (a : TakeAt). turn_at a found) is))
 
 pub bit-fits : {layout layout_now : Layout} {old new : View} {was now : Slots} {moves : Rec → Option Log → Type 0} {found : ℕ}
@@ -171,10 +171,10 @@ bit-fits {layout} {layout_now} {old} {new} {was} {now} {moves} {found} t frame i
 pub bit-turn : {layout : Layout} {old new : View} {was now : Slots} {moves : Rec → Option Log → Type 0} {found : ℕ}
     (stays : Type 0) (t : Take) (frame : Frame) → t.at ≡ at.TakeBit frame → Steps layout t.who (take_bit frame) old new was now moves found
     → (after : TakeAt) → after ≡ cond (goes (take_bit frame) found) (at.Adopt frame) (at.Scan (frame.0 / 64)) → (result : Turn) → result ≡ cond (goes (take_bit frame) found) Moved (Changed found)
-    → Advances layout t.who (plan t) (λ f. next layout t f) (λ f. turn t f) old new was now moves stays t (record t { at = after }) result
+    → Advances layout t.who (plan t) (λ f was now s. (s ≡ next layout t f) × (now ≡ carried_after t was)) (λ f. turn t f) old new was now moves stays t (record t { at = after }) result
 bit-turn {layout} {old} {new} {was} {now} {moves} {found} stays t frame is made after then result told =
-    advanced (λ f. next layout t f) (λ f. turn t f) stays t (plan t) (ap (λ (a : TakeAt). plan_at a) is) made
-    (ap (λ (a : TakeAt). record t { at = a }) (then ∙ sym (ap (λ (a : TakeAt). next_at layout a found) is)))
+    advanced (λ f was now s. (s ≡ next layout t f) × (now ≡ carried_after t was)) (λ f. turn t f) stays t (plan t) (ap (λ (a : TakeAt). plan_at a) is) made
+    ((ap (λ (a : TakeAt). record t { at = a }) (then ∙ sym (ap (λ (a : TakeAt). next_at layout a found) is))), made.carried ∙ sym (ap (λ (a : TakeAt). carried_at a was) is))
     (told ∙ sym (ap (λ (a : TakeAt). turn_at a found) is))
 
 pub adopt-fits : {layout layout_now : Layout} {old new : View} {was now : Slots} {moves : Rec → Option Log → Type 0} {found : ℕ}
@@ -186,13 +186,19 @@ adopt-fits {layout} {layout_now} {old} {new} {was} {now} {moves} {found} t frame
     (after-adopt layout t.who frame old new was now moves found (subst (λ (a : TakeAt). Fits layout old (record t { at = a })) is fits) made))
 
 pub adopt-turn : {layout : Layout} {old new : View} {was now : Slots} {moves : Rec → Option Log → Type 0} {found : ℕ}
-    (stays : Type 0) (t : Take) (frame : Frame) → t.at ≡ at.Adopt frame → Steps layout t.who (adopt frame) old new was now moves found
+    (stays : Type 0) (t : Take) (frame : Frame) → t.at ≡ at.Adopt frame → Fits layout old t → Steps layout t.who (adopt frame) old new was now moves found
     → (after : TakeAt) → after ≡ at.Done (Some frame) → (result : Turn) → result ≡ Moved
-    → Advances layout t.who (plan t) (λ f. next layout t f) (λ f. turn t f) old new was now moves stays t (record t { at = after }) result
-adopt-turn {layout} {old} {new} {was} {now} {moves} {found} stays t frame is made after then result told =
-    advanced (λ f. next layout t f) (λ f. turn t f) stays t (plan t) (ap (λ (a : TakeAt). plan_at a) is) made
-    (ap (λ (a : TakeAt). record t { at = a }) (then ∙ sym (ap (λ (a : TakeAt). next_at layout a found) is)))
+    → Advances layout t.who (plan t) (λ f was now s. (s ≡ next layout t f) × (now ≡ carried_after t was)) (λ f. turn t f) old new was now moves stays t (record t { at = after }) result
+adopt-turn {layout} {old} {new} {was} {now} {moves} {found} stays t frame is fits made after then result told =
+    advanced (λ f was now s. (s ≡ next layout t f) × (now ≡ carried_after t was)) (λ f. turn t f) stays t (plan t) (ap (λ (a : TakeAt). plan_at a) is) made
+    ((ap (λ (a : TakeAt). record t { at = a }) (then ∙ sym (ap (λ (a : TakeAt). next_at layout a found) is))), (made.carried ∙ ap (λ (c : Option Log). with_slot (frame_slot frame) (Some c) was) empty) ∙ sym (ap (λ (a : TakeAt). carried_at a was) is))
     (told ∙ sym (ap (λ (a : TakeAt). turn_at a found) is))
+  where
+    at-adopt : FitsAt layout old (at.Adopt frame)
+    at-adopt = subst (λ (a : TakeAt). FitsAt layout old a) is fits.at
+
+    empty : made.content ≡ None
+    empty = hand-empty layout made.told.board made.told.rule made.told.seat old frame made.content found made.told.me at-adopt.1.0 at-adopt.0 made.told.met made.told.slot
 
 -- the frame in hand is one of the layout
 pub hand-within : {layout : Layout} {view : View} (t : Take) (frame : Frame) → t.at ≡ at.Adopt frame → Fits layout view t → frame.0 < layout.frames

@@ -1,8 +1,15 @@
 -- What a call of a step asks and tells.
 use Rattle.std.specs.Prelude.{◌≡◌, ℕ, ◌≤◌, ◌==◌, Bool, true, false, cond, Option, Some, None}
+use Rattle.hwp_geom.specs.declared.Damage.{Damage}
 use Rattle.hwp_geom.specs.declared.Frame.{Frame}
 use Rattle.hwp_geom.specs.declared.Layout.{Layout}
+use Rattle.hwp_geom.specs.declared.Page.{Page}
+use Rattle.hwp_geom.specs.declared.Proc.{Proc}
+use Rattle.hwp_geom.specs.declared.Thread.{Thread}
+use Rattle.hwp_geom.specs.declared.VSlot.{VSlot}
 use Rattle.hwp_geom.specs.declared.Who.{Who}
+use Rattle.hwp_page.specs.History.{Held}
+use Rattle.hwp_words.specs.declared.Pte.{Pte}
 use Rattle.hwp_rule.specs.declared.Log.{Log}
 use Rattle.hwp_rule.specs.declared.Place.TheVariants as places
 use Rattle.hwp_rule.specs.declared.Rec.{Rec}
@@ -13,8 +20,10 @@ use Rattle.hwp_rule.specs.declared.View.{View}
 use Rattle.hwp_rule.specs.Asks.{Asks}
 use Rattle.hwp_rule.specs.Lists.{EachMember}
 use Rattle.hwp_rule.specs.Moves.{Told}
-use Rattle.hwp_rule.specs.Steps.{goes}
+use Rattle.hwp_rule.specs.Steps.{goes, damage_place}
 use Rattle.hwp_rule.specs.Views.{frame_slot, shelf_slot}
+use Rattle.hwp_core.specs.declared.home.Home.{Home}
+use Rattle.hwp_core.specs.declared.home.Home.TheVariants as homes
 use Rattle.hwp_core.specs.declared.turn.Tried.{Tried}
 use Rattle.hwp_core.specs.declared.turn.Tried.TheVariants.{Got, Busy, Changed}
 
@@ -54,6 +63,39 @@ lock_frame frame = steps.LockFrame frame
 
 abbrev pub unlock_frame : Frame → Step
 unlock_frame frame = steps.UnlockFrame frame
+
+abbrev pub load_pte : VSlot → Step
+load_pte slot = steps.Load (places.Trans slot)
+
+abbrev pub load_cache : Page → Step
+load_cache page = steps.Load (places.Cache page)
+
+abbrev pub load_damage : Frame → Damage → Step
+load_damage frame damage = steps.Load (damage_place frame damage)
+
+abbrev pub load_process : Proc → Step
+load_process process = steps.Load (places.Process process)
+
+abbrev pub load_policy : Thread → Step
+load_policy thread = steps.Load (places.Policy thread)
+
+abbrev pub load_stop : Step
+load_stop = steps.Load places.Stop
+
+abbrev pub lock_page : Page → Step
+lock_page page = steps.LockPage page
+
+abbrev pub unlock_page : Page → Step
+unlock_page page = steps.UnlockPage page
+
+abbrev pub set_owner : Frame → Page → Bool → Step
+set_owner frame page owned = steps.SetOwner frame page owned
+
+abbrev pub set_pte : VSlot → Pte → Step
+set_pte slot pte = steps.SetPte slot pte
+
+abbrev pub set_cache : Page → Option Frame → Step
+set_cache page frame = steps.SetCache page frame
 
 -- what is in the slots that a processor carries: nothing for one that it doesn't carry, `Some None` for an empty one
 abbrev pub Slots : Type 0
@@ -118,8 +160,27 @@ pub record TriesLock (layout : Layout) (who : Who) (step : Step) (old new : View
   pub tries : Tries layout who step old new was now moves result
   pub word : IsWord tries.found result
 
--- the processor carries the frame's slot, and can free the lock with what is in it
-pub record CanFreeFrame (layout : Layout) (who : Who) (frame : Frame) (view : View) (slots : Slots) : Type 0 where
+-- the processor carries the slot, and can make the step, which frees the slot's lock, with what is in it
+pub record CanPutBack (layout : Layout) (who : Who) (step : Step) (slot : ℕ) (view : View) (slots : Slots) : Type 0 where
   pub content : Option Log
-  pub carried : slots (frame_slot frame) ≡ Some content
-  pub asks : Asks layout who (unlock_frame frame) content view
+  pub carried : slots slot ≡ Some content
+  pub asks : Asks layout who step content view
+
+abbrev pub CanFreeFrame : Layout → Who → Frame → View → Slots → Type 0
+CanFreeFrame layout who frame view slots = CanPutBack layout who (unlock_frame frame) (frame_slot frame) view slots
+
+abbrev pub CanFreePage : Layout → Who → Page → View → Slots → Type 0
+CanFreePage layout who page view slots = CanPutBack layout who (unlock_page page) (shelf_slot layout page) view slots
+
+-- the slot of a home
+abbrev pub home_slot : Layout → Home → ℕ
+home_slot layout (homes.Frame frame) = frame_slot frame
+home_slot layout (homes.Shelf page) = shelf_slot layout page
+
+-- the history of a body
+abbrev pub log_of : Held → Log
+log_of body = record { page = body.page; entries = body.log }
+
+-- a body is in the slot
+abbrev pub HasBody : Slots → ℕ → Type 0
+HasBody slots slot = (log : Log) × (slots slot ≡ Some (Some log))

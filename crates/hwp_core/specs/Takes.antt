@@ -17,7 +17,8 @@ use Rattle.hwp_core.specs.declared.take.TakeAnswer.{TakeAnswer}
 use Rattle.hwp_core.specs.declared.take.TakeAnswer.TheVariants as answers
 use Rattle.hwp_core.specs.declared.turn.Turn.{Turn}
 use Rattle.hwp_core.specs.declared.turn.Turn.TheVariants.{Moved, Changed}
-use Rattle.hwp_core.specs.Calls.{load_available, load_free, reserve, take_bit, adopt}
+use Rattle.hwp_rule.specs.Views.{frame_slot}
+use Rattle.hwp_core.specs.Calls.{Slots, with_slot, load_available, load_free, reserve, take_bit, adopt}
 use Rattle.hwp_core.specs.Turns.{IsOnTurn, stale}
 
 -- what is to do about the number of available frames that was shown
@@ -68,6 +69,14 @@ next_at layout (at.Done frame) found = at.Done frame
 
 abbrev pub next : Layout → Take → ℕ → Take
 next layout t found = record t { at = next_at layout t.at found }
+
+-- the slots carried after the turn: that of a frame whose lock it took is empty
+abbrev pub carried_at : TakeAt → Slots → Slots
+carried_at (at.Adopt frame) slots = with_slot (frame_slot frame) (Some None) slots
+carried_at _ slots = slots
+
+abbrev pub carried_after : Take → Slots → Slots
+carried_after t slots = carried_at t.at slots
 
 -- what a turn comes to
 abbrev pub turn_at : TakeAt → ℕ → Turn

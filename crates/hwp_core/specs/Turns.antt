@@ -17,11 +17,14 @@ use Rattle.hwp_core.specs.declared.turn.Turn.{Turn}
 use Rattle.hwp_core.specs.declared.turn.Turn.TheVariants.{Moved, Changed, Finished, NoMemory}
 use Rattle.hwp_core.specs.Calls.{Slots, Steps, IsLater}
 
--- the turn was one step, which met a word: the task is the next one, and the turn's answer is that of the word
-pub record StepTaken {S : Type 0} (layout : Layout) (who : Who) (step : Step) (next : ℕ → S) (answer : ℕ → Turn) (old new : View) (was now : Slots) (moves : Rec → Option Log → Type 0) (after : S) (result : Turn) : Type 0 where
+-- the turn was one step, which met a word, and what was done with carried slots before it and after: the task is one that
+-- follows, and the turn's answer is that of the word
+pub record StepTaken {S : Type 0} (layout : Layout) (who : Who) (step : Step) (next : ℕ → Slots → Slots → S → Type 0) (answer : ℕ → Turn) (old new : View) (was now : Slots) (moves : Rec → Option Log → Type 0) (after : S) (result : Turn) : Type 0 where
   pub found : ℕ
-  pub steps : Steps layout who step old new was now moves found
-  pub next_is : after ≡ next found
+  pub before : Slots
+  pub carried : Slots
+  pub steps : Steps layout who step old new before carried moves found
+  pub next_is : next found was now after
   pub answered : result ≡ answer found
 
 -- the turn made no step, because the task is over: nothing changed
@@ -31,7 +34,7 @@ pub record IsOver {S : Type 0} (board_stays : Type 0) (before after : S) (result
   pub finished : result ≡ Finished
 
 -- a turn makes the planned step, or none where none is planned
-abbrev pub Advances : {S : Type 0} → Layout → Who → Option Step → (ℕ → S) → (ℕ → Turn) → View → View → Slots → Slots → (Rec → Option Log → Type 0) → Type 0 → S → S → Turn → Type 0
+abbrev pub Advances : {S : Type 0} → Layout → Who → Option Step → (ℕ → Slots → Slots → S → Type 0) → (ℕ → Turn) → View → View → Slots → Slots → (Rec → Option Log → Type 0) → Type 0 → S → S → Turn → Type 0
 Advances layout who None next answer old new was now moves board_stays before after result = IsOver board_stays before after result
 Advances layout who (Some step) next answer old new was now moves board_stays before after result = StepTaken layout who step next answer old new was now moves after result
 
@@ -70,6 +73,6 @@ abbrev pub IsSame : State → State → Option Kind → Type 0
 IsSame a b kind = (b ≡ a) × (kind ≡ None)
 
 -- a turn of a task on a board made the planned step, or none
-abbrev pub MakesTurn : {S : Type 0} → Layout → ℕ → Who → Option Step → (ℕ → S) → (ℕ → Turn) → View → View → Slots → Slots → State → State → S → S → Turn × Option Kind → Type 0
+abbrev pub MakesTurn : {S : Type 0} → Layout → ℕ → Who → Option Step → (ℕ → Slots → Slots → S → Type 0) → (ℕ → Turn) → View → View → Slots → Slots → State → State → S → S → Turn × Option Kind → Type 0
 MakesTurn layout cpu who plan next answer old new was now a b before after result =
     IsRefused a b before after result ⊎ Advances layout who plan next answer old new was now (MovesBoard layout cpu a b result.1) (IsSame a b result.1) before after result.0

@@ -3,6 +3,7 @@
 #![tactic(auto)]
 
 mod board;
+mod home;
 mod ops;
 mod pin;
 mod release;
@@ -11,6 +12,7 @@ mod task;
 mod turn;
 
 pub use board::Board;
+pub use home::Home;
 pub use ops::Ops;
 pub use pin::{Pin, PinAnswer};
 pub use release::{Release, ReleaseAnswer};

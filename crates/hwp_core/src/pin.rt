@@ -80,14 +80,14 @@ impl Pin {
 }
 
 impl Task for Pin {
-    ghost use Rattle.std.specs.Prelude.{false, None};
+    ghost use Rattle.std.specs.Prelude.{◌≡◌, false, None};
     ghost use Rattle.hwp_core.specs.Pins.{plan, next, turn, Fits, class, cost};
 
     ghost who = { λ p. p.who };
 
     ghost plan = { λ p. plan p };
 
-    ghost next = { λ layout p found. next p found };
+    ghost next = { λ layout p found was now after. (after ≡ next p found) × (now ≡ was) };
 
     ghost answer = { λ p found. turn p found };
 

@@ -60,14 +60,14 @@ impl Release {
 }
 
 impl Task for Release {
-    ghost use Rattle.std.specs.Prelude.{false, None};
+    ghost use Rattle.std.specs.Prelude.{◌≡◌, false, None};
     ghost use Rattle.hwp_core.specs.Releases.{plan, next, turn, Fits, class, cost};
 
     ghost who = { λ r. r.who };
 
     ghost plan = { λ r. plan r };
 
-    ghost next = { λ layout r found. next r found };
+    ghost next = { λ layout r found was now after. (after ≡ next r found) × (now ≡ was) };
 
     ghost answer = { λ r found. turn r found };
 

@@ -107,14 +107,14 @@ impl Take {
 }
 
 impl Task for Take {
-    ghost use Rattle.std.specs.Prelude.{false, None};
-    ghost use Rattle.hwp_core.specs.Takes.{plan, next, turn, Fits, class, cost};
+    ghost use Rattle.std.specs.Prelude.{◌≡◌, false, None};
+    ghost use Rattle.hwp_core.specs.Takes.{plan, next, carried_after, turn, Fits, class, cost};
 
     ghost who = { λ t. t.who };
 
     ghost plan = { λ t. plan t };
 
-    ghost next = { λ layout t found. next layout t found };
+    ghost next = { λ layout t found was now after. (after ≡ next layout t found) × (now ≡ carried_after t was) };
 
     ghost answer = { λ t found. turn t found };
 

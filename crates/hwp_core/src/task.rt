@@ -14,8 +14,8 @@ use crate::turn::Turn;
 
 /// Work of one processor that is made of atomic steps, one step a turn.
 ///
-/// `plan` is the next step, or `None` where the task is over; `next` is the task after that step met a word on a board of
-/// the layout, and `answer` what the turn then comes to. `fits` is what the steps need of the layout, of what the processor knows and of
+/// `plan` is the next step, or `None` where the task is over; `next` says which task may follow when that step met a word
+/// on a board of the layout, and which slots are carried before the turn and after it; `answer` is what the turn then comes to. `fits` is what the steps need of the layout, of what the processor knows and of
 /// the slots that it carries. `class` (1 to 4), `cost`, `aborts` and `claims` (a frame, and a cycle of it, whose failure
 /// isn't ended) are what a scheduler needs to come to an end: the cost of a task falls with each turn that does not wait.
 pub trait Task {
@@ -23,7 +23,7 @@ pub trait Task {
 
     ghost plan: { Self → Option Step };
 
-    ghost next: { Layout → Self → ℕ → Self };
+    ghost next: { Layout → Self → ℕ → Slots → Slots → Self → Type 0 };
 
     ghost answer: { Self → ℕ → Answer };
 
@@ -44,7 +44,7 @@ pub trait Task {
         requires fits { fits (O.machine o.old) (O.view o.old) (O.slots o.old) self.old }
         ensures fits { fits (O.machine o.new) (O.view o.new) (O.slots o.new) self.new }
         ensures same { (O.machine o.new ≡ O.machine o.old) × (who self.new ≡ who self.old) }
-        ensures turn { Advances (O.machine o.old) (who self.old) (plan self.old) (λ found. next (O.machine o.old) self.old found) (λ found. answer self.old found) (O.view o.old) (O.view o.new) (O.slots o.old) (O.slots o.new) (λ r c. O.moves o.old r c o.new) (o.new ≡ o.old) self.old self.new result };
+        ensures turn { Advances (O.machine o.old) (who self.old) (plan self.old) (λ found was now after. next (O.machine o.old) self.old found was now after) (λ found. answer self.old found) (O.view o.old) (O.view o.new) (O.slots o.old) (O.slots o.new) (λ r c. O.moves o.old r c o.new) (o.new ≡ o.old) self.old self.new result };
 
     /// 1 while a frame is locked, in hand or reserved; else 2 while a page is locked; else 3 while a failure isn't ended;
     /// else 4.

@@ -34,7 +34,7 @@ pub returns-else-unpack-clause-fits : goal.returns-else-unpack-clause-fits
 returns-else-unpack-clause-fits g c = adopt-fits c.args.self.now c.in-Adopt.frame c.in-Adopt.is (c.adopt.ensures.same.0 ∙ c.at-in-Adopt.ensures.same.0) c.requires.fits (own-step c.args.self.now.who c.at-in-Adopt.ensures.same c.at-in-Adopt.ensures.who c.requires.processor c.adopt.ensures.step) _ refl
 
 pub returns-else-unpack-clause-turn : goal.returns-else-unpack-clause-turn
-returns-else-unpack-clause-turn g c = adopt-turn _ c.args.self.now c.in-Adopt.frame c.in-Adopt.is (steps-on (λ r content. c.at-in-Adopt.ensures.moves r content _) (own-step c.args.self.now.who c.at-in-Adopt.ensures.same c.at-in-Adopt.ensures.who c.requires.processor c.adopt.ensures.step)) _ refl _ refl
+returns-else-unpack-clause-turn g c = adopt-turn _ c.args.self.now c.in-Adopt.frame c.in-Adopt.is c.requires.fits (steps-on (λ r content. c.at-in-Adopt.ensures.moves r content _) (own-step c.args.self.now.who c.at-in-Adopt.ensures.same c.at-in-Adopt.ensures.who c.requires.processor c.adopt.ensures.step)) _ refl _ refl
 
 pub unreachable-requires : goal.unreachable-requires
 unreachable-requires g c = no-poison c.in-Adopt.frame refl (hand-within c.args.self.now c.in-Adopt.frame c.in-Adopt.is c.requires.fits) (own-step c.args.self.now.who c.at-in-Adopt.ensures.same c.at-in-Adopt.ensures.who c.requires.processor c.adopt.ensures.step) c.unpack.result c.unpack.ensures c.if-unpack.true
