@@ -49,7 +49,7 @@ pub fn has_room(ledger: &Ledger) -> bool
         && ledger.locks.is_empty()
 }
 
-/// Whether it has at most one reference to the frame, and none but these or those to one other frame.
+/// Whether it has references to one frame at most, and to this frame one at most.
 pub fn has_ref_room(ledger: &Ledger, frame: Frame) -> bool
     ensures { IsTrue result → refs_on frame.0 ledger.now.refs ≤ 1 }
 {

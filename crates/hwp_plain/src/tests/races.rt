@@ -14,7 +14,7 @@ use std::process::Abort;
 use std::test::Fail;
 
 /// What a processor did before the race.
-#[derive(Clone, Copy, Debug, PartialEq, Eq)]
+#[derive(Clone, Copy)]
 enum Lead {
     Nothing,
     /// It took the frame, the lowest that was free, and freed its lock.
@@ -24,7 +24,7 @@ enum Lead {
 }
 
 /// What a processor does in the race.
-#[derive(Clone, Copy, Debug, PartialEq, Eq)]
+#[derive(Clone, Copy)]
 enum Act {
     Take,
     Pin(Frame),
@@ -49,7 +49,7 @@ enum End {
 type Outcome = ([End; 2], [u64; 4]);
 
 /// What processor 0 and processor 1 do in a race, and what it comes to: one of two, each in some order, or always the same.
-#[derive(Clone, Copy, Debug, PartialEq, Eq)]
+#[derive(Clone, Copy)]
 struct Pair {
     frames: u8,
     leads: [Lead; 2],
@@ -80,7 +80,7 @@ const PAIRS: [Pair; 12] = [
         one: ([End::Took(Frame(0)), End::Took(Frame(1))], [0, 0, 17, 17]),
         other: Some(([End::Took(Frame(1)), End::Took(Frame(0))], [0, 0, 17, 17])),
     },
-    // The frame is free until it is adopted. Then the reference is the second.
+    // No reference can be taken until the frame is adopted. Then it is the second.
     Pair {
         frames: 1,
         leads: [Lead::Nothing, Lead::Nothing],
