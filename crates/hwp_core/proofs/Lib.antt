@@ -2,3 +2,4 @@ pub mod Stepping
 pub mod Pinning
 pub mod Releasing
 pub mod Taking
+pub mod Locked

@@ -70,7 +70,7 @@ steps-on {found} on made = record {
 }
 
 -- the frame word that a step met, among the words of the board
-frame-word : (layout : Layout) (s : State) → Holds layout s → (frame : Frame) (found : ℕ) → frame.0 < layout.frames
+pub frame-word : (layout : Layout) (s : State) → Holds layout s → (frame : Frame) (found : ℕ) → frame.0 < layout.frames
     → found ≡ slice_index s.words (index layout (places.Frame frame)) → slice_get (words_of layout s.words).frames frame.0 ≡ Some found
 frame-word layout s h frame found inside met =
     slice_get-get_or (words_of layout s.words).frames frame.0 0 within ∙ ap (λ (n : ℕ). Some n) (words-read layout s.words (places.Frame frame) inside ∙ sym met)

@@ -118,16 +118,21 @@ impl Task for Hold {
             HoldAt::LoadCache => {
                 o.at(self.who.seq);
                 let cache = o.load_cache(self.page);
-                self.at = match frame_in(cache) {
-                    Some(frame) => HoldAt::Pin {
-                        pin: Pin::new(self.who, frame),
-                    },
-                    None => HoldAt::Held {
-                        cache,
-                        body: o.take_body(Home::Shelf(self.page)),
-                    },
-                };
-                Turn::Moved
+                match frame_in(cache) {
+                    Some(frame) => {
+                        self.at = HoldAt::Pin {
+                            pin: Pin::new(self.who, frame),
+                        };
+                        Turn::Moved
+                    }
+                    None => {
+                        self.at = HoldAt::Held {
+                            cache,
+                            body: o.take_body(Home::Shelf(self.page)),
+                        };
+                        Turn::Moved
+                    }
+                }
             }
             HoldAt::Pin { pin } => {
                 let mut pin = pin;

@@ -107,11 +107,14 @@ impl Task for Unhold {
                 self.at = Unhold::at_released(release);
                 turn
             }
-            UnholdAt::UnlockPage { body } => {
+            UnholdAt::UnlockPage { body: Some(body) } => {
                 o.at(self.who.seq);
-                if let Some(body) = body {
-                    o.put_body(Home::Shelf(self.page), body);
-                }
+                o.put_body(Home::Shelf(self.page), body);
+                o.unlock_page(self.page);
+                Turn::Moved
+            }
+            UnholdAt::UnlockPage { body: None } => {
+                o.at(self.who.seq);
                 o.unlock_page(self.page);
                 Turn::Moved
             }
