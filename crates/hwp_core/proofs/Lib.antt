@@ -3,3 +3,4 @@ pub mod Pinning
 pub mod Releasing
 pub mod Taking
 pub mod Locked
+pub mod Holding

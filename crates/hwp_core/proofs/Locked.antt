@@ -60,10 +60,11 @@ free-word word free = which (lock_of word == 1) refl
     which true is = absurd (omega (arith, ap from_bool free, ap (λ (b : Bool). from_bool (not b)) is))
     which false is = let other : lock_of word ≢ 1 = eqb-false (lock_of word) 1 is in let bit : lock_of word < 2 = omega arith in omega arith
 
-module _ (layout : Layout) (s : State) (h : Holds layout s) where
-  abbrev w : Words
-  w = words_of layout s.words
+-- the cache words of a board
+abbrev pub cache-words : Layout → List ℕ → List ℕ
+cache-words layout words = (words_of layout words).caches
 
+module _ (layout : Layout) (s : State) (h : Holds layout s) where
   pub cache-word : (page : Page) (found : ℕ) → page.0 < length layout.pages → found ≡ slice_index s.words (index layout (places.Cache page)) → slice_get (words_of layout s.words).caches page.0 ≡ Some found
   cache-word page found inside met =
       slice_get-get_or (words_of layout s.words).caches page.0 0 (subst (λ (n : ℕ). page.0 < n) (sym (shaped layout s h).caches) inside) ∙ ap (λ (n : ℕ). Some n) (words-read layout s.words (places.Cache page) inside ∙ sym met)

@@ -1,6 +1,6 @@
 use Rattle.std.proofs.Common.{refl}
 use Rattle.hwp_core.proofs.hold.HoldTask.advance.Goals as goal
-use Rattle.hwp_core.proofs.Locked.{same-frame}
+use Rattle.hwp_core.proofs.Holding.{page-locked}
 
 pub take_body-requires : goal.take_body-requires
 take_body-requires g c = ?
