@@ -490,3 +490,100 @@ pin-fits {layout} {layout_now} {old} {new} {was} {now} moves result stays h p q 
 
     steps : Steps layout h.who (pin_step p) old new step.before step.carried moves step.found
     steps = subst (λ (w : Who). Steps layout w (pin_step p) old new step.before step.carried moves step.found) has.own step.steps
+
+module _ {layout layout_now : Layout} {old new : View} {was now : Slots} {moves : Rec → Option Log → Type 0} {found : ℕ} (h : Hold) where
+  pub page-got-fits : h.at ≡ at.LockPage → layout_now ≡ layout → Fits layout old was h → Steps layout h.who (lock_page h.page) old new was now moves found → goes (lock_page h.page) found ≡ true
+      → Fits layout_now new now (record h { at = at.LoadCache })
+  page-got-fits is same fits made went = now-fits h (lock_page h.page) same refl fits made at.LoadCache (page-locked h.who h.page fits.page (at-state h at.LockPage is fits) made went)
+
+  pub page-busy-fits : h.at ≡ at.LockPage → layout_now ≡ layout → Fits layout old was h → Steps layout h.who (lock_page h.page) old new was now moves found → goes (lock_page h.page) found ≡ false → Fits layout_now new now h
+  page-busy-fits is same fits made stayed = now-fits h (lock_page h.page) same refl fits made h.at (state-stays layout new now h at.LockPage is (page-busy h.who h.page fits.page (at-state h at.LockPage is fits) made stayed))
+
+  pub some-fits : h.at ≡ at.LoadCache → layout_now ≡ layout → Fits layout old was h → Steps layout h.who (load_cache h.page) old new was now moves found → (frame : Frame) → frame_in found ≡ Some frame → (q : Pin) → q ≡ pins.begin h.who frame
+      → Fits layout_now new now (record h { at = at.Pin q })
+  some-fits is same fits made frame some q begun = now-fits h (load_cache h.page) same refl fits made (at.Pin q)
+      (subst (λ (p : Pin). IsPinning layout new now h.who h.page p) (sym begun)
+      (pin-begun h.who h.page frame (on-turn-after layout h.who (load_cache h.page) old new was now moves found fits.on_turn made) (framed h.who h.page fits.page (at-state h at.LoadCache is fits) made frame some)))
+
+  -- the body is on the shelf that is carried
+  pub shelf-body : h.at ≡ at.LoadCache → layout_now ≡ layout → Fits layout old was h → Steps layout h.who (load_cache h.page) old new was now moves found → frame_in found ≡ None → HasBody now (shelf_slot layout_now h.page)
+  shelf-body is same fits made none =
+      let has = shelved h.who h.page fits.page (at-state h at.LoadCache is fits) made none in
+      (has.2, ap (λ (l : Layout). now (shelf_slot l h.page)) same ∙ has.1.shelf ∙ ap (λ (c : Option Log). Some c) has.3)
+
+  pub frame-busy-fits : (frame : Frame) → h.at ≡ at.LockFrame frame → layout_now ≡ layout → Fits layout old was h → Steps layout h.who (lock_frame frame) old new was now moves found → goes (lock_frame frame) found ≡ false → Fits layout_now new now h
+  frame-busy-fits frame is same fits made stayed =
+      let has = at-state h (at.LockFrame frame) is fits in
+      now-fits h (lock_frame frame) same refl fits made h.at (state-stays layout new now h (at.LockFrame frame) is (frame-busy h.who h.page frame fits.page has.0 has.1 made stayed))
+
+-- the body is in the slot that is carried
+pub frame-body : {layout : Layout} {old new : View} {was now : Slots} {moves : Rec → Option Log → Type 0} {found : ℕ} (h : Hold) (frame : Frame) → h.at ≡ at.LockFrame frame → Fits layout old was h
+    → Steps layout h.who (lock_frame frame) old new was now moves found → goes (lock_frame frame) found ≡ true → HasBody now (frame_slot frame)
+frame-body {layout} {old} {new} {was} {now} {moves} {found} h frame is fits made went =
+    let has = at-state h (at.LockFrame frame) is fits in
+    let slot = frame-locked h.who h.page frame fits.page has.0 has.1 made went in
+    (slot.0, slot.1.slot)
+
+-- the body that is carried is the one that is taken
+same-body : (slots : Slots) (slot : ℕ) (body : Held) (log : Log) → slots slot ≡ Some (Some (log_of body)) → slots slot ≡ Some (Some log) → log_of body ≡ log
+same-body slots slot body log is there = same_Some (log_of body) log (same_Some (Some (log_of body)) (Some log) (sym is ∙ there))
+
+module _ {layout layout_at layout_now : Layout} {old new later : View} {was now slots : Slots} {moves : Rec → Option Log → Type 0} {found : ℕ} (h : Hold) where
+  pub none-fits : h.at ≡ at.LoadCache → layout_at ≡ layout → layout_now ≡ layout_at → later ≡ new → Fits layout old was h → Steps layout h.who (load_cache h.page) old new was now moves found → frame_in found ≡ None
+      → (body : Held) → now (shelf_slot layout_at h.page) ≡ Some (Some (log_of body)) → body.layout ≡ layout_at → slots ≡ with_slot (shelf_slot layout_at h.page) (Some None) now
+      → Fits layout_now later slots (record h { at = at.Held found body })
+  none-fits is same still seen fits made none body taken_body of_layout after = now-fits h (load_cache h.page) (still ∙ same) seen fits made (at.Held found body)
+      (has.0 ∙ sym (ap frame_name none),
+      subst (λ (f : Option Frame). HoldsPage layout new slots h.page f body) (sym none)
+      (subst (λ (s : Slots). HoldsPage layout new s h.page None body) (sym (after ∙ ap (λ (l : Layout). with_slot (shelf_slot l h.page) (Some None) now) same))
+      (off-shelf has.1 has.2 has.3 body same_log (of_layout ∙ same))))
+    where
+      has : (found ≡ 0) × (after : HasLocked layout new now h.page) × (log : Log) × (after.content ≡ Some log)
+      has = shelved h.who h.page fits.page (at-state h at.LoadCache is fits) made none
+
+      same_log : log_of body ≡ has.2
+      same_log = same-body now (shelf_slot layout h.page) body has.2 (ap (λ (l : Layout). now (shelf_slot l h.page)) (sym same) ∙ taken_body) (has.1.shelf ∙ ap (λ (c : Option Log). Some c) has.3)
+
+  pub frame-got-fits : (frame : Frame) → h.at ≡ at.LockFrame frame → layout_at ≡ layout → layout_now ≡ layout_at → later ≡ new → Fits layout old was h → Steps layout h.who (lock_frame frame) old new was now moves found → goes (lock_frame frame) found ≡ true
+      → (cache : ℕ) → cache ≡ frame_name (Some frame) → (body : Held) → now (frame_slot frame) ≡ Some (Some (log_of body)) → body.layout ≡ layout_at → slots ≡ with_slot (frame_slot frame) (Some None) now
+      → Fits layout_now later slots (record h { at = at.Held cache body })
+  frame-got-fits frame is same still seen fits made went cache cache_is body taken_body of_layout after = now-fits h (lock_frame frame) (still ∙ same) seen fits made (at.Held cache body)
+      (cache_is ∙ sym (ap frame_name names),
+      subst (λ (f : Option Frame). HoldsPage layout new slots h.page f body) (sym names)
+      (subst (λ (s : Slots). HoldsPage layout new s h.page (Some frame) body) (sym after)
+      (out-of-slot slot.1 body (same-body now (frame_slot frame) body slot.0 taken_body slot.1.slot) (of_layout ∙ same))))
+    where
+      has : HasNamed layout old was h.page frame × HasOneRef old frame
+      has = at-state h (at.LockFrame frame) is fits
+
+      slot : (log : Log) × HasSlot layout new now h.page frame log
+      slot = frame-locked h.who h.page frame fits.page has.0 has.1 made went
+
+      names : frame_in cache ≡ Some frame
+      names = ap frame_in cache_is ∙ frame-named frame (let few : layout.frames ≤ 256 = made.told.rule.sound.frames in let less : frame.0 < layout.frames = has.0.within in omega arith)
+
+-- the turns of each state
+module _ {layout : Layout} {old new : View} {before carried : Slots} {moves : Rec → Option Log → Type 0} {found : ℕ} (was now : Slots) (stays : Type 0) (h : Hold) where
+  pub page-got-turn : h.at ≡ at.LockPage → Steps layout h.who (lock_page h.page) old new before carried moves found → goes (lock_page h.page) found ≡ true
+      → Advances layout h.who (plan h) (λ f was now s. Follows h f s) (λ f. turn h f) old new was now moves stays h (record h { at = at.LoadCache }) Moved
+  page-got-turn is made went = now-turned was now stays h at.LockPage is refl made at.LoadCache (ap (λ (b : Bool). cond b at.LoadCache at.LockPage) (sym went)) Moved (ap (λ (b : Bool). cond b Moved (Waits found)) (sym went))
+
+  pub page-busy-turn : (word : ℕ) → h.at ≡ at.LockPage → Steps layout h.who (lock_page h.page) old new before carried moves found → (goes (lock_page h.page) found ≡ false) × (word ≡ found)
+      → Advances layout h.who (plan h) (λ f was now s. Follows h f s) (λ f. turn h f) old new was now moves stays h h (Waits word)
+  page-busy-turn word is made stayed = now-turned was now stays h at.LockPage is refl made h.at (is ∙ ap (λ (b : Bool). cond b at.LoadCache at.LockPage) (sym stayed.0)) (Waits word) (ap Waits stayed.1 ∙ ap (λ (b : Bool). cond b Moved (Waits found)) (sym stayed.0))
+
+  pub some-turn : h.at ≡ at.LoadCache → Steps layout h.who (load_cache h.page) old new before carried moves found → (frame : Frame) → frame_in found ≡ Some frame → (q : Pin) → q ≡ pins.begin h.who frame
+      → Advances layout h.who (plan h) (λ f was now s. Follows h f s) (λ f. turn h f) old new was now moves stays h (record h { at = at.Pin q }) Moved
+  some-turn is made frame some q begun = now-turned was now stays h at.LoadCache is refl made (at.Pin q) (subst (λ (f : Option Frame). IsNamed h.who found f (at.Pin q)) (sym some) (ap (λ (p : Pin). at.Pin p) begun)) Moved refl
+
+  pub none-turn : h.at ≡ at.LoadCache → Steps layout h.who (load_cache h.page) old new before carried moves found → frame_in found ≡ None → (body : Held)
+      → Advances layout h.who (plan h) (λ f was now s. Follows h f s) (λ f. turn h f) old new was now moves stays h (record h { at = at.Held found body }) Moved
+  none-turn is made none body = now-turned was now stays h at.LoadCache is refl made (at.Held found body) (subst (λ (f : Option Frame). IsNamed h.who found f (at.Held found body)) (sym none) refl) Moved refl
+
+  pub frame-got-turn : (frame : Frame) → h.at ≡ at.LockFrame frame → Steps layout h.who (lock_frame frame) old new before carried moves found → goes (lock_frame frame) found ≡ true → (cache : ℕ) → cache ≡ frame_name (Some frame) → (body : Held)
+      → Advances layout h.who (plan h) (λ f was now s. Follows h f s) (λ f. turn h f) old new was now moves stays h (record h { at = at.Held cache body }) Moved
+  frame-got-turn frame is made went cache cache_is body = now-turned was now stays h (at.LockFrame frame) is refl made (at.Held cache body) (subst (λ (b : Bool). IsTaken frame b (at.Held cache body)) (sym went) cache_is) Moved (ap (λ (b : Bool). cond b Moved (Waits found)) (sym went))
+
+  pub frame-busy-turn : (frame : Frame) (word : ℕ) → h.at ≡ at.LockFrame frame → Steps layout h.who (lock_frame frame) old new before carried moves found → (goes (lock_frame frame) found ≡ false) × (word ≡ found)
+      → Advances layout h.who (plan h) (λ f was now s. Follows h f s) (λ f. turn h f) old new was now moves stays h h (Waits word)
+  frame-busy-turn frame word is made stayed = now-turned was now stays h (at.LockFrame frame) is refl made h.at (subst (λ (b : Bool). IsTaken frame b h.at) (sym stayed.0) is) (Waits word) (ap Waits stayed.1 ∙ ap (λ (b : Bool). cond b Moved (Waits found)) (sym stayed.0))

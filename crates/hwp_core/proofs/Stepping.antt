@@ -194,3 +194,8 @@ pub tried-way : {T A : Type 0} {layout : Layout} {who : Who} {step : Step} {old 
 tried-way {T} {A} {layout} {who} {step} {old} {new} {was} {now} {moves} {found} got other made (tries.Got x) tried = sym (ap (λ (b : Bool). cond b got (other found)) tried)
 tried-way {T} {A} {layout} {who} {step} {old} {new} {was} {now} {moves} {found} got other made (tries.Busy word) tried = ap other tried.1.1 ∙ sym (ap (λ (b : Bool). cond b got (other found)) tried.0)
 tried-way {T} {A} {layout} {who} {step} {old} {new} {was} {now} {moves} {found} got other made (tries.Changed word) tried = ap other tried.1.1 ∙ sym (ap (λ (b : Bool). cond b got (other found)) tried.0)
+
+-- a step that didn't go through, and the word that it found
+pub not-taken : {T : Type 0} (step : Step) (found word : ℕ) (result : Tried T) → (result ≡ tries.Busy word) ⊎ (result ≡ tries.Changed word) → IsTried step found result → (goes step found ≡ false) × (word ≡ found)
+not-taken step found word result (inl busy) tried = let is = subst (λ t. IsTried step found t) busy tried in (is.0, is.1.1)
+not-taken step found word result (inr other) tried = let is = subst (λ t. IsTried step found t) other tried in (is.0, is.1.1)
