@@ -4,3 +4,4 @@ pub mod Releasing
 pub mod Taking
 pub mod Locked
 pub mod Holding
+pub mod Unholding

@@ -199,3 +199,7 @@ tried-way {T} {A} {layout} {who} {step} {old} {new} {was} {now} {moves} {found} 
 pub not-taken : {T : Type 0} (step : Step) (found word : ℕ) (result : Tried T) → (result ≡ tries.Busy word) ⊎ (result ≡ tries.Changed word) → IsTried step found result → (goes step found ≡ false) × (word ≡ found)
 not-taken step found word result (inl busy) tried = let is = subst (λ t. IsTried step found t) busy tried in (is.0, is.1.1)
 not-taken step found word result (inr other) tried = let is = subst (λ t. IsTried step found t) other tried in (is.0, is.1.1)
+
+-- the command that the steps are of, after `at` named it
+pub named-who : {who_at : Who} {cpu : Cpu} (who : Who) → who_at ≡ record { cpu = cpu; seq = who.seq } → cpu ≡ who.cpu → who_at ≡ who
+named-who who is own = is ∙ ap (λ (c : Cpu). record { cpu = c; seq = who.seq }) own
