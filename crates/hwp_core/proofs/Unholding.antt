@@ -342,17 +342,20 @@ module _ {layout layout_at : Layout} {view view_at : View} {slots slots_at : Slo
       (subst (λ (v : View). CanFreeFrame layout u.who frame v slots_at) (sym seen)
       (subst (λ (s : Slots). CanFreeFrame layout u.who frame view s) (sym put) (can-free fits.on_turn (at-state u (at.UnlockFrame frame refs body) is fits)))))
 
-  pub asks-page-with : (body : Held) → u.at ≡ at.UnlockPage (Some body) → Fits layout view slots u → layout_at ≡ layout → who_at ≡ u.who → view_at ≡ view
-      → slots_at ≡ with_slot (shelf_slot layout u.page) (Some (Some (log_of body))) slots → CanFreePage layout_at who_at u.page view_at slots_at
-  asks-page-with body is fits same own seen put =
-      subst (λ (l : Layout). CanFreePage l who_at u.page view_at slots_at) (sym same)
-      (subst (λ (w : Who). CanFreePage layout w u.page view_at slots_at) (sym own)
-      (subst (λ (v : View). CanFreePage layout u.who u.page v slots_at) (sym seen)
-      (subst (λ (s : Slots). CanFreePage layout u.who u.page view s) (sym put) (can-unlock-with fits.page fits.on_turn (at-state u (at.UnlockPage (Some body)) is fits)))))
-
   pub asks-page : u.at ≡ at.UnlockPage None → Fits layout view slots u → layout_at ≡ layout → who_at ≡ u.who → view_at ≡ view → slots_at ≡ slots → CanFreePage layout_at who_at u.page view_at slots_at
   asks-page is fits same own seen put =
       subst (λ (l : Layout). CanFreePage l who_at u.page view_at slots_at) (sym same)
       (subst (λ (w : Who). CanFreePage layout w u.page view_at slots_at) (sym own)
       (subst (λ (v : View). CanFreePage layout u.who u.page v slots_at) (sym seen)
       (subst (λ (s : Slots). CanFreePage layout u.who u.page view s) (sym put) (can-unlock fits.page fits.on_turn (at-state u (at.UnlockPage None) is fits)))))
+
+pub asks-page-with : {layout layout_mid layout_at : Layout} {view view_at : View} {slots slots_mid slots_at : Slots} {who_at : Who} (u : Unhold) (body : Held) → u.at ≡ at.UnlockPage (Some body) → Fits layout view slots u
+    → layout_mid ≡ layout → layout_at ≡ layout_mid → who_at ≡ u.who → view_at ≡ view → slots_mid ≡ slots → slots_at ≡ with_slot (shelf_slot layout_mid u.page) (Some (Some (log_of body))) slots_mid → CanFreePage layout_at who_at u.page view_at slots_at
+asks-page-with {layout} {layout_mid} {layout_at} {view} {view_at} {slots} {slots_mid} {slots_at} {who_at} u body is fits same still own seen carried put =
+    subst (λ (l : Layout). CanFreePage l who_at u.page view_at slots_at) (sym (still ∙ same))
+    (subst (λ (w : Who). CanFreePage layout w u.page view_at slots_at) (sym own)
+    (subst (λ (v : View). CanFreePage layout u.who u.page v slots_at) (sym seen)
+    (subst (λ (s : Slots). CanFreePage layout u.who u.page view s) (sym shelf) (can-unlock-with fits.page fits.on_turn (at-state u (at.UnlockPage (Some body)) is fits)))))
+  where
+    shelf : slots_at ≡ with_slot (shelf_slot layout u.page) (Some (Some (log_of body))) slots
+    shelf = put ∙ ap (λ (l : Layout). with_slot (shelf_slot l u.page) (Some (Some (log_of body))) slots_mid) same ∙ ap (λ (s : Slots). with_slot (shelf_slot layout u.page) (Some (Some (log_of body))) s) carried
