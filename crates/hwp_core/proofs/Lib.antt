@@ -5,3 +5,4 @@ pub mod Taking
 pub mod Locked
 pub mod Holding
 pub mod Unholding
+pub mod Letting
