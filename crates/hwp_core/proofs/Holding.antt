@@ -162,29 +162,34 @@ module _ {layout : Layout} {old new : View} {was now : Slots} {moves : Rec → O
       where
         which : (content : Option Log) → has.content ≡ content → (found ≡ 0) × (after : HasLocked layout new now page) × (log : Log) × (after.content ≡ Some log)
         which None is = let named = named-frame is in absurd (none-some named.0 (sym none ∙ named.3))
-        which (Some log) is = (zero, record {
-          content = Some log;
-          lock = cached-lock found has.lock;
-          pages = ap (λ (v : View). v.pages) made.told.next ∙ one-cached found page old.pages has.lock has.pages has.page_is;
-          page_is = has.page_is;
-          resident = has.resident ∙ ap (λ (c : Option Log). is_none c) is;
-          taken = record {
-            body = taken_log.body;
-            bodies = ap (λ (v : View). v.bodies) made.told.next ∙ taken_log.bodies;
-            log_is = taken_log.log_is;
-            frame_is = taken_log.frame_is;
-            since = taken_log.since;
-            killed = taken_log.killed;
-            cache = ap Some zero;
-            trans = taken_log.trans;
-            cached = taken_log.cached;
-            page_is = taken_log.page_is;
-          };
-          locks = ap (λ (v : View). v.locks) made.told.next ∙ has.locks;
-          refs = ap (λ (v : View). v.refs) made.told.next ∙ has.refs;
-          room = subst HasRoom (sym made.told.next) has.room;
-          shelf = shelf-loaded ∙ ap (λ (c : Option Log). Some c) is;
-        }, log, refl)
+        which (Some log) is = (
+          zero,
+          record {
+            content = Some log;
+            lock = cached-lock found has.lock;
+            pages = ap (λ (v : View). v.pages) made.told.next ∙ one-cached found page old.pages has.lock has.pages has.page_is;
+            page_is = has.page_is;
+            resident = has.resident ∙ ap (λ (c : Option Log). is_none c) is;
+            taken = record {
+              body = taken_log.body;
+              bodies = ap (λ (v : View). v.bodies) made.told.next ∙ taken_log.bodies;
+              log_is = taken_log.log_is;
+              frame_is = taken_log.frame_is;
+              since = taken_log.since;
+              killed = taken_log.killed;
+              cache = ap Some zero;
+              trans = taken_log.trans;
+              cached = taken_log.cached;
+              page_is = taken_log.page_is;
+            };
+            locks = ap (λ (v : View). v.locks) made.told.next ∙ has.locks;
+            refs = ap (λ (v : View). v.refs) made.told.next ∙ has.refs;
+            room = subst HasRoom (sym made.told.next) has.room;
+            shelf = shelf-loaded ∙ ap (λ (c : Option Log). Some c) is;
+          },
+          log,
+          refl,
+        )
           where
             zero : found ≡ 0
             zero = zero-found log is
@@ -198,17 +203,20 @@ module _ {layout : Layout} {old new : View} {was now : Slots} {moves : Rec → O
       where
         which : (content : Option Log) → has.content ≡ content → HasNamed layout new now page frame × ((new.refs ≡ []) × HasRoom new)
         which (Some log) is = absurd (none-some frame (sym (ap frame_in (zero-found log is)) ∙ some))
-        which None is = (record {
-          lock = cached-lock found has.lock;
-          pages = ap (λ (v : View). v.pages) made.told.next ∙ one-cached found page old.pages has.lock has.pages has.page_is;
-          page_is = has.page_is;
-          resident = has.resident ∙ ap (λ (c : Option Log). is_none c) is;
-          cache = ap Some (own.1 ∙ ap (λ (f : Frame). f.0 + 1) same);
-          locks = ap (λ (v : View). v.locks) made.told.next ∙ has.locks;
-          bodies = ap (λ (v : View). v.bodies) made.told.next ∙ subst (HasContent layout old has.lock page) is has.taken;
-          shelf = shelf-loaded ∙ ap (λ (c : Option Log). Some c) is;
-          within = subst (λ (f : Frame). f.0 < layout.frames) same own.2;
-        }, (ap (λ (v : View). v.refs) made.told.next ∙ has.refs, subst HasRoom (sym made.told.next) has.room))
+        which None is = (
+          record {
+            lock = cached-lock found has.lock;
+            pages = ap (λ (v : View). v.pages) made.told.next ∙ one-cached found page old.pages has.lock has.pages has.page_is;
+            page_is = has.page_is;
+            resident = has.resident ∙ ap (λ (c : Option Log). is_none c) is;
+            cache = ap Some (own.1 ∙ ap (λ (f : Frame). f.0 + 1) same);
+            locks = ap (λ (v : View). v.locks) made.told.next ∙ has.locks;
+            bodies = ap (λ (v : View). v.bodies) made.told.next ∙ subst (HasContent layout old has.lock page) is has.taken;
+            shelf = shelf-loaded ∙ ap (λ (c : Option Log). Some c) is;
+            within = subst (λ (f : Frame). f.0 < layout.frames) same own.2;
+          },
+          (ap (λ (v : View). v.refs) made.told.next ∙ has.refs, subst HasRoom (sym made.told.next) has.room),
+        )
           where
             own : (f : Frame) × (found ≡ f.0 + 1) × (f.0 < layout.frames) × (frame_in found ≡ Some f)
             own = named-frame is
@@ -355,33 +363,36 @@ module _ {layout : Layout} {old new : View} {was now : Slots} {moves : Rec → O
       same = made.carried ∙ ap (λ (b : Bool). cond b (with_slot (frame_slot frame) (Some made.content) was) was) stayed
 
   pub frame-locked : goes (lock_frame frame) found ≡ true → (log : Log) × HasSlot layout new now page frame log
-  frame-locked went = (log, record {
-    lock = knowing layout log (Some frame) has.lock;
-    pages = ap (λ (v : View). v.pages) next ∙ ap (λ (l : List PageLock). changed (is_page_lock_of log.page) (knowing layout log (Some frame)) l) has.pages
-        ∙ ap (λ (b : Bool). cond b (knowing layout log (Some frame) has.lock) has.lock ∷ []) (same-number has.lock.page.0 log.page.0 (sym (ap (λ (p : Page). p.0) page_is)));
-    page_is = has.page_is;
-    resident = has.resident;
-    taken = record {
-      body = record { log = log; since = length log.entries; frame = Some frame; from = length old.sights; killed = [] };
-      bodies = ap (λ (v : View). v.bodies) next ∙ ap (λ (l : List InHand). l ++ (record { log = log; since = length log.entries; frame = Some frame; from = length old.sights; killed = [] }) ∷ []) has.bodies;
-      log_is = refl;
+  frame-locked went = (
+    log,
+    record {
+      lock = knowing layout log (Some frame) has.lock;
+      pages = ap (λ (v : View). v.pages) next ∙ ap (λ (l : List PageLock). changed (is_page_lock_of log.page) (knowing layout log (Some frame)) l) has.pages
+          ∙ ap (λ (b : Bool). cond b (knowing layout log (Some frame) has.lock) has.lock ∷ []) (same-number has.lock.page.0 log.page.0 (sym (ap (λ (p : Page). p.0) page_is)));
+      page_is = has.page_is;
+      resident = has.resident;
+      taken = record {
+        body = record { log = log; since = length log.entries; frame = Some frame; from = length old.sights; killed = [] };
+        bodies = ap (λ (v : View). v.bodies) next ∙ ap (λ (l : List InHand). l ++ (record { log = log; since = length log.entries; frame = Some frame; from = length old.sights; killed = [] }) ∷ []) has.bodies;
+        log_is = refl;
+        frame_is = refl;
+        since = refl;
+        killed = refl;
+        cache = refl;
+        trans = refl;
+        cached = some ∙ inside_slot.1.3;
+        page_is = page_is ∙ has.page_is;
+      };
+      frame_lock = lock_found frame found;
+      locks = ap (λ (v : View). v.locks) next ∙ ap (λ (l : List FrameLock). l ++ lock_found frame found ∷ []) has.locks;
       frame_is = refl;
-      since = refl;
-      killed = refl;
-      cache = refl;
-      trans = refl;
-      cached = some ∙ inside_slot.1.3;
-      page_is = page_is ∙ has.page_is;
-    };
-    frame_lock = lock_found frame found;
-    locks = ap (λ (v : View). v.locks) next ∙ ap (λ (l : List FrameLock). l ++ lock_found frame found ∷ []) has.locks;
-    frame_is = refl;
-    owner = inside_slot.0 ∙ ap (λ (p : Page). p.0 + 1) has.page_is;
-    refs = ap (λ (v : View). v.refs) next ∙ one;
-    slot = ap (λ (s : Slots). s (frame_slot frame)) carried ∙ slot-here (frame_slot frame) (Some made.content) was ∙ ap (λ (c : Option Log). Some c) content_is;
-    shelf = ap (λ (s : Slots). s (shelf_slot layout page)) carried ∙ slot-else (frame_slot frame) (shelf_slot layout page) (Some made.content) was (slot-apart layout page frame has.within) ∙ has.shelf;
-    within = has.within;
-  })
+      owner = inside_slot.0 ∙ ap (λ (p : Page). p.0 + 1) has.page_is;
+      refs = ap (λ (v : View). v.refs) next ∙ one;
+      slot = ap (λ (s : Slots). s (frame_slot frame)) carried ∙ slot-here (frame_slot frame) (Some made.content) was ∙ ap (λ (c : Option Log). Some c) content_is;
+      shelf = ap (λ (s : Slots). s (shelf_slot layout page)) carried ∙ slot-else (frame_slot frame) (shelf_slot layout page) (Some made.content) was (slot-apart layout page frame has.within) ∙ has.shelf;
+      within = has.within;
+    },
+  )
     where
       inside_slot : (owner_of found ≡ has.lock.page.0 + 1) × ((log : Log) × (made.content ≡ Some log) × (log.page ≡ has.lock.page) × (true ≡ (state_of layout log).cached))
       inside_slot = in-slot layout made.told.board made.told.rule made.told.seat old made.told.me has.lock frame found made.content (ap (λ (l : List PageLock). slice_get l 0) has.pages)
@@ -532,11 +543,12 @@ module _ {layout layout_at layout_now : Layout} {old new later : View} {was now 
   pub none-fits : h.at ≡ at.LoadCache → layout_at ≡ layout → layout_now ≡ layout_at → later ≡ new → Fits layout old was h → Steps layout h.who (load_cache h.page) old new was now moves found → frame_in found ≡ None
       → (body : Held) → now (shelf_slot layout_at h.page) ≡ Some (Some (log_of body)) → body.layout ≡ layout_at → slots ≡ with_slot (shelf_slot layout_at h.page) (Some None) now
       → Fits layout_now later slots (record h { at = at.Held found body })
-  none-fits is same still seen fits made none body taken_body of_layout after = now-fits h (load_cache h.page) (still ∙ same) seen fits made (at.Held found body)
-      (has.0 ∙ sym (ap frame_name none),
-      subst (λ (f : Option Frame). HoldsPage layout new slots h.page f body) (sym none)
-      (subst (λ (s : Slots). HoldsPage layout new s h.page None body) (sym (after ∙ ap (λ (l : Layout). with_slot (shelf_slot l h.page) (Some None) now) same))
-      (off-shelf has.1 has.2 has.3 body same_log (of_layout ∙ same))))
+  none-fits is same still seen fits made none body taken_body of_layout after = now-fits h (load_cache h.page) (still ∙ same) seen fits made (at.Held found body) (
+    has.0 ∙ sym (ap frame_name none),
+    subst (λ (f : Option Frame). HoldsPage layout new slots h.page f body) (sym none)
+        (subst (λ (s : Slots). HoldsPage layout new s h.page None body) (sym (after ∙ ap (λ (l : Layout). with_slot (shelf_slot l h.page) (Some None) now) same))
+        (off-shelf has.1 has.2 has.3 body same_log (of_layout ∙ same))),
+  )
     where
       has : (found ≡ 0) × (after : HasLocked layout new now h.page) × (log : Log) × (after.content ≡ Some log)
       has = shelved h.who h.page fits.page (at-state h at.LoadCache is fits) made none
@@ -547,11 +559,12 @@ module _ {layout layout_at layout_now : Layout} {old new later : View} {was now 
   pub frame-got-fits : (frame : Frame) → h.at ≡ at.LockFrame frame → layout_at ≡ layout → layout_now ≡ layout_at → later ≡ new → Fits layout old was h → Steps layout h.who (lock_frame frame) old new was now moves found → goes (lock_frame frame) found ≡ true
       → (cache : ℕ) → cache ≡ frame_name (Some frame) → (body : Held) → now (frame_slot frame) ≡ Some (Some (log_of body)) → body.layout ≡ layout_at → slots ≡ with_slot (frame_slot frame) (Some None) now
       → Fits layout_now later slots (record h { at = at.Held cache body })
-  frame-got-fits frame is same still seen fits made went cache cache_is body taken_body of_layout after = now-fits h (lock_frame frame) (still ∙ same) seen fits made (at.Held cache body)
-      (cache_is ∙ sym (ap frame_name names),
-      subst (λ (f : Option Frame). HoldsPage layout new slots h.page f body) (sym names)
-      (subst (λ (s : Slots). HoldsPage layout new s h.page (Some frame) body) (sym after)
-      (out-of-slot slot.1 body (same-body now (frame_slot frame) body slot.0 taken_body slot.1.slot) (of_layout ∙ same))))
+  frame-got-fits frame is same still seen fits made went cache cache_is body taken_body of_layout after = now-fits h (lock_frame frame) (still ∙ same) seen fits made (at.Held cache body) (
+    cache_is ∙ sym (ap frame_name names),
+    subst (λ (f : Option Frame). HoldsPage layout new slots h.page f body) (sym names)
+        (subst (λ (s : Slots). HoldsPage layout new s h.page (Some frame) body) (sym after)
+        (out-of-slot slot.1 body (same-body now (frame_slot frame) body slot.0 taken_body slot.1.slot) (of_layout ∙ same))),
+  )
     where
       has : HasNamed layout old was h.page frame × HasOneRef old frame
       has = at-state h (at.LockFrame frame) is fits

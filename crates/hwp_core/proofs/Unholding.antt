@@ -75,7 +75,7 @@ module _ (layout : Layout) (s : State) (h : Holds layout s) (seat : ℕ) (view :
       let one : sum_bodies (λ (log : Log). from_bool (log.page.0 == page.0)) s.homes (map (λ (h : Holder). h.bodies) (map holder_of s.views)) ≡ 1 = h.rule.bodies.one page.0 inside in
       let mine : sum_by (λ (b : InHand). from_bool (b.log.page.0 == page.0)) view.bodies ≤ sum_all (λ (b : InHand). from_bool (b.log.page.0 == page.0)) (map (λ (h : Holder). h.bodies) (map holder_of s.views)) =
       term-le (sum_by (λ (b : InHand). from_bool (b.log.page.0 == page.0))) (map (λ (h : Holder). h.bodies) (map holder_of s.views)) seat view.bodies
-          (at_map (λ (h : Holder). h.bodies) (map holder_of s.views) seat (holder_of view) (at_map holder_of s.views seat view me)) in
+      (at_map (λ (h : Holder). h.bodies) (map holder_of s.views) seat (holder_of view) (at_map holder_of s.views seat view me)) in
       let this : from_bool (body.log.page.0 == page.0) ≤ sum_by (λ (b : InHand). from_bool (b.log.page.0 == page.0)) view.bodies = term-le (λ (b : InHand). from_bool (b.log.page.0 == page.0)) view.bodies i body at in
       let it : from_bool (body.log.page.0 == page.0) ≡ 1 = ap from_bool is in
       omega (arith, one, mine, this, it)
@@ -190,10 +190,12 @@ module _ {layout : Layout} {old new : View} {was before now : Slots} {moves : Re
     release = record {
       on_turn = on;
       frame = has.within;
-      at = (has.some,
-          let none : locks_on frame.0 new.locks ≡ 0 = ap (λ (v : View). locks_on frame.0 v.locks) next-view ∙ lock-none in
-          let same : refs_on frame.0 new.refs ≡ refs_on frame.0 old.refs = ap (λ (v : View). refs_on frame.0 v.refs) next-view in
-          omega (arith, has.enough, none, same));
+      at = (
+        has.some,
+        let none : locks_on frame.0 new.locks ≡ 0 = ap (λ (v : View). locks_on frame.0 v.locks) next-view ∙ lock-none in
+            let same : refs_on frame.0 new.refs ≡ refs_on frame.0 old.refs = ap (λ (v : View). refs_on frame.0 v.refs) next-view in
+            omega (arith, has.enough, none, same),
+      );
     };
     under_way = refl;
     own = refl;

@@ -49,7 +49,8 @@ impl Hold {
     {
         match self.at {
             HoldAt::Held { cache, .. } => Some(cache),
-            HoldAt::LockPage | HoldAt::LoadCache | HoldAt::Pin { .. } | HoldAt::LockFrame { .. } => None,
+            HoldAt::LockPage | HoldAt::LoadCache | HoldAt::Pin { .. } | HoldAt::LockFrame { .. } =>
+                None,
         }
     }
 
@@ -60,7 +61,8 @@ impl Hold {
     {
         match self.at {
             HoldAt::Held { body, .. } => body,
-            HoldAt::LockPage | HoldAt::LoadCache | HoldAt::Pin { .. } | HoldAt::LockFrame { .. } => unreachable!(),
+            HoldAt::LockPage | HoldAt::LoadCache | HoldAt::Pin { .. } | HoldAt::LockFrame { .. } =>
+                unreachable!(),
         }
     }
 
@@ -134,8 +136,7 @@ impl Task for Hold {
                     }
                 }
             }
-            HoldAt::Pin { pin } => {
-                let mut pin = pin;
+            HoldAt::Pin { mut pin } => {
                 let turn = pin.advance(o);
                 self.at = Hold::at_pinned(pin);
                 turn

@@ -53,7 +53,8 @@ impl Unhold {
         ensures over { is_some result ≡ is_none (plan self.now) }
     {
         match self.at {
-            UnholdAt::UnlockFrame { .. } | UnholdAt::Release { .. } | UnholdAt::UnlockPage { .. } => None,
+            UnholdAt::UnlockFrame { .. } | UnholdAt::Release { .. } | UnholdAt::UnlockPage { .. } =>
+                None,
             UnholdAt::Done => Some(UnholdAnswer::Done),
         }
     }
@@ -101,8 +102,7 @@ impl Task for Unhold {
                 };
                 Turn::Moved
             }
-            UnholdAt::Release { release } => {
-                let mut release = release;
+            UnholdAt::Release { mut release } => {
                 let turn = release.advance(o);
                 self.at = Unhold::at_released(release);
                 turn
