@@ -235,7 +235,7 @@ off-shelf {layout} {view} {slots} {page} has log is body same of_layout = record
   taken = subst (λ (l : Log). HasTaken layout view has.lock page l None) (sym same) (subst (HasContent layout view has.lock page) is has.taken);
   layout_is = of_layout;
   shelf = slot-here (shelf_slot layout page) (Some None) slots;
-  frame_held = (has.locks, has.refs);
+  frame_held = (has.locks, has.refs, has.room);
 }
 
 -- ---- the reference
