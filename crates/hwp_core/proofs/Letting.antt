@@ -41,11 +41,11 @@ use Rattle.hwp_core.specs.Turns.{IsOnTurn}
 use Rattle.hwp_core.specs.Unholds.{begin, begin_at, Fits, FitsAt}
 
 -- an empty list has no member
-no-member : {A : Type 0} (P : A → Type 0) → EachMember P []
+pub no-member : {A : Type 0} (P : A → Type 0) → EachMember P []
 no-member P i x e = absurd (none-some x e)
 
 -- the one member of a list
-only-member : {A : Type 0} (P : A → Type 0) (l : List A) (a : A) → l ≡ a ∷ [] → P a → EachMember P l
+pub only-member : {A : Type 0} (P : A → Type 0) (l : List A) (a : A) → l ≡ a ∷ [] → P a → EachMember P l
 only-member P l a one here i x e = which i (sym (ap (λ m. slice_get m i) one) ∙ e)
   where
     which : (j : ℕ) → slice_get (a ∷ []) j ≡ Some x → P x

@@ -135,12 +135,16 @@ pub record LocksFrame (layout : Layout) (view : View) (slots : Slots) (frame : F
 abbrev pub HasTwoRefs : View → Frame → Type 0
 HasTwoRefs view frame = view.refs ≡ record { frame = frame; count = 2 } ∷ []
 
--- a frame is being taken for the page
-pub record IsTaking (layout : Layout) (view : View) (slots : Slots) (who : Who) (page : Page) (t : Take) (body : Held) : Type 0 where
+-- the page is held, in no frame, and no frame is locked or referenced
+pub record HoldsNoFrame (layout : Layout) (view : View) (slots : Slots) (page : Page) (body : Held) : Type 0 where
   pub page_held : HoldsUnframed layout view slots page body
   pub entry : CanBring body
   pub locks : view.locks ≡ []
   pub refs : view.refs ≡ []
+
+-- a frame is being taken for the page
+pub record IsTaking (layout : Layout) (view : View) (slots : Slots) (who : Who) (page : Page) (t : Take) (body : Held) : Type 0 where
+  pub idle : HoldsNoFrame layout view slots page body
   pub take : takes.Fits layout view t
   pub under_way : is_none (takes.plan t) ≡ false
   pub own : t.who ≡ who
