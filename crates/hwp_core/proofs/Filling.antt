@@ -1,9 +1,8 @@
 -- The steps of `Fill`: the state after each fits, and the turn is the planned one. A page that is held, and in no frame, can
 -- be filled.
-use Rattle.std.proofs.Common.{◌≡◌, ℕ, ◌+◌, ◌-◌, ◌/◌, ◌<◌, ◌≤◌, ◌==◌, Bool, true, false, cond, List, [], ◌∷◌, ◌++◌, Option, Some, None, is_none, map, length, slice_get, slice_index, refl, sym, ap, ◌∙◌, subst, arith}
+use Rattle.std.proofs.Common.{◌≡◌, ℕ, ◌+◌, ◌-◌, ◌/◌, ◌<◌, ◌≤◌, ◌==◌, Bool, true, false, cond, List, [], ◌∷◌, ◌++◌, Option, Some, None, map, length, slice_get, slice_index, refl, sym, ap, ◌∙◌, subst, arith}
 use Rattle.std.proofs.lemmas.Bool.{both_ways}
 use Rattle.std.proofs.lemmas.Option.{none-some, same_Some}
-use Rattle.std.specs.Int.{from_bool}
 use Rattle.std.specs.List.{sum_by, find}
 use Rattle.hwp_geom.specs.declared.Frame.{Frame}
 use Rattle.hwp_geom.specs.declared.Layout.{Layout}
@@ -28,7 +27,6 @@ use Rattle.hwp_rule.specs.Rule.{Holds}
 use Rattle.hwp_rule.specs.Steps.{place_of, goes}
 use Rattle.hwp_rule.specs.Views.{noted, sighted, changed, with_refs, less_refs, with_named, is_lock_of, is_page_lock_of, is_body_of, lock_found, frame_in, frame_slot, shelf_slot, refs_on}
 use Rattle.hwp_rule.specs.Words.{index, words_of}
-use Rattle.hwp_rule.specs.parts.Counts.{named}
 use Rattle.hwp_rule.specs.parts.Fits.{KnowsWords}
 use Rattle.hwp_rule.specs.parts.Places.{IsBare}
 use Rattle.hwp_rule.proofs.Lists.{at_map, term-le, same-number}
@@ -42,8 +40,7 @@ use Rattle.hwp_core.specs.declared.take.Take.{Take}
 use Rattle.hwp_core.specs.declared.take.TakeAt.{TakeAt}
 use Rattle.hwp_core.specs.declared.take.TakeAt.TheVariants as take_at
 use Rattle.hwp_core.specs.declared.turn.Turn.{Turn}
-use Rattle.hwp_core.specs.declared.turn.Turn.TheVariants.{Moved, Changed}
-use Rattle.hwp_core.specs.Calls.{Slots, Steps, with_slot, log_of, load_available, load_frame, get_ref, set_owner, set_cache, take_bit}
+use Rattle.hwp_core.specs.Calls.{Slots, Steps, log_of, load_available, load_frame, get_ref, set_owner, set_cache, take_bit}
 use Rattle.hwp_core.specs.Fills.{begin, take_step, plan, plan_at, taken, next, next_at, brought, body_after, turn, turn_at, answer, answer_at, HoldsUnframed, CanBring, LocksFrame, HasTwoRefs, HoldsNoFrame, IsTaking, HasBoth, Fits, FitsAt}
 use Rattle.hwp_core.specs.Holds.{HasTaken, HasOneRef, HoldsPage, HoldsAhead}
 use Rattle.hwp_core.specs.Takes as takes

@@ -1,5 +1,5 @@
 -- The steps of `Hold`: the state after each fits, and the turn is the planned one.
-use Rattle.std.proofs.Common.{◌≡◌, ◌≢◌, ℕ, ◌+◌, ◌^◌, ◌<◌, ◌≤◌, ◌==◌, ◌||◌, Bool, true, false, not, cond, List, [], ◌∷◌, ◌++◌, Option, Some, None, is_some, is_none, length, map, slice_get, slice_index, refl, sym, ap, ◌∙◌, subst, arith}
+use Rattle.std.proofs.Common.{◌≡◌, ◌≢◌, ℕ, ◌+◌, ◌<◌, ◌≤◌, ◌==◌, Bool, true, false, not, cond, List, [], ◌∷◌, ◌++◌, Option, Some, None, is_none, length, slice_get, refl, sym, ap, ◌∙◌, subst, arith}
 use Rattle.std.proofs.lemmas.Bool.{both_ways, eqb-true, ne_eqb}
 use Rattle.std.proofs.lemmas.Option.{none-some, same_Some}
 use Rattle.std.specs.List.{find}
@@ -8,7 +8,7 @@ use Rattle.hwp_geom.specs.declared.Layout.{Layout}
 use Rattle.hwp_geom.specs.declared.Page.{Page}
 use Rattle.hwp_geom.specs.declared.Who.{Who}
 use Rattle.hwp_page.specs.History.{Held}
-use Rattle.hwp_words.specs.Frames.{owner_of, lock_of}
+use Rattle.hwp_words.specs.Frames.{owner_of}
 use Rattle.hwp_words.specs.Names.{frame_name}
 use Rattle.hwp_rule.specs.declared.FrameLock.{FrameLock}
 use Rattle.hwp_rule.specs.declared.Held.{Held as InHand}
@@ -23,8 +23,7 @@ use Rattle.hwp_rule.specs.Asks.{HasRoom}
 use Rattle.hwp_rule.specs.Logs.{state_of}
 use Rattle.hwp_rule.specs.Moves.{IsIn}
 use Rattle.hwp_rule.specs.Steps.{goes}
-use Rattle.hwp_rule.specs.Views.{noted, sighted, loaded, taken, knowing, changed, is_page_lock_of, is_body_of, body_of, lock_of_page, lock_found, frame_in, frame_slot, shelf_slot, refs_on, with_refs}
-use Rattle.hwp_rule.specs.parts.Fits.{KnowsWords}
+use Rattle.hwp_rule.specs.Views.{noted, sighted, taken, knowing, changed, is_page_lock_of, is_body_of, body_of, lock_of_page, lock_found, frame_in, frame_slot, shelf_slot, refs_on, with_refs}
 use Rattle.hwp_rule.proofs.Lists.{same-number}
 use Rattle.hwp_core.specs.declared.hold.Hold.{Hold}
 use Rattle.hwp_core.specs.declared.hold.HoldAt.{HoldAt}
@@ -37,9 +36,9 @@ use Rattle.hwp_core.specs.declared.turn.Turn.TheVariants.{Moved, Waits}
 use Rattle.hwp_core.specs.Calls.{Slots, Steps, HasBody, with_slot, log_of, lock_page, load_cache, lock_frame, load_frame}
 use Rattle.hwp_core.specs.Turns.{Advances, StepTaken, IsOnTurn}
 use Rattle.hwp_core.specs.Pins as pins
-use Rattle.hwp_core.specs.Holds.{pin_step, plan, plan_at, pinned, pinned_at, IsHeld, IsNamed, IsTaken, Follows, FollowsAt, turn, turn_at, HoldsNothing, HasTaken, HasContent, HasLocked, HasNamed, HasOneRef, IsPinning, HasFrame, HasFrameOf, HoldsPage, Fits, FitsAt}
+use Rattle.hwp_core.specs.Holds.{pin_step, plan, plan_at, pinned, IsNamed, IsTaken, Follows, FollowsAt, turn, turn_at, HoldsNothing, HasTaken, HasContent, HasLocked, HasNamed, HasOneRef, IsPinning, HoldsPage, Fits, FitsAt}
 use Rattle.hwp_core.proofs.Locked.{free-word, cache-words, frame-named, cache-word, cached-frame, on-shelf, lock-knows, never-gone, in-slot}
-use Rattle.hwp_core.proofs.Stepping.{on-turn-after, advanced, advanced-around, step-taken, passed-on, slot-here, slot-else}
+use Rattle.hwp_core.proofs.Stepping.{on-turn-after, advanced-around, step-taken, passed-on, slot-here, slot-else}
 
 -- ---- the page's lock
 

@@ -1,5 +1,5 @@
 -- A page that is held can be let go, as it was taken or with entries more: what `Hold` leaves fits `Unhold`.
-use Rattle.std.proofs.Common.{◌≡◌, ℕ, zero, suc, ◌+◌, ◌<◌, ◌≤◌, ◌==◌, Bool, true, false, cond, List, [], ◌∷◌, ◌++◌, Option, Some, None, is_some, length, drop, slice_get, append-nil, refl, sym, ap, ◌∙◌, subst, arith}
+use Rattle.std.proofs.Common.{◌≡◌, ℕ, zero, suc, ◌+◌, ◌<◌, ◌==◌, Bool, false, cond, List, [], ◌∷◌, ◌++◌, Option, Some, None, length, drop, slice_get, append-nil, refl, sym, ap, ◌∙◌, subst, arith}
 use Rattle.std.proofs.lemmas.Bool.{both_ways}
 use Rattle.std.proofs.lemmas.List.{drop_all}
 use Rattle.std.proofs.lemmas.List.Sums.{sum_by-cons}
@@ -9,8 +9,6 @@ use Rattle.std.specs.List.{find}
 use Rattle.hwp_geom.specs.declared.Frame.{Frame}
 use Rattle.hwp_geom.specs.declared.Layout.{Layout}
 use Rattle.hwp_geom.specs.declared.Page.{Page}
-use Rattle.hwp_geom.specs.declared.Proc.{Proc}
-use Rattle.hwp_geom.specs.declared.TransDecl.{TransDecl}
 use Rattle.hwp_geom.specs.declared.Who.{Who}
 use Rattle.hwp_page.specs.declared.Entry.{Entry}
 use Rattle.hwp_page.specs.History.{Held, Leads}
@@ -22,7 +20,7 @@ use Rattle.hwp_rule.specs.declared.PageLock.{PageLock}
 use Rattle.hwp_rule.specs.declared.Ref.{Ref}
 use Rattle.hwp_rule.specs.declared.View.{View}
 use Rattle.hwp_rule.specs.Asks.{HasPageLock, Extends, PutFits, CanGoHome}
-use Rattle.hwp_rule.specs.Lists.{EachMember, SomeMember}
+use Rattle.hwp_rule.specs.Lists.{EachMember}
 use Rattle.hwp_rule.specs.Logs.{state_of, has_ending, fitting, fitting_word}
 use Rattle.hwp_rule.specs.Views.{is_body_of, more_of, frame_in, refs_on, page_locks_on}
 use Rattle.hwp_rule.specs.parts.Entries.{HasSeen}

@@ -1,7 +1,7 @@
 -- The steps of `Unhold`: the state after each fits, and the turn is the planned one. A page that was held can be let go.
-use Rattle.std.proofs.Common.{◌≡◌, ◌≢◌, ℕ, ◌+◌, ◌<◌, ◌≤◌, ◌==◌, Bool, true, false, cond, List, [], ◌∷◌, ◌++◌, Option, Some, None, is_none, option_map, length, map, drop, slice_get, slice_index, refl, sym, ap, ◌∙◌, subst, arith}
+use Rattle.std.proofs.Common.{◌≡◌, ◌≢◌, ℕ, ◌+◌, ◌<◌, ◌≤◌, ◌==◌, Bool, true, false, cond, List, Option, Some, None, length, map, slice_get, slice_index, refl, sym, ap, ◌∙◌, subst, arith}
 use Rattle.std.proofs.lemmas.Bool.{both_ways}
-use Rattle.std.proofs.lemmas.Option.{none-some, same_Some}
+use Rattle.std.proofs.lemmas.Option.{same_Some}
 use Rattle.std.specs.Int.{from_bool}
 use Rattle.std.specs.List.{sum_by, find}
 use Rattle.hwp_geom.specs.declared.Frame.{Frame}
@@ -20,12 +20,11 @@ use Rattle.hwp_rule.specs.declared.Ref.{Ref}
 use Rattle.hwp_rule.specs.declared.State.{State}
 use Rattle.hwp_rule.specs.declared.Step.{Step}
 use Rattle.hwp_rule.specs.declared.View.{View}
-use Rattle.hwp_rule.specs.Asks.{HasLock, HasPageLock, CanGoHome, CanUnlockFrame, CanUnlockPage}
-use Rattle.hwp_rule.specs.Lists.{EachMember, SomeMember, sum_all, sum_bodies}
+use Rattle.hwp_rule.specs.Lists.{EachMember, sum_all, sum_bodies}
 use Rattle.hwp_rule.specs.Rule.{Holds, holder_of}
 use Rattle.hwp_rule.specs.Steps.{is_last}
 use Rattle.hwp_rule.specs.Views.{noted, listed_of, put_home, without, changed, is_lock_of, is_page_lock_of, is_body_of, body_of, frame_slot, shelf_slot, refs_on, locks_on}
-use Rattle.hwp_rule.specs.Words.{index, words_of}
+use Rattle.hwp_rule.specs.Words.{index}
 use Rattle.hwp_rule.specs.parts.Bodies.{Holder}
 use Rattle.hwp_rule.proofs.Hands.{not-both, each-without}
 use Rattle.hwp_rule.proofs.Lists.{at_map, term-le, same-number}
@@ -38,10 +37,10 @@ use Rattle.hwp_core.specs.declared.unhold.UnholdAt.{UnholdAt}
 use Rattle.hwp_core.specs.declared.unhold.UnholdAt.TheVariants as at
 use Rattle.hwp_core.specs.declared.turn.Turn.{Turn}
 use Rattle.hwp_core.specs.declared.turn.Turn.TheVariants.{Moved}
-use Rattle.hwp_core.specs.Calls.{Slots, Steps, CanPutBack, CanFreeFrame, CanFreePage, with_slot, log_of, put_ref, unlock_frame, unlock_page}
+use Rattle.hwp_core.specs.Calls.{Slots, Steps, CanFreeFrame, CanFreePage, with_slot, log_of, put_ref, unlock_frame, unlock_page}
 use Rattle.hwp_core.specs.Turns.{Advances, StepTaken, IsOnTurn}
 use Rattle.hwp_core.specs.Releases as releases
-use Rattle.hwp_core.specs.Unholds.{release_step, plan, plan_at, released, released_at, next, next_at, turn, PutsBack, UnlocksPage, IsReleasing, Fits, FitsAt}
+use Rattle.hwp_core.specs.Unholds.{release_step, plan, plan_at, released, next, next_at, turn, PutsBack, UnlocksPage, IsReleasing, Fits, FitsAt}
 use Rattle.hwp_core.proofs.Holding.{slot-apart}
 use Rattle.hwp_core.proofs.Stepping.{frame-word, on-turn-after, advanced-around, step-taken, passed-on, slot-here, slot-else}
 

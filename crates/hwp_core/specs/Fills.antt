@@ -1,5 +1,5 @@
 -- A page put into a free frame: the task's states, its steps and what they come to.
-use Rattle.std.specs.Prelude.{◌≡◌, ℕ, ◌+◌, ◌-◌, ◌<◌, ◌==◌, Bool, true, false, cond, List, [], ◌∷◌, ◌++◌, Option, Some, None, is_none, unwrap_or, length, slice_index}
+use Rattle.std.specs.Prelude.{◌≡◌, ℕ, ◌+◌, ◌-◌, ◌<◌, ◌==◌, true, false, cond, [], ◌∷◌, ◌++◌, Option, Some, None, is_none, unwrap_or, length, slice_index}
 use Rattle.hwp_geom.specs.declared.Frame.{Frame}
 use Rattle.hwp_geom.specs.declared.Layout.{Layout}
 use Rattle.hwp_geom.specs.declared.Page.{Page}
@@ -12,7 +12,6 @@ use Rattle.hwp_rule.specs.declared.FrameLock.{FrameLock}
 use Rattle.hwp_rule.specs.declared.PageLock.{PageLock}
 use Rattle.hwp_rule.specs.declared.Step.{Step}
 use Rattle.hwp_rule.specs.declared.View.{View}
-use Rattle.hwp_rule.specs.Asks.{HasRoom}
 use Rattle.hwp_rule.specs.Views.{frame_slot, shelf_slot}
 use Rattle.hwp_rule.specs.Words.{Words}
 use Rattle.hwp_core.specs.declared.fill.Fill.{Fill}

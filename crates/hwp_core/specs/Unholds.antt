@@ -1,5 +1,5 @@
 -- A page let go: the task's states, its steps and what they come to.
-use Rattle.std.specs.Prelude.{◌≡◌, ℕ, ◌+◌, ◌<◌, ◌≤◌, ◌==◌, Bool, true, false, cond, Option, Some, None, is_none, option_map, unwrap_or, length}
+use Rattle.std.specs.Prelude.{◌≡◌, ℕ, ◌+◌, ◌<◌, ◌≤◌, ◌==◌, true, false, cond, Option, Some, None, is_none, option_map, unwrap_or, length}
 use Rattle.hwp_geom.specs.declared.Frame.{Frame}
 use Rattle.hwp_geom.specs.declared.Layout.{Layout}
 use Rattle.hwp_geom.specs.declared.Page.{Page}
@@ -7,7 +7,6 @@ use Rattle.hwp_geom.specs.declared.Who.{Who}
 use Rattle.hwp_page.specs.History.{Held}
 use Rattle.hwp_words.specs.Names.{frame_name}
 use Rattle.hwp_rule.specs.declared.FrameLock.{FrameLock}
-use Rattle.hwp_rule.specs.declared.Log.{Log}
 use Rattle.hwp_rule.specs.declared.Step.{Step}
 use Rattle.hwp_rule.specs.declared.View.{View}
 use Rattle.hwp_rule.specs.Asks.{HasLock, HasPageLock, CanGoHome, CanUnlockPage}

@@ -100,12 +100,13 @@ impl Fill {
     }
 }
 
-/// Appends the entry that the page was brought into a frame. What the body says of its history is known of the body before.
+/// Appends the entry that the page was brought into a frame.
 fn bring(who: Who, body: &mut Body)
     requires { CanBring body.old }
     ensures body { body.new ≡ brought who body.old }
     ensures replay { IsReplay body.old.layout body.old.page body.old.log body.old.state }
 {
+    // It tells that the body's state is the replay of its history.
     body.state();
     let entry = Entry {
         who,

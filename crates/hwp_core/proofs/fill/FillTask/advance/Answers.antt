@@ -1,4 +1,4 @@
-use Rattle.std.proofs.Common.{◌∙◌, refl, sym}
+use Rattle.std.proofs.Common.{◌∙◌, refl}
 use Rattle.hwp_core.specs.Fills.{got, get}
 use Rattle.hwp_core.specs.declared.fill.FillAt.TheVariants as at
 use Rattle.hwp_core.specs.declared.turn.Turn.TheVariants.{Moved, Changed}

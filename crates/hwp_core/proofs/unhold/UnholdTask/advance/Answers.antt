@@ -1,7 +1,6 @@
 use Rattle.std.proofs.Common.{◌∙◌, Option, Some, None, refl, sym, ap}
-use Rattle.hwp_geom.specs.declared.Layout.{Layout}
 use Rattle.hwp_page.specs.History.{Held}
-use Rattle.hwp_rule.specs.Views.{frame_slot, shelf_slot}
+use Rattle.hwp_rule.specs.Views.{frame_slot}
 use Rattle.hwp_core.specs.declared.release.Release.{Release}
 use Rattle.hwp_core.specs.declared.unhold.UnholdAt.TheVariants as at
 use Rattle.hwp_core.specs.Calls.{Slots, with_slot, log_of}
