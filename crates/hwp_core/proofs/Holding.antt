@@ -234,7 +234,7 @@ off-shelf {layout} {view} {slots} {page} has log is body same of_layout = record
   taken = subst (λ (l : Log). HasTaken layout view has.lock page l None) (sym same) (subst (HasContent layout view has.lock page) is has.taken);
   layout_is = of_layout;
   shelf = slot-here (shelf_slot layout page) (Some None) slots;
-  frame_held = (has.locks, has.refs);
+  frame_held = (has.locks, has.refs, has.room);
 }
 
 -- ---- the reference
@@ -287,12 +287,12 @@ pin-tried : (layout : Layout) (view got shown : View) (slots : Slots) (who : Who
 pin-tried layout view got shown slots who page own frame seen found true view_is there is named one none fits = (named, ap (λ (v : View). v.refs) view_is ∙ one)
 pin-tried layout view got shown slots who page own frame seen found false view_is there is named one none fits = pin-shown layout view slots who page own frame found (pins.is_gone found) there is named (ap (λ (v : View). v.refs) view_is ∙ none) fits
 
-either-view : {A : Type 0} (f : View → A) (b : Bool) (x y : View) (a : A) → f x ≡ a → f y ≡ a → f (cond b x y) ≡ a
+pub either-view : {A : Type 0} (f : View → A) (b : Bool) (x y : View) (a : A) → f x ≡ a → f y ≡ a → f (cond b x y) ≡ a
 either-view f true x y a p q = p
 either-view f false x y a p q = q
 
 -- one reference to the frame more
-abbrev one-more : Frame → View → View
+abbrev pub one-more : Frame → View → View
 one-more frame v = record v { refs = with_refs frame 1 v.refs }
 
 -- the state after a step of the pin

@@ -6,3 +6,5 @@ pub mod Locked
 pub mod Holding
 pub mod Unholding
 pub mod Letting
+pub mod Bringing
+pub mod Filling

@@ -118,23 +118,25 @@ no-content : (content : Option Log) → content_name content ≡ 0 → content �
 no-content None none = refl
 no-content (Some log) none = absurd (omega arith)
 
--- the slot of a frame in hand is empty
-pub hand-empty : (layout : Layout) (s : State) → Holds layout s → (seat : ℕ) (view : View) (frame : Frame) (content : Option Log) (found : ℕ) → slice_get s.views seat ≡ Some view
-    → HasInHand view frame → frame.0 < layout.frames → found ≡ slice_index s.words (index layout (places.Frame frame)) → IsIn s.homes (frame_slot frame) content → content ≡ None
-hand-empty layout s h seat view frame content found me has inside met slot =
-    no-content content (ap content_name (same_Some content home.content (same_Some (Some content) (Some home.content) (sym slot ∙ home.there))) ∙ home.named ∙ bare.unowned)
-  where
-    there : slice_get (words_of layout s.words).frames frame.0 ≡ Some found
-    there = frame-word layout s h frame found inside met
+module _ (layout : Layout) (s : State) (h : Holds layout s) (seat : ℕ) (view : View) (frame : Frame) where
+  -- a frame in hand is bare
+  pub hand-bare : (found : ℕ) → slice_get s.views seat ≡ Some view → HasInHand view frame → frame.0 < layout.frames → found ≡ slice_index s.words (index layout (places.Frame frame)) → IsBare found
+  hand-bare found me has inside met = h.rule.places.idle frame.0 found (frame-word layout s h frame found inside met) (omega (arith, some))
+    where
+      some : 1 ≤ in_hand frame.0 (map (λ (v : View). v.hands) s.views)
+      some = in_hand-mine (map (λ (v : View). v.hands) s.views) seat view.hands frame (at_map (λ (v : View). v.hands) s.views seat view me) has.0 (has.2 ∙ ap Some has.3)
 
-    some : 1 ≤ in_hand frame.0 (map (λ (v : View). v.hands) s.views)
-    some = in_hand-mine (map (λ (v : View). v.hands) s.views) seat view.hands frame (at_map (λ (v : View). v.hands) s.views seat view me) has.0 (has.2 ∙ ap Some has.3)
+  -- its slot is empty
+  pub hand-empty : (content : Option Log) (found : ℕ) → slice_get s.views seat ≡ Some view
+      → HasInHand view frame → frame.0 < layout.frames → found ≡ slice_index s.words (index layout (places.Frame frame)) → IsIn s.homes (frame_slot frame) content → content ≡ None
+  hand-empty content found me has inside met slot =
+      no-content content (ap content_name (same_Some content home.content (same_Some (Some content) (Some home.content) (sym slot ∙ home.there))) ∙ home.named ∙ bare.unowned)
+    where
+      bare : IsBare found
+      bare = hand-bare found me has inside met
 
-    bare : IsBare found
-    bare = h.rule.places.idle frame.0 found there (omega (arith, some))
-
-    home : IsAtHome s.homes frame.0 (owner_of found)
-    home = h.rule.bodies.frame_home frame.0 found there bare.unlocked
+      home : IsAtHome s.homes frame.0 (owner_of found)
+      home = h.rule.bodies.frame_home frame.0 found (frame-word layout s h frame found inside met) bare.unlocked
 
 -- a turn made the planned step, with local work on carried slots before it and after
 pub advanced-around : {S : Type 0} {layout : Layout} {who : Who} {step : Step} {old new : View} {before carried : Slots} {moves : Rec → Option Log → Type 0} {after : S} {result : Turn} {found : ℕ}

@@ -1,8 +1,9 @@
 -- A page held: the task's states, its steps and what they come to.
-use Rattle.std.specs.Prelude.{◌≡◌, ℕ, ◌+◌, ◌<◌, ◌==◌, Bool, true, false, not, cond, [], ◌∷◌, Option, Some, None, is_some, is_none, unwrap_or, length}
+use Rattle.std.specs.Prelude.{◌≡◌, ℕ, ◌+◌, ◌<◌, ◌==◌, Bool, true, false, not, cond, List, [], ◌∷◌, Option, Some, None, is_some, is_none, unwrap_or, length, drop}
 use Rattle.hwp_geom.specs.declared.Frame.{Frame}
 use Rattle.hwp_geom.specs.declared.Layout.{Layout}
 use Rattle.hwp_geom.specs.declared.Page.{Page}
+use Rattle.hwp_geom.specs.declared.Proc.{Proc}
 use Rattle.hwp_geom.specs.declared.Who.{Who}
 use Rattle.hwp_page.specs.History.{Held}
 use Rattle.hwp_words.specs.Names.{frame_name}
@@ -12,11 +13,12 @@ use Rattle.hwp_rule.specs.declared.Log.{Log}
 use Rattle.hwp_rule.specs.declared.PageLock.{PageLock}
 use Rattle.hwp_rule.specs.declared.Step.{Step}
 use Rattle.hwp_rule.specs.declared.View.{View}
-use Rattle.hwp_rule.specs.Asks.{HasRoom}
-use Rattle.hwp_rule.specs.Logs.{state_of, fitting}
+use Rattle.hwp_rule.specs.Asks.{HasRoom, Extends}
+use Rattle.hwp_rule.specs.Logs.{state_of, has_ending, fitting}
 use Rattle.hwp_rule.specs.Steps.{goes}
 use Rattle.hwp_rule.specs.Views.{frame_in, frame_slot, shelf_slot}
 use Rattle.hwp_rule.specs.Words.{Words}
+use Rattle.hwp_rule.specs.parts.Fits.{FitsWords}
 use Rattle.hwp_core.specs.declared.hold.Hold.{Hold}
 use Rattle.hwp_core.specs.declared.hold.HoldAt.{HoldAt}
 use Rattle.hwp_core.specs.declared.hold.HoldAt.TheVariants as at
@@ -184,7 +186,7 @@ pub record HasFrame (layout : Layout) (view : View) (slots : Slots) (page : Page
   pub within : frame.0 < layout.frames
 
 abbrev pub HasFrameOf : Layout → View → Slots → Page → Option Frame → Type 0
-HasFrameOf layout view slots page None = (view.locks ≡ []) × (view.refs ≡ [])
+HasFrameOf layout view slots page None = (view.locks ≡ []) × (view.refs ≡ []) × HasRoom view
 HasFrameOf layout view slots page (Some frame) = HasFrame layout view slots page frame
 
 -- the page is locked, and the frame that it is in; its body is in hand, and its shelf is empty
@@ -195,6 +197,26 @@ pub record HoldsPage (layout : Layout) (view : View) (slots : Slots) (page : Pag
   pub resident : lock.resident ≡ is_some frame
   pub taken : HasTaken layout view lock page (log_of body) frame
   pub layout_is : body.layout ≡ layout
+  pub shelf : slots (shelf_slot layout page) ≡ Some None
+  pub frame_held : HasFrameOf layout view slots page frame
+
+-- the page is locked, and the frame that it is in; its body is in hand, and its shelf is empty. The body may have entries
+-- more than it was taken with, none of which ends a process; the page's words fit it
+pub record HoldsAhead (layout : Layout) (who : Who) (view : View) (slots : Slots) (page : Page) (frame : Option Frame) (body : Held) : Type 0 where
+  pub lock : PageLock
+  pub trans : List ℕ
+  pub held : InHand
+  pub pages : view.pages ≡ lock ∷ []
+  pub page_is : lock.page ≡ page
+  pub resident : lock.resident ≡ is_some frame
+  pub cache : lock.cache ≡ Some (frame_name frame)
+  pub trans_is : lock.trans ≡ Some trans
+  pub bodies : view.bodies ≡ held ∷ []
+  pub extends : Extends layout who view.sights held (log_of body)
+  pub fits_words : FitsWords layout (log_of body) (frame_name frame) trans
+  pub no_ending : (process : Proc) → has_ending layout process (drop held.since body.log) ≡ false
+  pub layout_is : body.layout ≡ layout
+  pub body_is : body.page ≡ page
   pub shelf : slots (shelf_slot layout page) ≡ Some None
   pub frame_held : HasFrameOf layout view slots page frame
 

@@ -5,3 +5,4 @@ pub mod Releases
 pub mod Takes
 pub mod Holds
 pub mod Unholds
+pub mod Fills

@@ -3,6 +3,7 @@
 #![tactic(auto)]
 
 mod board;
+mod fill;
 mod hold;
 mod home;
 mod ops;
@@ -14,6 +15,7 @@ mod turn;
 mod unhold;
 
 pub use board::Board;
+pub use fill::{Fill, FillAnswer};
 pub use hold::Hold;
 pub use home::Home;
 pub use ops::Ops;
