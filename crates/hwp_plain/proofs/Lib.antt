@@ -1,9 +1,4 @@
-mod Beginning
-mod Carried
+mod Changing
 mod Firsts
-mod Kept
 mod Noting
-mod Openings
-mod Served
-mod Stepped
-mod Turning
+mod PageSheets
