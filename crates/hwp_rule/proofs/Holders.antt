@@ -6,7 +6,7 @@ use Rattle.hwp_rule.specs.declared.view.FrameLock.{FrameLock}
 use Rattle.hwp_rule.specs.declared.view.Held.{Held}
 use Rattle.hwp_rule.specs.declared.view.PageLock.{PageLock}
 use Rattle.hwp_rule.specs.Views.{locks_on}
-use Rattle.hwp_rule.specs.parts.Bodies.{IsHolding}
+use Rattle.hwp_rule.specs.parts.Bodies.{IsHolding, IsLockFor}
 use Rattle.hwp_rule.specs.parts.Owners.{HoldsBoth}
 use Rattle.hwp_rule.proofs.Lists.{some-push}
 
@@ -19,9 +19,9 @@ pub both-push : (f q : ℕ) (locks : List FrameLock) (pages : List PageLock) (lo
 both-push f q locks pages lock both = record { frame = omega (arith, both.frame, locks-push f locks lock); page = both.page }
 
 -- a view that holds a lock for a body in hand still does
-pub holding-push : (q : ℕ) (locks : List FrameLock) (pages : List PageLock) (bodies : List Held) (lock : FrameLock)
-    → IsHolding q (record { locks = locks; pages = pages; bodies = bodies }) → IsHolding q (record { locks = locks ++ lock ∷ []; pages = pages; bodies = bodies })
-holding-push q locks pages bodies lock holding = elim holding [
+pub holding-push : (b : Held) (locks : List FrameLock) (pages : List PageLock) (bodies : List Held) (lock : FrameLock)
+    → IsHolding b (record { locks = locks; pages = pages; bodies = bodies }) → IsHolding b (record { locks = locks ++ lock ∷ []; pages = pages; bodies = bodies })
+holding-push b locks pages bodies lock holding = elim holding [
   | inl page ↦ inl page
-  | inr frame ↦ inr (some-push (λ (l : FrameLock). l.owner ≡ q + 1) locks lock frame)
+  | inr frame ↦ inr (some-push (IsLockFor b) locks lock frame)
 ]

@@ -24,7 +24,10 @@ pub mod RefBounds
 pub mod Referring
 pub mod Locking
 pub mod TakenBodies
+pub mod Carrying
 pub mod LockFrame
+pub mod GoingHome
 pub mod frames
+pub mod pages
 pub mod KeptTurns
 pub mod steps

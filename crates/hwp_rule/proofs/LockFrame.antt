@@ -1,15 +1,12 @@
 -- A frame's lock taken keeps the frame rule.
-use Rattle.std.proofs.Common.{◌≡◌, ◌≢◌, ℕ, ◌+◌, ◌%◌, ◌<◌, ◌≤◌, ◌==◌, Bool, true, false, not, cond, List, [], ◌∷◌, ◌++◌, Option, Some, None, map, set, take, length, slice_get, slice_index, slice_set, bit_or, length-append, inl, inr, refl, sym, ap, ◌∙◌, subst, arith}
+use Rattle.std.proofs.Common.{◌≡◌, ◌≢◌, ℕ, ◌+◌, ◌%◌, ◌<◌, ◌≤◌, ◌==◌, Bool, true, false, not, cond, List, [], ◌∷◌, ◌++◌, Option, Some, None, map, set, length, slice_get, slice_index, slice_set, bit_or, length-append, inl, inr, refl, sym, ap, ◌∙◌, subst, arith}
 use Rattle.std.proofs.lemmas.Bool.{eqb-true, eqb-false, ne_eqb}
 use Rattle.std.proofs.lemmas.List.Sums.{sum_by_push}
-use Rattle.std.proofs.lemmas.Option.{none-some, same_Some, slice_get_within, slice_get-get_or}
-use Rattle.std.proofs.Math.Seq.{take-length}
+use Rattle.std.proofs.lemmas.Option.{same_Some, slice_get_within}
 use Rattle.std.specs.Int.{from_bool}
 use Rattle.std.specs.List.{sum_by}
 use Rattle.hwp_geom.specs.declared.Frame.{Frame}
 use Rattle.hwp_geom.specs.declared.Layout.{Layout}
-use Rattle.hwp_geom.specs.declared.Page.{Page}
-use Rattle.hwp_geom.specs.declared.Proc.{Proc}
 use Rattle.hwp_geom.specs.declared.Who.{Who}
 use Rattle.hwp_words.specs.Frames.{lock_of, count_of, owner_of, is_locked}
 use Rattle.hwp_words.proofs.FrameSteps.{fields-lock}
@@ -22,14 +19,13 @@ use Rattle.hwp_rule.specs.declared.view.PageLock.{PageLock}
 use Rattle.hwp_rule.specs.declared.view.Ref.{Ref}
 use Rattle.hwp_rule.specs.declared.view.View.{View}
 use Rattle.hwp_rule.specs.Asks.{CanLockFrame}
-use Rattle.hwp_rule.specs.Lists.{Homes, EachBody, EachMember, sum_bodies}
-use Rattle.hwp_rule.specs.Logs.{state_of, fitting, fitting_word}
+use Rattle.hwp_rule.specs.Lists.{Homes, EachMember}
+use Rattle.hwp_rule.specs.Logs.{state_of, fitting}
 use Rattle.hwp_rule.specs.Moves.{IsIn}
 use Rattle.hwp_rule.specs.Rule.{FrameRule, holder_of}
 use Rattle.hwp_rule.specs.Views.{locks_on, page_locks_on, lock_found, taken, knowing, changed, is_page_lock_of, stamp_of}
 use Rattle.hwp_rule.specs.Words.{Words}
-use Rattle.hwp_rule.specs.parts.Bodies.{Holder, IsAtHome, IsHolding, content_name}
-use Rattle.hwp_rule.specs.parts.Endings.{AreEnded}
+use Rattle.hwp_rule.specs.parts.Bodies.{Holder, IsAtHome, IsHolding, IsLockFor, content_name}
 use Rattle.hwp_rule.specs.parts.Fits.{Fits, KnowsWords, KnowsOwn}
 use Rattle.hwp_rule.specs.parts.Holdings.{IsPast}
 use Rattle.hwp_rule.specs.parts.Locks.{IsLocked}
@@ -37,10 +33,10 @@ use Rattle.hwp_rule.specs.parts.Owners.{HoldsBoth}
 use Rattle.hwp_rule.proofs.Lists.{at_map, map-was, same-number, set_again, set_here, term-le, each-push, each-weaken, each-changed, some-push, some-last, sum-changed, length-changed}
 use Rattle.hwp_rule.proofs.FrameWord.{IsLike, like-fields, like-locked}
 use Rattle.hwp_rule.proofs.Given.{Keeps, IsShaped}
-use Rattle.hwp_rule.proofs.Locking.{all_bodies, keeps-locking}
-use Rattle.hwp_rule.proofs.frames.PageLocks.{or-odd, same-page, fitting-at, first-lock}
+use Rattle.hwp_rule.proofs.Carrying.{carry-none, carry-out}
+use Rattle.hwp_rule.proofs.Locking.{keeps-locking}
+use Rattle.hwp_rule.proofs.frames.PageLocks.{or-odd, not-is, first-lock, knows-knowing}
 use Rattle.hwp_rule.proofs.Referring.{word-there}
-use Rattle.hwp_rule.proofs.TakenBodies.{sum-empty, each-empty, sum-taken, each-taken, only-at-home}
 
 -- a free lock that is taken, of the frame that the view has a reference to
 module _ (layout : Layout) (w : Words) (homes : Homes) (views : List View) (seat : ℕ) (v : View) (who : Who) (frame : Frame) (found : ℕ)
@@ -95,32 +91,23 @@ module _ (layout : Layout) (w : Words) (homes : Homes) (views : List View) (seat
   holder pages bodies = record { locks = locks; pages = pages; bodies = bodies }
 
   -- what a view holds it still holds
-  holding-more : (q : ℕ) (pages : List PageLock) (bodies : List Held) → page_locks_on q pages ≡ page_locks_on q v.pages → IsHolding q (holder_of v) → IsHolding q (holder pages bodies)
-  holding-more q pages bodies same holds = elim holds [
+  holding-more : (b : Held) (pages : List PageLock) (bodies : List Held) → page_locks_on b.log.page.0 pages ≡ page_locks_on b.log.page.0 v.pages → IsHolding b (holder_of v) → IsHolding b (holder pages bodies)
+  holding-more b pages bodies same holds = elim holds [
     | inl page ↦ inl (subst (λ (n : ℕ). 0 < n) (sym same) page)
-    | inr some ↦ inr (some-push (λ (l : FrameLock). l.owner ≡ q + 1) v.locks lock some)
+    | inr some ↦ inr (some-push (IsLockFor b) v.locks lock some)
   ]
-
-  my_bodies : slice_get (all_bodies views) seat ≡ Some v.bodies
-  my_bodies = at_map (λ (v : View). v.bodies) views seat v me
-
-  abbrev my_fits : List (List PageLock × List Held)
-  my_fits = map (λ (v : View). (v.pages, v.bodies)) views
 
   my_fit : slice_get {X = List PageLock × List Held} (map (λ (v : View). (v.pages, v.bodies)) views) seat ≡ Some (v.pages, v.bodies)
   my_fit = at_map (λ (v : View). (v.pages, v.bodies)) views seat v me
 
-  old-in_hand : EachMember (λ (b : Held). IsHolding b.log.page.0 (holder_of v)) v.bodies
+  old-in_hand : EachMember (λ (b : Held). IsHolding b (holder_of v)) v.bodies
   old-in_hand = h.bodies.in_hand seat (holder_of v) (at_map holder_of views seat v me)
 
   pub keeps-lock-empty : IsIn homes frame.0 None → FrameRule layout (record w { frames = set w.frames frame.0 now }) (set homes frame.0 None) (set views seat (record v { locks = locks }))
   keeps-lock-empty empty = keeps-locking layout w homes views seat v frame.0 found now None locks v.pages v.bodies v.lengths me h there can.referenced (record {
     like = like;
     count = (fields-lock found).count;
-    sums = λ g. subst (λ (l : List (List Held)). sum_bodies g (set homes frame.0 None) l ≡ sum_bodies g homes (all_bodies views)) (sym same)
-        (sum-empty g homes (all_bodies views) frame.0 (Some None) None empty refl);
-    eachs = λ P each. subst (λ (l : List (List Held)). EachBody P (set homes frame.0 None) l) (sym same) (each-empty P homes (all_bodies views) frame.0 None (λ log e. none-some (Some log) e) each);
-    home = λ log e. absurd (none-some (Some log) e);
+    carries = carry-none layout w homes views seat v me h frame.0 (Some None) None v.pages empty refl refl (h.fits.in_hand seat (v.pages, v.bodies) my_fit) (h.fits.known seat (v.pages, v.bodies) my_fit) (h.fits.own seat (v.pages, v.bodies) my_fit);
     here = here;
     others = others;
     known = known;
@@ -130,19 +117,8 @@ module _ (layout : Layout) (w : Words) (homes : Homes) (views : List View) (seat
     cached = λ g x q at owner both. inr (both-more g q both);
     free_home = λ none. absurd (locked-now none);
     out = λ locked. set_here homes frame.0 None (Some None) empty;
-    in_hand = each-weaken (λ (b : Held). IsHolding b.log.page.0 (holder_of v)) (λ (b : Held). IsHolding b.log.page.0 (holder v.pages v.bodies)) v.bodies (λ b holds. holding-more b.log.page.0 v.pages v.bodies refl holds) old-in_hand;
-    reached = h.entries.lengths_reached seat v.lengths (at_map (λ (v : View). v.lengths) views seat v me);
-    before = h.endings.ended_before seat v.bodies my_bodies;
-    taken = h.endings.taken seat v.bodies my_bodies;
-    killed = h.stops.killed seat v.bodies my_bodies;
-    fits = h.fits.in_hand seat (v.pages, v.bodies) my_fit;
-    knows = h.fits.known seat (v.pages, v.bodies) my_fit;
-    own = h.fits.own seat (v.pages, v.bodies) my_fit;
-    past = (h.commands.own seat v me).lengths;
+    in_hand = each-weaken (λ (b : Held). IsHolding b (holder_of v)) (λ (b : Held). IsHolding b (holder v.pages v.bodies)) v.bodies (λ b holds. holding-more b v.pages v.bodies refl holds) old-in_hand;
   }) less
-    where
-      same : set (all_bodies views) seat v.bodies ≡ all_bodies views
-      same = set_again (all_bodies views) seat v.bodies my_bodies
 
   -- ---- with the owner's body
   module _ (log : Log) (inside : IsIn homes frame.0 (Some log)) where
@@ -182,43 +158,11 @@ module _ (layout : Layout) (w : Words) (homes : Homes) (views : List View) (seat
     page_locks : (q : ℕ) → page_locks_on q pages ≡ page_locks_on q v.pages
     page_locks q = sum-changed (λ (l : PageLock). from_bool (l.page.0 == q)) (is_page_lock_of log.page) (knowing layout log (Some frame)) v.pages (λ l. refl)
 
-    map-map : (views : List View) → map (λ (o : Holder). o.bodies) (map holder_of views) ≡ all_bodies views
-    map-map [] = refl
-    map-map (v ∷ vs) = ap (λ (l : List (List Held)). v.bodies ∷ l) (map-map vs)
-
-    -- the page has no other body
-    alone : EachBody (λ (x : Log). from_bool (x.page.0 == log.page.0) ≡ 1 → x ≡ log) homes (all_bodies views)
-    alone = only-at-home (λ (x : Log). from_bool (x.page.0 == log.page.0)) homes (all_bodies views) frame.0 log inside
-        (subst (λ (l : List (List Held)). sum_bodies (λ (x : Log). from_bool (x.page.0 == log.page.0)) homes l ≡ 1) (map-map views) (h.bodies.one log.page.0 within))
-        (ap from_bool (same-number log.page.0 log.page.0 refl))
-
-    reached-now : EachBody (λ (x : Log). x.page ≡ log.page → length log.entries ≤ length x.entries) homes (all_bodies views)
-    reached-now = record {
-      at_home = λ i x e page. longer x (alone.at_home i x e) page;
-      in_hand = λ i list at j b e page. longer b.log (alone.in_hand i list at j b e) page;
-    }
-      where
-        longer : (x : Log) → (from_bool (x.page.0 == log.page.0) ≡ 1 → x ≡ log) → x.page ≡ log.page → length log.entries ≤ length x.entries
-        longer x only page =
-            let same : x ≡ log = only (ap from_bool (same-number x.page.0 log.page.0 (ap (λ (p : Page). p.0) page))) in
-            subst (λ (y : Log). length log.entries ≤ length y.entries) (sym same) (omega arith)
-
     fits-home : Fits layout w.trans w.caches log
     fits-home = h.fits.at_home frame.0 log inside
 
     knows-new : (l : PageLock) → is_page_lock_of log.page l ≡ true → KnowsWords layout w.trans w.caches l → KnowsWords layout w.trans w.caches (knowing layout log (Some frame) l)
-    knows-new l is knows = record {
-      resident = knows.resident;
-      cache = λ c e. subst (λ (k : ℕ). slice_get w.caches l.page.0 ≡ Some k) (same_Some (frame.0 + 1) c e) (ap (slice_get w.caches) number ∙ cached);
-      words = λ ws e n t decl page.
-          let own : t.page ≡ log.page = page ∙ same-page l.page log.page number in
-          let fit : slice_get (fitting layout log.page (state_of layout log) (frame.0 + 1)) n ≡ Some (fitting_word (state_of layout log) (frame.0 + 1) n) =
-          fitting-at log.page (state_of layout log) (frame.0 + 1) 0 layout.trans n t decl own ∙ ap (λ (k : ℕ). Some (fitting_word (state_of layout log) (frame.0 + 1) k)) (omega arith) in
-          let inside_it : n < length w.trans = subst (λ (k : ℕ). n < k) (sym shaped.trans) (slice_get_within layout.trans n t decl) in
-          let stands : slice_get w.trans n ≡ Some (slice_index w.trans n) = slice_get-get_or w.trans n 0 inside_it in
-          let used : slice_index w.trans n ≡ fitting_word (state_of layout log) (frame.0 + 1) n = (fits-home (frame.0 + 1) cached).used n (slice_index w.trans n) t decl own stands in
-          ap (λ (list : List ℕ). slice_get list n) (sym (same_Some (fitting layout log.page (state_of layout log) (frame.0 + 1)) ws e)) ∙ fit ∙ ap (λ (k : ℕ). Some k) (sym used) ∙ sym stands;
-    }
+    knows-new l is knows = knows-knowing layout w.trans w.caches log (Some frame) l shaped.trans number cached fits-home (knows.resident (frame.0 + 1) (ap (slice_get w.caches) number ∙ cached))
       where
         number : l.page.0 ≡ log.page.0
         number = eqb-true l.page.0 log.page.0 is
@@ -253,9 +197,13 @@ module _ (layout : Layout) (w : Words) (homes : Homes) (views : List View) (seat
     keeps-lock-body = keeps-locking layout w homes views seat v frame.0 found now None locks pages bodies (v.lengths ++ seen ∷ []) me h there can.referenced (record {
       like = like;
       count = (fields-lock found).count;
-      sums = sum-taken homes (all_bodies views) frame.0 seat log v.bodies body inside my_bodies refl;
-      eachs = each-taken homes (all_bodies views) frame.0 seat log v.bodies body inside my_bodies refl;
-      home = λ x e. absurd (none-some (Some x) e);
+      carries = carry-out layout w homes views seat v me h log frame.0 inside within (Some frame) (stamp_of who (record v { locks = locks })) past pages
+          (each-weaken (λ (b : Held). page_locks_on b.log.page.0 v.pages ≡ 0 → Fits layout w.trans w.caches b.log) (λ (b : Held). page_locks_on b.log.page.0 pages ≡ 0 → Fits layout w.trans w.caches b.log) v.bodies
+          (λ b fits none. fits (sym (page_locks b.log.page.0) ∙ none)) (h.fits.in_hand seat (v.pages, v.bodies) my_fit))
+          (each-changed (KnowsWords layout w.trans w.caches) (is_page_lock_of log.page) (knowing layout log (Some frame)) v.pages knows-new (h.fits.known seat (v.pages, v.bodies) my_fit))
+          (each-weaken (λ (b : Held). 0 < page_locks_on b.log.page.0 v.pages → KnowsOwn v.pages b) (λ (b : Held). 0 < page_locks_on b.log.page.0 pages → KnowsOwn pages b) v.bodies
+          (λ b own some. own-changed b (own (subst (λ (n : ℕ). 0 < n) (page_locks b.log.page.0) some))) (h.fits.own seat (v.pages, v.bodies) my_fit))
+          own-new;
       here = here;
       others = others;
       known = known;
@@ -265,24 +213,10 @@ module _ (layout : Layout) (w : Words) (homes : Homes) (views : List View) (seat
       cached = λ g x q at is both. inr (both-more g q both);
       free_home = λ none. absurd (locked-now none);
       out = λ locked. set_here homes frame.0 None (Some (Some log)) inside;
-      in_hand = each-push (λ (b : Held). IsHolding b.log.page.0 (holder pages bodies)) v.bodies body
-          (inr (some-last (λ (l : FrameLock). l.owner ≡ log.page.0 + 1) v.locks lock owner))
-          (each-weaken (λ (b : Held). IsHolding b.log.page.0 (holder_of v)) (λ (b : Held). IsHolding b.log.page.0 (holder pages bodies)) v.bodies
-          (λ b holds. holding-more b.log.page.0 pages bodies (page_locks b.log.page.0) holds) old-in_hand);
-      reached = each-push (λ (l : Length). EachBody (λ (x : Log). x.page ≡ l.page → l.entries ≤ length x.entries) homes (all_bodies views)) v.lengths seen reached-now
-          (h.entries.lengths_reached seat v.lengths (at_map (λ (v : View). v.lengths) views seat v me));
-      before = each-push (λ (b : Held). AreEnded layout w.processes (take b.since b.log.entries)) v.bodies body
-          (subst (AreEnded layout w.processes) (sym (take-length log.entries)) (h.endings.ended frame.0 log inside)) (h.endings.ended_before seat v.bodies my_bodies);
-      taken = each-push (λ (b : Held). b.since ≤ length b.log.entries) v.bodies body (omega arith) (h.endings.taken seat v.bodies my_bodies);
-      killed = each-push (λ (b : Held). EachMember (λ (p : Proc). (x : ℕ) → slice_get w.processes p.0 ≡ Some x → x ≢ 0) b.killed) v.bodies body (λ i p e. absurd (none-some p e)) (h.stops.killed seat v.bodies my_bodies);
-      fits = each-push (λ (b : Held). page_locks_on b.log.page.0 pages ≡ 0 → Fits layout w.trans w.caches b.log) v.bodies body (λ none. fits-home)
-          (each-weaken (λ (b : Held). page_locks_on b.log.page.0 v.pages ≡ 0 → Fits layout w.trans w.caches b.log) (λ (b : Held). page_locks_on b.log.page.0 pages ≡ 0 → Fits layout w.trans w.caches b.log) v.bodies
-          (λ b fits none. fits (sym (page_locks b.log.page.0) ∙ none)) (h.fits.in_hand seat (v.pages, v.bodies) my_fit));
-      knows = each-changed (KnowsWords layout w.trans w.caches) (is_page_lock_of log.page) (knowing layout log (Some frame)) v.pages knows-new (h.fits.known seat (v.pages, v.bodies) my_fit);
-      own = each-push (λ (b : Held). 0 < page_locks_on b.log.page.0 pages → KnowsOwn pages b) v.bodies body own-new
-          (each-weaken (λ (b : Held). 0 < page_locks_on b.log.page.0 v.pages → KnowsOwn v.pages b) (λ (b : Held). 0 < page_locks_on b.log.page.0 pages → KnowsOwn pages b) v.bodies
-          (λ b own some. own-changed b (own (subst (λ (n : ℕ). 0 < n) (page_locks b.log.page.0) some))) (h.fits.own seat (v.pages, v.bodies) my_fit));
-      past = each-push (λ (l : Length). IsPast v.parts l.stamp.who) v.lengths seen past (h.commands.own seat v me).lengths;
+      in_hand = each-push (λ (b : Held). IsHolding b (holder pages bodies)) v.bodies body
+          (inr (some-last (IsLockFor body) v.locks lock (owner, refl)))
+          (each-weaken (λ (b : Held). IsHolding b (holder_of v)) (λ (b : Held). IsHolding b (holder pages bodies)) v.bodies
+          (λ b holds. holding-more b pages bodies (page_locks b.log.page.0) holds) old-in_hand);
     }) less
 
 pub keeps-lock_frame : (frame : Frame) → Keeps (steps.LockFrame frame)
@@ -306,15 +240,8 @@ keeps-lock_frame frame layout w homes views seat v who content given = which (no
     free-at e (Some log) inside = keeps-lock-body layout w homes views seat v who frame (slice_index w.frames frame.0) given.shaped given.me given.past given.place given.asks there
         (let unset : lock_of (slice_index w.frames frame.0) ≢ 1 = eqb-false (lock_of (slice_index w.frames frame.0)) 1 e in omega arith) given.rule log inside
 
-    locked-is : (b : Bool) → not (is_locked (slice_index w.frames frame.0)) ≡ b → is_locked (slice_index w.frames frame.0) ≡ not b
-    locked-is b e = by (is_locked (slice_index w.frames frame.0)) e
-      where
-        by : (c : Bool) → not c ≡ b → c ≡ not b
-        by true e = ap not e
-        by false e = ap not e
-
     which : (b : Bool) → not (is_locked (slice_index w.frames frame.0)) ≡ b
         → FrameRule layout (record w { frames = slice_set w.frames frame.0 (bit_or (slice_index w.frames frame.0) 1) }) (cond b (slice_set homes frame.0 None) homes)
         (set views seat (cond b (taken layout who (Some frame) content (record v { locks = v.locks ++ lock_found frame (slice_index w.frames frame.0) ∷ [] })) v))
-    which false e = busy (let set_it : lock_of (slice_index w.frames frame.0) ≡ 1 = eqb-true (lock_of (slice_index w.frames frame.0)) 1 (locked-is false e) in omega arith)
-    which true e = free-at (locked-is true e) content (given.meets e)
+    which false e = busy (let set_it : lock_of (slice_index w.frames frame.0) ≡ 1 = eqb-true (lock_of (slice_index w.frames frame.0)) 1 (not-is (is_locked (slice_index w.frames frame.0)) false e) in omega arith)
+    which true e = free-at (not-is (is_locked (slice_index w.frames frame.0)) true e) content (given.meets e)

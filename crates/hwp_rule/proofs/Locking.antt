@@ -1,12 +1,8 @@
 -- A step on a frame's lock keeps the frame rule: what is to be known of the locks, of the slot and of the bodies in hand.
-use Rattle.std.proofs.Common.{◌≡◌, ◌≢◌, ℕ, ◌+◌, ◌<◌, ◌≤◌, ◌==◌, ◌⊎◌, min, Bool, true, false, cond, List, [], ◌∷◌, Option, Some, None, map, set, take, length, slice_get, inl, inr, refl, sym, ap, ◌∙◌, subst, arith}
-use Rattle.std.proofs.lemmas.List.{map-set}
+use Rattle.std.proofs.Common.{◌≡◌, ◌≢◌, ℕ, ◌+◌, ◌<◌, ◌≤◌, ◌==◌, ◌⊎◌, min, Bool, true, false, cond, List, Option, Some, None, map, set, length, slice_get, inl, inr, refl, sym, ap, ◌∙◌, subst, arith}
 use Rattle.std.proofs.lemmas.Option.{same_Some}
-use Rattle.std.specs.Int.{from_bool}
-use Rattle.std.specs.List.{sum_by, list_any}
+use Rattle.std.specs.List.{sum_by}
 use Rattle.hwp_geom.specs.declared.Layout.{Layout}
-use Rattle.hwp_geom.specs.declared.Proc.{Proc}
-use Rattle.hwp_page.specs.declared.Entry.{Entry}
 use Rattle.hwp_words.specs.Frames.{lock_of, count_of, owner_of, handled_of, is_kernel}
 use Rattle.hwp_rule.specs.declared.log.Log.{Log}
 use Rattle.hwp_rule.specs.declared.view.FrameLock.{FrameLock}
@@ -14,39 +10,27 @@ use Rattle.hwp_rule.specs.declared.view.Held.{Held}
 use Rattle.hwp_rule.specs.declared.view.Length.{Length}
 use Rattle.hwp_rule.specs.declared.view.PageLock.{PageLock}
 use Rattle.hwp_rule.specs.declared.view.View.{View}
-use Rattle.hwp_rule.specs.Lists.{Homes, EachBody, EachMember, SomeMember, IsNotLater, sum_bodies}
-use Rattle.hwp_rule.specs.Logs.{has_ending, is_ending, losses_of}
-use Rattle.hwp_rule.specs.Rule.{FrameRule, holder_of, losing_of}
+use Rattle.hwp_rule.specs.Lists.{Homes, EachMember}
+use Rattle.hwp_rule.specs.Rule.{FrameRule, holder_of}
 use Rattle.hwp_rule.specs.Views.{refs_on, locks_on, page_locks_on}
 use Rattle.hwp_rule.specs.Words.{Words, free_bit}
 use Rattle.hwp_rule.specs.parts.Bodies.{BodiesAtHome, Holder, IsAtHome, IsHolding}
 use Rattle.hwp_rule.specs.parts.Counts.{CountsBalance, named}
-use Rattle.hwp_rule.specs.parts.Endings.{EndingsAgree, AreEnded}
-use Rattle.hwp_rule.specs.parts.Entries.{EntriesListed, weigh}
-use Rattle.hwp_rule.specs.parts.Fits.{PageFits, Fits, KnowsWords, KnowsOwn}
-use Rattle.hwp_rule.specs.parts.Holdings.{AreOwn, IsPast}
 use Rattle.hwp_rule.specs.parts.Locks.{FrameLocksHeld, PageLocksHeld, IsLocked}
-use Rattle.hwp_rule.specs.parts.Losses.{LossesBalance}
 use Rattle.hwp_rule.specs.parts.Owners.{CacheWordsOwned, HoldsBoth}
 use Rattle.hwp_rule.specs.parts.Places.{HasOnePlace, in_hand}
-use Rattle.hwp_rule.specs.parts.Stops.{EndingsAndStopsStay}
-use Rattle.hwp_rule.specs.parts.Unpoisoned.{NothingPoisonedYet, is_failure}
-use Rattle.hwp_rule.proofs.Lists.{change, keep, at_map, at_set, set_here, set_else, same-or, set_again, sum-set, term-le, each-set, each-weaken}
+use Rattle.hwp_rule.proofs.Lists.{change, at_map, at_set, set_here, set_else, same-or, set_again, sum-set, term-le, each-set}
 use Rattle.hwp_rule.proofs.FrameWord.{IsLike, word-was, like-translations, like-caches, like-handled, like-counter, like-marks, like-unpoisoned, placed-again, counted-again, locked-again}
+use Rattle.hwp_rule.proofs.Carrying
+use Rattle.hwp_rule.proofs.Carrying.{Carries}
 use Rattle.hwp_rule.proofs.Kept
-
-abbrev pub all_bodies : List View → List (List Held)
-all_bodies views = map (λ (v : View). v.bodies) views
 
 -- The word of frame f becomes `now`, its slot y; of a view v with references to the frame the locks, the page locks, the
 -- bodies in hand and the lengths become these. Of y, and of each new member, what the parts ask of it.
 pub record Locking (layout : Layout) (w : Words) (homes : Homes) (views : List View) (seat : ℕ) (v : View) (f word now : ℕ) (y : Option (Option Log)) (locks : List FrameLock) (pages : List PageLock) (bodies : List Held) (lengths : List Length) : Type 1 where
   pub like : IsLike word now
   pub count : count_of now ≡ count_of word
-  -- the bodies are the same, wherever they are
-  pub sums : (g : Log → ℕ) → sum_bodies g (set homes f y) (set (all_bodies views) seat bodies) ≡ sum_bodies g homes (all_bodies views)
-  pub eachs : (P : Log → Type 0) → EachBody P homes (all_bodies views) → EachBody P (set homes f y) (set (all_bodies views) seat bodies)
-  pub home : (log : Log) → y ≡ Some (Some log) → AreEnded layout w.processes log.entries × Fits layout w.trans w.caches log
+  pub carries : Carries layout w homes views seat v f y pages bodies lengths
   -- the locks
   pub here : lock_of now + locks_on f v.locks ≡ lock_of word + locks_on f locks
   pub others : (g : ℕ) → g ≢ f → locks_on g locks ≡ locks_on g v.locks
@@ -58,16 +42,7 @@ pub record Locking (layout : Layout) (w : Words) (homes : Homes) (views : List V
   -- the slot
   pub free_home : lock_of now ≡ 0 → IsAtHome (set homes f y) f (owner_of now)
   pub out : lock_of now ≡ 1 → slice_get (set homes f y) f ≡ Some None
-  -- the bodies in hand
-  pub in_hand : EachMember (λ (b : Held). IsHolding b.log.page.0 (record { locks = locks; pages = pages; bodies = bodies })) bodies
-  pub reached : EachMember (λ (l : Length). EachBody (λ (log : Log). log.page ≡ l.page → l.entries ≤ length log.entries) homes (all_bodies views)) lengths
-  pub before : EachMember (λ (b : Held). AreEnded layout w.processes (take b.since b.log.entries)) bodies
-  pub taken : EachMember (λ (b : Held). b.since ≤ length b.log.entries) bodies
-  pub killed : EachMember (λ (b : Held). EachMember (λ (p : Proc). (x : ℕ) → slice_get w.processes p.0 ≡ Some x → x ≢ 0) b.killed) bodies
-  pub fits : EachMember (λ (b : Held). page_locks_on b.log.page.0 pages ≡ 0 → Fits layout w.trans w.caches b.log) bodies
-  pub knows : EachMember (KnowsWords layout w.trans w.caches) pages
-  pub own : EachMember (λ (b : Held). 0 < page_locks_on b.log.page.0 pages → KnowsOwn pages b) bodies
-  pub past : EachMember (λ (l : Length). IsPast v.parts l.stamp.who) lengths
+  pub in_hand : EachMember (λ (b : Held). IsHolding b (record { locks = locks; pages = pages; bodies = bodies })) bodies
 
 module _ (layout : Layout) (w : Words) (homes : Homes) (views : List View) (seat : ℕ) (v : View) (f word now : ℕ) (y : Option (Option Log)) (locks : List FrameLock) (pages : List PageLock) (bodies : List Held) (lengths : List Length) where
   abbrev u : View
@@ -161,88 +136,9 @@ module _ (layout : Layout) (w : Words) (homes : Homes) (views : List View) (seat
           let was : IsAtHome homes (layout.frames + q) (cond (c == 0) (q + 1) 0) = h.bodies.shelf_home q p c at cache free in
           record { content = was.content; there = set_else homes f (layout.frames + q) y (λ e. absurd (omega (arith, less, e))) ∙ was.there; named = was.named };
       shelf_out = λ q p at locked. set_else homes f (layout.frames + q) y (λ e. absurd (omega (arith, less, e))) ∙ h.bodies.shelf_out q p at locked;
-      one = λ q within.
-          let lists : map (λ (o : Holder). o.bodies) (set (map holder_of views) seat (holder_of u)) ≡ set (all_bodies views) seat bodies =
-          map-set (λ (o : Holder). o.bodies) (map holder_of views) seat (holder_of u) ∙ ap (λ (l : List (List Held)). set l seat bodies) (map-map views) in
-          let was : sum_bodies (λ (log : Log). from_bool (log.page.0 == q)) homes (all_bodies views) ≡ 1 =
-          subst (λ (l : List (List Held)). sum_bodies (λ (log : Log). from_bool (log.page.0 == q)) homes l ≡ 1) (map-map views) (h.bodies.one q within) in
-          subst (λ (l : List (List Held)). sum_bodies (λ (log : Log). from_bool (log.page.0 == q)) (set homes f y) l ≡ 1) (sym lists) (x.sums (λ (log : Log). from_bool (log.page.0 == q)) ∙ was);
-      in_hand = each-set (λ (o : Holder). EachMember (λ (b : Held). IsHolding b.log.page.0 o) o.bodies) (map holder_of views) seat (holder_of u) x.in_hand h.bodies.in_hand;
+      one = Carrying.one-carried layout w homes views seat v me h f y locks pages bodies lengths x.carries;
+      in_hand = each-set (λ (o : Holder). EachMember (λ (b : Held). IsHolding b o) o.bodies) (map holder_of views) seat (holder_of u) x.in_hand h.bodies.in_hand;
     }
-      where
-        map-map : (views : List View) → map (λ (o : Holder). o.bodies) (map holder_of views) ≡ all_bodies views
-        map-map [] = refl
-        map-map (v ∷ vs) = ap (λ (l : List (List Held)). v.bodies ∷ l) (map-map vs)
-
-    entries-locking : EntriesListed (set homes f y) (set (all_bodies views) seat bodies) (map (λ (v : View). (v.made, v.sights)) views) (set (map (λ (v : View). v.lengths) views) seat lengths)
-    entries-locking = record {
-      balance = λ g. x.sums (weigh g) ∙ h.entries.balance g;
-      shown = h.entries.shown;
-      lengths_reached = each-set (EachMember Reached) (map (λ (v : View). v.lengths) views) seat lengths (again lengths x.reached)
-          (each-weaken (EachMember Was) (EachMember Reached) (map (λ (v : View). v.lengths) views) (λ list each. again list each) h.entries.lengths_reached);
-    }
-      where
-        Was : Length → Type 0
-        Was l = EachBody (λ (log : Log). log.page ≡ l.page → l.entries ≤ length log.entries) homes (all_bodies views)
-
-        Reached : Length → Type 0
-        Reached l = EachBody (λ (log : Log). log.page ≡ l.page → l.entries ≤ length log.entries) (set homes f y) (set (all_bodies views) seat bodies)
-
-        again : (list : List Length) → EachMember Was list → EachMember Reached list
-        again list each i l e = x.eachs (λ (log : Log). log.page ≡ l.page → l.entries ≤ length log.entries) (each i l e)
-
-    endings-locking : EndingsAgree layout w.processes (set homes f y) (set (all_bodies views) seat bodies) (map (λ (v : View). v.sights) views)
-    endings-locking = record {
-      caused = λ process p at. x.eachs (λ (log : Log). p ≡ log.page.0 + 1 → has_ending layout process log.entries ≡ true) (h.endings.caused process p at);
-      ended = λ i log at. elim (at_set homes f i y (Some (Some log)) at) [
-        | inl t ↦ (x.home log t.1).0
-        | inr t ↦ h.endings.ended i log t.1
-      ];
-      ended_before = each-set (EachMember (λ (b : Held). AreEnded layout w.processes (take b.since b.log.entries))) (all_bodies views) seat bodies x.before h.endings.ended_before;
-      taken = each-set (EachMember (λ (b : Held). b.since ≤ length b.log.entries)) (all_bodies views) seat bodies x.taken h.endings.taken;
-      shown = λ i list at j s is process place.
-          x.eachs (λ (log : Log). s.word ≡ log.page.0 + 1 → SomeMember (λ (e : Entry). (is_ending layout process e.what ≡ true) × IsNotLater e.who s.stamp.who) log.entries)
-          (h.endings.shown i list at j s is process place);
-    }
-
-    losses-locking : LossesBalance layout w.losses (set homes f y) (set (all_bodies views) seat bodies) (map losing_of views)
-    losses-locking = record {
-      balance = λ file p at. h.losses.balance file p at ∙ sym (x.sums (losses_of layout file));
-      poisoned = h.losses.poisoned;
-    }
-
-    stops-locking : EndingsAndStopsStay w.processes w.stop (set (all_bodies views) seat bodies) (map (λ (v : View). v.sights) views) (map (λ (v : View). v.stops) views)
-    stops-locking = record {
-      killed = each-set (EachMember (λ (b : Held). EachMember (λ (p : Proc). (x : ℕ) → slice_get w.processes p.0 ≡ Some x → x ≢ 0) b.killed)) (all_bodies views) seat bodies x.killed h.stops.killed;
-      ended_stays = h.stops.ended_stays;
-      stop_stays = h.stops.stop_stays;
-      one = h.stops.one;
-      named = h.stops.named;
-    }
-
-    fits-locking : PageFits layout w.trans w.caches (set homes f y) (set (map (λ (v : View). (v.pages, v.bodies)) views) seat (pages, bodies))
-    fits-locking = record {
-      at_home = λ i log at. elim (at_set homes f i y (Some (Some log)) at) [
-        | inl t ↦ (x.home log t.1).1
-        | inr t ↦ h.fits.at_home i log t.1
-      ];
-      in_hand = each-set (λ (o : List PageLock × List Held). EachMember (λ (b : Held). page_locks_on b.log.page.0 o.0 ≡ 0 → Fits layout w.trans w.caches b.log) o.1) (map (λ (v : View). (v.pages, v.bodies)) views) seat (pages, bodies) x.fits h.fits.in_hand;
-      known = each-set (λ (o : List PageLock × List Held). EachMember (KnowsWords layout w.trans w.caches) o.0) (map (λ (v : View). (v.pages, v.bodies)) views) seat (pages, bodies) x.knows h.fits.known;
-      own = each-set (λ (o : List PageLock × List Held). EachMember (λ (b : Held). 0 < page_locks_on b.log.page.0 o.0 → KnowsOwn o.0 b) o.1) (map (λ (v : View). (v.pages, v.bodies)) views) seat (pages, bodies) x.own h.fits.own;
-    }
-
-    unpoisoned-locking : NothingPoisonedYet frames (map (λ (v : View). v.spoiled) views) (set homes f y) (set (all_bodies views) seat bodies)
-    unpoisoned-locking = record {
-      sound = (like-unpoisoned w.frames f word now there x.like (map (λ (v : View). v.spoiled) views) homes (all_bodies views) h.unpoisoned).sound;
-      unspoiled = h.unpoisoned.unspoiled;
-      no_failure = x.eachs (λ (log : Log). list_any (λ (e : Entry). is_failure e.what) log.entries ≡ false) h.unpoisoned.no_failure;
-    }
-
-    own-locking : AreOwn u
-    own-locking = record { made = own.made; marks = own.marks; sights = own.sights; lengths = x.past; settings = own.settings; stops = own.stops }
-      where
-        own : AreOwn v
-        own = h.commands.own seat v me
 
     pub keeps-locking : f < layout.frames → FrameRule layout (record w { frames = set w.frames f now }) (set homes f y) (set views seat u)
     keeps-locking less = record {
@@ -259,23 +155,17 @@ module _ (layout : Layout) (w : Words) (homes : Homes) (views : List View) (seat
       counter = Kept.kept-counter views seat v u me frames w.counter refl refl refl (like-counter w.frames f word now there x.like w.counter (map (λ (v : View). (v.owed, v.marks)) views) (map (λ (v : View). v.sights) views) h.counter);
       free = Kept.kept-free views seat v u me layout.frames w.frees w.available refl h.free;
       damage = Kept.kept-damage views seat v u me w.bads w.weaks refl refl h.damage;
-      entries = change (λ (v : View). v.lengths) (λ l. EntriesListed (set homes f y) (map (λ (v : View). v.bodies) (set views seat u)) (map (λ (v : View). (v.made, v.sights)) (set views seat u)) l) views seat u
-          (keep (λ (v : View). (v.made, v.sights)) (λ l. EntriesListed (set homes f y) (map (λ (v : View). v.bodies) (set views seat u)) l (set (map (λ (v : View). v.lengths) views) seat lengths)) views seat v u me refl
-          (change (λ (v : View). v.bodies) (λ l. EntriesListed (set homes f y) l (map (λ (v : View). (v.made, v.sights)) views) (set (map (λ (v : View). v.lengths) views) seat lengths)) views seat u entries-locking));
-      endings = keep (λ (v : View). v.sights) (λ l. EndingsAgree layout w.processes (set homes f y) (map (λ (v : View). v.bodies) (set views seat u)) l) views seat v u me refl
-          (change (λ (v : View). v.bodies) (λ l. EndingsAgree layout w.processes (set homes f y) l (map (λ (v : View). v.sights) views)) views seat u endings-locking);
+      entries = Carrying.entries-carried layout w homes views seat v me h f y locks pages bodies lengths x.carries;
+      endings = Carrying.endings-carried layout w homes views seat v me h f y locks pages bodies lengths x.carries;
       marks = Kept.kept-marks views seat v u me frames refl refl (like-marks w.frames f word now there x.like (map (λ (v : View). v.marks) views) (map (λ (v : View). v.sights) views) h.marks);
       holdings = Kept.kept-holdings views seat v u me layout refl h.holdings;
-      losses = keep losing_of (λ l. LossesBalance layout w.losses (set homes f y) (map (λ (v : View). v.bodies) (set views seat u)) l) views seat v u me refl
-          (change (λ (v : View). v.bodies) (λ l. LossesBalance layout w.losses (set homes f y) l (map losing_of views)) views seat u losses-locking);
+      losses = Carrying.losses-carried layout w homes views seat v me h f y locks pages bodies lengths x.carries;
       policies = Kept.kept-policies views seat v u me layout.threads w.policies refl refl refl h.policies;
       exhaustion = Kept.kept-exhaustion views seat v u me layout refl refl h.exhaustion;
-      stops = keep (λ (v : View). v.stops) (λ l. EndingsAndStopsStay w.processes w.stop (map (λ (v : View). v.bodies) (set views seat u)) (map (λ (v : View). v.sights) (set views seat u)) l) views seat v u me refl
-          (keep (λ (v : View). v.sights) (λ l. EndingsAndStopsStay w.processes w.stop (map (λ (v : View). v.bodies) (set views seat u)) l (map (λ (v : View). v.stops) views)) views seat v u me refl
-          (change (λ (v : View). v.bodies) (λ l. EndingsAndStopsStay w.processes w.stop l (map (λ (v : View). v.sights) views) (map (λ (v : View). v.stops) views)) views seat u stops-locking));
-      fits = change (λ (v : View). (v.pages, v.bodies)) (PageFits layout w.trans w.caches (set homes f y)) views seat u fits-locking;
+      stops = Carrying.stops-carried layout w homes views seat v me h f y locks pages bodies lengths x.carries;
+      fits = Carrying.fits-carried layout w homes views seat v me h f y locks pages bodies lengths x.carries;
       processors = Kept.kept-processors views seat v u me layout refl h.processors;
-      commands = Kept.kept-commands views seat v u me own-locking h.commands;
-      unpoisoned = change (λ (v : View). v.bodies) (λ l. NothingPoisonedYet frames (map (λ (v : View). v.spoiled) (set views seat u)) (set homes f y) l) views seat u
-          (keep (λ (v : View). v.spoiled) (λ l. NothingPoisonedYet frames l (set homes f y) (set (all_bodies views) seat bodies)) views seat v u me refl unpoisoned-locking);
+      commands = Carrying.commands-carried layout w homes views seat v me h f y locks pages bodies lengths x.carries;
+      unpoisoned = like-unpoisoned w.frames f word now there x.like (map (λ (v : View). v.spoiled) (set views seat u)) (set homes f y) (map (λ (v : View). v.bodies) (set views seat u))
+          (Carrying.unpoisoned-carried layout w homes views seat v me h f y locks pages bodies lengths x.carries);
     }

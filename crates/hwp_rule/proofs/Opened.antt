@@ -464,7 +464,7 @@ module _ (layout : Layout) (sound : IsSound layout) (w : Words) (o : AreOpening 
           (each-map (λ (h : Holder). h.bodies) (λ (l : List Held). sum_by (λ (b : Held). from_bool (b.log.page.0 == q)) l ≡ 0) (map holder_of (opening_views layout))
           (Opening.each-view holder_of (λ (h : Holder). sum_by (λ (b : Held). from_bool (b.log.page.0 == q)) h.bodies ≡ 0) layout.cpus (λ c less. refl))) in
           omega arith;
-      in_hand = Opening.each-view holder_of (λ (h : Holder). EachMember (λ (b : Held). IsHolding b.log.page.0 h) h.bodies) layout.cpus (λ c less. each-none (λ (b : Held). IsHolding b.log.page.0 (holder_of (opening_view c))));
+      in_hand = Opening.each-view holder_of (λ (h : Holder). EachMember (λ (b : Held). IsHolding b h) h.bodies) layout.cpus (λ c less. each-none (λ (b : Held). IsHolding b (holder_of (opening_view c))));
     };
     handled = record { out = λ f x there is. let none : handled_of x ≡ 0 = (frame f x there).2.handled in absurd (omega arith) };
     counter = counter-opened;

@@ -1,5 +1,5 @@
--- Bodies that go from a slot into the hand and back: sums over all bodies, and what each body is.
-use Rattle.std.proofs.Common.{◌≡◌, ℕ, ◌+◌, ◌≤◌, List, [], ◌∷◌, ◌++◌, Option, Some, None, set, slice_get, inl, inr, sym, ap, ◌∙◌, subst, arith}
+-- A body that goes from a slot into the hand: sums over all bodies, and what each body is.
+use Rattle.std.proofs.Common.{◌≡◌, ℕ, ◌+◌, ◌≤◌, List, [], ◌∷◌, ◌++◌, Some, None, set, slice_get, inl, inr, sym, ap, ◌∙◌, subst, arith}
 use Rattle.std.proofs.lemmas.List.Sums.{sum_by_push}
 use Rattle.std.proofs.lemmas.Option.{none-some, same_Some}
 use Rattle.std.specs.List.{sum_by}
@@ -7,27 +7,6 @@ use Rattle.hwp_rule.specs.declared.log.Log.{Log}
 use Rattle.hwp_rule.specs.declared.view.Held.{Held}
 use Rattle.hwp_rule.specs.Lists.{Homes, EachBody, EachMember, of_home, sum_bodies, sum_all}
 use Rattle.hwp_rule.proofs.Lists.{at_set, same-or, sum-set, term-le, terms-le, each-set, each-push}
-
--- ---- a slot without a body
-
--- the slot x becomes y, and neither has a body
-pub sum-empty : (g : Log → ℕ) (homes : Homes) (bodies : List (List Held)) (f : ℕ) (x y : Option (Option Log)) → slice_get homes f ≡ Some x → of_home g x ≡ of_home g y
-    → sum_bodies g (set homes f y) bodies ≡ sum_bodies g homes bodies
-sum-empty g homes bodies f x y there same =
-    let moved : sum_by (of_home g) (set homes f y) + of_home g x ≡ sum_by (of_home g) homes + of_home g y = sum-set (of_home g) homes f x y there in
-    omega arith
-
-pub each-empty : (P : Log → Type 0) (homes : Homes) (bodies : List (List Held)) (f : ℕ) (y : Option (Option Log)) → ((log : Log) → y ≡ Some (Some log) → ⊥)
-    → EachBody P homes bodies → EachBody P (set homes f y) bodies
-each-empty P homes bodies f y empty each = record {
-  at_home = λ i log e. elim (at_set homes f i y (Some (Some log)) e) [
-    | inl t ↦ absurd (empty log t.1)
-    | inr t ↦ each.at_home i log t.1
-  ];
-  in_hand = each.in_hand;
-}
-
--- ---- a body taken
 
 module _ (homes : Homes) (bodies : List (List Held)) (f seat : ℕ) (log : Log) (mine : List Held) (b : Held) (there : slice_get homes f ≡ Some (Some (Some log))) (me : slice_get bodies seat ≡ Some mine) (is : b.log ≡ log) where
   pub sum-taken : (g : Log → ℕ) → sum_bodies g (set homes f None) (set bodies seat (mine ++ b ∷ [])) ≡ sum_bodies g homes bodies

@@ -37,8 +37,9 @@ use Rattle.hwp_rule.specs.parts.Holdings.{AreOwn, IsPast}
 use Rattle.hwp_rule.specs.parts.Losses.{Losing, LossesBalance, IsPoisonLoss}
 use Rattle.hwp_rule.specs.parts.Stops.{EndingsAndStopsStay}
 use Rattle.hwp_rule.specs.parts.Unpoisoned.{NothingPoisonedYet, is_failure}
-use Rattle.hwp_rule.proofs.Lists.{change, keep, at_map, at_longer, sum-set, term-le, each-set, each-weaken, each-changed}
-use Rattle.hwp_rule.proofs.Locking.{all_bodies}
+use Rattle.hwp_rule.proofs.Lists.{change, keep, at_map, at_longer, sum-set, each-set, each-weaken, each-changed}
+use Rattle.hwp_rule.proofs.Carrying
+use Rattle.hwp_rule.proofs.Carrying.{all_bodies, held-bodies}
 use Rattle.hwp_rule.proofs.frames.Without.{sum-changed-one, each-changed-one}
 use Rattle.hwp_rule.proofs.frames.Listing.{each-append, seen-drop, weigh-append, made-weigh, made-each, losses-none, losses-in-none, failures-none, or-left, fits-same}
 use Rattle.hwp_rule.proofs.Kept
@@ -75,19 +76,9 @@ module _ (layout : Layout) (w : Words) (homes : Homes) (views : List View) (seat
   my_bodies : slice_get (all_bodies views) seat ≡ Some v.bodies
   my_bodies = at_map (λ (v : View). v.bodies) views seat v me
 
-  map-map : (views : List View) → map (λ (o : Holder). o.bodies) (map holder_of views) ≡ all_bodies views
-  map-map [] = refl
-  map-map (v ∷ vs) = ap (λ (l : List (List Held)). v.bodies ∷ l) (map-map vs)
-
   -- the page's body is in hand once
   once : sum_by (λ (b : Held). from_bool (is_body_of log.page b)) v.bodies ≡ 1
-  once =
-      let all : sum_bodies (λ (x : Log). from_bool (x.page.0 == log.page.0)) homes (all_bodies views) ≡ 1 =
-      subst (λ (l : List (List Held)). sum_bodies (λ (x : Log). from_bool (x.page.0 == log.page.0)) homes l ≡ 1) (map-map views) (h.bodies.one log.page.0 within) in
-      let mine : sum_by (λ (b : Held). from_bool (b.log.page.0 == log.page.0)) v.bodies ≤ sum_all (λ (b : Held). from_bool (b.log.page.0 == log.page.0)) (all_bodies views) =
-      term-le (sum_by (λ (b : Held). from_bool (b.log.page.0 == log.page.0))) (all_bodies views) seat v.bodies my_bodies in
-      let this : from_bool (body.log.page.0 == log.page.0) ≤ sum_by (λ (b : Held). from_bool (b.log.page.0 == log.page.0)) v.bodies = term-le (λ (b : Held). from_bool (b.log.page.0 == log.page.0)) v.bodies place body there in
-      omega (arith, ap from_bool test)
+  once = Carrying.once layout w homes views seat v me h log place body there test within
 
   sums : (g : Log → ℕ) → sum_bodies g homes (set (all_bodies views) seat bodies) + g body.log ≡ sum_bodies g homes (all_bodies views) + g log
   sums g =
@@ -119,18 +110,17 @@ module _ (layout : Layout) (w : Words) (homes : Homes) (views : List View) (seat
     shelf_out = h.bodies.shelf_out;
     one = λ q inside.
         let lists : map (λ (o : Holder). o.bodies) (set (map holder_of views) seat (holder_of u)) ≡ set (all_bodies views) seat bodies =
-        map-set (λ (o : Holder). o.bodies) (map holder_of views) seat (holder_of u) ∙ ap (λ (l : List (List Held)). set l seat bodies) (map-map views) in
-        let was : sum_bodies (λ (x : Log). from_bool (x.page.0 == q)) homes (all_bodies views) ≡ 1 =
-        subst (λ (l : List (List Held)). sum_bodies (λ (x : Log). from_bool (x.page.0 == q)) homes l ≡ 1) (map-map views) (h.bodies.one q inside) in
+        map-set (λ (o : Holder). o.bodies) (map holder_of views) seat (holder_of u) ∙ ap (λ (l : List (List Held)). set l seat bodies) (held-bodies views) in
+        let was : sum_bodies (λ (x : Log). from_bool (x.page.0 == q)) homes (all_bodies views) ≡ 1 = Carrying.one-body layout w homes views seat v me h q inside in
         let page : from_bool (log.page.0 == q) ≡ from_bool (body.log.page.0 == q) = ap (λ (p : Page). from_bool (p.0 == q)) extends.page_is in
         subst (λ (l : List (List Held)). sum_bodies (λ (x : Log). from_bool (x.page.0 == q)) homes l ≡ 1) (sym lists) (omega (arith, sums (λ (x : Log). from_bool (x.page.0 == q)), was, page));
-    in_hand = each-set (λ (o : Holder). EachMember (λ (b : Held). IsHolding b.log.page.0 o) o.bodies) (map holder_of views) seat (holder_of u)
-        (each-changed-one (is_body_of log.page) (λ (b : Held). IsHolding b.log.page.0 (holder_of u)) renewed v.bodies place body once there test
-        (subst (λ (p : Page). IsHolding p.0 (holder_of u)) (sym extends.page_is) (mine place body there)) mine)
+    in_hand = each-set (λ (o : Holder). EachMember (λ (b : Held). IsHolding b o) o.bodies) (map holder_of views) seat (holder_of u)
+        (each-changed-one (is_body_of log.page) (λ (b : Held). IsHolding b (holder_of u)) renewed v.bodies place body once there test
+        (subst (λ (p : Page). IsHolding (record body { log = record log { page = p } }) (holder_of u)) (sym extends.page_is) (mine place body there)) mine)
         h.bodies.in_hand;
   }
     where
-      mine : EachMember (λ (b : Held). IsHolding b.log.page.0 (holder_of u)) v.bodies
+      mine : EachMember (λ (b : Held). IsHolding b (holder_of u)) v.bodies
       mine i b at = elim (h.bodies.in_hand seat (holder_of v) (at_map holder_of views seat v me) i b at) [ inl page ↦ inl page | inr some ↦ inr some ]
 
   entries-listed : EntriesListed homes (set (all_bodies views) seat bodies) (set (map (λ (v : View). (v.made, v.sights)) views) seat (made, v.sights)) (map (λ (v : View). v.lengths) views)

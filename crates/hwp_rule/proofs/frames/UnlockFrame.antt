@@ -1,12 +1,11 @@
 -- A frame's lock freed keeps the frame rule.
-use Rattle.std.proofs.Common.{◌≡◌, ◌≢◌, ℕ, ◌+◌, ◌<◌, ◌≤◌, ◌==◌, Bool, true, false, cond, List, [], ◌∷◌, Some, None, map, set, take, length, slice_get, bit_and, inl, inr, refl, sym, ap, ◌∙◌, subst, arith}
+use Rattle.std.proofs.Common.{◌≡◌, ◌≢◌, ℕ, ◌+◌, ◌<◌, ◌≤◌, ◌==◌, Bool, true, false, cond, List, Some, None, map, set, length, slice_get, bit_and, inl, inr, refl, sym, ap, ◌∙◌, subst, arith}
 use Rattle.std.proofs.lemmas.Bool.{eqb-true, eqb-false, ne_eqb}
 use Rattle.std.proofs.lemmas.Option.{none-some, same_Some}
 use Rattle.std.specs.Int.{from_bool}
 use Rattle.std.specs.List.{sum_by}
 use Rattle.hwp_geom.specs.declared.Frame.{Frame}
 use Rattle.hwp_geom.specs.declared.Layout.{Layout}
-use Rattle.hwp_geom.specs.declared.Proc.{Proc}
 use Rattle.hwp_words.specs.Frames.{lock_of, count_of, owner_of}
 use Rattle.hwp_words.proofs.FrameSteps.{fields-unlock}
 use Rattle.hwp_rule.specs.declared.log.Log.{Log}
@@ -15,22 +14,22 @@ use Rattle.hwp_rule.specs.declared.view.Held.{Held}
 use Rattle.hwp_rule.specs.declared.view.PageLock.{PageLock}
 use Rattle.hwp_rule.specs.declared.view.Ref.{Ref}
 use Rattle.hwp_rule.specs.declared.view.View.{View}
-use Rattle.hwp_rule.specs.Lists.{Homes, EachBody, EachMember, SomeMember, of_home, sum_all, sum_bodies}
+use Rattle.hwp_rule.specs.Lists.{Homes, EachMember, SomeMember}
 use Rattle.hwp_rule.specs.Rule.{FrameRule, holder_of}
 use Rattle.hwp_rule.specs.Views.{refs_on, locks_on, page_locks_on, without, changed, is_lock_of, is_page_lock_of, is_body_of}
 use Rattle.hwp_rule.specs.Words.{Words}
-use Rattle.hwp_rule.specs.parts.Bodies.{Holder, IsHolding}
+use Rattle.hwp_rule.specs.parts.Bodies.{IsHolding, IsLockFor}
 use Rattle.hwp_rule.specs.parts.Endings.{AreEnded}
 use Rattle.hwp_rule.specs.parts.Fits.{Fits, KnowsWords, KnowsOwn}
 use Rattle.hwp_rule.specs.parts.Locks.{IsLocked}
 use Rattle.hwp_rule.specs.parts.Owners.{HoldsBoth}
-use Rattle.hwp_rule.proofs.Lists.{at_map, at_set, same-or, same-number, set_again, set_here, sum-set, term-le, each-set, each-weaken, each-changed, sum-changed, length-changed}
+use Rattle.hwp_rule.proofs.Lists.{at_map, same-or, same-number, set_here, term-le, each-weaken, each-changed, sum-changed, length-changed}
 use Rattle.hwp_rule.proofs.FrameWord.{IsLike, like-fields, like-locked}
 use Rattle.hwp_rule.proofs.Hands.{sum-without, length-without, each-without}
 use Rattle.hwp_rule.proofs.frames.PageLocks.{first-lock}
-use Rattle.hwp_rule.proofs.Locking.{all_bodies, keeps-locking}
-use Rattle.hwp_rule.proofs.TakenBodies.{sum-empty, each-empty}
-use Rattle.hwp_rule.proofs.frames.Without.{some-without, others-unfound, sum-without-one}
+use Rattle.hwp_rule.proofs.Carrying.{carry-none, carry-home, another}
+use Rattle.hwp_rule.proofs.Locking.{keeps-locking}
+use Rattle.hwp_rule.proofs.frames.Without.{some-without}
 
 -- a lock that the view lists is freed
 module _ (layout : Layout) (w : Words) (homes : Homes) (views : List View) (seat : ℕ) (v : View) (frame : Frame) (found place : ℕ) (lock : FrameLock)
@@ -107,23 +106,20 @@ module _ (layout : Layout) (w : Words) (homes : Homes) (views : List View) (seat
   both-still g q differs both = record { frame = subst (λ (n : ℕ). 0 < n) (sym (others g differs)) both.frame; page = both.page }
 
   -- the page of another body than the frame's is still held
-  holding-still : (q : ℕ) (pages : List PageLock) (bodies : List Held) → page_locks_on q pages ≡ page_locks_on q v.pages → lock.owner ≢ q + 1 → IsHolding q (holder_of v) → IsHolding q (record { locks = locks; pages = pages; bodies = bodies })
-  holding-still q pages bodies same other holds = elim holds [
+  holding-still : (b : Held) (pages : List PageLock) (bodies : List Held) → page_locks_on b.log.page.0 pages ≡ page_locks_on b.log.page.0 v.pages → lock.owner ≢ b.log.page.0 + 1 → IsHolding b (holder_of v) → IsHolding b (record { locks = locks; pages = pages; bodies = bodies })
+  holding-still b pages bodies same other holds = elim holds [
     | inl page ↦ inl (subst (λ (n : ℕ). 0 < n) (sym same) page)
     | inr some ↦
-        let mine : SomeMember (λ (l : FrameLock). (l.owner ≡ q + 1) × (is_lock_of frame l ≡ true → ⊥)) v.locks =
-        (some.0, some.1, some.2, (some.3, λ is. other (sym owner ∙ owner-of some.0 some.1 some.2 (eqb-true some.1.frame.0 frame.0 is) ∙ some.3))) in
-        let still : SomeMember (λ (l : FrameLock). (l.owner ≡ q + 1) × (is_lock_of frame l ≡ true → ⊥)) locks = some-without (is_lock_of frame) (λ (l : FrameLock). (l.owner ≡ q + 1) × (is_lock_of frame l ≡ true → ⊥)) v.locks (λ l both is. both.1 is) mine in
+        let mine : SomeMember (λ (l : FrameLock). IsLockFor b l × (is_lock_of frame l ≡ true → ⊥)) v.locks =
+        (some.0, some.1, some.2, (some.3, λ is. other (sym owner ∙ owner-of some.0 some.1 some.2 (eqb-true some.1.frame.0 frame.0 is) ∙ some.3.0))) in
+        let still : SomeMember (λ (l : FrameLock). IsLockFor b l × (is_lock_of frame l ≡ true → ⊥)) locks = some-without (is_lock_of frame) (λ (l : FrameLock). IsLockFor b l × (is_lock_of frame l ≡ true → ⊥)) v.locks (λ l both is. both.1 is) mine in
         inr (still.0, still.1, still.2, still.3.0)
   ]
-
-  my_bodies : slice_get (all_bodies views) seat ≡ Some v.bodies
-  my_bodies = at_map (λ (v : View). v.bodies) views seat v me
 
   my_fit : slice_get {X = List PageLock × List Held} (map (λ (v : View). (v.pages, v.bodies)) views) seat ≡ Some (v.pages, v.bodies)
   my_fit = at_map (λ (v : View). (v.pages, v.bodies)) views seat v me
 
-  old-in_hand : EachMember (λ (b : Held). IsHolding b.log.page.0 (holder_of v)) v.bodies
+  old-in_hand : EachMember (λ (b : Held). IsHolding b (holder_of v)) v.bodies
   old-in_hand = h.bodies.in_hand seat (holder_of v) (at_map holder_of views seat v me)
 
   -- what the page's lock lists of the owner's cache word
@@ -139,10 +135,7 @@ module _ (layout : Layout) (w : Words) (homes : Homes) (views : List View) (seat
   keeps-unlock-empty unowned = keeps-locking layout w homes views seat v frame.0 found now (Some None) locks v.pages v.bodies v.lengths me h there referenced (record {
     like = like;
     count = (fields-unlock found).count;
-    sums = λ g. subst (λ (l : List (List Held)). sum_bodies g (set homes frame.0 (Some None)) l ≡ sum_bodies g homes (all_bodies views)) (sym same)
-        (sum-empty g homes (all_bodies views) frame.0 None (Some None) out refl);
-    eachs = λ P each. subst (λ (l : List (List Held)). EachBody P (set homes frame.0 (Some None)) l) (sym same) (each-empty P homes (all_bodies views) frame.0 (Some None) no-body each);
-    home = λ log e. absurd (no-body log e);
+    carries = carry-none layout w homes views seat v me h frame.0 None (Some None) v.pages out refl refl (h.fits.in_hand seat (v.pages, v.bodies) my_fit) (h.fits.known seat (v.pages, v.bodies) my_fit) (h.fits.own seat (v.pages, v.bodies) my_fit);
     here = here;
     others = others;
     known = known;
@@ -157,23 +150,9 @@ module _ (layout : Layout) (w : Words) (homes : Homes) (views : List View) (seat
     ];
     free_home = λ free. record { content = None; there = set_here homes frame.0 (Some None) None out; named = sym (like.owner ∙ owner ∙ unowned) };
     out = λ set_still. absurd (unlocked-now set_still);
-    in_hand = each-weaken (λ (b : Held). IsHolding b.log.page.0 (holder_of v)) (λ (b : Held). IsHolding b.log.page.0 (record { locks = locks; pages = v.pages; bodies = v.bodies })) v.bodies
-        (λ b holds. holding-still b.log.page.0 v.pages v.bodies refl (λ e. absurd (omega (arith, e, unowned))) holds) old-in_hand;
-    reached = h.entries.lengths_reached seat v.lengths (at_map (λ (v : View). v.lengths) views seat v me);
-    before = h.endings.ended_before seat v.bodies my_bodies;
-    taken = h.endings.taken seat v.bodies my_bodies;
-    killed = h.stops.killed seat v.bodies my_bodies;
-    fits = h.fits.in_hand seat (v.pages, v.bodies) my_fit;
-    knows = h.fits.known seat (v.pages, v.bodies) my_fit;
-    own = h.fits.own seat (v.pages, v.bodies) my_fit;
-    past = (h.commands.own seat v me).lengths;
+    in_hand = each-weaken (λ (b : Held). IsHolding b (holder_of v)) (λ (b : Held). IsHolding b (record { locks = locks; pages = v.pages; bodies = v.bodies })) v.bodies
+        (λ b holds. holding-still b v.pages v.bodies refl (λ e. absurd (omega (arith, e, unowned))) holds) old-in_hand;
   }) less
-    where
-      same : set (all_bodies views) seat v.bodies ≡ all_bodies views
-      same = set_again (all_bodies views) seat v.bodies my_bodies
-
-      no-body : (log : Log) → Some None ≡ Some (Some log) → ⊥
-      no-body log e = none-some log (same_Some None (Some log) e)
 
   -- ---- the owner's body goes home
   module _ (log : Log) (place' : ℕ) (body : Held) (body_there : slice_get v.bodies place' ≡ Some body) (body_test : is_body_of log.page body ≡ true) (log_is : body.log ≡ log)
@@ -192,41 +171,8 @@ module _ (layout : Layout) (w : Words) (homes : Homes) (views : List View) (seat
     page_locks : (q : ℕ) → page_locks_on q pages ≡ page_locks_on q v.pages
     page_locks q = sum-changed (λ (l : PageLock). from_bool (l.page.0 == q)) (is_page_lock_of log.page) forgetting v.pages (λ l. refl)
 
-    map-map : (views : List View) → map (λ (o : Holder). o.bodies) (map holder_of views) ≡ all_bodies views
-    map-map [] = refl
-    map-map (v ∷ vs) = ap (λ (l : List (List Held)). v.bodies ∷ l) (map-map vs)
-
-    -- the page's body is in hand once
-    once : sum_by (λ (b : Held). from_bool (is_body_of log.page b)) v.bodies ≡ 1
-    once =
-        let all : sum_bodies (λ (x : Log). from_bool (x.page.0 == log.page.0)) homes (all_bodies views) ≡ 1 =
-        subst (λ (l : List (List Held)). sum_bodies (λ (x : Log). from_bool (x.page.0 == log.page.0)) homes l ≡ 1) (map-map views) (h.bodies.one log.page.0 within) in
-        let mine : sum_by (λ (b : Held). from_bool (b.log.page.0 == log.page.0)) v.bodies ≤ sum_all (λ (b : Held). from_bool (b.log.page.0 == log.page.0)) (all_bodies views) =
-        term-le (sum_by (λ (b : Held). from_bool (b.log.page.0 == log.page.0))) (all_bodies views) seat v.bodies my_bodies in
-        let this : from_bool (body.log.page.0 == log.page.0) ≤ sum_by (λ (b : Held). from_bool (b.log.page.0 == log.page.0)) v.bodies = term-le (λ (b : Held). from_bool (b.log.page.0 == log.page.0)) v.bodies place' body body_there in
-        omega (arith, ap from_bool body_test)
-
-    another : EachMember (λ (b : Held). is_body_of log.page b ≡ false) bodies
-    another = others-unfound (is_body_of log.page) v.bodies once
-
-    sums : (g : Log → ℕ) → sum_bodies g (set homes frame.0 (Some (Some log))) (set (all_bodies views) seat bodies) ≡ sum_bodies g homes (all_bodies views)
-    sums g =
-        let home : sum_by (of_home g) (set homes frame.0 (Some (Some log))) + 0 ≡ sum_by (of_home g) homes + g log = sum-set (of_home g) homes frame.0 None (Some (Some log)) out in
-        let hand : sum_all (λ (b : Held). g b.log) (set (all_bodies views) seat bodies) + sum_by (λ (b : Held). g b.log) v.bodies ≡ sum_all (λ (b : Held). g b.log) (all_bodies views) + sum_by (λ (b : Held). g b.log) bodies =
-        sum-set (sum_by (λ (b : Held). g b.log)) (all_bodies views) seat v.bodies bodies my_bodies in
-        let gone : sum_by (λ (b : Held). g b.log) bodies + g body.log ≡ sum_by (λ (b : Held). g b.log) v.bodies =
-        sum-without-one (is_body_of log.page) (λ (b : Held). g b.log) v.bodies place' body once body_there body_test in
-        let same : g body.log ≡ g log = ap g log_is in
-        omega arith
-
-    eachs : (P : Log → Type 0) → EachBody P homes (all_bodies views) → EachBody P (set homes frame.0 (Some (Some log))) (set (all_bodies views) seat bodies)
-    eachs P each = record {
-      at_home = λ i x e. elim (at_set homes frame.0 i (Some (Some log)) (Some (Some x)) e) [
-        | inl t ↦ subst P (log_is ∙ same_Some log x (same_Some (Some log) (Some x) t.1)) (each.in_hand seat v.bodies my_bodies place' body body_there)
-        | inr t ↦ each.at_home i x t.1
-      ];
-      in_hand = each-set (EachMember (λ (b : Held). P b.log)) (all_bodies views) seat bodies (each-without (λ (b : Held). P b.log) (is_body_of log.page) v.bodies (each.in_hand seat v.bodies my_bodies)) each.in_hand;
-    }
+    others-left : EachMember (λ (b : Held). is_body_of log.page b ≡ false) bodies
+    others-left = another layout w homes views seat v me h log place' body body_there body_test within
 
     own-still : (b : Held) → is_body_of log.page b ≡ false → (0 < page_locks_on b.log.page.0 v.pages → KnowsOwn v.pages b) → 0 < page_locks_on b.log.page.0 pages → KnowsOwn pages b
     own-still b other knows some = record { lock = own.lock; there = at; cache = own.cache; cache_is = own.cache_is; trans = own.trans; trans_is = own.trans_is }
@@ -253,9 +199,13 @@ module _ (layout : Layout) (w : Words) (homes : Homes) (views : List View) (seat
     keeps-unlock-body = keeps-locking layout w homes views seat v frame.0 found now (Some (Some log)) locks pages bodies v.lengths me h there referenced (record {
       like = like;
       count = (fields-unlock found).count;
-      sums = sums;
-      eachs = eachs;
-      home = λ x e. let same : log ≡ x = same_Some log x (same_Some (Some log) (Some x) e) in (subst (λ (y : Log). AreEnded layout w.processes y.entries) same ended, subst (Fits layout w.trans w.caches) same fit);
+      carries = carry-home layout w homes views seat v me h log place' body body_there body_test within log_is frame.0 pages out ended fit
+          (each-weaken (λ (b : Held). page_locks_on b.log.page.0 v.pages ≡ 0 → Fits layout w.trans w.caches b.log) (λ (b : Held). page_locks_on b.log.page.0 pages ≡ 0 → Fits layout w.trans w.caches b.log) bodies
+          (λ b fits none. fits (sym (page_locks b.log.page.0) ∙ none))
+          (each-without (λ (b : Held). page_locks_on b.log.page.0 v.pages ≡ 0 → Fits layout w.trans w.caches b.log) (is_body_of log.page) v.bodies (h.fits.in_hand seat (v.pages, v.bodies) my_fit)))
+          (each-changed (KnowsWords layout w.trans w.caches) (is_page_lock_of log.page) forgetting v.pages
+          (λ l is knows. record { resident = knows.resident; cache = knows.cache; words = λ ws e n t decl page. absurd (none-some ws e) }) (h.fits.known seat (v.pages, v.bodies) my_fit))
+          (λ i b at. own-still b (others-left i b at) (each-without (λ (b : Held). 0 < page_locks_on b.log.page.0 v.pages → KnowsOwn v.pages b) (is_body_of log.page) v.bodies (h.fits.own seat (v.pages, v.bodies) my_fit) i b at));
       here = here;
       others = others;
       known = known;
@@ -271,18 +221,7 @@ module _ (layout : Layout) (w : Words) (homes : Homes) (views : List View) (seat
       free_home = λ free. record { content = Some log; there = set_here homes frame.0 (Some (Some log)) None out; named = named ∙ sym (like.owner ∙ owner) };
       out = λ set_still. absurd (unlocked-now set_still);
       in_hand = λ i b at.
-          let was : IsHolding b.log.page.0 (holder_of v) = each-without (λ (b : Held). IsHolding b.log.page.0 (holder_of v)) (is_body_of log.page) v.bodies old-in_hand i b at in
-          let other : b.log.page.0 ≢ log.page.0 = eqb-false b.log.page.0 log.page.0 (another i b at) in
-          holding-still b.log.page.0 pages bodies (page_locks b.log.page.0) (λ e. other (omega (arith, e, named))) was;
-      reached = h.entries.lengths_reached seat v.lengths (at_map (λ (v : View). v.lengths) views seat v me);
-      before = each-without (λ (b : Held). AreEnded layout w.processes (take b.since b.log.entries)) (is_body_of log.page) v.bodies (h.endings.ended_before seat v.bodies my_bodies);
-      taken = each-without (λ (b : Held). b.since ≤ length b.log.entries) (is_body_of log.page) v.bodies (h.endings.taken seat v.bodies my_bodies);
-      killed = each-without (λ (b : Held). EachMember (λ (p : Proc). (x : ℕ) → slice_get w.processes p.0 ≡ Some x → x ≢ 0) b.killed) (is_body_of log.page) v.bodies (h.stops.killed seat v.bodies my_bodies);
-      fits = each-weaken (λ (b : Held). page_locks_on b.log.page.0 v.pages ≡ 0 → Fits layout w.trans w.caches b.log) (λ (b : Held). page_locks_on b.log.page.0 pages ≡ 0 → Fits layout w.trans w.caches b.log) bodies
-          (λ b fits none. fits (sym (page_locks b.log.page.0) ∙ none))
-          (each-without (λ (b : Held). page_locks_on b.log.page.0 v.pages ≡ 0 → Fits layout w.trans w.caches b.log) (is_body_of log.page) v.bodies (h.fits.in_hand seat (v.pages, v.bodies) my_fit));
-      knows = each-changed (KnowsWords layout w.trans w.caches) (is_page_lock_of log.page) forgetting v.pages
-          (λ l is knows. record { resident = knows.resident; cache = knows.cache; words = λ ws e n t decl page. absurd (none-some ws e) }) (h.fits.known seat (v.pages, v.bodies) my_fit);
-      own = λ i b at. own-still b (another i b at) (each-without (λ (b : Held). 0 < page_locks_on b.log.page.0 v.pages → KnowsOwn v.pages b) (is_body_of log.page) v.bodies (h.fits.own seat (v.pages, v.bodies) my_fit) i b at);
-      past = (h.commands.own seat v me).lengths;
+          let was : IsHolding b (holder_of v) = each-without (λ (b : Held). IsHolding b (holder_of v)) (is_body_of log.page) v.bodies old-in_hand i b at in
+          let other : b.log.page.0 ≢ log.page.0 = eqb-false b.log.page.0 log.page.0 (others-left i b at) in
+          holding-still b pages bodies (page_locks b.log.page.0) (λ e. other (omega (arith, e, named))) was;
     }) less

@@ -1,43 +1,29 @@
 -- A frame's lock freed keeps the frame rule: the body that goes home is listed first.
-use Rattle.std.proofs.Common.{◌≡◌, ℕ, ◌+◌, ◌<◌, ◌≤◌, ◌==◌, ◌||◌, ◌⊎◌, Bool, true, false, List, ◌++◌, Some, None, map, set, take, drop, take-append-drop, length, slice_get, slice_index, bit_and, inl, inr, refl, sym, ap, ◌∙◌, subst, arith}
-use Rattle.std.proofs.lemmas.Bool.{eqb-true}
-use Rattle.std.proofs.lemmas.List.Folds.{list_any-append}
+use Rattle.std.proofs.Common.{◌≡◌, ℕ, ◌+◌, ◌<◌, ◌≤◌, ◌==◌, List, Some, None, map, set, length, slice_get, slice_index, bit_and, inl, inr, refl, sym, ap, ◌∙◌, subst, arith}
 use Rattle.std.proofs.lemmas.Option.{same_Some, slice_get_within}
 use Rattle.std.specs.Int.{from_bool}
 use Rattle.std.specs.List.{sum_by}
 use Rattle.hwp_geom.specs.declared.Frame.{Frame}
 use Rattle.hwp_geom.specs.declared.Layout.{Layout}
-use Rattle.hwp_geom.specs.declared.Proc.{Proc}
 use Rattle.hwp_geom.specs.declared.Who.{Who}
-use Rattle.hwp_page.specs.declared.Entry.{Entry}
 use Rattle.hwp_words.specs.Frames.{lock_of, owner_of}
 use Rattle.hwp_rule.specs.declared.log.Log.{Log}
 use Rattle.hwp_rule.specs.declared.step.Step.TheVariants as steps
 use Rattle.hwp_rule.specs.declared.view.FrameLock.{FrameLock}
-use Rattle.hwp_rule.specs.declared.view.Held.{Held}
 use Rattle.hwp_rule.specs.declared.view.PageLock.{PageLock}
 use Rattle.hwp_rule.specs.declared.view.Ref.{Ref}
 use Rattle.hwp_rule.specs.declared.view.View.{View}
 use Rattle.hwp_rule.specs.Asks.{CanUnlockFrame, CanGoHome}
-use Rattle.hwp_rule.specs.Lists.{Homes, SomeMember}
-use Rattle.hwp_rule.specs.Logs.{has_ending, is_ending}
+use Rattle.hwp_rule.specs.Lists.{Homes}
 use Rattle.hwp_rule.specs.Rule.{FrameRule}
-use Rattle.hwp_rule.specs.Views.{made_from, stamp_of, more_of, locks_on, page_locks_on, without, changed, put_home, is_lock_of, is_body_of, is_page_lock_of}
+use Rattle.hwp_rule.specs.Views.{locks_on, without, changed, put_home, is_lock_of, is_body_of, is_page_lock_of}
 use Rattle.hwp_rule.specs.Words.{Words}
-use Rattle.hwp_rule.specs.parts.Endings.{AreEnded}
-use Rattle.hwp_rule.specs.parts.Fits.{Fits, FitsWords, KnowsWords, KnowsOwn}
 use Rattle.hwp_rule.specs.parts.Owners.{HoldsBoth}
 use Rattle.hwp_rule.proofs.Given.{Given, Keeps}
-use Rattle.hwp_rule.proofs.frames.Listed
-use Rattle.hwp_rule.proofs.Lists.{at_map, map-was, same-or, same-number, set_here, set-set, terms-le}
-use Rattle.hwp_rule.proofs.frames.PageLocks.{first-lock, same-page}
+use Rattle.hwp_rule.proofs.GoingHome
+use Rattle.hwp_rule.proofs.Lists.{at_map, map-was, same-or, same-number, set-set, terms-le}
 use Rattle.hwp_rule.proofs.Referring.{word-there}
 use Rattle.hwp_rule.proofs.frames.UnlockFrame
-use Rattle.hwp_rule.proofs.frames.Without.{find-is, changed-at}
-
-or-parts : (a b : Bool) → (a || b) ≡ true → (a ≡ true) ⊎ (b ≡ true)
-or-parts true b e = inl refl
-or-parts false b e = inr e
 
 -- the body of this history goes home from the hand
 module _ (layout : Layout) (w : Words) (homes : Homes) (views : List View) (seat : ℕ) (v : View) (who : Who) (frame : Frame) (log : Log)
@@ -95,73 +81,8 @@ module _ (layout : Layout) (w : Words) (homes : Homes) (views : List View) (seat
   within : log.page.0 < length layout.pages
   within = subst (λ (n : ℕ). log.page.0 < n) given.shaped.caches (slice_get_within w.caches log.page.0 (frame.0 + 1) cached)
 
-  found-body : (i : ℕ) × (slice_get v.bodies i ≡ Some can.body) × (is_body_of log.page can.body ≡ true)
-  found-body = find-is (is_body_of log.page) v.bodies can.body can.body_is
-
   abbrev renewed : View
-  renewed = record v {
-    made = v.made ++ made_from (stamp_of who v) log.page can.body.frame (length can.body.log.entries) (more_of can.body log);
-    bodies = changed (is_body_of log.page) (λ (b : Held). record b { log = log }) v.bodies;
-  }
-
-  rule : FrameRule layout w homes (set views seat renewed)
-  rule = Listed.keeps-renewed layout w homes views seat v who log found-body.0 can.body given.me given.past found-body.1 found-body.2 can.extends within can.fits.unlocked h
-
-  me-renewed : slice_get (set views seat renewed) seat ≡ Some renewed
-  me-renewed = set_here views seat renewed v given.me
-
-  body-renewed : slice_get renewed.bodies found-body.0 ≡ Some (record can.body { log = log })
-  body-renewed = changed-at (is_body_of log.page) (λ (b : Held). record b { log = log }) v.bodies found-body.0 can.body found-body.1 found-body.2
-
-  -- each process that the history ended has a word: from before, or by a `kill`
-  ended : AreEnded layout w.processes log.entries
-  ended process x at is = elim (or-parts (has_ending layout process (take can.body.since log.entries)) (has_ending layout process (drop can.body.since log.entries)) split) [
-    | inl before ↦ rule.endings.ended_before seat renewed.bodies (at_map (λ (v : View). v.bodies) (set views seat renewed) seat renewed me-renewed) found-body.0 (record can.body { log = log }) body-renewed process x at before
-    | inr late ↦
-        let killed : SomeMember (λ (p : Proc). p ≡ process) can.body.killed = can.killed process late in
-        h.stops.killed seat v.bodies (at_map (λ (v : View). v.bodies) views seat v given.me) found-body.0 can.body found-body.1 killed.0 killed.1 killed.2 x (ap (λ (p : Proc). slice_get w.processes p.0) killed.3 ∙ at)
-  ]
-    where
-      split : (has_ending layout process (take can.body.since log.entries) || has_ending layout process (drop can.body.since log.entries)) ≡ true
-      split = sym (list_any-append (λ (e : Entry). is_ending layout process e.what) (take can.body.since log.entries) (drop can.body.since log.entries))
-          ∙ ap (has_ending layout process) (take-append-drop can.body.since log.entries) ∙ is
-
-  fit : Fits layout w.trans w.caches log
-  fit = elim (same-or (page_locks_on log.page.0 v.pages) 0) [
-    | inl none ↦ rule.fits.in_hand seat (renewed.pages, renewed.bodies) (at_map (λ (v : View). (v.pages, v.bodies)) (set views seat renewed) seat renewed me-renewed) found-body.0 (record can.body { log = log }) body-renewed none
-    | inr some ↦ fit-locked (omega (arith, some))
-  ]
-    where
-      fit-locked : 0 < page_locks_on log.page.0 v.pages → Fits layout w.trans w.caches log
-      fit-locked some cache at = record {
-        cached = fits.cached;
-        used = λ n x t decl page stands. fits.used n x t decl page (knows.words own.trans own.trans_is n t decl (page ∙ sym lock-page) ∙ stands);
-      }
-        where
-          own : KnowsOwn v.pages can.body
-          own = h.fits.own seat (v.pages, v.bodies) (at_map (λ (v : View). (v.pages, v.bodies)) views seat v given.me) found-body.0 can.body found-body.1
-              (subst (λ (n : ℕ). 0 < page_locks_on n v.pages) (sym (eqb-true can.body.log.page.0 log.page.0 found-body.2)) some)
-
-          first : (l : PageLock) × (slice_get v.pages 0 ≡ Some l) × (l.page.0 ≡ log.page.0)
-          first = first-lock log.page.0 v.pages (h.page_locks.page_once seat v.pages (at_map (λ (v : View). v.pages) views seat v given.me)) some
-
-          number : own.lock.page.0 ≡ log.page.0
-          number = ap (λ (l : PageLock). l.page.0) (same_Some own.lock first.0 (sym own.there ∙ first.1)) ∙ first.2
-
-          lock-page : own.lock.page ≡ log.page
-          lock-page = same-page own.lock.page log.page number
-
-          knows : KnowsWords layout w.trans w.caches own.lock
-          knows = h.fits.known seat (v.pages, v.bodies) (at_map (λ (v : View). (v.pages, v.bodies)) views seat v given.me) 0 own.lock own.there
-
-          stands-cache : slice_get w.caches log.page.0 ≡ Some own.cache
-          stands-cache = ap (slice_get w.caches) (sym number) ∙ knows.cache own.cache own.cache_is
-
-          same-cache : own.cache ≡ cache
-          same-cache = same_Some own.cache cache (sym stands-cache ∙ at)
-
-          fits : FitsWords layout log cache own.trans
-          fits = subst (λ (c : ℕ). FitsWords layout log c own.trans) same-cache (can.fits.locked own.lock own.cache own.trans own.there lock-page own.cache_is own.trans_is)
+  renewed = GoingHome.renewed layout w homes views seat v who log given.me given.past h can within
 
   home : FrameRule layout (record w { frames = set w.frames frame.0 (bit_and (slice_index w.frames frame.0) 18446744073709551614) }) (set homes frame.0 (Some (Some log)))
       (set (set views seat renewed) seat (record renewed {
@@ -169,8 +90,10 @@ module _ (layout : Layout) (w : Words) (homes : Homes) (views : List View) (seat
         pages = changed (is_page_lock_of log.page) (λ (l : PageLock). record l { trans = None }) renewed.pages;
         bodies = without (is_body_of log.page) renewed.bodies;
       }))
-  home = UnlockFrame.keeps-unlock-body layout w homes (set views seat renewed) seat renewed frame (slice_index w.frames frame.0) asks.has.listed.0 asks.has.lock me-renewed given.place there listed-lock asks.has.frame_is rule
-      log found-body.0 (record can.body { log = log }) body-renewed (same-number log.page.0 log.page.0 refl) refl asks.named within asks.cached ended fit
+  home = UnlockFrame.keeps-unlock-body layout w homes (set views seat renewed) seat renewed frame (slice_index w.frames frame.0) asks.has.listed.0 asks.has.lock (GoingHome.me-renewed layout w homes views seat v who log given.me given.past h can within) given.place there listed-lock asks.has.frame_is
+      (GoingHome.rule layout w homes views seat v who log given.me given.past h can within)
+      log (GoingHome.found-body layout w homes views seat v who log given.me given.past h can within).0 (record can.body { log = log }) (GoingHome.body-renewed layout w homes views seat v who log given.me given.past h can within)
+      (same-number log.page.0 log.page.0 refl) refl asks.named within asks.cached (GoingHome.ended layout w homes views seat v who log given.me given.past h can within) (GoingHome.fit layout w homes views seat v who log given.me given.past h can within)
 
   keeps-home : FrameRule layout (record w { frames = set w.frames frame.0 (bit_and (slice_index w.frames frame.0) 18446744073709551614) }) (set homes frame.0 (Some (Some log)))
       (set views seat (record (put_home layout who (Some log) v) { locks = without (is_lock_of frame) v.locks }))
@@ -180,7 +103,7 @@ module _ (layout : Layout) (w : Words) (homes : Homes) (views : List View) (seat
         pages = changed (is_page_lock_of log.page) (λ (l : PageLock). record l { trans = None }) v.pages;
         locks = without (is_lock_of frame) v.locks;
       })))
-      (sym (Listed.listed-is layout w homes views seat v who log found-body.0 can.body given.me given.past found-body.1 found-body.2 can.extends within can.fits.unlocked h can.body_is))
+      (sym (GoingHome.listed-renewed layout w homes views seat v who log given.me given.past h can within))
       (subst (FrameRule layout (record w { frames = set w.frames frame.0 (bit_and (slice_index w.frames frame.0) 18446744073709551614) }) (set homes frame.0 (Some (Some log))))
       (set-set views seat renewed (record renewed {
         locks = without (is_lock_of frame) renewed.locks;

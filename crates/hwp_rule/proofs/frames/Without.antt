@@ -1,5 +1,5 @@
 -- Lists without their first member that a test finds, and lists in which it finds just one.
-use Rattle.std.proofs.Common.{◌≡◌, ℕ, zero, suc, ◌+◌, Bool, true, false, cond, List, [], ◌∷◌, Some, slice_get, refl, sym, ap, ◌∙◌, subst, arith}
+use Rattle.std.proofs.Common.{◌≡◌, ℕ, zero, suc, ◌+◌, Bool, true, false, cond, List, [], ◌∷◌, Some, None, slice_get, refl, sym, ap, ◌∙◌, subst, arith}
 use Rattle.std.proofs.lemmas.List.Sums.{sum_by-cons}
 use Rattle.std.proofs.lemmas.Option.{none-some, same_Some}
 use Rattle.std.specs.Int.{from_bool}
@@ -64,6 +64,15 @@ module _ {A : Type 0} (test : A → Bool) where
       which false is more =
           let rest : (i : ℕ) × (slice_get ys i ≡ Some x) × (test x ≡ true) = more (sym (ap (λ (b : Bool). cond b (Some y) (find test ys)) is) ∙ e) in
           (suc rest.0, rest.1, rest.2)
+
+  -- where `find` finds none, no member passes the test
+  pub find-none : (l : List A) → find test l ≡ None → EachMember (λ (x : A). test x ≡ false) l
+  find-none [] none = λ i x e. absurd (none-some x e)
+  find-none (y ∷ ys) none = which (test y) refl (λ h. find-none ys h)
+    where
+      which : (b : Bool) → test y ≡ b → (find test ys ≡ None → EachMember (λ (x : A). test x ≡ false) ys) → EachMember (λ (x : A). test x ≡ false) (y ∷ ys)
+      which true is more = absurd (none-some y (sym none ∙ ap (λ (b : Bool). cond b (Some y) (find test ys)) is))
+      which false isnt more = each-cons (λ (x : A). test x ≡ false) y ys isnt (more (sym (ap (λ (b : Bool). cond b (Some y) (find test ys)) isnt) ∙ none))
 
   -- and where the test finds one, it is the only one
   pub found-only : (l : List A) (i j : ℕ) (x y : A) → sum_by found l ≡ 1 → slice_get l i ≡ Some x → slice_get l j ≡ Some y → test x ≡ true → test y ≡ true → x ≡ y

@@ -69,9 +69,9 @@ module _ (layout : Layout) (w : Words) (homes : Homes) (views : List View) (seat
     ];
   }
 
-  still-holding : (q : ℕ) → IsHolding q (holder_of v) → IsHolding q (holder_of listing)
-  still-holding q (inl locked) = inl (subst (λ (n : ℕ). 0 < n) (sym (same-locks test to same v.pages q)) locked)
-  still-holding q (inr some) = inr some
+  still-holding : (b : Held) → IsHolding b (holder_of v) → IsHolding b (holder_of listing)
+  still-holding b (inl locked) = inl (subst (λ (n : ℕ). 0 < n) (sym (same-locks test to same v.pages b.log.page.0)) locked)
+  still-holding b (inr some) = inr some
 
   bodies-listed : BodiesAtHome layout w.frames w.caches w.pages homes (set holders seat (holder_of listing))
   bodies-listed = record {
@@ -81,8 +81,8 @@ module _ (layout : Layout) (w : Words) (homes : Homes) (views : List View) (seat
     shelf_out = h.bodies.shelf_out;
     one = λ q declared.
         keep (λ (x : Holder). x.bodies) (λ l. OneBody q l) holders seat (holder_of v) (holder_of listing) there refl (h.bodies.one q declared);
-    in_hand = each-set (λ (x : Holder). EachMember (λ (b : Held). IsHolding b.log.page.0 x) x.bodies) holders seat (holder_of listing)
-        (each-weaken (λ (b : Held). IsHolding b.log.page.0 (holder_of v)) (λ (b : Held). IsHolding b.log.page.0 (holder_of listing)) v.bodies (λ b holding. still-holding b.log.page.0 holding)
+    in_hand = each-set (λ (x : Holder). EachMember (λ (b : Held). IsHolding b x) x.bodies) holders seat (holder_of listing)
+        (each-weaken (λ (b : Held). IsHolding b (holder_of v)) (λ (b : Held). IsHolding b (holder_of listing)) v.bodies (λ b holding. still-holding b holding)
         (h.bodies.in_hand seat (holder_of v) there)) h.bodies.in_hand;
   }
     where

@@ -121,13 +121,13 @@ module _ (layout : Layout) (w : Words) (homes : Homes) (views : List View) (seat
       here = at_map (λ (v : View). (v.locks, v.pages)) views seat v me
 
   -- a body in hand is still held, where it isn't by this frame's lock, or by the page's
-  holding-owning : ((q : ℕ) → owner_of word ≡ q + 1 → 0 < page_locks_on q v.pages) → EachMember (λ (b : Held). IsHolding b.log.page.0 (holder_of u)) v.bodies
-  holding-owning by_page = each-weaken (λ (b : Held). IsHolding b.log.page.0 (holder_of v)) (λ (b : Held). IsHolding b.log.page.0 (holder_of u)) v.bodies (λ b is. still b.log.page.0 is) (h.bodies.in_hand seat (holder_of v) (at_map holder_of views seat v me))
+  holding-owning : ((q : ℕ) → owner_of word ≡ q + 1 → 0 < page_locks_on q v.pages) → EachMember (λ (b : Held). IsHolding b (holder_of u)) v.bodies
+  holding-owning by_page = each-weaken (λ (b : Held). IsHolding b (holder_of v)) (λ (b : Held). IsHolding b (holder_of u)) v.bodies (λ b is. still b is) (h.bodies.in_hand seat (holder_of v) (at_map holder_of views seat v me))
     where
-      still : (q : ℕ) → IsHolding q (holder_of v) → IsHolding q (holder_of u)
-      still q (inl page_lock) = inl page_lock
-      still q (inr some) = elim (same-or some.1.frame.0 frame.0) [
-        | inl same ↦ inl (by_page q ((locked some.0 some.1 some.2 same).0 ∙ some.3))
+      still : (b : Held) → IsHolding b (holder_of v) → IsHolding b (holder_of u)
+      still held (inl page_lock) = inl page_lock
+      still held (inr some) = elim (same-or some.1.frame.0 frame.0) [
+        | inl same ↦ inl (by_page held.log.page.0 ((locked some.0 some.1 some.2 same).0 ∙ some.3.0))
         | inr differs ↦ inr (
           some.0,
           some.1,

@@ -1,0 +1,297 @@
+-- A seat takes a body in hand, or puts one home, or has a slot that is empty: the parts of the frame rule that read slots and bodies.
+use Rattle.std.proofs.Common.{◌≡◌, ◌≢◌, ℕ, ◌+◌, ◌<◌, ◌≤◌, ◌==◌, true, false, List, [], ◌∷◌, ◌++◌, Option, Some, None, map, set, take, length, slice_get, inl, inr, refl, sym, ap, ◌∙◌, subst, arith}
+use Rattle.std.proofs.Math.Seq.{take-length}
+use Rattle.std.proofs.lemmas.List.{map-set}
+use Rattle.std.proofs.lemmas.Option.{none-some, same_Some}
+use Rattle.std.specs.Int.{from_bool}
+use Rattle.std.specs.List.{sum_by, list_any}
+use Rattle.hwp_geom.specs.declared.Frame.{Frame}
+use Rattle.hwp_geom.specs.declared.Layout.{Layout}
+use Rattle.hwp_geom.specs.declared.Page.{Page}
+use Rattle.hwp_geom.specs.declared.Proc.{Proc}
+use Rattle.hwp_page.specs.declared.Entry.{Entry}
+use Rattle.hwp_rule.specs.declared.log.Log.{Log}
+use Rattle.hwp_rule.specs.declared.view.FrameLock.{FrameLock}
+use Rattle.hwp_rule.specs.declared.view.Held.{Held}
+use Rattle.hwp_rule.specs.declared.view.Length.{Length}
+use Rattle.hwp_rule.specs.declared.view.PageLock.{PageLock}
+use Rattle.hwp_rule.specs.declared.view.Stamp.{Stamp}
+use Rattle.hwp_rule.specs.declared.view.View.{View}
+use Rattle.hwp_rule.specs.Lists.{Homes, EachBody, EachMember, SomeMember, IsNotLater, of_home, sum_all, sum_bodies}
+use Rattle.hwp_rule.specs.Logs.{has_ending, is_ending, losses_of}
+use Rattle.hwp_rule.specs.Rule.{FrameRule, holder_of, losing_of}
+use Rattle.hwp_rule.specs.Views.{page_locks_on, without, is_body_of}
+use Rattle.hwp_rule.specs.Words.{Words}
+use Rattle.hwp_rule.specs.parts.Bodies.{Holder}
+use Rattle.hwp_rule.specs.parts.Endings.{EndingsAgree, AreEnded}
+use Rattle.hwp_rule.specs.parts.Entries.{EntriesListed, weigh}
+use Rattle.hwp_rule.specs.parts.Fits.{PageFits, Fits, KnowsWords, KnowsOwn}
+use Rattle.hwp_rule.specs.parts.Holdings.{CommandsOwn, AreOwn, IsPast}
+use Rattle.hwp_rule.specs.parts.Losses.{LossesBalance}
+use Rattle.hwp_rule.specs.parts.Stops.{EndingsAndStopsStay}
+use Rattle.hwp_rule.specs.parts.Unpoisoned.{NothingPoisonedYet, is_failure}
+use Rattle.hwp_rule.proofs.Lists.{change, keep, at_map, at_set, same-number, set_again, sum-set, term-le, each-set, each-push, each-weaken}
+use Rattle.hwp_rule.proofs.Hands.{each-without, not-both}
+use Rattle.hwp_rule.proofs.Slots.{is_bodiless, bodies-sum, bodies-each}
+use Rattle.hwp_rule.proofs.TakenBodies.{sum-taken, each-taken, only-at-home}
+use Rattle.hwp_rule.proofs.frames.Without.{others-unfound, sum-without-one}
+use Rattle.hwp_rule.proofs.Kept
+
+abbrev pub all_bodies : List View → List (List Held)
+all_bodies views = map (λ (v : View). v.bodies) views
+
+pub held-bodies : (views : List View) → map (λ (o : Holder). o.bodies) (map holder_of views) ≡ all_bodies views
+held-bodies [] = refl
+held-bodies (v ∷ vs) = ap (λ (l : List (List Held)). v.bodies ∷ l) (held-bodies vs)
+
+-- A slot becomes y, and of a view v the page locks, the bodies in hand and the lengths become these: of y, and of each new
+-- member, what the parts ask of it.
+pub record Carries (layout : Layout) (w : Words) (homes : Homes) (views : List View) (seat : ℕ) (v : View) (slot : ℕ) (y : Option (Option Log)) (pages : List PageLock) (bodies : List Held) (lengths : List Length) : Type 1 where
+  -- the bodies are the same, wherever they are
+  pub sums : (g : Log → ℕ) → sum_bodies g (set homes slot y) (set (all_bodies views) seat bodies) ≡ sum_bodies g homes (all_bodies views)
+  pub eachs : (P : Log → Type 0) → EachBody P homes (all_bodies views) → EachBody P (set homes slot y) (set (all_bodies views) seat bodies)
+  pub home : (log : Log) → y ≡ Some (Some log) → AreEnded layout w.processes log.entries × Fits layout w.trans w.caches log
+  -- the bodies in hand
+  pub reached : EachMember (λ (l : Length). EachBody (λ (log : Log). log.page ≡ l.page → l.entries ≤ length log.entries) homes (all_bodies views)) lengths
+  pub before : EachMember (λ (b : Held). AreEnded layout w.processes (take b.since b.log.entries)) bodies
+  pub taken : EachMember (λ (b : Held). b.since ≤ length b.log.entries) bodies
+  pub killed : EachMember (λ (b : Held). EachMember (λ (p : Proc). (x : ℕ) → slice_get w.processes p.0 ≡ Some x → x ≢ 0) b.killed) bodies
+  pub fits : EachMember (λ (b : Held). page_locks_on b.log.page.0 pages ≡ 0 → Fits layout w.trans w.caches b.log) bodies
+  pub knows : EachMember (KnowsWords layout w.trans w.caches) pages
+  pub own : EachMember (λ (b : Held). 0 < page_locks_on b.log.page.0 pages → KnowsOwn pages b) bodies
+  pub past : EachMember (λ (l : Length). IsPast v.parts l.stamp.who) lengths
+
+module _ (layout : Layout) (w : Words) (homes : Homes) (views : List View) (seat : ℕ) (v : View) (me : slice_get views seat ≡ Some v) (h : FrameRule layout w homes views) where
+  pub my_bodies : slice_get (all_bodies views) seat ≡ Some v.bodies
+  my_bodies = at_map (λ (v : View). v.bodies) views seat v me
+
+  my_fit : slice_get {X = List PageLock × List Held} (map (λ (v : View). (v.pages, v.bodies)) views) seat ≡ Some (v.pages, v.bodies)
+  my_fit = at_map (λ (v : View). (v.pages, v.bodies)) views seat v me
+
+  pub one-body : (q : ℕ) → q < length layout.pages → sum_bodies (λ (x : Log). from_bool (x.page.0 == q)) homes (all_bodies views) ≡ 1
+  one-body q within = subst (λ (l : List (List Held)). sum_bodies (λ (x : Log). from_bool (x.page.0 == q)) homes l ≡ 1) (held-bodies views) (h.bodies.one q within)
+
+  -- ---- the parts, after the step
+
+  module _ (slot : ℕ) (y : Option (Option Log)) (locks : List FrameLock) (pages : List PageLock) (bodies : List Held) (lengths : List Length) (x : Carries layout w homes views seat v slot y pages bodies lengths) where
+    abbrev u : View
+    u = record v { locks = locks; pages = pages; bodies = bodies; lengths = lengths }
+
+    abbrev after : Homes
+    after = set homes slot y
+
+    pub one-carried : (q : ℕ) → q < length layout.pages → sum_bodies (λ (log : Log). from_bool (log.page.0 == q)) after (map (λ (o : Holder). o.bodies) (set (map holder_of views) seat (holder_of u))) ≡ 1
+    one-carried q within =
+        let lists : map (λ (o : Holder). o.bodies) (set (map holder_of views) seat (holder_of u)) ≡ set (all_bodies views) seat bodies =
+        map-set (λ (o : Holder). o.bodies) (map holder_of views) seat (holder_of u) ∙ ap (λ (l : List (List Held)). set l seat bodies) (held-bodies views) in
+        subst (λ (l : List (List Held)). sum_bodies (λ (log : Log). from_bool (log.page.0 == q)) after l ≡ 1) (sym lists) (x.sums (λ (log : Log). from_bool (log.page.0 == q)) ∙ one-body q within)
+
+    entries-changed : EntriesListed after (set (all_bodies views) seat bodies) (map (λ (v : View). (v.made, v.sights)) views) (set (map (λ (v : View). v.lengths) views) seat lengths)
+    entries-changed = record {
+      balance = λ g. x.sums (weigh g) ∙ h.entries.balance g;
+      shown = h.entries.shown;
+      lengths_reached = each-set (EachMember Reached) (map (λ (v : View). v.lengths) views) seat lengths (again lengths x.reached)
+          (each-weaken (EachMember Was) (EachMember Reached) (map (λ (v : View). v.lengths) views) (λ list each. again list each) h.entries.lengths_reached);
+    }
+      where
+        Was : Length → Type 0
+        Was l = EachBody (λ (log : Log). log.page ≡ l.page → l.entries ≤ length log.entries) homes (all_bodies views)
+
+        Reached : Length → Type 0
+        Reached l = EachBody (λ (log : Log). log.page ≡ l.page → l.entries ≤ length log.entries) after (set (all_bodies views) seat bodies)
+
+        again : (list : List Length) → EachMember Was list → EachMember Reached list
+        again list each i l e = x.eachs (λ (log : Log). log.page ≡ l.page → l.entries ≤ length log.entries) (each i l e)
+
+    pub entries-carried : EntriesListed after (map (λ (v : View). v.bodies) (set views seat u)) (map (λ (v : View). (v.made, v.sights)) (set views seat u)) (map (λ (v : View). v.lengths) (set views seat u))
+    entries-carried = change (λ (v : View). v.lengths) (λ l. EntriesListed after (map (λ (v : View). v.bodies) (set views seat u)) (map (λ (v : View). (v.made, v.sights)) (set views seat u)) l) views seat u
+        (keep (λ (v : View). (v.made, v.sights)) (λ l. EntriesListed after (map (λ (v : View). v.bodies) (set views seat u)) l (set (map (λ (v : View). v.lengths) views) seat lengths)) views seat v u me refl
+        (change (λ (v : View). v.bodies) (λ l. EntriesListed after l (map (λ (v : View). (v.made, v.sights)) views) (set (map (λ (v : View). v.lengths) views) seat lengths)) views seat u entries-changed))
+
+    endings-changed : EndingsAgree layout w.processes after (set (all_bodies views) seat bodies) (map (λ (v : View). v.sights) views)
+    endings-changed = record {
+      caused = λ process p at. x.eachs (λ (log : Log). p ≡ log.page.0 + 1 → has_ending layout process log.entries ≡ true) (h.endings.caused process p at);
+      ended = λ i log at. elim (at_set homes slot i y (Some (Some log)) at) [
+        | inl t ↦ (x.home log t.1).0
+        | inr t ↦ h.endings.ended i log t.1
+      ];
+      ended_before = each-set (EachMember (λ (b : Held). AreEnded layout w.processes (take b.since b.log.entries))) (all_bodies views) seat bodies x.before h.endings.ended_before;
+      taken = each-set (EachMember (λ (b : Held). b.since ≤ length b.log.entries)) (all_bodies views) seat bodies x.taken h.endings.taken;
+      shown = λ i list at j s is process place.
+          x.eachs (λ (log : Log). s.word ≡ log.page.0 + 1 → SomeMember (λ (e : Entry). (is_ending layout process e.what ≡ true) × IsNotLater e.who s.stamp.who) log.entries)
+          (h.endings.shown i list at j s is process place);
+    }
+
+    pub endings-carried : EndingsAgree layout w.processes after (map (λ (v : View). v.bodies) (set views seat u)) (map (λ (v : View). v.sights) (set views seat u))
+    endings-carried = keep (λ (v : View). v.sights) (λ l. EndingsAgree layout w.processes after (map (λ (v : View). v.bodies) (set views seat u)) l) views seat v u me refl
+        (change (λ (v : View). v.bodies) (λ l. EndingsAgree layout w.processes after l (map (λ (v : View). v.sights) views)) views seat u endings-changed)
+
+    pub losses-carried : LossesBalance layout w.losses after (map (λ (v : View). v.bodies) (set views seat u)) (map losing_of (set views seat u))
+    losses-carried = keep losing_of (λ l. LossesBalance layout w.losses after (map (λ (v : View). v.bodies) (set views seat u)) l) views seat v u me refl
+        (change (λ (v : View). v.bodies) (λ l. LossesBalance layout w.losses after l (map losing_of views)) views seat u (record {
+          balance = λ file p at. h.losses.balance file p at ∙ sym (x.sums (losses_of layout file));
+          poisoned = h.losses.poisoned;
+        }))
+
+    stops-changed : EndingsAndStopsStay w.processes w.stop (set (all_bodies views) seat bodies) (map (λ (v : View). v.sights) views) (map (λ (v : View). v.stops) views)
+    stops-changed = record {
+      killed = each-set (EachMember (λ (b : Held). EachMember (λ (p : Proc). (x : ℕ) → slice_get w.processes p.0 ≡ Some x → x ≢ 0) b.killed)) (all_bodies views) seat bodies x.killed h.stops.killed;
+      ended_stays = h.stops.ended_stays;
+      stop_stays = h.stops.stop_stays;
+      one = h.stops.one;
+      named = h.stops.named;
+    }
+
+    pub stops-carried : EndingsAndStopsStay w.processes w.stop (map (λ (v : View). v.bodies) (set views seat u)) (map (λ (v : View). v.sights) (set views seat u)) (map (λ (v : View). v.stops) (set views seat u))
+    stops-carried = keep (λ (v : View). v.stops) (λ l. EndingsAndStopsStay w.processes w.stop (map (λ (v : View). v.bodies) (set views seat u)) (map (λ (v : View). v.sights) (set views seat u)) l) views seat v u me refl
+        (keep (λ (v : View). v.sights) (λ l. EndingsAndStopsStay w.processes w.stop (map (λ (v : View). v.bodies) (set views seat u)) l (map (λ (v : View). v.stops) views)) views seat v u me refl
+        (change (λ (v : View). v.bodies) (λ l. EndingsAndStopsStay w.processes w.stop l (map (λ (v : View). v.sights) views) (map (λ (v : View). v.stops) views)) views seat u stops-changed))
+
+    pub fits-carried : PageFits layout w.trans w.caches after (map (λ (v : View). (v.pages, v.bodies)) (set views seat u))
+    fits-carried = change (λ (v : View). (v.pages, v.bodies)) (PageFits layout w.trans w.caches after) views seat u (record {
+      at_home = λ i log at. elim (at_set homes slot i y (Some (Some log)) at) [
+        | inl t ↦ (x.home log t.1).1
+        | inr t ↦ h.fits.at_home i log t.1
+      ];
+      in_hand = each-set (λ (o : List PageLock × List Held). EachMember (λ (b : Held). page_locks_on b.log.page.0 o.0 ≡ 0 → Fits layout w.trans w.caches b.log) o.1) (map (λ (v : View). (v.pages, v.bodies)) views) seat (pages, bodies) x.fits h.fits.in_hand;
+      known = each-set (λ (o : List PageLock × List Held). EachMember (KnowsWords layout w.trans w.caches) o.0) (map (λ (v : View). (v.pages, v.bodies)) views) seat (pages, bodies) x.knows h.fits.known;
+      own = each-set (λ (o : List PageLock × List Held). EachMember (λ (b : Held). 0 < page_locks_on b.log.page.0 o.0 → KnowsOwn o.0 b) o.1) (map (λ (v : View). (v.pages, v.bodies)) views) seat (pages, bodies) x.own h.fits.own;
+    })
+
+    pub unpoisoned-carried : NothingPoisonedYet w.frames (map (λ (v : View). v.spoiled) (set views seat u)) after (map (λ (v : View). v.bodies) (set views seat u))
+    unpoisoned-carried = change (λ (v : View). v.bodies) (λ l. NothingPoisonedYet w.frames (map (λ (v : View). v.spoiled) (set views seat u)) after l) views seat u
+        (keep (λ (v : View). v.spoiled) (λ l. NothingPoisonedYet w.frames l after (set (all_bodies views) seat bodies)) views seat v u me refl (record {
+          sound = h.unpoisoned.sound;
+          unspoiled = h.unpoisoned.unspoiled;
+          no_failure = x.eachs (λ (log : Log). list_any (λ (e : Entry). is_failure e.what) log.entries ≡ false) h.unpoisoned.no_failure;
+        }))
+
+    pub commands-carried : CommandsOwn (set views seat u)
+    commands-carried = Kept.kept-commands views seat v u me (record { made = own.made; marks = own.marks; sights = own.sights; lengths = x.past; settings = own.settings; stops = own.stops }) h.commands
+      where
+        own : AreOwn v
+        own = h.commands.own seat v me
+
+  -- ---- a slot without a body, before and after
+
+  pub carry-none : (slot : ℕ) (was y : Option (Option Log)) (pages : List PageLock) → slice_get homes slot ≡ Some was → is_bodiless was ≡ true → is_bodiless y ≡ true
+      → EachMember (λ (b : Held). page_locks_on b.log.page.0 pages ≡ 0 → Fits layout w.trans w.caches b.log) v.bodies
+      → EachMember (KnowsWords layout w.trans w.caches) pages
+      → EachMember (λ (b : Held). 0 < page_locks_on b.log.page.0 pages → KnowsOwn pages b) v.bodies
+      → Carries layout w homes views seat v slot y pages v.bodies v.lengths
+  carry-none slot was y pages there empty still fits knows own = record {
+    sums = λ g. subst (λ (l : List (List Held)). sum_bodies g (set homes slot y) l ≡ sum_bodies g homes (all_bodies views)) (sym same) (bodies-sum homes slot was y there empty still g (all_bodies views));
+    eachs = λ P each. subst (λ (l : List (List Held)). EachBody P (set homes slot y) l) (sym same) (bodies-each homes slot was y there empty still P (all_bodies views) each);
+    home = λ log e. absurd (none-body log (ap is_bodiless (sym e) ∙ still));
+    reached = h.entries.lengths_reached seat v.lengths (at_map (λ (v : View). v.lengths) views seat v me);
+    before = h.endings.ended_before seat v.bodies my_bodies;
+    taken = h.endings.taken seat v.bodies my_bodies;
+    killed = h.stops.killed seat v.bodies my_bodies;
+    fits = fits;
+    knows = knows;
+    own = own;
+    past = (h.commands.own seat v me).lengths;
+  }
+    where
+      same : set (all_bodies views) seat v.bodies ≡ all_bodies views
+      same = set_again (all_bodies views) seat v.bodies my_bodies
+
+      none-body : (log : Log) → is_bodiless (Some (Some log)) ≡ true → ⊥
+      none-body log e = not-both false e refl
+
+  -- ---- a body that is taken
+
+  module _ (log : Log) (slot : ℕ) (inside : slice_get homes slot ≡ Some (Some (Some log))) (within : log.page.0 < length layout.pages) (frame : Option Frame) (stamp : Stamp) (past : IsPast v.parts stamp.who) where
+    abbrev body : Held
+    body = record { log = log; since = length log.entries; frame = frame; from = length v.sights; killed = [] }
+
+    abbrev seen : Length
+    seen = record { stamp = stamp; page = log.page; entries = length log.entries }
+
+    -- the page has no other body
+    alone : EachBody (λ (x : Log). from_bool (x.page.0 == log.page.0) ≡ 1 → x ≡ log) homes (all_bodies views)
+    alone = only-at-home (λ (x : Log). from_bool (x.page.0 == log.page.0)) homes (all_bodies views) slot log inside (one-body log.page.0 within) (ap from_bool (same-number log.page.0 log.page.0 refl))
+
+    reached-now : EachBody (λ (x : Log). x.page ≡ log.page → length log.entries ≤ length x.entries) homes (all_bodies views)
+    reached-now = record {
+      at_home = λ i x e page. longer x (alone.at_home i x e) page;
+      in_hand = λ i list at j b e page. longer b.log (alone.in_hand i list at j b e) page;
+    }
+      where
+        longer : (x : Log) → (from_bool (x.page.0 == log.page.0) ≡ 1 → x ≡ log) → x.page ≡ log.page → length log.entries ≤ length x.entries
+        longer x only page =
+            let same : x ≡ log = only (ap from_bool (same-number x.page.0 log.page.0 (ap (λ (p : Page). p.0) page))) in
+            subst (λ (y : Log). length log.entries ≤ length y.entries) (sym same) (omega arith)
+
+    pub carry-out : (pages : List PageLock)
+        → EachMember (λ (b : Held). page_locks_on b.log.page.0 pages ≡ 0 → Fits layout w.trans w.caches b.log) v.bodies
+        → EachMember (KnowsWords layout w.trans w.caches) pages
+        → EachMember (λ (b : Held). 0 < page_locks_on b.log.page.0 pages → KnowsOwn pages b) v.bodies
+        → (0 < page_locks_on log.page.0 pages → KnowsOwn pages body)
+        → Carries layout w homes views seat v slot None pages (v.bodies ++ body ∷ []) (v.lengths ++ seen ∷ [])
+    carry-out pages fits knows own own-new = record {
+      sums = sum-taken homes (all_bodies views) slot seat log v.bodies body inside my_bodies refl;
+      eachs = each-taken homes (all_bodies views) slot seat log v.bodies body inside my_bodies refl;
+      home = λ x e. absurd (none-some (Some x) e);
+      reached = each-push (λ (l : Length). EachBody (λ (x : Log). x.page ≡ l.page → l.entries ≤ length x.entries) homes (all_bodies views)) v.lengths seen reached-now
+          (h.entries.lengths_reached seat v.lengths (at_map (λ (v : View). v.lengths) views seat v me));
+      before = each-push (λ (b : Held). AreEnded layout w.processes (take b.since b.log.entries)) v.bodies body
+          (subst (AreEnded layout w.processes) (sym (take-length log.entries)) (h.endings.ended slot log inside)) (h.endings.ended_before seat v.bodies my_bodies);
+      taken = each-push (λ (b : Held). b.since ≤ length b.log.entries) v.bodies body (omega arith) (h.endings.taken seat v.bodies my_bodies);
+      killed = each-push (λ (b : Held). EachMember (λ (p : Proc). (x : ℕ) → slice_get w.processes p.0 ≡ Some x → x ≢ 0) b.killed) v.bodies body (λ i p e. absurd (none-some p e)) (h.stops.killed seat v.bodies my_bodies);
+      fits = each-push (λ (b : Held). page_locks_on b.log.page.0 pages ≡ 0 → Fits layout w.trans w.caches b.log) v.bodies body (λ none. h.fits.at_home slot log inside) fits;
+      knows = knows;
+      own = each-push (λ (b : Held). 0 < page_locks_on b.log.page.0 pages → KnowsOwn pages b) v.bodies body own-new own;
+      past = each-push (λ (l : Length). IsPast v.parts l.stamp.who) v.lengths seen past (h.commands.own seat v me).lengths;
+    }
+
+  -- ---- a body that goes home
+
+  module _ (log : Log) (place : ℕ) (body : Held) (there : slice_get v.bodies place ≡ Some body) (test : is_body_of log.page body ≡ true) (within : log.page.0 < length layout.pages) where
+    abbrev left : List Held
+    left = without (is_body_of log.page) v.bodies
+
+    -- the page's body is in hand once
+    pub once : sum_by (λ (b : Held). from_bool (is_body_of log.page b)) v.bodies ≡ 1
+    once =
+        let all : sum_bodies (λ (x : Log). from_bool (x.page.0 == log.page.0)) homes (all_bodies views) ≡ 1 = one-body log.page.0 within in
+        let mine : sum_by (λ (b : Held). from_bool (b.log.page.0 == log.page.0)) v.bodies ≤ sum_all (λ (b : Held). from_bool (b.log.page.0 == log.page.0)) (all_bodies views) =
+        term-le (sum_by (λ (b : Held). from_bool (b.log.page.0 == log.page.0))) (all_bodies views) seat v.bodies my_bodies in
+        let this : from_bool (body.log.page.0 == log.page.0) ≤ sum_by (λ (b : Held). from_bool (b.log.page.0 == log.page.0)) v.bodies = term-le (λ (b : Held). from_bool (b.log.page.0 == log.page.0)) v.bodies place body there in
+        omega (arith, ap from_bool test)
+
+    -- the bodies that are left are of other pages
+    pub another : EachMember (λ (b : Held). is_body_of log.page b ≡ false) left
+    another = others-unfound (is_body_of log.page) v.bodies once
+
+    pub carry-home : body.log ≡ log → (slot : ℕ) (pages : List PageLock) → slice_get homes slot ≡ Some None → AreEnded layout w.processes log.entries → Fits layout w.trans w.caches log
+        → EachMember (λ (b : Held). page_locks_on b.log.page.0 pages ≡ 0 → Fits layout w.trans w.caches b.log) left
+        → EachMember (KnowsWords layout w.trans w.caches) pages
+        → EachMember (λ (b : Held). 0 < page_locks_on b.log.page.0 pages → KnowsOwn pages b) left
+        → Carries layout w homes views seat v slot (Some (Some log)) pages left v.lengths
+    carry-home log_is slot pages out ended fit fits knows own = record {
+      sums = λ g.
+          let home : sum_by (of_home g) (set homes slot (Some (Some log))) + 0 ≡ sum_by (of_home g) homes + g log = sum-set (of_home g) homes slot None (Some (Some log)) out in
+          let hand : sum_all (λ (b : Held). g b.log) (set (all_bodies views) seat left) + sum_by (λ (b : Held). g b.log) v.bodies ≡ sum_all (λ (b : Held). g b.log) (all_bodies views) + sum_by (λ (b : Held). g b.log) left =
+          sum-set (sum_by (λ (b : Held). g b.log)) (all_bodies views) seat v.bodies left my_bodies in
+          let gone : sum_by (λ (b : Held). g b.log) left + g body.log ≡ sum_by (λ (b : Held). g b.log) v.bodies =
+          sum-without-one (is_body_of log.page) (λ (b : Held). g b.log) v.bodies place body once there test in
+          let same : g body.log ≡ g log = ap g log_is in
+          omega arith;
+      eachs = λ P each. record {
+        at_home = λ i x e. elim (at_set homes slot i (Some (Some log)) (Some (Some x)) e) [
+          | inl t ↦ subst P (log_is ∙ same_Some log x (same_Some (Some log) (Some x) t.1)) (each.in_hand seat v.bodies my_bodies place body there)
+          | inr t ↦ each.at_home i x t.1
+        ];
+        in_hand = each-set (EachMember (λ (b : Held). P b.log)) (all_bodies views) seat left (each-without (λ (b : Held). P b.log) (is_body_of log.page) v.bodies (each.in_hand seat v.bodies my_bodies)) each.in_hand;
+      };
+      home = λ x e. let same : log ≡ x = same_Some log x (same_Some (Some log) (Some x) e) in (subst (λ (y : Log). AreEnded layout w.processes y.entries) same ended, subst (Fits layout w.trans w.caches) same fit);
+      reached = h.entries.lengths_reached seat v.lengths (at_map (λ (v : View). v.lengths) views seat v me);
+      before = each-without (λ (b : Held). AreEnded layout w.processes (take b.since b.log.entries)) (is_body_of log.page) v.bodies (h.endings.ended_before seat v.bodies my_bodies);
+      taken = each-without (λ (b : Held). b.since ≤ length b.log.entries) (is_body_of log.page) v.bodies (h.endings.taken seat v.bodies my_bodies);
+      killed = each-without (λ (b : Held). EachMember (λ (p : Proc). (x : ℕ) → slice_get w.processes p.0 ≡ Some x → x ≢ 0) b.killed) (is_body_of log.page) v.bodies (h.stops.killed seat v.bodies my_bodies);
+      fits = fits;
+      knows = knows;
+      own = own;
+      past = (h.commands.own seat v me).lengths;
+    }
