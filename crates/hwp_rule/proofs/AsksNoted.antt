@@ -46,7 +46,7 @@ module _ (layout : Layout) (who : Who) (r : Rec) (v : View) where
   free-noted frame h = record { has = lock-noted frame h.has; room = h.room }
 
   name-noted : (page : Page) (frame : Frame) → CanName v page frame → CanName (noted r v) page frame
-  name-noted page frame h = record { has = lock-noted frame h.has; owned = h.owned; refs = h.refs }
+  name-noted page frame h = record { has = lock-noted frame h.has; owner_is = h.owner_is; refs = h.refs }
 
   change-noted : (page : Page) (old new : Option Frame) → CanChange layout v page old new → CanChange layout (noted r v) page old new
   change-noted page old new h = (λ frame is. free-noted frame (h.0 frame is), λ frame is. name-noted page frame (h.1 frame is))

@@ -17,6 +17,7 @@ pub mod Taking
 pub mod Unreached
 pub mod Slots
 pub mod Holders
+pub mod Having
 pub mod Adopting
 pub mod Refs
 pub mod FrameWord
@@ -29,5 +30,6 @@ pub mod LockFrame
 pub mod GoingHome
 pub mod frames
 pub mod pages
+pub mod Naming
 pub mod KeptTurns
 pub mod steps

@@ -1,11 +1,12 @@
--- References to a frame: what a view lists after more or fewer of them, and how many all views have.
-use Rattle.std.proofs.Common.{◌≡◌, ◌≢◌, ℕ, ◌+◌, ◌-◌, ◌<◌, ◌≤◌, ◌==◌, nat_le, Bool, true, false, cond, List, [], ◌∷◌, length, refl, sym, ap, ◌∙◌, arith}
-use Rattle.std.proofs.lemmas.Bool.{eqb-true, leb-true, leb-false}
+-- References to a frame: what a view lists after more or fewer of them, and after a word begins or stops to name a frame.
+use Rattle.std.proofs.Common.{◌≡◌, ◌≢◌, ℕ, ◌+◌, ◌-◌, ◌*◌, ◌<◌, ◌≤◌, ◌==◌, nat_le, Bool, true, false, cond, List, [], ◌∷◌, Option, Some, None, length, inl, inr, refl, sym, ap, ◌∙◌, subst, arith}
+use Rattle.std.proofs.lemmas.Bool.{eqb-true, ne_eqb, leb-true, leb-false}
 use Rattle.std.proofs.lemmas.List.Sums.{sum_by-cons}
+use Rattle.std.specs.Int.{from_bool}
 use Rattle.hwp_geom.specs.declared.Frame.{Frame}
 use Rattle.hwp_rule.specs.declared.view.Ref.{Ref}
-use Rattle.hwp_rule.specs.Views.{refs_on, with_refs, less_refs}
-use Rattle.hwp_rule.proofs.Lists.{same-number}
+use Rattle.hwp_rule.specs.Views.{refs_on, with_refs, less_refs, with_named, less_named}
+use Rattle.hwp_rule.proofs.Lists.{same-or, same-number}
 
 -- what one member says of a frame
 abbrev pub share : ℕ → Ref → ℕ
@@ -173,3 +174,105 @@ module _ (frame : Frame) where
 pub refs-none : (f : ℕ) (rs : List Ref) → length rs ≡ 0 → refs_on f rs ≡ 0
 refs-none f [] e = refl
 refs-none f (r ∷ rs) e = absurd (omega (arith, e))
+
+-- ---- names of frames
+
+-- 1 where the name is that of frame f
+abbrev pub hits : ℕ → Option Frame → ℕ
+hits f None = 0
+hits f (Some frame) = from_bool (frame.0 == f)
+
+hits-one : (f : ℕ) (name : Option Frame) → hits f name ≤ 1
+hits-one f None = omega arith
+hits-one f (Some frame) = which (frame.0 == f)
+  where
+    which : (b : Bool) → from_bool b ≤ 1
+    which true = omega arith
+    which false = omega arith
+
+refs-with-named : (f : ℕ) (name : Option Frame) (rs : List Ref) → refs_on f (with_named name rs) ≡ refs_on f rs + hits f name
+refs-with-named f None rs = omega arith
+refs-with-named f (Some frame) rs = elim (same-or f frame.0) [
+  | inl same ↦
+      let one : from_bool (frame.0 == f) ≡ 1 = ap from_bool (same-number frame.0 f (sym same)) in
+      let more : refs_on f (with_refs frame 1 rs) ≡ refs_on f rs + 1 = subst (λ (n : ℕ). refs_on n (with_refs frame 1 rs) ≡ refs_on n rs + 1) (sym same) (refs-with frame 1 rs) in
+      omega arith
+  | inr differs ↦
+      let none : from_bool (frame.0 == f) ≡ 0 = ap from_bool (ne_eqb frame.0 f (λ e. differs (sym e))) in
+      let as_many : refs_on f (with_refs frame 1 rs) ≡ refs_on f rs = refs-with-other frame 1 f rs differs in
+      omega arith
+]
+
+refs-less-named : (f : ℕ) (name : Option Frame) (rs : List Ref) → refs_on f (less_named name rs) ≡ refs_on f rs - hits f name
+refs-less-named f None rs = omega arith
+refs-less-named f (Some frame) rs = elim (same-or f frame.0) [
+  | inl same ↦
+      let one : from_bool (frame.0 == f) ≡ 1 = ap from_bool (same-number frame.0 f (sym same)) in
+      let fewer : refs_on f (less_refs frame 1 rs) ≡ refs_on f rs - 1 = subst (λ (n : ℕ). refs_on n (less_refs frame 1 rs) ≡ refs_on n rs - 1) (sym same) (refs-less frame 1 rs) in
+      omega arith
+  | inr differs ↦
+      let none : from_bool (frame.0 == f) ≡ 0 = ap from_bool (ne_eqb frame.0 f (λ e. differs (sym e))) in
+      let as_many : refs_on f (less_refs frame 1 rs) ≡ refs_on f rs = refs-less-other frame 1 f rs differs in
+      omega arith
+]
+
+length-less-named : (name : Option Frame) (rs : List Ref) → length (less_named name rs) ≤ length rs
+length-less-named None rs = omega arith
+length-less-named (Some frame) rs = length-less frame 1 rs
+
+-- the references after a word names the frame `new` in the place of `old`
+abbrev pub renamed : Option Frame → Option Frame → List Ref → List Ref
+renamed old new rs = with_named old (less_named new rs)
+
+-- of those to `new` one is spent, and one stays
+module _ (old new : Option Frame) (rs : List Ref) (spare : (frame : Frame) → new ≡ Some frame → 2 ≤ refs_on frame.0 rs) where
+  spare-hits : (f : ℕ) → hits f new * 2 ≤ refs_on f rs
+  spare-hits f = which new spare
+    where
+      which : (name : Option Frame) → ((frame : Frame) → name ≡ Some frame → 2 ≤ refs_on frame.0 rs) → hits f name * 2 ≤ refs_on f rs
+      which None spare = omega arith
+      which (Some frame) spare = elim (same-or frame.0 f) [
+        | inl same ↦
+            let one : from_bool (frame.0 == f) ≡ 1 = ap from_bool (same-number frame.0 f same) in
+            let two : 2 ≤ refs_on f rs = subst (λ (n : ℕ). 2 ≤ refs_on n rs) same (spare frame refl) in
+            omega arith
+        | inr differs ↦ let none : from_bool (frame.0 == f) ≡ 0 = ap from_bool (ne_eqb frame.0 f differs) in omega arith
+      ]
+
+  less : (f : ℕ) → refs_on f (renamed old new rs) ≡ refs_on f rs - hits f new + hits f old
+  less f =
+      let with_old : refs_on f (renamed old new rs) ≡ refs_on f (less_named new rs) + hits f old = refs-with-named f old (less_named new rs) in
+      let less_new : refs_on f (less_named new rs) ≡ refs_on f rs - hits f new = refs-less-named f new rs in
+      omega arith
+
+  pub refs-renamed : (f : ℕ) → refs_on f (renamed old new rs) + hits f new ≡ refs_on f rs + hits f old
+  refs-renamed f = omega (arith, less f, spare-hits f)
+
+  pub some-renamed : (f : ℕ) → 0 < refs_on f rs → 0 < refs_on f (renamed old new rs)
+  some-renamed f some = omega (arith, some, less f, spare-hits f)
+
+  -- no frame more is listed, where `old` was
+  pub length-renamed : ((frame : Frame) → old ≡ Some frame → 0 < refs_on frame.0 rs) → length (renamed old new rs) ≤ length rs
+  length-renamed listed = which old listed
+    where
+      which : (name : Option Frame) → ((frame : Frame) → name ≡ Some frame → 0 < refs_on frame.0 rs) → length (with_named name (less_named new rs)) ≤ length rs
+      which None listed = length-less-named new rs
+      which (Some frame) listed =
+          let still : 0 < refs_on frame.0 (less_named new rs) = omega (arith, listed frame refl, refs-less-named frame.0 new rs, spare-hits frame.0) in
+          let as_long : length (with_refs frame 1 (less_named new rs)) ≡ length (less_named new rs) = length-with-listed frame 1 (less_named new rs) still in
+          let no_longer : length (less_named new rs) ≤ length rs = length-less-named new rs in
+          omega arith
+
+  -- nor are there too many references, where one more to `old` had room
+  pub shares-renamed : (most : ℕ) → ((f : ℕ) → refs_on f rs ≤ most) → ((frame : Frame) → old ≡ Some frame → refs_on frame.0 rs + 1 ≤ most) → (f : ℕ) → refs_on f (renamed old new rs) ≤ most
+  shares-renamed most few room f = which old room (less f)
+    where
+      which : (name : Option Frame) → ((frame : Frame) → name ≡ Some frame → refs_on frame.0 rs + 1 ≤ most) → refs_on f (renamed old new rs) ≡ refs_on f rs - hits f new + hits f name → refs_on f (renamed old new rs) ≤ most
+      which None room is = omega (arith, few f, is)
+      which (Some frame) room is = elim (same-or frame.0 f) [
+        | inl same ↦
+            let one : from_bool (frame.0 == f) ≤ 1 = hits-one f (Some frame) in
+            let fits : refs_on f rs + 1 ≤ most = subst (λ (n : ℕ). refs_on n rs + 1 ≤ most) same (room frame refl) in
+            omega (arith, is)
+        | inr differs ↦ let none : from_bool (frame.0 == f) ≡ 0 = ap from_bool (ne_eqb frame.0 f differs) in omega (arith, few f, is)
+      ]

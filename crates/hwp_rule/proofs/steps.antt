@@ -8,3 +8,5 @@ pub mod Settings
 pub mod Reporting
 pub mod Owning
 pub mod SetOwner
+pub mod SetCache
+pub mod SetPte

@@ -175,7 +175,7 @@ pub record CanFree (layout : Layout) (v : View) (frame : Frame) : Type 0 where
 -- a frame that a word begins to name is locked and the page's, with a reference to spend and one that stays
 pub record CanName (v : View) (page : Page) (frame : Frame) : Type 0 where
   pub has : HasLock v frame
-  pub owned : has.lock.owner ≡ page.0 + 1
+  pub owner_is : has.lock.owner ≡ page.0 + 1
   pub refs : 2 ≤ refs_on frame.0 v.refs
 
 abbrev pub CanChange : Layout → View → Page → Option Frame → Option Frame → Type 0

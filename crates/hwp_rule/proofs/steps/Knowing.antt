@@ -43,7 +43,7 @@ module _ (layout : Layout) (w : Words) (homes : Homes) (views : List View) (seat
   abbrev fitting : List (List PageLock × List Held)
   fitting = map (λ (v : View). (v.pages, v.bodies)) views
 
-  locks-listed : PageLocksHeld w.pages (set pages seat listing.pages) (map (λ (v : View). v.locks) views)
+  pub locks-listed : PageLocksHeld w.pages (set pages seat listing.pages) (map (λ (v : View). v.locks) views)
   locks-listed = record {
     one = λ q word there.
         let total : sum_by (page_locks_on q) (set pages seat listing.pages) + page_locks_on q v.pages ≡ sum_by (page_locks_on q) pages + page_locks_on q listing.pages =
@@ -59,7 +59,7 @@ module _ (layout : Layout) (w : Words) (homes : Homes) (views : List View) (seat
     frames_twice = h.page_locks.frames_twice;
   }
 
-  caches-listed : CacheWordsOwned w.frames w.caches (set both seat (v.locks, listing.pages))
+  pub caches-listed : CacheWordsOwned w.frames w.caches (set both seat (v.locks, listing.pages))
   caches-listed = record {
     owned = h.caches.owned;
     named = λ f word q there owner. elim (h.caches.named f word q there owner) [
@@ -73,7 +73,7 @@ module _ (layout : Layout) (w : Words) (homes : Homes) (views : List View) (seat
   still-holding b (inl locked) = inl (subst (λ (n : ℕ). 0 < n) (sym (same-locks test to same v.pages b.log.page.0)) locked)
   still-holding b (inr some) = inr some
 
-  bodies-listed : BodiesAtHome layout w.frames w.caches w.pages homes (set holders seat (holder_of listing))
+  pub bodies-listed : BodiesAtHome layout w.frames w.caches w.pages homes (set holders seat (holder_of listing))
   bodies-listed = record {
     frame_home = h.bodies.frame_home;
     frame_out = h.bodies.frame_out;

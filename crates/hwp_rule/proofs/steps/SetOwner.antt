@@ -1,5 +1,5 @@
 -- A page that becomes the owner of a frame, or gives it up, keeps the frame rule.
-use Rattle.std.proofs.Common.{◌≡◌, ◌≢◌, ℕ, ◌+◌, ◌*◌, ◌^◌, ◌<◌, ◌≤◌, ◌==◌, bit_xor, eq-eqb, ne_eqb, Bool, true, false, cond, List, Some, map, set, length, slice_get, slice_index, inl, inr, refl, sym, ap, ◌∙◌, subst, arith}
+use Rattle.std.proofs.Common.{◌≡◌, ◌≢◌, ℕ, ◌+◌, ◌*◌, ◌^◌, ◌<◌, ◌≤◌, bit_xor, eq-eqb, ne_eqb, Bool, true, false, cond, List, Some, map, set, length, slice_get, slice_index, inl, inr, refl, sym, ap, ◌∙◌, subst, arith}
 use Rattle.std.specs.Int.{from_bool}
 use Rattle.std.specs.Int.Bits.{xor_zero_l, xor_zero_r}
 use Rattle.std.proofs.lemmas.Option.{same_Some}
@@ -14,17 +14,18 @@ use Rattle.hwp_rule.specs.declared.view.FrameLock.{FrameLock}
 use Rattle.hwp_rule.specs.declared.view.Held.{Held}
 use Rattle.hwp_rule.specs.declared.view.PageLock.{PageLock}
 use Rattle.hwp_rule.specs.declared.view.View.{View}
-use Rattle.hwp_rule.specs.Asks.{HasLock, HasPageLock, CanOwn, CanDisown}
+use Rattle.hwp_rule.specs.Asks.{HasLock, CanOwn, CanDisown}
 use Rattle.hwp_rule.specs.Lists.{Homes, EachMember}
 use Rattle.hwp_rule.specs.Rule.{FrameRule, holder_of}
-use Rattle.hwp_rule.specs.Views.{is_lock_of, locks_on, page_locks_on}
+use Rattle.hwp_rule.specs.Views.{is_lock_of, page_locks_on}
 use Rattle.hwp_rule.specs.Words.{Words}
 use Rattle.hwp_rule.specs.parts.Bodies.{IsHolding}
 use Rattle.hwp_rule.specs.parts.Fits.{KnowsWords}
 use Rattle.hwp_rule.specs.parts.Locks.{IsLocked}
 use Rattle.hwp_rule.specs.parts.Owners.{TranslationsOwned, CacheWordsOwned, NamesOwn, HoldsBoth}
 use Rattle.hwp_rule.proofs.Given.{Keeps}
-use Rattle.hwp_rule.proofs.Lists.{at_map, at_set, same-or, set_here, set_else, each-weaken, some-set, term-le}
+use Rattle.hwp_rule.proofs.Having.{lock-listed, page-listed}
+use Rattle.hwp_rule.proofs.Lists.{at_map, at_set, same-or, set_here, set_else, each-weaken, some-set}
 use Rattle.hwp_rule.proofs.steps.Loading.{word-there}
 use Rattle.hwp_rule.proofs.steps.Owning.{owning, same-locks, kept-owning}
 
@@ -55,19 +56,6 @@ module _ (layout : Layout) (w : Words) (homes : Homes) (views : List View) (seat
       let k : IsLocked w.frames v.refs l = h.frame_locks.known seat (v.refs, v.locks) (at_map (λ (v : View). (v.refs, v.locks)) views seat v me) i l at in
       let was : word ≡ k.word = same_Some word k.word (sym there ∙ ap (slice_get w.frames) (sym same) ∙ k.there) in
       (ap owner_of was ∙ k.owner, ap is_handled was ∙ k.handled)
-
-  lock-listed : (has : HasLock v frame) → 0 < locks_on frame.0 v.locks
-  lock-listed has =
-      let same : has.listed.1.frame.0 ≡ frame.0 = ap (λ (l : FrameLock). l.frame.0) has.listed.3 ∙ ap (λ (f : Frame). f.0) has.frame_is in
-      let one : from_bool (has.listed.1.frame.0 == frame.0) ≡ 1 = ap from_bool (eq-eqb has.listed.1.frame.0 frame.0 same) in
-      let more : from_bool (has.listed.1.frame.0 == frame.0) ≤ locks_on frame.0 v.locks = term-le (λ (l : FrameLock). from_bool (l.frame.0 == frame.0)) v.locks has.listed.0 has.listed.1 has.listed.2 in
-      omega arith
-
-  page-listed : (has : HasPageLock v page) → 0 < page_locks_on page.0 v.pages
-  page-listed has =
-      let one : from_bool (has.lock.page.0 == page.0) ≡ 1 = ap from_bool (eq-eqb has.lock.page.0 page.0 (ap (λ (p : Page). p.0) has.page_is)) in
-      let more : from_bool (has.lock.page.0 == page.0) ≤ page_locks_on page.0 v.pages = term-le (λ (l : PageLock). from_bool (l.page.0 == page.0)) v.pages 0 has.lock has.listed in
-      omega arith
 
   lock-facts : (has : HasLock v frame) → (owner_of word ≡ has.lock.owner) × (is_handled word ≡ has.lock.handled)
   lock-facts has =
@@ -139,7 +127,7 @@ module _ (layout : Layout) (w : Words) (homes : Homes) (views : List View) (seat
 
 pub keeps-owned : (frame : Frame) (page : Page) → Keeps (steps.SetOwner frame page true)
 keeps-owned frame page layout w homes views seat v who content given =
-    kept-owning layout w homes views seat v frame word now (page.0 + 1) me h there are (lock-listed layout w homes views seat v frame page word now (page.0 + 1) me h there can.has) unhandled
+    kept-owning layout w homes views seat v frame word now (page.0 + 1) me h there are (lock-listed v frame can.has) unhandled
     (translations-owning layout w homes views seat v frame page word now (page.0 + 1) me h there (λ s x t at declared owner names. no-owner t.page.0 owner))
     (caches-owning layout w homes views seat v frame page word now (page.0 + 1) me h there (λ q x at owner names. no-owner q owner) holds)
     (holding-owning layout w homes views seat v frame page word now (page.0 + 1) me h there (λ q owner. absurd (no-owner q owner)))
@@ -185,17 +173,17 @@ keeps-owned frame page layout w homes views seat v who content given =
         let named : owner_of now ≡ page.0 + 1 = are.owner in
         let same : page.0 ≡ q = omega (arith, named, owner) in
         record {
-          frame = subst (λ (n : ℕ). 0 < n) (sym (same-locks layout w homes views seat v frame word now (page.0 + 1) frame.0)) (lock-listed layout w homes views seat v frame page word now (page.0 + 1) me h there can.has);
-          page = subst (λ (n : ℕ). 0 < page_locks_on n v.pages) same (page-listed layout w homes views seat v frame page word now (page.0 + 1) me h there can.page_held.lock);
+          frame = subst (λ (n : ℕ). 0 < n) (sym (same-locks layout w homes views seat v frame word now (page.0 + 1) frame.0)) (lock-listed v frame can.has);
+          page = subst (λ (n : ℕ). 0 < page_locks_on n v.pages) same (page-listed v page can.page_held.lock);
         }
 
 pub keeps-disowned : (frame : Frame) (page : Page) → Keeps (steps.SetOwner frame page false)
 keeps-disowned frame page layout w homes views seat v who content given =
-    kept-owning layout w homes views seat v frame word now 0 me h there are (lock-listed layout w homes views seat v frame page word now 0 me h there can.has) unhandled
+    kept-owning layout w homes views seat v frame word now 0 me h there are (lock-listed v frame can.has) unhandled
     (translations-owning layout w homes views seat v frame page word now 0 me h there unmapped)
     (caches-owning layout w homes views seat v frame page word now 0 me h there uncached (λ q owner. absurd (omega (arith, owner, are.owner))))
     (holding-owning layout w homes views seat v frame page word now 0 me h there
-    (λ q owner. subst (λ (n : ℕ). 0 < page_locks_on n v.pages) (the-page q owner) (page-listed layout w homes views seat v frame page word now 0 me h there can.page_held.lock)))
+    (λ q owner. subst (λ (n : ℕ). 0 < page_locks_on n v.pages) (the-page q owner) (page-listed v page can.page_held.lock)))
   where
     word : ℕ
     word = slice_index w.frames frame.0
