@@ -1,4 +1,11 @@
+mod Carried
 mod Changing
 mod Firsts
+mod Handing
+mod Homes
+mod Kept
 mod Noting
+mod Openings
 mod PageSheets
+mod Served
+mod Stepped

@@ -19,7 +19,7 @@ use Rattle.hwp_rule.specs.Steps.{kind_of}
 use Rattle.hwp_rule.specs.Views.{locks_on, page_locks_on, frame_slot, shelf_slot}
 use Rattle.hwp_core.specs.Calls.{Slots, CanPutBack}
 use Rattle.hwp_plain.specs.declared.slot.Slot.{Slot}
-use Rattle.hwp_plain.specs.Sheets.{Sheet, view_of}
+use Rattle.hwp_plain.specs.Sheets.{Sheet, view_of, IsRoomy}
 use Rattle.hwp_plain.specs.Slots.{body_of, home_of}
 
 -- the layout, the words, slots and views, what is in each slot, at home or carried, the command whose steps follow,
@@ -52,7 +52,7 @@ pub record IsBoard (layout : Layout) (words : List ℕ) (slots : List Slot) (led
   pub cpus : length ledgers ≡ layout.cpus
   pub cpu : who.cpu.0 < layout.cpus
   pub own : (i : ℕ) (s : Sheet) → slice_get ledgers i ≡ Some s → IsLedger layout i s
-  pub roomy : ready ≡ true → (s : Sheet) → slice_get ledgers who.cpu.0 ≡ Some s → s.roomy ≡ true
+  pub roomy : ready ≡ true → (s : Sheet) → slice_get ledgers who.cpu.0 ≡ Some s → IsRoomy s
 
 -- what the processor of this number knows
 abbrev pub view_at : ℕ → State → View
