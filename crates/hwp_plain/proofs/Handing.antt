@@ -30,7 +30,7 @@ use Rattle.hwp_plain.proofs.Homes.{home-out}
 use Rattle.hwp_plain.proofs.Stepped.{page-word, carried-content}
 
 -- what is carried of a slot is carried by a lock of it
-carried-by : (b : Bool) (o : Option (Option Log)) (content : Option Log) → cond b o None ≡ Some content → b ≡ true
+pub carried-by : (b : Bool) (o : Option (Option Log)) (content : Option Log) → cond b o None ≡ Some content → b ≡ true
 carried-by true o content e = refl
 carried-by false o content e = absurd (none-some content e)
 

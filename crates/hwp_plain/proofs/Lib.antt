@@ -1,6 +1,7 @@
 mod Carried
 mod Changing
 mod Firsts
+mod Handed
 mod Handing
 mod Homes
 mod Kept
