@@ -10,3 +10,4 @@ mod Openings
 mod PageSheets
 mod Served
 mod Stepped
+mod Turning
