@@ -1,3 +1,4 @@
+mod Beginning
 mod Carried
 mod Changing
 mod Firsts

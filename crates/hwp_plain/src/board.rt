@@ -173,3 +173,5 @@ impl PlainBoard {
     }
 }
 
+#[cfg(test)]
+pub mod tests;

@@ -416,3 +416,5 @@ fn lock_found(frame: Frame, found: u64) -> FrameLock
     }
 }
 
+#[cfg(test)]
+pub mod tests;

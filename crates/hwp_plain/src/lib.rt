@@ -17,3 +17,5 @@ mod turns;
 
 pub use board::PlainBoard;
 
+#[cfg(test)]
+mod tests;

@@ -1,0 +1,86 @@
+-- A processor at opening can begin a task.
+use Rattle.std.proofs.Common.{◌≡◌, ℕ, zero, suc, ◌+◌, ◌<◌, ◌≤◌, Bool, None, List, Some, map, length, slice_get, get_or, refl, sym, ap, ◌∙◌, subst, arith}
+use Rattle.std.proofs.lemmas.Option.{none-some, same_Some, slice_get-get_or, get_or_from_slice_get}
+use Rattle.hwp_geom.specs.declared.Frame.{Frame}
+use Rattle.hwp_geom.specs.declared.Layout.{Layout}
+use Rattle.hwp_geom.specs.declared.Who.{Who}
+use Rattle.hwp_rule.specs.declared.FrameLock.{FrameLock}
+use Rattle.hwp_rule.specs.declared.Part.{Part}
+use Rattle.hwp_rule.specs.declared.View.{View}
+use Rattle.hwp_rule.specs.Asks.{CanUnlockFrame}
+use Rattle.hwp_rule.specs.Views.{refs_on, locks_on}
+use Rattle.hwp_rule.specs.Opening.{below, opening, opening_view}
+use Rattle.hwp_rule.proofs.Lists.{at_map}
+use Rattle.hwp_rule.proofs.Opening.{below-at}
+use Rattle.hwp_core.specs.Calls.{CanFreeFrame}
+use Rattle.hwp_core.specs.Pins as pins
+use Rattle.hwp_core.specs.Releases as releases
+use Rattle.hwp_core.specs.Takes.{Fits, begin}
+use Rattle.hwp_core.specs.Turns.{IsOnTurn}
+use Rattle.hwp_page.specs.History.{Held}
+use Rattle.hwp_plain.specs.Boards.{IsBoard, state_of, view_at, slots_of}
+use Rattle.hwp_plain.specs.Sheets.{Sheet, view_of}
+use Rattle.hwp_plain.proofs.Carried.{carries}
+use Rattle.hwp_plain.proofs.Kept.{read-there}
+
+pub view-open : (layout : Layout) (c : ℕ) → c < layout.cpus → view_at c (opening layout) ≡ opening_view c
+view-open layout c less = get_or_from_slice_get (map opening_view (below layout.cpus)) c (opening_view c) (opening_view c) (at_map opening_view (below layout.cpus) c c (below-at layout.cpus c less))
+
+later-open : (who : Who) (i : ℕ) (p : Part) → slice_get (opening_view who.cpu.0).parts i ≡ Some p → p.latest ≤ who.seq
+later-open who zero p e = let none : 0 ≡ p.latest = ap (λ (q : Part). q.latest) (same_Some (record { cpu = who.cpu; latest = 0 }) p e) in omega arith
+later-open who (suc i) p e = absurd (none-some p e)
+
+-- a frame can be taken
+pub take-fits : (layout : Layout) (who : Who) → Fits layout (opening_view who.cpu.0) (begin who)
+take-fits layout who = record {
+  on_turn = record {
+    turn = record { right = (0, who.cpu, refl, refl); part = (0, record { cpu = who.cpu; latest = 0 }, refl, (refl, omega arith)) };
+    later = λ i p e same. later-open who i p e;
+  };
+  at = (omega arith, omega arith);
+}
+
+-- a processor that has come to no later command may make steps of this one
+pub sheet-on-turn : (s : Sheet) (who : Who) → s.cpu ≡ who.cpu → s.latest ≤ who.seq → IsOnTurn (view_of s) who
+sheet-on-turn s who own past = record {
+  turn = record { right = (0, s.cpu, refl, own); part = (0, record { cpu = s.cpu; latest = s.latest }, refl, (own, past)) };
+  later = λ i p e same. later i p e;
+}
+  where
+    later : (i : ℕ) (p : Part) → slice_get (view_of s).parts i ≡ Some p → p.latest ≤ who.seq
+    later zero p e = subst (λ (q : Part). q.latest ≤ who.seq) (same_Some (record { cpu = s.cpu; latest = s.latest }) p e) past
+    later (suc i) p e = absurd (none-some p e)
+
+-- a lock of a frame without owner can be freed
+pub lock-freed : (layout : Layout) (who : Who) (s : Sheet) (locks : List FrameLock) (d : FrameLock) (frame : Frame) → locks ≡ s.locks → 0 < length locks
+    → (get_or locks 0 d).frame ≡ frame → (get_or locks 0 d).owner ≡ 0 → CanUnlockFrame layout who (view_of s) frame None
+lock-freed layout who s locks d frame same some frame-is unowned = record {
+  has = record { lock = get_or locks 0 d; listed = (0, get_or locks 0 d, ap (λ (l : List FrameLock). slice_get l 0) (sym same) ∙ slice_get-get_or locks 0 d some, refl); frame_is = frame-is };
+  named = sym unowned;
+  cached = λ l e. absurd (none-some l e);
+  put = tt;
+}
+
+module _ (layout : Layout) (words : List ℕ) (out : List Bool) (shelves : List Held) (ledgers : List Sheet) (at : Who) (ready : Bool) (kept : IsBoard layout words out shelves ledgers at ready)
+    (who : Who) (n : ℕ) (sheet : Sheet) (less : who.cpu.0 < layout.cpus) (n-is : n ≡ who.cpu.0) (value : sheet ≡ get_or ledgers n sheet) where
+  mine : view_at who.cpu.0 (state_of words out shelves ledgers) ≡ view_of sheet
+  mine = get_or_from_slice_get (map view_of ledgers) who.cpu.0 (view_of sheet) (opening_view who.cpu.0)
+      (at_map view_of ledgers who.cpu.0 sheet (read-there layout words out shelves ledgers at ready kept who.cpu.0 n sheet less n-is value))
+
+  pub can-free : (frame : Frame) → frame.0 < layout.frames → IsOnTurn (view_of sheet) who → CanUnlockFrame layout who (view_of sheet) frame None
+      → CanFreeFrame layout who frame (view_at who.cpu.0 (state_of words out shelves ledgers)) (slots_of (view_at who.cpu.0 (state_of words out shelves ledgers)))
+  can-free frame inside on can = subst (λ (v : View). CanFreeFrame layout who frame v (slots_of v)) (sym mine)
+      (record { content = None; carried = carries frame (view_of sheet) can.has; asks = record { turn = on.turn; place = inside; kind = can } })
+
+  pub can-release : (frame : Frame) (count : ℕ) → frame.0 < layout.frames → 0 < count → IsOnTurn (view_of sheet) who → count + locks_on frame.0 sheet.locks ≤ refs_on frame.0 sheet.refs
+      → releases.Fits layout (view_at who.cpu.0 (state_of words out shelves ledgers)) (releases.begin who frame count)
+  can-release frame count inside some on few = subst (λ (v : View). releases.Fits layout v (releases.begin who frame count)) (sym mine)
+      (record { on_turn = on; frame = inside; at = (some, few) })
+
+-- a reference to a frame can be taken
+pub pin-fits : (layout : Layout) (who : Who) (frame : Frame) → frame.0 < layout.frames → pins.Fits layout (opening_view who.cpu.0) (pins.begin who frame)
+pin-fits layout who frame inside = record {
+  on_turn = (take-fits layout who).on_turn;
+  frame = inside;
+  at = record { shares = omega arith; first = λ none. omega arith };
+}

@@ -1,0 +1,37 @@
+ghost use Rattle.std.specs.Prelude.{◌≡◌, ◌<◌, IsTrue};
+ghost use Rattle.hwp_core.specs.Calls.{CanFreeFrame};
+ghost use Rattle.hwp_core.specs.Releases.{Fits, begin};
+ghost use Rattle.hwp_plain.specs.Boards.{own_view, slots_of, view_at};
+
+use super::PlainBoard;
+use crate::ledger::tests::{has_lock, has_refs, is_on_turn};
+use hwp_geom::{Frame, Who};
+
+/// Whether the lock of the frame can be freed now.
+pub fn can_unlock(board: &PlainBoard, frame: Frame) -> bool
+    ensures { IsTrue result → CanFreeFrame board.now.layout board.now.who frame (own_view board.now) (slots_of (own_view board.now)) }
+{
+    if frame.0 >= board.layout.frames {
+        return false;
+    }
+    let ledger = &board.ledgers[usize::from(board.who.cpu.0)];
+    if !is_on_turn(ledger, board.who) {
+        return false;
+    }
+    has_lock(ledger, frame)
+}
+
+/// Whether the processor can give back so many references.
+pub fn can_release(board: &PlainBoard, who: Who, frame: Frame, count: u32) -> bool
+    requires { who.cpu.0 < board.now.layout.cpus }
+    ensures { IsTrue result → Fits board.now.layout (view_at who.cpu.0 board.now.state) (begin who frame count) }
+{
+    if count == 0 || frame.0 >= board.layout.frames {
+        return false;
+    }
+    let ledger = &board.ledgers[usize::from(who.cpu.0)];
+    if !is_on_turn(ledger, who) {
+        return false;
+    }
+    has_refs(ledger, frame, count)
+}

@@ -1,0 +1,40 @@
+ghost use Rattle.std.specs.Prelude.{◌≡◌, ℕ, ◌+◌, ◌<◌, ◌≤◌, None, IsTrue};
+ghost use Rattle.hwp_geom.specs.declared.Layout.{Layout as LayoutOf};
+ghost use Rattle.hwp_geom.specs.declared.Who.{Who as WhoOf};
+ghost use Rattle.hwp_rule.specs.Asks.{CanUnlockFrame, HasRoom};
+ghost use Rattle.hwp_rule.specs.Views.{refs_on, locks_on};
+ghost use Rattle.hwp_core.specs.Turns.{IsOnTurn};
+ghost use Rattle.hwp_plain.specs.Sheets.{view_of};
+
+use super::Ledger;
+use hwp_geom::{Frame, Who};
+
+/// Whether the processor may make steps of the command.
+pub fn is_on_turn(ledger: &Ledger, who: Who) -> bool
+    ensures { IsTrue result → IsOnTurn (view_of ledger.now) who }
+{
+    if ledger.latest > who.seq {
+        return false;
+    }
+    ledger.cpu.0 == who.cpu.0
+}
+
+/// Whether it has the lock of the frame alone, of which no page is the owner.
+pub fn has_lock(ledger: &Ledger, frame: Frame) -> bool
+    ensures { IsTrue result → (layout : LayoutOf) (who : WhoOf) → CanUnlockFrame layout who (view_of ledger.now) frame None }
+{
+    match ledger.locks.as_slice() {
+        [lock] => lock.frame == frame && lock.owner == 0,
+        _ => false,
+    }
+}
+
+/// Whether it has so many references to the frame alone, and no lock.
+pub fn has_refs(ledger: &Ledger, frame: Frame, count: u32) -> bool
+    ensures { IsTrue result → count + locks_on frame.0 ledger.now.locks ≤ refs_on frame.0 ledger.now.refs }
+{
+    match ledger.refs.as_slice() {
+        [refs] => refs.frame == frame && count <= refs.count && ledger.locks.is_empty(),
+        _ => false,
+    }
+}
