@@ -185,6 +185,23 @@ pub pages-fewer : (page : Page) (v : View) → HasPageLock v page → (q : ℕ) 
 pages-fewer page v has q = sum-without (λ (l : PageLock). from_bool (l.page.0 == q)) (is_page_lock_of page) (from_bool (page.0 == q)) v.pages 0 has.lock has.listed
     (same-number has.lock.page.0 page.0 (ap (λ (p : Page). p.0) has.page_is)) (λ l is. ap (λ (n : ℕ). from_bool (n == q)) (eqb-true l.page.0 page.0 is))
 
+-- the slot of a lock that is listed is carried
+pub carries : (frames : ℕ) (contents : List (Option Log)) (v : View) (frame : Frame) (content : Option Log) → HasLock v frame → frame.0 < frames → slice_get contents frame.0 ≡ Some content
+    → slots_of frames contents v frame.0 ≡ Some content
+carries frames contents v frame content has less there =
+    let here : from_bool (has.lock.frame.0 == frame.0) ≡ 1 = ap from_bool (same-number has.lock.frame.0 frame.0 (ap (λ (f : Frame). f.0) has.frame_is)) in
+    let some : from_bool (has.lock.frame.0 == frame.0) ≤ locks_on frame.0 v.locks =
+    term-le (λ (l : FrameLock). from_bool (l.frame.0 == frame.0)) v.locks has.listed.0 has.lock (has.listed.2 ∙ ap Some has.listed.3) in
+    chosen (has_slot frames v frame.0) (slice_get contents frame.0) None (has-frame frames v frame.0 less (omega (arith, here, some))) ∙ there
+
+-- the same for a page
+pub carries-shelf : (frames : ℕ) (contents : List (Option Log)) (v : View) (page : Page) (content : Option Log) → HasPageLock v page → slice_get contents (frames + page.0) ≡ Some content
+    → slots_of frames contents v (frames + page.0) ≡ Some content
+carries-shelf frames contents v page content has there =
+    let here : from_bool (has.lock.page.0 == page.0) ≡ 1 = ap from_bool (same-number has.lock.page.0 page.0 (ap (λ (p : Page). p.0) has.page_is)) in
+    let some : from_bool (has.lock.page.0 == page.0) ≤ page_locks_on page.0 v.pages = term-le (λ (l : PageLock). from_bool (l.page.0 == page.0)) v.pages 0 has.lock has.listed in
+    chosen (has_slot frames v (frames + page.0)) (slice_get contents (frames + page.0)) None (has-page frames v page.0 (omega (arith, here, some))) ∙ there
+
 lock-page : (layout : Layout) (page : Page) (content : Option Log) (body : Option Held) → (lock_of_page layout page content body).page ≡ page
 lock-page layout page content None = refl
 lock-page layout page content (Some body) = refl
