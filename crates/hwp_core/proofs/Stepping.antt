@@ -1,8 +1,8 @@
 -- What one step of a task leaves and shows: the processor keeps its turn, and the words are those of a board that keeps the
 -- frame rule.
-use Rattle.std.proofs.Common.{◌≡◌, ℕ, ◌+◌, ◌*◌, ◌/◌, ◌%◌, ◌^◌, ◌<◌, ◌≤◌, ◌==◌, Bool, true, false, cond, Option, Some, None, map, length, drop, min, slice_get, slice_index, ◌⊎◌, inl, inr, refl, sym, ap, ◌∙◌, subst, arith, w64}
+use Rattle.std.proofs.Common.{◌≡◌, ◌≢◌, ℕ, ◌+◌, ◌*◌, ◌/◌, ◌%◌, ◌^◌, ◌<◌, ◌≤◌, ◌==◌, Bool, true, false, cond, Option, Some, None, is_none, unwrap_or, map, length, drop, min, slice_get, slice_index, ◌⊎◌, inl, inr, refl, sym, ap, ◌∙◌, subst, arith, w64}
 use Rattle.std.specs.Int.{trailing_zeros}
-use Rattle.std.proofs.lemmas.Bool.{cases_lt, both_ways}
+use Rattle.std.proofs.lemmas.Bool.{cases_lt, both_ways, ne_eqb}
 use Rattle.std.proofs.lemmas.List.{length-take}
 use Rattle.std.proofs.lemmas.Nat.Bits.{bit_at-trailing_zeros}
 use Rattle.std.proofs.lemmas.Option.{slice_get-get_or, same_Some}
@@ -28,14 +28,14 @@ use Rattle.hwp_rule.specs.parts.Bodies.{IsAtHome, content_name}
 use Rattle.hwp_rule.specs.parts.Places.{in_hand, IsBare}
 use Rattle.hwp_rule.specs.Words.{words_of, segment, index, size, free_words}
 use Rattle.hwp_rule.proofs.Hands.{in_hand-mine}
-use Rattle.hwp_rule.proofs.Lists.{at_map}
+use Rattle.hwp_rule.proofs.Lists.{at_map, same-number}
 use Rattle.hwp_rule.proofs.Split.{words-read}
 use Rattle.hwp_rule.proofs.KeptTurns.{turn-after, none-later-after}
 use Rattle.hwp_core.specs.declared.turn.Turn.{Turn}
 use Rattle.hwp_core.specs.declared.turn.Tried.{Tried}
 use Rattle.hwp_core.specs.declared.turn.Tried.TheVariants as tries
-use Rattle.hwp_core.specs.Calls.{Slots, Steps, IsTried, IsLater}
-use Rattle.hwp_core.specs.Turns.{Advances, IsOnTurn, by_try}
+use Rattle.hwp_core.specs.Calls.{Slots, Steps, IsTried, IsLater, with_slot}
+use Rattle.hwp_core.specs.Turns.{Advances, StepTaken, IsOnTurn, by_try}
 
 -- a step of the processor leaves it its turn
 pub on-turn-after : (layout : Layout) (who : Who) (step : Step) (old new : View) (was now : Slots) (moves : Rec → Option Log → Type 0) (found : ℕ)
@@ -70,7 +70,7 @@ steps-on {found} on made = record {
 }
 
 -- the frame word that a step met, among the words of the board
-frame-word : (layout : Layout) (s : State) → Holds layout s → (frame : Frame) (found : ℕ) → frame.0 < layout.frames
+pub frame-word : (layout : Layout) (s : State) → Holds layout s → (frame : Frame) (found : ℕ) → frame.0 < layout.frames
     → found ≡ slice_index s.words (index layout (places.Frame frame)) → slice_get (words_of layout s.words).frames frame.0 ≡ Some found
 frame-word layout s h frame found inside met =
     slice_get-get_or (words_of layout s.words).frames frame.0 0 within ∙ ap (λ (n : ℕ). Some n) (words-read layout s.words (places.Frame frame) inside ∙ sym met)
@@ -136,13 +136,47 @@ hand-empty layout s h seat view frame content found me has inside met slot =
     home : IsAtHome s.homes frame.0 (owner_of found)
     home = h.rule.bodies.frame_home frame.0 found there bare.unlocked
 
+-- a turn made the planned step, with local work on carried slots before it and after
+pub advanced-around : {S : Type 0} {layout : Layout} {who : Who} {step : Step} {old new : View} {before carried : Slots} {moves : Rec → Option Log → Type 0} {after : S} {result : Turn} {found : ℕ}
+    (was now : Slots) (next : ℕ → Slots → Slots → S → Type 0) (answer : ℕ → Turn) (stays : Type 0) (start : S) (plan : Option Step) → plan ≡ Some step → Steps layout who step old new before carried moves found → next found was now after → result ≡ answer found
+    → Advances layout who plan next answer old new was now moves stays start after result
+advanced-around {S} {layout} {who} {step} {old} {new} {before} {carried} {moves} {after} {result} {found} was now next answer stays start plan is made then told =
+    subst (λ (p : Option Step). Advances layout who p next answer old new was now moves stays start after result) (sym is)
+    (record { found = found; before = before; carried = carried; steps = made; next_is = then; answered = told })
+
 -- a turn made the planned step
 pub advanced : {S : Type 0} {layout : Layout} {who : Who} {step : Step} {old new : View} {was now : Slots} {moves : Rec → Option Log → Type 0} {after : S} {result : Turn} {found : ℕ}
     (next : ℕ → Slots → Slots → S → Type 0) (answer : ℕ → Turn) (stays : Type 0) (before : S) (plan : Option Step) → plan ≡ Some step → Steps layout who step old new was now moves found → next found was now after → result ≡ answer found
     → Advances layout who plan next answer old new was now moves stays before after result
 advanced {S} {layout} {who} {step} {old} {new} {was} {now} {moves} {after} {result} {found} next answer stays before plan is made then told =
-    subst (λ (p : Option Step). Advances layout who p next answer old new was now moves stays before after result) (sym is)
-    (record { found = found; before = was; carried = now; steps = made; next_is = then; answered = told })
+    advanced-around was now next answer stays before plan is made then told
+
+-- a turn of a task that isn't over made a step
+pub step-taken : {S : Type 0} {layout : Layout} {who : Who} {old new : View} {was now : Slots} {moves : Rec → Option Log → Type 0} {after : S} {result : Turn}
+    (next : ℕ → Slots → Slots → S → Type 0) (answer : ℕ → Turn) (stays : Type 0) (before : S) (plan : Option Step) (other : Step) → is_none plan ≡ false
+    → Advances layout who plan next answer old new was now moves stays before after result → StepTaken layout who (unwrap_or plan other) next answer old new was now moves after result
+step-taken next answer stays before None other going turn = absurd (both_ways true going refl)
+step-taken next answer stays before (Some step) other going turn = turn
+
+-- the turn of a part of a task is the task's turn
+pub passed-on : {S T : Type 0} {layout : Layout} {own : Who} {step : Step} {old new : View} {was now : Slots} {moves : Rec → Option Log → Type 0} {part : S} {result : Turn}
+    {next : ℕ → Slots → Slots → S → Type 0} {answer : ℕ → Turn}
+    (who : Who) (next_whole : ℕ → Slots → Slots → T → Type 0) (answer_whole : ℕ → Turn) (stays : Type 0) (before after : T) (plan : Option Step) → plan ≡ Some step → own ≡ who → (taken : StepTaken layout own step next answer old new was now moves part result)
+    → next_whole taken.found was now after → answer taken.found ≡ answer_whole taken.found → Advances layout who plan next_whole answer_whole old new was now moves stays before after result
+passed-on {S} {T} {layout} {own} {step} {old} {new} {was} {now} {moves} {part} {result} who next_whole answer_whole stays before after plan is same taken then told =
+    advanced-around was now next_whole answer_whole stays before plan is (subst (λ (w : Who). Steps layout w step old new taken.before taken.carried moves taken.found) same taken.steps) then (taken.answered ∙ told)
+
+-- a step whose processor does local work afterwards, which changes nothing that it knows
+pub step-seen : {layout : Layout} {who : Who} {step : Step} {old new later : View} {was now : Slots} {moves : Rec → Option Log → Type 0} {found : ℕ}
+    → later ≡ new → Steps layout who step old new was now moves found → Steps layout who step old later was now moves found
+step-seen {layout} {who} {step} {old} {new} {later} {was} {now} {moves} {found} same made = subst (λ (v : View). Steps layout who step old v was now moves found) (sym same) made
+
+-- what is carried of a slot after a change of it, and of another
+pub slot-here : (slot : ℕ) (content : Option (Option Log)) (slots : Slots) → with_slot slot content slots slot ≡ content
+slot-here slot content slots = ap (λ (b : Bool). cond b content (slots slot)) (same-number slot slot refl)
+
+pub slot-else : (slot other : ℕ) (content : Option (Option Log)) (slots : Slots) → other ≢ slot → with_slot slot content slots other ≡ slots other
+slot-else slot other content slots differs = ap (λ (b : Bool). cond b content (slots other)) (ne_eqb other slot differs)
 
 -- no step shows a frame word with poison
 pub no-poison : {layout : Layout} {who : Who} {step : Step} {old new : View} {was now : Slots} {moves : Rec → Option Log → Type 0} {found : ℕ}
@@ -160,3 +194,12 @@ pub tried-way : {T A : Type 0} {layout : Layout} {who : Who} {step : Step} {old 
 tried-way {T} {A} {layout} {who} {step} {old} {new} {was} {now} {moves} {found} got other made (tries.Got x) tried = sym (ap (λ (b : Bool). cond b got (other found)) tried)
 tried-way {T} {A} {layout} {who} {step} {old} {new} {was} {now} {moves} {found} got other made (tries.Busy word) tried = ap other tried.1.1 ∙ sym (ap (λ (b : Bool). cond b got (other found)) tried.0)
 tried-way {T} {A} {layout} {who} {step} {old} {new} {was} {now} {moves} {found} got other made (tries.Changed word) tried = ap other tried.1.1 ∙ sym (ap (λ (b : Bool). cond b got (other found)) tried.0)
+
+-- a step that didn't go through, and the word that it found
+pub not-taken : {T : Type 0} (step : Step) (found word : ℕ) (result : Tried T) → (result ≡ tries.Busy word) ⊎ (result ≡ tries.Changed word) → IsTried step found result → (goes step found ≡ false) × (word ≡ found)
+not-taken step found word result (inl busy) tried = let is = subst (λ t. IsTried step found t) busy tried in (is.0, is.1.1)
+not-taken step found word result (inr other) tried = let is = subst (λ t. IsTried step found t) other tried in (is.0, is.1.1)
+
+-- the command that the steps are of, after `at` named it
+pub named-who : {who_at : Who} {cpu : Cpu} (who : Who) → who_at ≡ record { cpu = cpu; seq = who.seq } → cpu ≡ who.cpu → who_at ≡ who
+named-who who is own = is ∙ ap (λ (c : Cpu). record { cpu = c; seq = who.seq }) own

@@ -3,3 +3,5 @@ pub mod Turns
 pub mod Pins
 pub mod Releases
 pub mod Takes
+pub mod Holds
+pub mod Unholds

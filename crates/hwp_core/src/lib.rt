@@ -3,6 +3,7 @@
 #![tactic(auto)]
 
 mod board;
+mod hold;
 mod home;
 mod ops;
 mod pin;
@@ -10,8 +11,10 @@ mod release;
 mod take;
 mod task;
 mod turn;
+mod unhold;
 
 pub use board::Board;
+pub use hold::Hold;
 pub use home::Home;
 pub use ops::Ops;
 pub use pin::{Pin, PinAnswer};
@@ -19,3 +22,4 @@ pub use release::{Release, ReleaseAnswer};
 pub use take::{Take, TakeAnswer};
 pub use task::Task;
 pub use turn::{Tried, Turn};
+pub use unhold::{Unhold, UnholdAnswer};

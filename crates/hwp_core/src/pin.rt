@@ -58,6 +58,13 @@ impl Pin {
         }
     }
 
+    /// The frame.
+    pub(crate) fn frame(&self) -> Frame
+        ensures { result ≡ self.now.frame }
+    {
+        self.frame
+    }
+
     fn at_word(word: u64) -> PinAt
         ensures { result ≡ at_word word }
     {
