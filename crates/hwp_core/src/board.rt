@@ -31,7 +31,7 @@ pub trait Board {
         requires fits { T.fits (machine self.old) (view self.old cpu.0) (slots self.old cpu.0) task.old }
         ensures fits { T.fits (machine self.new) (view self.new cpu.0) (slots self.new cpu.0) task.new }
         ensures same { (machine self.new ≡ machine self.old) × (T.who task.new ≡ T.who task.old) }
-        ensures others { (c : ℕ) → c ≢ cpu.0 → view self.new c ≡ view self.old c }
+        ensures others { (c : ℕ) → c ≢ cpu.0 → (view self.new c ≡ view self.old c) × (slots self.new c ≡ slots self.old c) }
         ensures rule { Holds (machine self.new) (state self.new) }
         ensures turn { MakesTurn (machine self.old) cpu.0 (T.who task.old) (T.plan task.old) (λ found was now after. T.next (machine self.old) task.old found was now after) (λ found. T.answer task.old found) (view self.old cpu.0) (view self.new cpu.0) (slots self.old cpu.0) (slots self.new cpu.0) (state self.old) (state self.new) task.old task.new result };
 }

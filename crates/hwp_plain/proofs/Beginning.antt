@@ -17,8 +17,9 @@ use Rattle.hwp_core.specs.Pins as pins
 use Rattle.hwp_core.specs.Releases as releases
 use Rattle.hwp_core.specs.Takes.{Fits, begin}
 use Rattle.hwp_core.specs.Turns.{IsOnTurn}
-use Rattle.hwp_page.specs.History.{Held}
+use Rattle.hwp_plain.specs.declared.slot.Slot.{Slot}
 use Rattle.hwp_plain.specs.Boards.{IsBoard, state_of, view_at, slots_of}
+use Rattle.hwp_plain.specs.Slots.{content_of}
 use Rattle.hwp_plain.specs.Sheets.{Sheet, view_of}
 use Rattle.hwp_plain.proofs.Carried.{carries}
 use Rattle.hwp_plain.proofs.Kept.{read-there}
@@ -57,30 +58,30 @@ pub lock-freed : (layout : Layout) (who : Who) (s : Sheet) (locks : List FrameLo
 lock-freed layout who s locks d frame same some frame-is unowned = record {
   has = record { lock = get_or locks 0 d; listed = (0, get_or locks 0 d, ap (λ (l : List FrameLock). slice_get l 0) (sym same) ∙ slice_get-get_or locks 0 d some, refl); frame_is = frame-is };
   named = sym unowned;
-  cached = λ l e. absurd (none-some l e);
+  cached = λ l e owned. absurd (omega (arith, owned, unowned));
   put = tt;
 }
 
-module _ (layout : Layout) (words : List ℕ) (out : List Bool) (shelves : List Held) (ledgers : List Sheet) (at : Who) (ready : Bool) (kept : IsBoard layout words out shelves ledgers at ready)
+module _ (layout : Layout) (words : List ℕ) (slots : List Slot) (ledgers : List Sheet) (at : Who) (ready : Bool) (kept : IsBoard layout words slots ledgers at ready)
     (who : Who) (n : ℕ) (sheet : Sheet) (less : who.cpu.0 < layout.cpus) (n-is : n ≡ who.cpu.0) (value : sheet ≡ get_or ledgers n sheet) where
-  mine : view_at who.cpu.0 (state_of words out shelves ledgers) ≡ view_of sheet
+  mine : view_at who.cpu.0 (state_of words slots ledgers) ≡ view_of sheet
   mine = get_or_from_slice_get (map view_of ledgers) who.cpu.0 (view_of sheet) (opening_view who.cpu.0)
-      (at_map view_of ledgers who.cpu.0 sheet (read-there layout words out shelves ledgers at ready kept who.cpu.0 n sheet less n-is value))
+      (at_map view_of ledgers who.cpu.0 sheet (read-there layout words slots ledgers at ready kept who.cpu.0 n sheet less n-is value))
 
-  pub can-free : (frame : Frame) → frame.0 < layout.frames → IsOnTurn (view_of sheet) who → CanUnlockFrame layout who (view_of sheet) frame None
-      → CanFreeFrame layout who frame (view_at who.cpu.0 (state_of words out shelves ledgers)) (slots_of (view_at who.cpu.0 (state_of words out shelves ledgers)))
-  can-free frame inside on can = subst (λ (v : View). CanFreeFrame layout who frame v (slots_of v)) (sym mine)
-      (record { content = None; carried = carries frame (view_of sheet) can.has; asks = record { turn = on.turn; place = inside; kind = can } })
+  pub can-free : (frame : Frame) → frame.0 < layout.frames → slice_get (map content_of slots) frame.0 ≡ Some None → IsOnTurn (view_of sheet) who → CanUnlockFrame layout who (view_of sheet) frame None
+      → CanFreeFrame layout who frame (view_at who.cpu.0 (state_of words slots ledgers)) (slots_of layout.frames (map content_of slots) (view_at who.cpu.0 (state_of words slots ledgers)))
+  can-free frame inside there on can = subst (λ (v : View). CanFreeFrame layout who frame v (slots_of layout.frames (map content_of slots) v)) (sym mine)
+      (record { content = None; carried = carries layout.frames (map content_of slots) (view_of sheet) frame None can.has inside there; asks = record { turn = on.turn; place = inside; kind = can } })
 
   pub can-release : (frame : Frame) (count : ℕ) → frame.0 < layout.frames → 0 < count → IsOnTurn (view_of sheet) who → count + locks_on frame.0 sheet.locks ≤ refs_on frame.0 sheet.refs
-      → releases.Fits layout (view_at who.cpu.0 (state_of words out shelves ledgers)) (releases.begin who frame count)
+      → releases.Fits layout (view_at who.cpu.0 (state_of words slots ledgers)) (releases.begin who frame count)
   can-release frame count inside some on few = subst (λ (v : View). releases.Fits layout v (releases.begin who frame count)) (sym mine)
       (record { on_turn = on; frame = inside; at = (some, few) })
 
-  pub can-take : IsOnTurn (view_of sheet) who → HasRoom (view_of sheet) → length sheet.locks < 2 → Fits layout (view_at who.cpu.0 (state_of words out shelves ledgers)) (begin who)
+  pub can-take : IsOnTurn (view_of sheet) who → HasRoom (view_of sheet) → length sheet.locks < 2 → Fits layout (view_at who.cpu.0 (state_of words slots ledgers)) (begin who)
   can-take on room few = subst (λ (v : View). Fits layout v (begin who)) (sym mine) (record { on_turn = on; at = (room, few) })
 
   pub can-pin : (frame : Frame) → frame.0 < layout.frames → IsOnTurn (view_of sheet) who → HasRoom (view_of sheet) → refs_on frame.0 sheet.refs ≤ 1
-      → pins.Fits layout (view_at who.cpu.0 (state_of words out shelves ledgers)) (pins.begin who frame)
+      → pins.Fits layout (view_at who.cpu.0 (state_of words slots ledgers)) (pins.begin who frame)
   can-pin frame inside on room few = subst (λ (v : View). pins.Fits layout v (pins.begin who frame)) (sym mine)
       (record { on_turn = on; frame = inside; at = record { shares = omega (arith, few); first = λ _. room } })

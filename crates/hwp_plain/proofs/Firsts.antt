@@ -1,12 +1,14 @@
 -- Lists that change at the first member that a test finds.
-use Rattle.std.proofs.Common.{◌≡◌, ℕ, zero, suc, ◌+◌, ◌-◌, ◌<◌, ◌≤◌, ◌==◌, nat_le, nat_lt, ltb-true, ltb-false, le-leb, Bool, true, false, not, cond, List, [], ◌∷◌, ◌++◌, Some, None, length, set, get_or, refl, sym, ap, ◌∙◌, subst, arith}
+use Rattle.std.proofs.Common.{◌≡◌, inl, inr, ℕ, zero, suc, ◌+◌, ◌-◌, ◌<◌, ◌≤◌, ◌==◌, nat_le, nat_lt, ltb-true, ltb-false, le-leb, Bool, true, false, not, cond, List, [], ◌∷◌, ◌++◌, Some, None, map, length, set, get_or, refl, sym, ap, ◌∙◌, subst, arith}
 use Rattle.std.proofs.lemmas.Option.{none-some, same_Some}
 use Rattle.std.proofs.lemmas.Bool.{lt-leb}
 use Rattle.std.proofs.lemmas.List.Sums.{sum_by-cons}
-use Rattle.std.specs.List.{position, position_or_len, remove}
+use Rattle.std.specs.List.{find, position, position_or_len, remove}
 use Rattle.hwp_geom.specs.declared.Frame.{Frame}
 use Rattle.hwp_rule.specs.declared.Ref.{Ref}
 use Rattle.hwp_rule.specs.Views.{without, with_refs, less_refs, refs_on}
+use Rattle.hwp_rule.proofs.Lists.{same-or}
+use Rattle.hwp_rule.proofs.Refs.{refs-less, refs-less-other}
 use Rattle.hwp_plain.specs.Sheets.{is_ref_to}
 
 module _ {A : Type 0} (test : A → Bool) where
@@ -120,3 +122,30 @@ module _ (frame : Frame) where
   pub less-none : (n : ℕ) (rs : List Ref) → FindsNone (is_ref_to frame) rs → rs ≡ less_refs frame n rs
   less-none n [] none = refl
   less-none n (x ∷ xs) none = ap (λ (l : List Ref). x ∷ l) (less-none n xs none.1) ∙ sym (less-past n x xs none.0)
+
+-- the first member, seen through a function
+module _ {A B : Type 0} (f : A → B) (test : B → Bool) where
+  pub find-first : (xs : List A) (i : ℕ) (x : A) → IsFirst (λ (a : A). test (f a)) xs i → x ≡ get_or xs i x → find test (map f xs) ≡ Some (f x)
+  find-first [] i x is at = absurd is
+  find-first (y ∷ ys) zero x is at = ap (λ (b : Bool). cond b (Some (f y)) (find test (map f ys))) is ∙ ap (λ (a : A). Some (f a)) (sym at)
+  find-first (y ∷ ys) (suc i) x is at = ap (λ (b : Bool). cond b (Some (f y)) (find test (map f ys))) is.0 ∙ find-first ys i x is.1 at
+
+  pub find-none : (xs : List A) → FindsNone (λ (a : A). test (f a)) xs → find test (map f xs) ≡ None
+  find-none [] none = refl
+  find-none (y ∷ ys) none = ap (λ (b : Bool). cond b (Some (f y)) (find test (map f ys))) none.0 ∙ find-none ys none.1
+
+  pub without-first-of : (xs : List A) (i : ℕ) → IsFirst (λ (a : A). test (f a)) xs i → map f (remove xs i) ≡ without test (map f xs)
+  without-first-of [] i is = absurd is
+  without-first-of (x ∷ xs) zero is = ap (λ (b : Bool). cond b (map f xs) (f x ∷ without test (map f xs))) (sym is)
+  without-first-of (x ∷ xs) (suc i) is = ap (λ (l : List B). f x ∷ l) (without-first-of xs i is.1) ∙ ap (λ (b : Bool). cond b (map f xs) (f x ∷ without test (map f xs))) (sym is.0)
+
+  pub without-none-of : (xs : List A) → FindsNone (λ (a : A). test (f a)) xs → map f xs ≡ without test (map f xs)
+  without-none-of [] none = refl
+  without-none-of (x ∷ xs) none = ap (λ (l : List B). f x ∷ l) (without-none-of xs none.1) ∙ ap (λ (b : Bool). cond b (map f xs) (f x ∷ without test (map f xs))) (sym none.0)
+
+-- with fewer references to a frame there are no more to another
+pub fewer-on : (frame : Frame) (n f : ℕ) (rs : List Ref) → refs_on f (less_refs frame n rs) ≤ refs_on f rs
+fewer-on frame n f rs = elim (same-or f frame.0) [
+  | inl same ↦ let less : refs_on f (less_refs frame n rs) ≡ refs_on f rs - n = subst (λ (g : ℕ). refs_on g (less_refs frame n rs) ≡ refs_on g rs - n) (sym same) (refs-less frame n rs) in omega arith
+  | inr other ↦ let same : refs_on f (less_refs frame n rs) ≡ refs_on f rs = refs-less-other frame n f rs other in omega arith
+]

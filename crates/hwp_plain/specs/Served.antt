@@ -14,7 +14,23 @@ IsServed (steps.GetRef frame seen count) = Unit {0}
 IsServed (steps.PutRef frame count) = Unit {0}
 IsServed (steps.LockFrame frame) = Unit {0}
 IsServed (steps.UnlockFrame frame) = Unit {0}
+IsServed (steps.SetOwner frame page owned) = Unit {0}
+IsServed (steps.LockPage page) = Unit {0}
+IsServed (steps.UnlockPage page) = Unit {0}
+IsServed (steps.SetPte slot pte) = Unit {0}
+IsServed (steps.SetCache page frame) = Unit {0}
 IsServed step = ⊥
+
+-- those of them that change a lock, an owner, or a word of a page
+abbrev pub IsOfPages : Step → Type 0
+IsOfPages (steps.LockFrame frame) = Unit {0}
+IsOfPages (steps.UnlockFrame frame) = Unit {0}
+IsOfPages (steps.SetOwner frame page owned) = Unit {0}
+IsOfPages (steps.LockPage page) = Unit {0}
+IsOfPages (steps.UnlockPage page) = Unit {0}
+IsOfPages (steps.SetPte slot pte) = Unit {0}
+IsOfPages (steps.SetCache page frame) = Unit {0}
+IsOfPages step = ⊥
 
 -- the references that the step takes have room in the word that it meets
 abbrev pub HasCountRoom : Step → ℕ → Type 0

@@ -1,18 +1,19 @@
-ghost use Rattle.std.specs.Prelude.{◌≡◌, ℕ, ◌<◌, true, false, None, length, OnOk, OnErr, IfOk};
+ghost use Rattle.std.specs.Prelude.{◌≡◌, ℕ, ◌+◌, ◌<◌, true, false, None, Some, length, slice_set, OnOk, OnErr, IfOk};
 ghost use Rattle.hwp_geom.specs.Layout.{IsSound};
-ghost use Rattle.hwp_rule.specs.Asks.{Asks};
 ghost use Rattle.hwp_rule.specs.Opening.{opening};
 ghost use Rattle.hwp_rule.specs.Rule.{Holds};
 ghost use Rattle.hwp_rule.specs.Steps.{kind_of};
 ghost use Rattle.hwp_rule.specs.Words.{IsPlace, read, words_of};
-ghost use Rattle.hwp_core.specs.Calls.{Steps};
-ghost use Rattle.hwp_plain.specs.Boards.{Board, own_view, slots_of, out_after, Moves, IsFrameWithin};
+ghost use Rattle.hwp_core.specs.Calls.{Steps, HasBody, log_of};
+ghost use Rattle.hwp_plain.specs.Boards.{Board, own_view, own_slots, CanStep, Moves};
 ghost use Rattle.hwp_plain.specs.Served.{IsServed};
 
 use crate::ledger::Ledger;
-use crate::opening::{opening_ledgers, opening_shelves, opening_slots, opening_words};
+use crate::opening::{opening_ledgers, opening_slots, opening_words};
 use crate::places::index;
-use crate::tables::{goes, kind_of, place_of, word_after};
+use crate::slot::Slot;
+use crate::slots::{body_in, carry};
+use crate::tables::{carries, kind_of, place_of, slot_of, word_after};
 use hwp_geom::{Cpu, Kind, Layout, OutOfMemory, Who};
 use hwp_page::Body;
 use hwp_rule::{Place, Step};
@@ -26,8 +27,7 @@ use std::sync::Arc;
 pub struct PlainBoard {
     layout: Arc<Layout, Global>,
     words: Vec<u64>,
-    out: Vec<bool>,
-    shelves: Vec<Body>,
+    slots: Vec<Slot>,
     ledgers: Vec<Ledger>,
     who: Who,
     ready: bool,
@@ -35,20 +35,23 @@ pub struct PlainBoard {
 }
 
 impl Model for PlainBoard {
+    ghost use Rattle.std.specs.Prelude.{map};
     ghost use Rattle.std.specs.Arc.{arc_value};
     ghost use Rattle.hwp_plain.specs.Boards.{Board, state_of, IsBoard};
+    ghost use Rattle.hwp_plain.specs.Slots.{content_of};
 
     ghost Value = { Board };
 
     ghost view = { λ b. record {
       layout = arc_value b.layout;
-      state = state_of b.words.items b.out.items b.shelves.items b.ledgers.items;
+      state = state_of b.words.items b.slots.items b.ledgers.items;
+      contents = map content_of b.slots.items;
       who = b.who;
       ready = b.ready;
       made = b.made;
     } };
 
-    ghost invariant = { λ b. IsBoard (arc_value b.layout) b.words.items b.out.items b.shelves.items b.ledgers.items b.who b.ready };
+    ghost invariant = { λ b. IsBoard (arc_value b.layout) b.words.items b.slots.items b.ledgers.items b.who b.ready };
 }
 
 impl PlainBoard {
@@ -59,15 +62,13 @@ impl PlainBoard {
         ensures state { IfOk result (λ board. board.state ≡ opening layout.now) }
     {
         let words = opening_words(alloc, layout)?;
-        let out = opening_slots(alloc, layout.frames)?;
-        let ledgers = opening_ledgers(alloc, layout.cpus)?;
+        let ledgers = opening_ledgers(alloc, layout)?;
         let layout = Arc::new(alloc, layout.copy(alloc)?)?;
-        let shelves = opening_shelves(alloc, &layout)?;
+        let slots = opening_slots(alloc, &layout)?;
         Ok(PlainBoard {
             layout,
             words,
-            out,
-            shelves,
+            slots,
             ledgers,
             who: Who {
                 cpu: Cpu(0),
@@ -118,23 +119,48 @@ impl PlainBoard {
     pub(crate) fn step(&mut self, step: &Step) -> u64
         requires ready { self.old.ready ≡ true }
         requires served { IsServed step.now }
-        requires asks { Asks self.old.layout self.old.who step.now None (own_view self.old) }
+        requires asks { CanStep self.old.layout self.old.who step.now (own_view self.old) (own_slots self.old) }
         ensures same { (self.new.layout ≡ self.old.layout) × (self.new.who ≡ self.old.who) }
-        ensures step { Steps self.old.layout self.old.who step.now (own_view self.old) (own_view self.new) (slots_of (own_view self.old)) (slots_of (own_view self.new)) (λ r c. Moves self.old r self.new) result }
+        ensures step { Steps self.old.layout self.old.who step.now (own_view self.old) (own_view self.new) (own_slots self.old) (own_slots self.new) (λ r c. Moves self.old r self.new) result }
     {
         let at = index(&self.layout, place_of(step));
         let found = self.words[at];
         self.words[at] = word_after(step, found);
-        carry(&mut self.out, step, found);
-        self.ledgers[usize::from(self.who.cpu.0)].step(self.who, step, found);
+        let slot = slot_of(&self.layout, step);
+        carry(&mut self.slots, slot, carries(step, found));
+        let content = body_in(self.slots.as_slice(), slot);
+        self.ledgers[usize::from(self.who.cpu.0)].step(self.who, step, found, content);
         self.ready = false;
         self.made = kind_of(step);
         found
     }
 
-    /// The board keeps the frame rule.
+    /// Takes the body out of a slot that the processor carries.
+    pub(crate) fn take_out(&mut self, slot: usize) -> Body
+        requires carried { HasBody (own_slots self.old) slot }
+        ensures body { own_slots self.old slot ≡ Some (Some (log_of result)) }
+        ensures layout { result.layout ≡ self.old.layout }
+        ensures board { self.new ≡ record self.old { contents = slice_set self.old.contents slot None } }
+    {
+        match self.slots[slot].body.take() {
+            Some(body) => body,
+            None => unreachable!(),
+        }
+    }
+
+    /// Puts a body into an empty slot that the processor carries.
+    pub(crate) fn put_in(&mut self, slot: usize, body: Body)
+        requires empty { own_slots self.old slot ≡ Some None }
+        requires layout { body.layout ≡ self.old.layout }
+        ensures { self.new ≡ record self.old { contents = slice_set self.old.contents slot (Some (log_of body)) } }
+    {
+        self.slots[slot].body = Some(body);
+    }
+
+    /// The board keeps the frame rule, and has all its slots.
     pub(crate) fn keeps(&self)
-        ensures { Holds self.now.layout self.now.state }
+        ensures rule { Holds self.now.layout self.now.state }
+        ensures slots { length self.now.contents ≡ self.now.layout.frames + length self.now.layout.pages }
     {
         let _layout = &self.layout;
     }
@@ -144,23 +170,6 @@ impl PlainBoard {
         ensures { result ≡ self.now.made }
     {
         self.made
-    }
-}
-
-/// The frame slots that are out after a step: the holder of a lock has the lock's slot.
-fn carry(out: &mut Vec<bool>, step: &Step, found: u64)
-    requires { IsFrameWithin (length out.old.items) step.now }
-    ensures { out.new.items ≡ out_after step.now found out.old.items }
-{
-    match step {
-        Step::Adopt { frame } => out[usize::from(frame.0)] = true,
-        Step::LockFrame { frame } => {
-            if goes(step, found) {
-                out[usize::from(frame.0)] = true;
-            }
-        }
-        Step::UnlockFrame { frame } => out[usize::from(frame.0)] = false,
-        _ => {}
     }
 }
 

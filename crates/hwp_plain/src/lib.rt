@@ -3,11 +3,15 @@
 #![tactic(auto)]
 
 mod board;
+mod known;
 mod ledger;
 mod lists;
 mod opening;
 mod ops;
+mod pages;
 mod places;
+mod slot;
+mod slots;
 mod tables;
 mod turns;
 

@@ -1,6 +1,7 @@
-ghost use Rattle.std.specs.Prelude.{◌≡◌, ℕ, ◌+◌, ◌^◌, ◌<◌, ◌==◌, length, vec_len, vec_capacity};
+ghost use Rattle.std.specs.Prelude.{◌≡◌, ℕ, ◌+◌, ◌^◌, ◌<◌, ◌≤◌, ◌==◌, cond, length, vec_len, vec_capacity};
 ghost use Rattle.std.specs.List.{position};
-ghost use Rattle.hwp_rule.specs.Views.{without, is_frame, is_lock_of, with_refs, less_refs, refs_on};
+ghost use Rattle.hwp_rule.specs.declared.FrameLock.{FrameLock as FrameLockOf};
+ghost use Rattle.hwp_rule.specs.Views.{changed, without, is_frame, is_lock_of, with_refs, less_refs, with_named, less_named, refs_on};
 ghost use Rattle.hwp_plain.specs.Sheets.{is_ref_to};
 
 use hwp_geom::Frame;
@@ -44,6 +45,24 @@ pub fn remove_lock(locks: &mut Vec<FrameLock>, frame: Frame)
     }
 }
 
+/// Makes this the owner of the frame, in all its locks of the list.
+pub fn own_locks(locks: &mut Vec<FrameLock>, frame: Frame, owner: u64)
+    ensures items { locks.new.items ≡ changed (is_lock_of frame) (λ (l : FrameLockOf). record l { owner = owner }) locks.old.items }
+    ensures room { vec_len locks.new + vec_capacity locks.old ≡ vec_capacity locks.new + vec_len locks.old }
+{
+    for place in 0..locks.len() {
+        own_lock(&mut locks[place], frame, owner);
+    }
+}
+
+fn own_lock(lock: &mut FrameLock, frame: Frame, owner: u64)
+    ensures { lock.new ≡ cond (is_lock_of frame lock.old) (record lock.old { owner = owner }) lock.old }
+{
+    if lock.frame.0 == frame.0 {
+        lock.owner = owner;
+    }
+}
+
 /// Where the list first has references to the frame.
 fn refs_at(refs: &[Ref], frame: Frame) -> Option<usize>
     ensures { result ≡ position (is_ref_to frame) refs.now }
@@ -65,7 +84,8 @@ pub fn add_refs(refs: &mut Vec<Ref>, frame: Frame, count: u32)
 
 /// Takes references to the frame away.
 pub fn remove_refs(refs: &mut Vec<Ref>, frame: Frame, count: u32)
-    ensures { refs.new.items ≡ less_refs frame count refs.old.items }
+    ensures items { refs.new.items ≡ less_refs frame count refs.old.items }
+    ensures room { vec_len refs.new + vec_capacity refs.old ≤ vec_capacity refs.new + vec_len refs.old }
 {
     let mut left = count;
     for _turn in 0..refs.len() {
@@ -78,5 +98,29 @@ pub fn remove_refs(refs: &mut Vec<Ref>, frame: Frame, count: u32)
         }
         left -= refs[place].count;
         refs.remove(place);
+    }
+}
+
+/// Takes a reference to the frame away, where one is named.
+pub fn remove_named(refs: &mut Vec<Ref>, frame: Option<Frame>)
+    ensures items { refs.new.items ≡ less_named frame refs.old.items }
+    ensures room { vec_len refs.new + vec_capacity refs.old ≤ vec_capacity refs.new + vec_len refs.old }
+    ensures fewer { (f : ℕ) → refs_on f refs.new.items ≤ refs_on f refs.old.items }
+{
+    match frame {
+        Some(frame) => remove_refs(refs, frame, 1),
+        None => {}
+    }
+}
+
+/// Adds a reference to the frame, where one is named. It takes no memory.
+pub fn add_named(refs: &mut Vec<Ref>, frame: Option<Frame>)
+    requires room { vec_len refs.old < vec_capacity refs.old }
+    requires few { (f : ℕ) → refs_on f refs.old.items + 1 < 2 ^ 32 }
+    ensures { refs.new.items ≡ with_named frame refs.old.items }
+{
+    match frame {
+        Some(frame) => add_refs(refs, frame, 1),
+        None => {}
     }
 }

@@ -1,12 +1,15 @@
-ghost use Rattle.std.specs.Prelude.{◌≡◌, ℕ, ◌+◌, ◌*◌, ◌^◌, ◌<◌, ◌≤◌, ◌++◌, List, false, map, length, take, drop, replicate, OnOk, IfOk};
+ghost use Rattle.std.specs.Prelude.{◌≡◌, ℕ, ◌+◌, ◌*◌, ◌^◌, ◌<◌, ◌≤◌, ◌++◌, List, map, length, take, drop, replicate, OnOk, IfOk};
 ghost use Rattle.std.specs.Arc.{arc_value};
 ghost use Rattle.hwp_geom.specs.Layout.{IsSound};
-ghost use Rattle.hwp_rule.specs.Opening.{below, opening_frame, free_bits, opening_free, opening_words};
+ghost use Rattle.hwp_rule.specs.Opening.{below, opening_frame, free_bits, opening_free, opening_homes, opening_words};
 ghost use Rattle.hwp_rule.specs.Words.{free_words};
-ghost use Rattle.hwp_plain.specs.Openings.{opening_sheets, opening_shelves, usable_in};
-ghost use Rattle.hwp_plain.specs.Boards.{shelf_of};
+ghost use Rattle.hwp_plain.specs.Openings.{opening_sheets, usable_in};
+ghost use Rattle.hwp_rule.specs.Lists.{EachMember};
+ghost use Rattle.hwp_plain.specs.Boards.{IsOfLayout};
+ghost use Rattle.hwp_plain.specs.Slots.{home_of, body_of};
 
 use crate::ledger::Ledger;
+use crate::slot::Slot;
 use hwp_geom::{Cpu, Layout, OutOfMemory, Page};
 use hwp_page::Body;
 use std::alloc::Global;
@@ -103,37 +106,39 @@ fn available(kernel: &[bool]) -> u64
 }
 
 /// The ledgers of the processors, in their order.
-pub fn opening_ledgers(alloc: Global, cpus: u8) -> Result<Vec<Ledger>, OutOfMemory>
-    ensures { IfOk result (λ ledgers. ledgers.items ≡ opening_sheets cpus) }
+pub fn opening_ledgers(alloc: Global, layout: &Layout) -> Result<Vec<Ledger>, OutOfMemory>
+    ensures { IfOk result (λ ledgers. ledgers.items ≡ opening_sheets layout.now) }
 {
     let mut ledgers = Vec::new(alloc);
-    for cpu in 0..cpus {
-        ledgers.push(Ledger::new(alloc, Cpu(cpu)))?;
+    for cpu in 0..layout.cpus {
+        ledgers.push(Ledger::new(alloc, layout, Cpu(cpu)))?;
     }
     Ok(ledgers)
 }
 
-/// The shelves of the pages, with the bodies at opening.
-pub fn opening_shelves(
+/// The slots of the frames, which are empty, and then the shelves of the pages, with the bodies at opening.
+pub fn opening_slots(
     alloc: Global,
     layout: &Arc<Layout, Global>,
-) -> Result<Vec<Body>, OutOfMemory>
+) -> Result<Vec<Slot>, OutOfMemory>
     requires sound { IsSound (arc_value layout.now) }
-    ensures { IfOk result (λ shelves. map shelf_of shelves.items ≡ opening_shelves (length (arc_value layout.now).pages)) }
+    ensures homes { IfOk result (λ slots. map home_of slots.items ≡ opening_homes (arc_value layout.now)) }
+    ensures bodies { IfOk result (λ slots. EachMember (IsOfLayout (arc_value layout.now)) (map body_of slots.items)) }
 {
-    let mut shelves = Vec::new(alloc);
+    let mut slots = Vec::new(alloc);
     let declared: &Layout = layout;
-    for page in 0..declared.pages.len() as u16 {
-        shelves.push(Body::new(alloc, layout, Page(page))?)?;
+    for _frame in 0..declared.frames {
+        slots.push(Slot {
+            out: false,
+            body: None,
+        })?;
     }
-    Ok(shelves)
-}
-
-/// The slots of so many frames: none is out.
-pub fn opening_slots(alloc: Global, frames: u16) -> Result<Vec<bool>, OutOfMemory>
-    ensures { IfOk result (λ out. out.items ≡ replicate frames false) }
-{
-    let mut out = Vec::new(alloc);
-    out.resize(usize::from(frames), false)?;
-    Ok(out)
+    for page in 0..declared.pages.len() as u16 {
+        let body = Body::new(alloc, layout, Page(page))?;
+        slots.push(Slot {
+            out: false,
+            body: Some(body),
+        })?;
+    }
+    Ok(slots)
 }

@@ -1,10 +1,12 @@
-ghost use Rattle.std.specs.Prelude.{◌≡◌, ◌<◌};
+ghost use Rattle.std.specs.Prelude.{◌≡◌, ◌<◌, true, cond, Some, None};
 ghost use Rattle.hwp_rule.specs.Steps as tables;
+ghost use Rattle.hwp_rule.specs.Views.{frame_in, shelf_slot};
 ghost use Rattle.hwp_plain.specs.Served.{IsServed, HasCountRoom};
+ghost use Rattle.hwp_plain.specs.Slots.{slot_of, carries};
 
-use hwp_geom::{Frame, Kind};
+use hwp_geom::{Frame, Kind, Layout, Page};
 use hwp_rule::{Place, Step};
-use hwp_words::FrameWord;
+use hwp_words::{CacheWord, FrameWord, PageWord};
 
 /// The word that a step touches.
 pub fn place_of(step: &Step) -> Place
@@ -18,6 +20,10 @@ pub fn place_of(step: &Step) -> Place
         Step::Adopt { frame } | Step::GetRef { frame, .. } | Step::PutRef { frame, .. } =>
             Place::Frame(*frame),
         Step::LockFrame { frame } | Step::UnlockFrame { frame } => Place::Frame(*frame),
+        Step::SetOwner { frame, .. } => Place::Frame(*frame),
+        Step::LockPage { page } | Step::UnlockPage { page } => Place::Page(*page),
+        Step::SetPte { slot, .. } => Place::Trans(*slot),
+        Step::SetCache { page, .. } => Place::Cache(*page),
         _ => unreachable!(),
     }
 }
@@ -58,6 +64,11 @@ pub fn word_after(step: &Step, found: u64) -> u64
         Step::PutRef { count, .. } => found.wrapping_sub(u64::from(*count) * 16),
         Step::LockFrame { .. } => found | 1,
         Step::UnlockFrame { .. } => found & !1,
+        Step::SetOwner { page, .. } => found ^ ((u64::from(page.0) + 1) << 24),
+        Step::LockPage { .. } => found | 1,
+        Step::UnlockPage { .. } => found & !1,
+        Step::SetPte { pte, .. } => pte.pack(),
+        Step::SetCache { frame, .. } => CacheWord { frame: *frame }.pack(),
         _ => unreachable!(),
     }
 }
@@ -71,6 +82,7 @@ pub fn goes(step: &Step, found: u64) -> bool
         Step::Reserve { seen } | Step::GetRef { seen, .. } => found == *seen,
         Step::TakeBit { frame } => (found >> (frame.0 % 64)) % 2 == 1,
         Step::LockFrame { .. } => !FrameWord::unpack(found).locked,
+        Step::LockPage { .. } => !PageWord::unpack(found).locked,
         _ => true,
     }
 }
@@ -91,7 +103,65 @@ pub fn kind_of(step: &Step) -> Option<Kind>
         Step::PutRef { .. } => Some(Kind::PutRef),
         Step::LockFrame { .. } => Some(Kind::LockFrame),
         Step::UnlockFrame { .. } => Some(Kind::UnlockFrame),
+        Step::SetOwner { .. } => Some(Kind::SetOwner),
+        Step::LockPage { .. } => Some(Kind::LockPage),
+        Step::UnlockPage { .. } => Some(Kind::UnlockPage),
+        Step::SetPte { .. } => Some(Kind::SetPte),
+        Step::SetCache { .. } => Some(Kind::SetCache),
         _ => unreachable!(),
+    }
+}
+
+/// The frame that a translation word or a cache word names.
+pub fn frame_in(word: u64) -> Option<Frame>
+    ensures { result ≡ frame_in word }
+{
+    CacheWord::unpack(word % (1 << 20)).frame
+}
+
+/// The number of a page's shelf among the slots.
+pub fn shelf_slot(layout: &Layout, page: Page) -> usize
+    ensures { result ≡ shelf_slot layout.now page }
+{
+    usize::from(layout.frames) + usize::from(page.0)
+}
+
+/// The slot that a step takes or frees: that of its lock.
+pub fn slot_of(layout: &Layout, step: &Step) -> Option<usize>
+    ensures { result ≡ slot_of layout.now step.now }
+{
+    match step {
+        Step::Adopt { frame } | Step::LockFrame { frame } | Step::UnlockFrame { frame } =>
+            Some(usize::from(frame.0)),
+        Step::LockPage { page } | Step::UnlockPage { page } =>
+            Some(shelf_slot(layout, *page)),
+        _ => None,
+    }
+}
+
+/// Whether the slot goes out with the lock's holder, where it moves.
+pub fn carries(step: &Step, found: u64) -> Option<bool>
+    requires served { IsServed step.now }
+    ensures { result ≡ carries step.now found }
+{
+    match step {
+        Step::Adopt { .. } => Some(true),
+        Step::LockFrame { .. } => if_taken(goes(step, found)),
+        Step::UnlockFrame { .. } => Some(false),
+        Step::LockPage { .. } => if_taken(goes(step, found)),
+        Step::UnlockPage { .. } => Some(false),
+        _ => None,
+    }
+}
+
+/// The slot goes out where the lock was taken.
+fn if_taken(goes: bool) -> Option<bool>
+    ensures { result ≡ cond goes (Some true) None }
+{
+    if goes {
+        Some(true)
+    } else {
+        None
     }
 }
 

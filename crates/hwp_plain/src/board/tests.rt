@@ -3,7 +3,7 @@ ghost use Rattle.hwp_core.specs.Calls.{CanFreeFrame};
 ghost use Rattle.hwp_core.specs.Pins.{Fits as PinFits, begin as begin_pin};
 ghost use Rattle.hwp_core.specs.Releases.{Fits, begin};
 ghost use Rattle.hwp_core.specs.Takes.{Fits as TakeFits, begin as begin_take};
-ghost use Rattle.hwp_plain.specs.Boards.{own_view, slots_of, view_at};
+ghost use Rattle.hwp_plain.specs.Boards.{own_view, own_slots, view_at};
 
 use super::PlainBoard;
 use crate::ledger::tests::{has_lock, has_ref_room, has_refs, has_room, is_on_turn};
@@ -11,7 +11,7 @@ use hwp_geom::{Frame, Who};
 
 /// Whether the lock of the frame can be freed now.
 pub fn can_unlock(board: &PlainBoard, frame: Frame) -> bool
-    ensures { IsTrue result → CanFreeFrame board.now.layout board.now.who frame (own_view board.now) (slots_of (own_view board.now)) }
+    ensures { IsTrue result → CanFreeFrame board.now.layout board.now.who frame (own_view board.now) (own_slots board.now) }
 {
     if frame.0 >= board.layout.frames {
         return false;
@@ -20,7 +20,17 @@ pub fn can_unlock(board: &PlainBoard, frame: Frame) -> bool
     if !is_on_turn(ledger, board.who) {
         return false;
     }
-    has_lock(ledger, frame)
+    is_empty(board.slots.as_slice(), usize::from(frame.0)) && has_lock(ledger, frame)
+}
+
+/// Whether nothing is in the slot.
+fn is_empty(slots: &[Slot], slot: usize) -> bool
+    ensures { IsTrue result → slice_get (map content_of slots.now) slot ≡ Some None }
+{
+    match slots.get(slot) {
+        Some(slot) => slot.body.is_none(),
+        None => false,
+    }
 }
 
 /// Whether the processor can give back so many references.

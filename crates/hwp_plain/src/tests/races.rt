@@ -1,7 +1,7 @@
 //! Each task against each other, in every order of their turns.
 
 ghost use Rattle.std.specs.Prelude.{◌≡◌, ◌<◌, IfOk};
-ghost use Rattle.hwp_plain.specs.Boards.{view_at, slots_of};
+ghost use Rattle.hwp_plain.specs.Boards.{view_at, slots_at};
 
 use super::{opened, unlocked};
 use crate::board::PlainBoard;
@@ -211,7 +211,7 @@ fn is_sound(words: [u64; 4]) -> bool {
 fn finish<A: Task>(board: &mut PlainBoard, cpu: Cpu, task: &mut A)
     requires cpu { cpu.0 < board.old.layout.cpus }
     requires own { cpu ≡ (A.who task.old).cpu }
-    requires fits { A.fits board.old.layout (view_at cpu.0 board.old.state) (slots_of (view_at cpu.0 board.old.state)) task.old }
+    requires fits { A.fits board.old.layout (view_at cpu.0 board.old.state) (slots_at cpu.0 board.old) task.old }
     ensures { board.new.layout ≡ board.old.layout }
 {
     for _turn in 0..5u8 {
@@ -258,12 +258,12 @@ fn turn_of<A: Task, B: Task>(
 ) -> Option<Kind>
     requires cpus { 1 < board.old.layout.cpus }
     requires own { ((A.who first.old).cpu.0 ≡ 0) × ((B.who second.old).cpu.0 ≡ 1) }
-    requires first { A.fits board.old.layout (view_at 0 board.old.state) (slots_of (view_at 0 board.old.state)) first.old }
-    requires second { B.fits board.old.layout (view_at 1 board.old.state) (slots_of (view_at 1 board.old.state)) second.old }
+    requires first { A.fits board.old.layout (view_at 0 board.old.state) (slots_at 0 board.old) first.old }
+    requires second { B.fits board.old.layout (view_at 1 board.old.state) (slots_at 1 board.old) second.old }
     ensures layout { board.new.layout ≡ board.old.layout }
     ensures own { ((A.who first.new).cpu.0 ≡ 0) × ((B.who second.new).cpu.0 ≡ 1) }
-    ensures first { A.fits board.new.layout (view_at 0 board.new.state) (slots_of (view_at 0 board.new.state)) first.new }
-    ensures second { B.fits board.new.layout (view_at 1 board.new.state) (slots_of (view_at 1 board.new.state)) second.new }
+    ensures first { A.fits board.new.layout (view_at 0 board.new.state) (slots_at 0 board.new) first.new }
+    ensures second { B.fits board.new.layout (view_at 1 board.new.state) (slots_at 1 board.new) second.new }
 {
     if other {
         board.advance(Cpu(1), second).1
@@ -284,8 +284,8 @@ fn race<A: Task, B: Task>(
     requires cpus { 1 < board.old.layout.cpus }
     requires frames { 0 < board.old.layout.frames }
     requires own { ((A.who first.old).cpu.0 ≡ 0) × ((B.who second.old).cpu.0 ≡ 1) }
-    requires first { A.fits board.old.layout (view_at 0 board.old.state) (slots_of (view_at 0 board.old.state)) first.old }
-    requires second { B.fits board.old.layout (view_at 1 board.old.state) (slots_of (view_at 1 board.old.state)) second.old }
+    requires first { A.fits board.old.layout (view_at 0 board.old.state) (slots_at 0 board.old) first.old }
+    requires second { B.fits board.old.layout (view_at 1 board.old.state) (slots_at 1 board.old) second.old }
     ensures { board.new.layout ≡ board.old.layout }
 {
     let mut gave = [false, false];
@@ -342,7 +342,7 @@ fn against<A: Task>(
     requires cpus { 1 < board.old.layout.cpus }
     requires frames { 0 < board.old.layout.frames }
     requires own { (A.who first.old).cpu.0 ≡ 0 }
-    requires first { A.fits board.old.layout (view_at 0 board.old.state) (slots_of (view_at 0 board.old.state)) first.old }
+    requires first { A.fits board.old.layout (view_at 0 board.old.state) (slots_at 0 board.old) first.old }
     ensures { board.new.layout ≡ board.old.layout }
 {
     let who = Who {

@@ -7,13 +7,13 @@ use Rattle.hwp_plain.specs.Sheets.{is_ref_to}
 use Rattle.hwp_plain.proofs.Firsts.{IsFirst, at-position, no-position, first-within, first-same, less-first, less-part, less-none}
 use Rattle.hwp_plain.proofs.lists.remove_refs.Goals as goal
 
-pub returns-in_default : goal.returns-in_default
-returns-in_default c =
+pub returns-in_default-clause-items : goal.returns-in_default-clause-items
+returns-in_default-clause-items c =
     let none : position (is_ref_to c.args.frame) c.loop-turn.refs.items ≡ None = search rules in
     less-none c.args.frame c.loop-turn.left c.loop-turn.refs.items (no-position (is_ref_to c.args.frame) c.loop-turn.refs.items none) ∙ c.loop-turn.invariant.0
 
-pub returns-then-index-left : goal.returns-then-index-left
-returns-then-index-left c =
+pub returns-then-index-left-clause-items : goal.returns-then-index-left-clause-items
+returns-then-index-left-clause-items c =
     let at : position (is_ref_to c.args.frame) c.loop-turn.refs.items ≡ Some c.in-Some.place = search rules in
     let first : IsFirst (is_ref_to c.args.frame) c.loop-turn.refs.items c.in-Some.place = at-position (is_ref_to c.args.frame) c.loop-turn.refs.items c.in-Some.place at in
     let same : c.index.result.now ≡ c.index_mut.result.now = first-same (is_ref_to c.args.frame) c.loop-turn.refs.items c.in-Some.place c.index.result.now c.index_mut.result.now first c.index.ensures c.index_mut.ensures.value in
@@ -33,8 +33,9 @@ loop-turn-preserved c =
     let removed : c.remove.new.self.items ≡ remove c.loop-turn.refs.items c.in-Some.place = c.remove.ensures.items in
     let shorter : length (remove c.loop-turn.refs.items c.in-Some.place) + 1 ≡ length c.loop-turn.refs.items = length-remove c.loop-turn.refs.items c.in-Some.place (first-within (is_ref_to c.args.frame) c.loop-turn.refs.items c.in-Some.place first) in
     let lengths : length c.remove.new.self.items ≡ length (remove c.loop-turn.refs.items c.in-Some.place) = ap (λ (l : List Ref). length l) removed in
-    let were = c.loop-turn.invariant.1 in (
+    let were = c.loop-turn.invariant.1 in let room = c.loop-turn.invariant.2 in (
       ap (less_refs c.args.frame (c.loop-turn.left - c.index-in-loop-turn.result.now.count)) removed
           ∙ less-first c.args.frame c.loop-turn.left c.loop-turn.refs.items c.in-Some.place c.index-in-loop-turn.result.now first c.index-in-loop-turn.ensures few ∙ c.loop-turn.invariant.0,
+      omega arith,
       omega arith,
     )

@@ -14,4 +14,4 @@ returns c = λ e.
     let less : c.args.who.cpu.0 < (arc_value c.board.inside.layout).cpus = subst (λ (b : Board). c.args.who.cpu.0 < b.layout.cpus) (sym c.board.view_is) c.requires in
     let on : IsOnTurn (view_of c.index-ledger.result.now) c.args.who = search rules in
     subst (λ (b : Board). Fits b.layout (view_at c.args.who.cpu.0 b.state) (begin c.args.who c.args.frame c.args.count)) c.board.view_is
-    (can-release (arc_value c.board.inside.layout) c.board.inside.words.items c.board.inside.out.items c.board.inside.shelves.items c.board.inside.ledgers.items c.board.inside.who c.board.inside.ready c.board.invariant c.args.who c.from.result c.index-ledger.result.now less c.from.ensures c.index-ledger.ensures c.args.frame c.args.count inside some on (c.has_refs.ensures e))
+    (can-release (arc_value c.board.inside.layout) c.board.inside.words.items c.board.inside.slots.items c.board.inside.ledgers.items c.board.inside.who c.board.inside.ready c.board.invariant c.args.who c.from.result c.index-ledger.result.now less c.from.ensures c.index-ledger.ensures c.args.frame c.args.count inside some on (c.has_refs.ensures e))

@@ -13,4 +13,4 @@ returns c = λ e.
     let on : IsOnTurn (view_of c.index-ledger.result.now) c.args.who = search rules in
     let room = c.has_room.ensures e in
     subst (λ (b : Board). Fits b.layout (view_at c.args.who.cpu.0 b.state) (begin c.args.who)) c.board.view_is
-    (can-take (arc_value c.board.inside.layout) c.board.inside.words.items c.board.inside.out.items c.board.inside.shelves.items c.board.inside.ledgers.items c.board.inside.who c.board.inside.ready c.board.invariant c.args.who c.from.result c.index-ledger.result.now less c.from.ensures c.index-ledger.ensures on room.0 room.1)
+    (can-take (arc_value c.board.inside.layout) c.board.inside.words.items c.board.inside.slots.items c.board.inside.ledgers.items c.board.inside.who c.board.inside.ready c.board.invariant c.args.who c.from.result c.index-ledger.result.now less c.from.ensures c.index-ledger.ensures on room.0 room.1)

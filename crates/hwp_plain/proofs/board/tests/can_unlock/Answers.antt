@@ -2,7 +2,7 @@ use Rattle.std.proofs.Common.{◌<◌, subst, rules}
 use Rattle.std.specs.Arc.{arc_value}
 use Rattle.hwp_core.specs.Calls.{CanFreeFrame}
 use Rattle.hwp_core.specs.Turns.{IsOnTurn}
-use Rattle.hwp_plain.specs.Boards.{Board, own_view, slots_of}
+use Rattle.hwp_plain.specs.Boards.{Board, own_view, own_slots}
 use Rattle.hwp_plain.specs.Sheets.{view_of}
 use Rattle.hwp_plain.proofs.Beginning.{can-free}
 use Rattle.hwp_plain.proofs.board.tests.can_unlock.Goals as goal
@@ -11,6 +11,6 @@ pub returns : goal.returns
 returns c = λ e.
     let inside : c.args.frame.0 < (arc_value c.board.inside.layout).frames = search rules in
     let on : IsOnTurn (view_of c.index-ledger.result.now) c.board.inside.who = search rules in
-    subst (λ (b : Board). CanFreeFrame b.layout b.who c.args.frame (own_view b) (slots_of (own_view b))) c.board.view_is
-    (can-free (arc_value c.board.inside.layout) c.board.inside.words.items c.board.inside.out.items c.board.inside.shelves.items c.board.inside.ledgers.items c.board.inside.who c.board.inside.ready c.board.invariant c.board.inside.who c.from.result c.index-ledger.result.now c.board.invariant.cpu c.from.ensures c.index-ledger.ensures c.args.frame inside on
+    subst (λ (b : Board). CanFreeFrame b.layout b.who c.args.frame (own_view b) (own_slots b)) c.board.view_is
+    (can-free (arc_value c.board.inside.layout) c.board.inside.words.items c.board.inside.slots.items c.board.inside.ledgers.items c.board.inside.who c.board.inside.ready c.board.invariant c.board.inside.who c.from.result c.index-ledger.result.now c.board.invariant.cpu c.from.ensures c.index-ledger.ensures c.args.frame inside on
     (c.has_lock.ensures e (arc_value c.board.inside.layout) c.board.inside.who))

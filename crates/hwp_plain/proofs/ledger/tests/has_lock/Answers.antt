@@ -13,4 +13,4 @@ returns-then-eq c = λ e layout who.
     let some : 0 < length c.as_slice.result.now = omega (arith, c.in-len1.len_at_least) in
     let frame-is : (get_or c.as_slice.result.now 0 default).frame ≡ c.args.frame = search rules in
     subst (λ (s : Sheet). CanUnlockFrame layout who (view_of s) c.args.frame None) c.ledger.view_is
-    (lock-freed layout who (record { cpu = c.ledger.inside.cpu; latest = c.ledger.inside.latest; fresh = c.ledger.inside.fresh; refs = c.ledger.inside.refs.items; locks = c.ledger.inside.locks.items; reserved = c.ledger.inside.reserved; hands = c.ledger.inside.hands.items; sights = c.ledger.inside.sights.items; roomy = c.ledger.inside.roomy }) c.as_slice.result.now default c.args.frame c.as_slice.ensures.value some frame-is (eqb-true (get_or c.as_slice.result.now 0 default).owner 0 e))
+    (lock-freed layout who (record { cpu = c.ledger.inside.cpu; latest = c.ledger.inside.latest; fresh = c.ledger.inside.fresh; refs = c.ledger.inside.refs.items; locks = c.ledger.inside.locks.items; reserved = c.ledger.inside.reserved; hands = c.ledger.inside.hands.items; sights = c.ledger.inside.sights.items; paged = c.ledger.inside.paged; roomy = c.ledger.inside.roomy }) c.as_slice.result.now default c.args.frame c.as_slice.ensures.value some frame-is (eqb-true (get_or c.as_slice.result.now 0 default).owner 0 e))
