@@ -27,7 +27,7 @@ use Rattle.hwp_plain.specs.Boards.{IsBoard, IsOfLayout, has_slot, state_of, view
 use Rattle.hwp_plain.specs.Sheets.{Sheet, view_of}
 use Rattle.hwp_plain.specs.Slots.{home_of, content_of, body_of}
 use Rattle.hwp_plain.proofs.Homes.{home-out}
-use Rattle.hwp_plain.proofs.Stepped.{page-word, carried-content}
+use Rattle.hwp_plain.proofs.Stepped.{carried-content}
 
 -- what is carried of a slot is carried by a lock of it
 pub carried-by : (b : Bool) (o : Option (Option Log)) (content : Option Log) → cond b o None ≡ Some content → b ≡ true
@@ -41,7 +41,7 @@ module _ (layout : Layout) (s : State) (holds : Holds layout s) (cpu : ℕ) (v :
 
   frame-out : (f : ℕ) → f < layout.frames → 0 < locks_on f v.locks → slice_get s.homes f ≡ Some None
   frame-out f less some =
-      let there : slice_get w.frames f ≡ Some (slice_index w.frames f) = word-there layout w s.homes f (shaped layout s holds) less in
+      let there : slice_get w.frames f ≡ Some (slice_index w.frames f) = word-there w.frames f layout.frames (shaped layout s holds).frames less in
       let all : sum_by (λ (o : List Ref × List FrameLock). locks_on f o.1) (map (λ (v : View). (v.refs, v.locks)) s.views) ≡ lock_of (slice_index w.frames f) = holds.rule.frame_locks.one f (slice_index w.frames f) there in
       let mine : locks_on f v.locks ≤ sum_by (λ (o : List Ref × List FrameLock). locks_on f o.1) (map (λ (v : View). (v.refs, v.locks)) s.views) =
       term-le (λ (o : List Ref × List FrameLock). locks_on f o.1) (map (λ (v : View). (v.refs, v.locks)) s.views) cpu (v.refs, v.locks) (at_map (λ (v : View). (v.refs, v.locks)) s.views cpu v me) in
@@ -50,7 +50,7 @@ module _ (layout : Layout) (s : State) (holds : Holds layout s) (cpu : ℕ) (v :
 
   page-out : (q : ℕ) → q < length layout.pages → 0 < page_locks_on q v.pages → slice_get s.homes (layout.frames + q) ≡ Some None
   page-out q less some =
-      let there : slice_get w.pages q ≡ Some (slice_index w.pages q) = page-word (length layout.pages) w.pages q (shaped layout s holds).pages less in
+      let there : slice_get w.pages q ≡ Some (slice_index w.pages q) = word-there w.pages q (length layout.pages) (shaped layout s holds).pages less in
       let all : sum_by (page_locks_on q) (map (λ (v : View). v.pages) s.views) ≡ lock_of (slice_index w.pages q) = holds.rule.page_locks.one q (slice_index w.pages q) there in
       let mine : page_locks_on q v.pages ≤ sum_by (page_locks_on q) (map (λ (v : View). v.pages) s.views) = term-le (page_locks_on q) (map (λ (v : View). v.pages) s.views) cpu v.pages (at_map (λ (v : View). v.pages) s.views cpu v me) in
       let bit : lock_of (slice_index w.pages q) < 2 = omega arith in

@@ -51,10 +51,6 @@ use Rattle.hwp_plain.proofs.Carried.{carried}
 use Rattle.hwp_plain.proofs.Homes.{home-content, homes-stepped, contents-same}
 use Rattle.hwp_plain.proofs.Served.{keeps-served}
 
--- a word is there for each page
-pub page-word : (n : ℕ) (l : List ℕ) (q : ℕ) → length l ≡ n → q < n → slice_get l q ≡ Some (slice_index l q)
-page-word n l q same less = slice_get-get_or l q 0 (subst (λ (m : ℕ). q < m) (sym same) less)
-
 -- a list of one lock
 one-lock : (page : Page) (locked : List PageLock) (lock : PageLock) → length locked ≤ 1 → slice_get locked 0 ≡ Some lock → lock.page ≡ page → HasOneLock page locked
 one-lock page [] lock few there is = absurd (none-some lock there)
@@ -165,13 +161,13 @@ module _ (layout : Layout) (words : List ℕ) (slots : List Slot) (ledgers : Lis
   bounded = h.holdings.bounded who.cpu.0 (holdings_of (view_of sheet)) (at_map holdings_of (map view_of ledgers) who.cpu.0 (view_of sheet) me)
 
   there : (f : ℕ) → f < layout.frames → slice_get w.frames f ≡ Some (slice_index w.frames f)
-  there f less = word-there layout w homes f (shaped layout a kept.holds) less
+  there f less = word-there w.frames f layout.frames (shaped layout a kept.holds).frames less
 
   page-there : (q : ℕ) → q < length layout.pages → slice_get w.pages q ≡ Some (slice_index w.pages q)
-  page-there q less = page-word (length layout.pages) w.pages q (shaped layout a kept.holds).pages less
+  page-there q less = word-there w.pages q (length layout.pages) (shaped layout a kept.holds).pages less
 
   cache-there : (q : ℕ) → q < length layout.pages → slice_get w.caches q ≡ Some (slice_index w.caches q)
-  cache-there q less = page-word (length layout.pages) w.caches q (shaped layout a kept.holds).caches less
+  cache-there q less = word-there w.caches q (length layout.pages) (shaped layout a kept.holds).caches less
 
   whole : length contents ≡ layout.frames + length layout.pages
   whole = length-map slots content_of ∙ sym (length-map slots home_of) ∙ kept.holds.slots

@@ -27,7 +27,6 @@ use Rattle.hwp_core.specs.Calls.{Slots}
 use Rattle.hwp_core.specs.Turns.{Advances, MakesTurn, StepTaken}
 use Rattle.hwp_core.proofs.Stepping.{steps-on}
 use Rattle.hwp_plain.specs.Boards.{Board, Moves, has_slot, view_at, own_view, slots_at, own_slots}
-use Rattle.hwp_plain.proofs.Stepped.{page-word}
 
 -- the board that is ready for a step of the processor
 abbrev pub prepared : Board → Cpu → Board
@@ -89,7 +88,7 @@ module _ (layout : Layout) (s : State) (holds : Holds layout s) (c d : ℕ) (oth
 
   frame-apart : (v u : View) (f : ℕ) → slice_get s.views c ≡ Some v → slice_get s.views d ≡ Some u → f < layout.frames → 0 < locks_on f v.locks → locks_on f u.locks ≡ 0
   frame-apart v u f mine its less some =
-      let there : slice_get w.frames f ≡ Some (slice_index w.frames f) = word-there layout w s.homes f (shaped layout s holds) less in
+      let there : slice_get w.frames f ≡ Some (slice_index w.frames f) = word-there w.frames f layout.frames (shaped layout s holds).frames less in
       let all : sum_by (λ (o : List Ref × List FrameLock). locks_on f o.1) (map (λ (v : View). (v.refs, v.locks)) s.views) ≡ lock_of (slice_index w.frames f) = holds.rule.frame_locks.one f (slice_index w.frames f) there in
       let both : locks_on f v.locks + locks_on f u.locks ≤ sum_by (λ (o : List Ref × List FrameLock). locks_on f o.1) (map (λ (v : View). (v.refs, v.locks)) s.views) =
       terms-le (λ (o : List Ref × List FrameLock). locks_on f o.1) (map (λ (v : View). (v.refs, v.locks)) s.views) c d (v.refs, v.locks) (u.refs, u.locks) other
@@ -99,7 +98,7 @@ module _ (layout : Layout) (s : State) (holds : Holds layout s) (c d : ℕ) (oth
 
   page-apart : (v u : View) (q : ℕ) → slice_get s.views c ≡ Some v → slice_get s.views d ≡ Some u → q < length layout.pages → 0 < page_locks_on q v.pages → page_locks_on q u.pages ≡ 0
   page-apart v u q mine its less some =
-      let there : slice_get w.pages q ≡ Some (slice_index w.pages q) = page-word (length layout.pages) w.pages q (shaped layout s holds).pages less in
+      let there : slice_get w.pages q ≡ Some (slice_index w.pages q) = word-there w.pages q (length layout.pages) (shaped layout s holds).pages less in
       let all : sum_by (page_locks_on q) (map (λ (v : View). v.pages) s.views) ≡ lock_of (slice_index w.pages q) = holds.rule.page_locks.one q (slice_index w.pages q) there in
       let both : page_locks_on q v.pages + page_locks_on q u.pages ≤ sum_by (page_locks_on q) (map (λ (v : View). v.pages) s.views) =
       terms-le (page_locks_on q) (map (λ (v : View). v.pages) s.views) c d v.pages u.pages other (at_map (λ (v : View). v.pages) s.views c v mine) (at_map (λ (v : View). v.pages) s.views d u its) in
