@@ -7,7 +7,7 @@ use Rattle.hwp_geom.specs.declared.Who.{Who}
 use Rattle.hwp_rule.specs.declared.FrameLock.{FrameLock}
 use Rattle.hwp_rule.specs.declared.Part.{Part}
 use Rattle.hwp_rule.specs.declared.View.{View}
-use Rattle.hwp_rule.specs.Asks.{CanUnlockFrame}
+use Rattle.hwp_rule.specs.Asks.{CanUnlockFrame, HasRoom}
 use Rattle.hwp_rule.specs.Views.{refs_on, locks_on}
 use Rattle.hwp_rule.specs.Opening.{below, opening, opening_view}
 use Rattle.hwp_rule.proofs.Lists.{at_map}
@@ -77,10 +77,10 @@ module _ (layout : Layout) (words : List ℕ) (out : List Bool) (shelves : List 
   can-release frame count inside some on few = subst (λ (v : View). releases.Fits layout v (releases.begin who frame count)) (sym mine)
       (record { on_turn = on; frame = inside; at = (some, few) })
 
--- a reference to a frame can be taken
-pub pin-fits : (layout : Layout) (who : Who) (frame : Frame) → frame.0 < layout.frames → pins.Fits layout (opening_view who.cpu.0) (pins.begin who frame)
-pin-fits layout who frame inside = record {
-  on_turn = (take-fits layout who).on_turn;
-  frame = inside;
-  at = record { shares = omega arith; first = λ none. omega arith };
-}
+  pub can-take : IsOnTurn (view_of sheet) who → HasRoom (view_of sheet) → length sheet.locks < 2 → Fits layout (view_at who.cpu.0 (state_of words out shelves ledgers)) (begin who)
+  can-take on room few = subst (λ (v : View). Fits layout v (begin who)) (sym mine) (record { on_turn = on; at = (room, few) })
+
+  pub can-pin : (frame : Frame) → frame.0 < layout.frames → IsOnTurn (view_of sheet) who → HasRoom (view_of sheet) → refs_on frame.0 sheet.refs ≤ 1
+      → pins.Fits layout (view_at who.cpu.0 (state_of words out shelves ledgers)) (pins.begin who frame)
+  can-pin frame inside on room few = subst (λ (v : View). pins.Fits layout v (pins.begin who frame)) (sym mine)
+      (record { on_turn = on; frame = inside; at = record { shares = omega (arith, few); first = λ _. room } })

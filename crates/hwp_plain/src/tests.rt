@@ -1,13 +1,12 @@
 ghost use Rattle.std.specs.Prelude.{◌≡◌, ℕ, ◌<◌, IfOk, OnOk, length};
 ghost use Rattle.hwp_geom.specs.Layout.{IsSound};
 ghost use Rattle.hwp_rule.specs.Opening.{opening_view};
-ghost use Rattle.hwp_core.specs.Pins.{Fits as PinFits};
 ghost use Rattle.hwp_core.specs.Takes.{Fits};
-ghost use Rattle.hwp_plain.specs.Boards.{view_at, slots_of};
+ghost use Rattle.hwp_plain.specs.Boards.{view_at};
 
 use crate::board::PlainBoard;
 use crate::board::tests::{can_release, can_unlock};
-use hwp_core::{Board, Ops, Pin, PinAnswer, Release, ReleaseAnswer, Take, TakeAnswer, Task, Turn};
+use hwp_core::{Board, Ops, Release, ReleaseAnswer, Take, TakeAnswer, Turn};
 use hwp_geom::{Cpu, Frame, Kind, Layout, List, OutOfMemory, Who};
 use hwp_rule::Place;
 use std::alloc::Global;
@@ -59,21 +58,6 @@ fn taking(board: &PlainBoard, cpu: u8) -> Take
     };
     let _board = board;
     Take::new(who)
-}
-
-/// A task that takes a reference to frame 0 for the processor's first command.
-fn pinning(board: &PlainBoard, cpu: u8) -> Pin
-    requires opening { view_at cpu board.now.state ≡ opening_view cpu }
-    requires frames { 0 < board.now.layout.frames }
-    ensures fits { PinFits board.now.layout (view_at cpu board.now.state) result }
-    ensures who { result.who.cpu.0 ≡ cpu }
-{
-    let who = Who {
-        cpu: Cpu(cpu),
-        seq: 0,
-    };
-    let _board = board;
-    Pin::new(who, Frame(0))
 }
 
 /// The available word, the free word, and the word of frame 1.
@@ -188,110 +172,4 @@ fn of_two_processors_one_reserves_the_only_frame(rt: HostRuntime) -> Result<(), 
     Ok(())
 }
 
-/// One turn of the first task, of processor 0, or of the other, of processor 1.
-fn turn_of<A: Task, B: Task>(board: &mut PlainBoard, first: &mut A, second: &mut B, other: bool)
-    requires cpus { 1 < board.old.layout.cpus }
-    requires own { ((A.who first.old).cpu.0 ≡ 0) × ((B.who second.old).cpu.0 ≡ 1) }
-    requires first { A.fits board.old.layout (view_at 0 board.old.state) (slots_of (view_at 0 board.old.state)) first.old }
-    requires second { B.fits board.old.layout (view_at 1 board.old.state) (slots_of (view_at 1 board.old.state)) second.old }
-    ensures layout { board.new.layout ≡ board.old.layout }
-    ensures own { ((A.who first.new).cpu.0 ≡ 0) × ((B.who second.new).cpu.0 ≡ 1) }
-    ensures first { A.fits board.new.layout (view_at 0 board.new.state) (slots_of (view_at 0 board.new.state)) first.new }
-    ensures second { B.fits board.new.layout (view_at 1 board.new.state) (slots_of (view_at 1 board.new.state)) second.new }
-{
-    if other {
-        board.advance(Cpu(1), second);
-    } else {
-        board.advance(Cpu(0), first);
-    }
-}
-
-/// Runs both tasks to their end, turn by turn as the bits of the schedule say, and then the first and the other. Whether
-/// after each turn frame 0 was not free with a word, and no more frames were available than free.
-fn race<A: Task, B: Task>(
-    board: &mut PlainBoard,
-    first: &mut A,
-    second: &mut B,
-    schedule: u64,
-) -> bool
-    requires cpus { 1 < board.old.layout.cpus }
-    requires frames { 0 < board.old.layout.frames }
-    requires own { ((A.who first.old).cpu.0 ≡ 0) × ((B.who second.old).cpu.0 ≡ 1) }
-    requires first { A.fits board.old.layout (view_at 0 board.old.state) (slots_of (view_at 0 board.old.state)) first.old }
-    requires second { B.fits board.old.layout (view_at 1 board.old.state) (slots_of (view_at 1 board.old.state)) second.old }
-    ensures { board.new.layout ≡ board.old.layout }
-{
-    let mut sound = true;
-    for turn in 0..48u64 {
-        let other = if turn < 24 {
-            (schedule >> (turn % 12)) % 2 == 1
-        } else {
-            turn >= 36
-        };
-        turn_of(board, first, second, other);
-        let free = board.word(Place::Free(0));
-        let few = board.word(Place::Available) <= u64::from(free.count_ones());
-        sound = sound && few && (free % 2 == 0 || board.word(Place::Frame(Frame(0))) == 0);
-    }
-    sound
-}
-
-#[test]
-fn two_takes_in_any_order_take_one_frame_each(rt: HostRuntime) -> Result<(), Fail> {
-    for schedule in 0..4096 {
-        let mut board = opened(rt.alloc(), 2, &[false, false])?;
-        let mut first = taking(&board, 0);
-        let mut second = taking(&board, 1);
-        assert!(rt; race(&mut board, &mut first, &mut second, schedule));
-        assert_eq!(rt; words(&board), [0, 0, 17], "schedule {schedule}");
-        assert_eq!(rt;
-            board.word(Place::Frame(Frame(0))),
-            17,
-            "schedule {schedule}"
-        );
-    }
-    Ok(())
-}
-
-#[test]
-fn of_two_takes_in_any_order_one_takes_the_only_frame(rt: HostRuntime) -> Result<(), Fail> {
-    for schedule in 0..4096 {
-        let mut board = opened(rt.alloc(), 2, &[false])?;
-        let mut first = taking(&board, 0);
-        let mut second = taking(&board, 1);
-        assert!(rt; race(&mut board, &mut first, &mut second, schedule));
-        let taken = Some(TakeAnswer::Taken(Frame(0)));
-        let none = Some(TakeAnswer::NoFrame);
-        let answers = (first.answer(), second.answer());
-        assert!(rt;
-            answers == (taken, none) || answers == (none, taken),
-            "schedule {schedule}"
-        );
-        assert_eq!(rt;
-            board.word(Place::Frame(Frame(0))),
-            17,
-            "schedule {schedule}"
-        );
-    }
-    Ok(())
-}
-
-#[test]
-fn a_pin_in_any_order_holds_the_frame_that_a_take_took(rt: HostRuntime) -> Result<(), Fail> {
-    for schedule in 0..4096 {
-        let mut board = opened(rt.alloc(), 2, &[false])?;
-        let mut first = taking(&board, 0);
-        let mut second = pinning(&board, 1);
-        assert!(rt; race(&mut board, &mut first, &mut second, schedule));
-        let word = match second.answer() {
-            Some(PinAnswer::Held(_)) => 33,
-            _ => 17,
-        };
-        assert_eq!(rt;
-            board.word(Place::Frame(Frame(0))),
-            word,
-            "schedule {schedule}"
-        );
-    }
-    Ok(())
-}
+mod races;

@@ -1,10 +1,12 @@
 ghost use Rattle.std.specs.Prelude.{◌≡◌, ◌<◌, IsTrue};
 ghost use Rattle.hwp_core.specs.Calls.{CanFreeFrame};
+ghost use Rattle.hwp_core.specs.Pins.{Fits as PinFits, begin as begin_pin};
 ghost use Rattle.hwp_core.specs.Releases.{Fits, begin};
+ghost use Rattle.hwp_core.specs.Takes.{Fits as TakeFits, begin as begin_take};
 ghost use Rattle.hwp_plain.specs.Boards.{own_view, slots_of, view_at};
 
 use super::PlainBoard;
-use crate::ledger::tests::{has_lock, has_refs, is_on_turn};
+use crate::ledger::tests::{has_lock, has_ref_room, has_refs, has_room, is_on_turn};
 use hwp_geom::{Frame, Who};
 
 /// Whether the lock of the frame can be freed now.
@@ -34,4 +36,31 @@ pub fn can_release(board: &PlainBoard, who: Who, frame: Frame, count: u32) -> bo
         return false;
     }
     has_refs(ledger, frame, count)
+}
+
+/// Whether the processor can take a frame.
+pub fn can_take(board: &PlainBoard, who: Who) -> bool
+    requires { who.cpu.0 < board.now.layout.cpus }
+    ensures { IsTrue result → TakeFits board.now.layout (view_at who.cpu.0 board.now.state) (begin_take who) }
+{
+    let ledger = &board.ledgers[usize::from(who.cpu.0)];
+    if !is_on_turn(ledger, who) {
+        return false;
+    }
+    has_room(ledger)
+}
+
+/// Whether the processor can take a reference to the frame.
+pub fn can_pin(board: &PlainBoard, who: Who, frame: Frame) -> bool
+    requires { who.cpu.0 < board.now.layout.cpus }
+    ensures { IsTrue result → PinFits board.now.layout (view_at who.cpu.0 board.now.state) (begin_pin who frame) }
+{
+    if frame.0 >= board.layout.frames {
+        return false;
+    }
+    let ledger = &board.ledgers[usize::from(who.cpu.0)];
+    if !is_on_turn(ledger, who) || !has_room(ledger) {
+        return false;
+    }
+    has_ref_room(ledger, frame)
 }

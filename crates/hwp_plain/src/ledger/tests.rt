@@ -1,4 +1,4 @@
-ghost use Rattle.std.specs.Prelude.{◌≡◌, ℕ, ◌+◌, ◌<◌, ◌≤◌, None, IsTrue};
+ghost use Rattle.std.specs.Prelude.{◌≡◌, ℕ, ◌+◌, ◌<◌, ◌≤◌, None, length, IsTrue};
 ghost use Rattle.hwp_geom.specs.declared.Layout.{Layout as LayoutOf};
 ghost use Rattle.hwp_geom.specs.declared.Who.{Who as WhoOf};
 ghost use Rattle.hwp_rule.specs.Asks.{CanUnlockFrame, HasRoom};
@@ -35,6 +35,27 @@ pub fn has_refs(ledger: &Ledger, frame: Frame, count: u32) -> bool
 {
     match ledger.refs.as_slice() {
         [refs] => refs.frame == frame && count <= refs.count && ledger.locks.is_empty(),
+        _ => false,
+    }
+}
+
+/// Whether there is room for a frame more, and for its lock.
+pub fn has_room(ledger: &Ledger) -> bool
+    ensures { IsTrue result → HasRoom (view_of ledger.now) × (length ledger.now.locks < 2) }
+{
+    ledger.reserved == 0
+        && ledger.hands.is_empty()
+        && ledger.refs.len() < 2
+        && ledger.locks.is_empty()
+}
+
+/// Whether it has references to one frame at most, and to this frame one at most.
+pub fn has_ref_room(ledger: &Ledger, frame: Frame) -> bool
+    ensures { IsTrue result → refs_on frame.0 ledger.now.refs ≤ 1 }
+{
+    match ledger.refs.as_slice() {
+        [] => true,
+        [refs] => refs.frame != frame || refs.count < 2,
         _ => false,
     }
 }
