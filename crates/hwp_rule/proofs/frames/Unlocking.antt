@@ -22,7 +22,7 @@ use Rattle.hwp_rule.specs.parts.Owners.{HoldsBoth}
 use Rattle.hwp_rule.proofs.Given.{Given, Keeps}
 use Rattle.hwp_rule.proofs.GoingHome
 use Rattle.hwp_rule.proofs.Lists.{at_map, map-was, same-or, same-number, set-set, terms-le}
-use Rattle.hwp_rule.proofs.Referring.{word-there}
+use Rattle.hwp_rule.proofs.Split.{word-there}
 use Rattle.hwp_rule.proofs.frames.UnlockFrame
 
 -- the body of this history goes home from the hand

@@ -37,7 +37,7 @@ use Rattle.hwp_rule.proofs.Hands.{from_bool-same, from_bool-other}
 use Rattle.hwp_rule.proofs.frames.PageLocks.{or-odd, not-is, knows-knowing}
 use Rattle.hwp_rule.proofs.frames.Without.{find-is, find-none}
 use Rattle.hwp_rule.proofs.pages.Paging.{keeps-paging}
-use Rattle.hwp_rule.proofs.steps.Loading.{word-there}
+use Rattle.hwp_rule.proofs.Split.{word-there}
 
 -- a free lock that is taken, by a view that has no page lock
 module _ (layout : Layout) (w : Words) (homes : Homes) (views : List View) (seat : ℕ) (v : View) (page : Page) (found : ℕ)

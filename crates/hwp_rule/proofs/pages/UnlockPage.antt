@@ -34,7 +34,7 @@ use Rattle.hwp_rule.proofs.GoingHome
 use Rattle.hwp_rule.proofs.Hands.{sum-without, length-without, each-without, from_bool-same, from_bool-other}
 use Rattle.hwp_rule.proofs.frames.Without.{find-none}
 use Rattle.hwp_rule.proofs.pages.Paging.{keeps-paging}
-use Rattle.hwp_rule.proofs.steps.Loading.{word-there}
+use Rattle.hwp_rule.proofs.Split.{word-there}
 
 -- the one page lock that the view lists is freed, and the view has no lock of a frame that the page owns
 module _ (layout : Layout) (w : Words) (homes : Homes) (views : List View) (seat : ℕ) (v : View) (page : Page) (found : ℕ) (lock : PageLock)

@@ -24,7 +24,7 @@ use Rattle.hwp_rule.proofs.Lists.{at_map, at_set, same-or, same-number, set_here
 use Rattle.hwp_rule.proofs.Naming.{names-name, names-in, frame_in-name, named-set, page-locked, page-knows, frames-few, names-own, fits-naming, keeps-naming}
 use Rattle.hwp_rule.proofs.Refs.{hits}
 use Rattle.hwp_rule.proofs.steps.Knowing.{same-locks, caches-listed, bodies-listed}
-use Rattle.hwp_rule.proofs.steps.Loading.{word-there}
+use Rattle.hwp_rule.proofs.Split.{word-there}
 
 resident-name : (name : Option Frame) → not (frame_name name == 0) ≡ is_some name
 resident-name None = refl

@@ -23,7 +23,7 @@ use Rattle.hwp_rule.proofs.Lists.{at_set, same-or, set_here, set_else}
 use Rattle.hwp_rule.proofs.Naming.{Names, names-name, names-poison, names-in, frame_in-name, named-set, page-knows, frames-few, names-own, fits-naming, keeps-naming}
 use Rattle.hwp_rule.proofs.Refs.{hits}
 use Rattle.hwp_rule.proofs.steps.Knowing.{caches-listed, bodies-listed}
-use Rattle.hwp_rule.proofs.steps.Loading.{word-there}
+use Rattle.hwp_rule.proofs.Split.{word-there}
 
 -- ---- the frame that an entry names
 
