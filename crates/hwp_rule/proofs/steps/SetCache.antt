@@ -37,9 +37,6 @@ keeps-set-cache page frame layout w homes views seat v who content given =
     found : ℕ
     found = slice_index w.caches page.0
 
-    now : ℕ
-    now = frame_name frame
-
     caches : List ℕ
     caches = set w.caches page.0 (frame_name frame)
 
