@@ -1,12 +1,14 @@
-ghost use Rattle.std.specs.Prelude.{◌≡◌, ◌<◌, IsTrue};
+ghost use Rattle.std.specs.Prelude.{◌≡◌, ◌<◌, Some, None, IsTrue, map, slice_get};
 ghost use Rattle.hwp_core.specs.Calls.{CanFreeFrame};
 ghost use Rattle.hwp_core.specs.Pins.{Fits as PinFits, begin as begin_pin};
 ghost use Rattle.hwp_core.specs.Releases.{Fits, begin};
 ghost use Rattle.hwp_core.specs.Takes.{Fits as TakeFits, begin as begin_take};
 ghost use Rattle.hwp_plain.specs.Boards.{own_view, own_slots, view_at};
+ghost use Rattle.hwp_plain.specs.Slots.{content_of};
 
 use super::PlainBoard;
 use crate::ledger::tests::{has_lock, has_ref_room, has_refs, has_room, is_on_turn};
+use crate::slot::Slot;
 use hwp_geom::{Frame, Who};
 
 /// Whether the lock of the frame can be freed now.
