@@ -1,18 +1,21 @@
 -- A processor at opening can begin a task.
-use Rattle.std.proofs.Common.{◌≡◌, ℕ, zero, suc, ◌+◌, ◌<◌, ◌≤◌, Bool, None, List, Some, map, length, slice_get, get_or, refl, sym, ap, ◌∙◌, subst, arith}
+use Rattle.std.proofs.Common.{◌≡◌, ℕ, zero, suc, ◌+◌, ◌<◌, ◌≤◌, Bool, true, true≢false, None, is_none, option_map, List, [], ◌∷◌, Some, map, length, slice_get, get_or, refl, sym, ap, ◌∙◌, subst, arith}
 use Rattle.std.proofs.lemmas.Option.{none-some, same_Some, slice_get-get_or, get_or_from_slice_get}
 use Rattle.hwp_geom.specs.declared.Frame.{Frame}
 use Rattle.hwp_geom.specs.declared.Layout.{Layout}
+use Rattle.hwp_geom.specs.declared.Page.{Page}
 use Rattle.hwp_geom.specs.declared.Who.{Who}
 use Rattle.hwp_rule.specs.declared.FrameLock.{FrameLock}
 use Rattle.hwp_rule.specs.declared.Part.{Part}
 use Rattle.hwp_rule.specs.declared.View.{View}
-use Rattle.hwp_rule.specs.Asks.{CanUnlockFrame, HasRoom}
+use Rattle.hwp_rule.specs.declared.PageLock.{PageLock}
+use Rattle.hwp_rule.specs.Asks.{Asks, CanUnlockFrame, HasRoom}
 use Rattle.hwp_rule.specs.Views.{refs_on, locks_on}
 use Rattle.hwp_rule.specs.Opening.{below, opening, opening_view}
 use Rattle.hwp_rule.proofs.Lists.{at_map}
 use Rattle.hwp_rule.proofs.Opening.{below-at}
-use Rattle.hwp_core.specs.Calls.{CanFreeFrame}
+use Rattle.hwp_core.specs.Calls.{CanFreeFrame, Slots, lock_page}
+use Rattle.hwp_core.specs.Holds as holds
 use Rattle.hwp_core.specs.Pins as pins
 use Rattle.hwp_core.specs.Releases as releases
 use Rattle.hwp_core.specs.Takes.{Fits, begin}
@@ -85,3 +88,19 @@ module _ (layout : Layout) (words : List ℕ) (slots : List Slot) (ledgers : Lis
       → pins.Fits layout (view_at who.cpu.0 (state_of words slots ledgers)) (pins.begin who frame)
   can-pin frame inside on room few = subst (λ (v : View). pins.Fits layout v (pins.begin who frame)) (sym mine)
       (record { on_turn = on; frame = inside; at = record { shares = omega (arith, few); first = λ _. room } })
+
+  pub can-lock-page : (page : Page) → page.0 < length layout.pages → IsOnTurn (view_of sheet) who → length sheet.paged.locked ≡ 0 → Asks layout who (lock_page page) None (view_at who.cpu.0 (state_of words slots ledgers))
+  can-lock-page page inside on none = subst (λ (v : View). Asks layout who (lock_page page) None v) (sym mine) (record { turn = on.turn; place = inside; kind = none })
+
+-- no lock of a page, where none is read
+pub no-page : (locked : List PageLock) → is_none (option_map (λ (l : PageLock). l.page) (slice_get locked 0)) ≡ true → length locked ≡ 0
+no-page [] e = refl
+no-page (l ∷ ls) e = absurd (true≢false (sym e))
+
+-- a page can be held
+pub hold-fits : (layout : Layout) (slots : Slots) (who : Who) (page : Page) → page.0 < length layout.pages → holds.Fits layout (opening_view who.cpu.0) slots (holds.begin who page)
+hold-fits layout slots who page inside = record {
+  on_turn = (take-fits layout who).on_turn;
+  page = inside;
+  at = record { locks = refl; pages = refl; refs = refl; bodies = refl; room = omega arith };
+}

@@ -172,4 +172,5 @@ fn of_two_processors_one_reserves_the_only_frame(rt: HostRuntime) -> Result<(), 
     Ok(())
 }
 
+mod pages;
 mod races;

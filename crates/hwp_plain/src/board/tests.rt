@@ -1,13 +1,16 @@
-ghost use Rattle.std.specs.Prelude.{◌≡◌, ◌<◌, IsTrue};
-ghost use Rattle.hwp_core.specs.Calls.{CanFreeFrame};
+ghost use Rattle.std.specs.Prelude.{◌≡◌, ◌<◌, Some, None, IsTrue, map, slice_get};
+ghost use Rattle.hwp_rule.specs.Asks.{Asks};
+ghost use Rattle.hwp_core.specs.Calls.{CanFreeFrame, lock_page};
 ghost use Rattle.hwp_core.specs.Pins.{Fits as PinFits, begin as begin_pin};
 ghost use Rattle.hwp_core.specs.Releases.{Fits, begin};
 ghost use Rattle.hwp_core.specs.Takes.{Fits as TakeFits, begin as begin_take};
 ghost use Rattle.hwp_plain.specs.Boards.{own_view, own_slots, view_at};
+ghost use Rattle.hwp_plain.specs.Slots.{content_of};
 
 use super::PlainBoard;
-use crate::ledger::tests::{has_lock, has_ref_room, has_refs, has_room, is_on_turn};
-use hwp_geom::{Frame, Who};
+use crate::ledger::tests::{has_lock, has_no_page, has_ref_room, has_refs, has_room, is_on_turn};
+use crate::slot::Slot;
+use hwp_geom::{Frame, Page, Who};
 
 /// Whether the lock of the frame can be freed now.
 pub fn can_unlock(board: &PlainBoard, frame: Frame) -> bool
@@ -73,4 +76,18 @@ pub fn can_pin(board: &PlainBoard, who: Who, frame: Frame) -> bool
         return false;
     }
     has_ref_room(ledger, frame)
+}
+
+/// Whether the lock of the page can be asked for now.
+pub fn can_lock_page(board: &PlainBoard, page: Page) -> bool
+    ensures { IsTrue result → Asks board.now.layout board.now.who (lock_page page) None (own_view board.now) }
+{
+    if usize::from(page.0) >= board.layout.pages.len() {
+        return false;
+    }
+    let ledger = &board.ledgers[usize::from(board.who.cpu.0)];
+    if !is_on_turn(ledger, board.who) {
+        return false;
+    }
+    has_no_page(ledger)
 }

@@ -59,3 +59,10 @@ pub fn has_ref_room(ledger: &Ledger, frame: Frame) -> bool
         _ => false,
     }
 }
+
+/// Whether it has the lock of no page.
+pub fn has_no_page(ledger: &Ledger) -> bool
+    ensures { IsTrue result → length ledger.now.paged.locked ≡ 0 }
+{
+    ledger.paged.page().is_none()
+}
