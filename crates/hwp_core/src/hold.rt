@@ -1,7 +1,6 @@
 ghost use Rattle.std.specs.Prelude.{◌≡◌, is_some, is_none, None};
-ghost use Rattle.hwp_rule.specs.Views.{frame_in};
 
-use crate::home::Home;
+use crate::home::{Home, frame_in};
 use crate::ops::Ops;
 use crate::pin::{Pin, PinAnswer};
 use crate::task::Task;
@@ -74,13 +73,6 @@ impl Hold {
             Some(PinAnswer::Gone(_)) | None => HoldAt::Pin { pin },
         }
     }
-}
-
-/// The frame that a cache word names.
-fn frame_in(word: u64) -> Option<Frame>
-    ensures { result ≡ frame_in word }
-{
-    CacheWord::unpack(word % (1 << 20)).frame
 }
 
 impl Task for Hold {

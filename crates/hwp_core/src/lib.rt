@@ -17,7 +17,7 @@ mod unhold;
 pub use board::Board;
 pub use fill::{Fill, FillAnswer};
 pub use hold::Hold;
-pub use home::Home;
+pub use home::{Home, frame_in};
 pub use ops::Ops;
 pub use pin::{Pin, PinAnswer};
 pub use release::{Release, ReleaseAnswer};

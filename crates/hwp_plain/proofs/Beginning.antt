@@ -23,7 +23,7 @@ use Rattle.hwp_core.specs.Turns.{IsOnTurn}
 use Rattle.hwp_plain.specs.declared.slot.Slot.{Slot}
 use Rattle.hwp_plain.specs.Boards.{IsBoard, state_of, view_at, slots_of}
 use Rattle.hwp_plain.specs.Slots.{content_of}
-use Rattle.hwp_plain.specs.Sheets.{Sheet, view_of}
+use Rattle.hwp_ledger.specs.Sheets.{Sheet, view_of}
 use Rattle.hwp_plain.proofs.Carried.{carries}
 use Rattle.hwp_plain.proofs.Kept.{read-there}
 

@@ -28,7 +28,7 @@ use Rattle.hwp_rule.proofs.Hands.{sum-without}
 use Rattle.hwp_rule.proofs.Lists.{same-number, same-or, term-le, sum-changed}
 use Rattle.hwp_core.specs.Calls.{with_slot, slots_after}
 use Rattle.hwp_plain.specs.Boards.{slots_of, has_slot}
-use Rattle.hwp_plain.specs.Served.{IsServed}
+use Rattle.hwp_ledger.specs.Served.{IsServed}
 use Rattle.hwp_plain.specs.Slots.{met}
 
 chosen : {A : Type 0} (b : Bool) (x y : A) → b ≡ true → cond b x y ≡ x

@@ -24,7 +24,7 @@ use Rattle.hwp_rule.proofs.Split.{word-there}
 use Rattle.hwp_core.specs.Calls.{log_of}
 use Rattle.hwp_plain.specs.declared.slot.Slot.{Slot}
 use Rattle.hwp_plain.specs.Boards.{IsBoard, IsOfLayout, has_slot, state_of, view_at, slots_of}
-use Rattle.hwp_plain.specs.Sheets.{Sheet, view_of}
+use Rattle.hwp_ledger.specs.Sheets.{Sheet, view_of}
 use Rattle.hwp_plain.specs.Slots.{home_of, content_of, body_of}
 use Rattle.hwp_plain.proofs.Homes.{home-out}
 use Rattle.hwp_plain.proofs.Stepped.{carried-content}

@@ -13,7 +13,7 @@ use Rattle.hwp_rule.specs.Views.{homes_after}
 use Rattle.hwp_rule.proofs.Lists.{at_map, map-was, set_again}
 use Rattle.hwp_core.specs.Calls.{log_of}
 use Rattle.hwp_plain.specs.declared.slot.Slot.{Slot}
-use Rattle.hwp_plain.specs.Served.{IsServed}
+use Rattle.hwp_ledger.specs.Served.{IsServed}
 use Rattle.hwp_plain.specs.Slots.{home_of, content_of, body_of, slot_of, carries, met, homes_carried}
 
 -- a slot goes out or comes home

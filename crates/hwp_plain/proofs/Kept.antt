@@ -21,8 +21,8 @@ use Rattle.hwp_rule.proofs.Lists.{at_map, at_set, set_here, set_again}
 use Rattle.hwp_core.specs.Calls.{Steps}
 use Rattle.hwp_plain.specs.declared.slot.Slot.{Slot}
 use Rattle.hwp_plain.specs.Boards.{Board, IsBoard, CanStep, Moves, state_of, view_at, own_view, slots_of, own_slots}
-use Rattle.hwp_plain.specs.Served.{IsServed, HasCountRoom}
-use Rattle.hwp_plain.specs.Sheets.{Sheet, view_of, opening_sheet, IsRoomy, IsWithin}
+use Rattle.hwp_ledger.specs.Served.{IsServed, HasCountRoom}
+use Rattle.hwp_ledger.specs.Sheets.{Sheet, view_of, opening_sheet, IsRoomy, IsWithin}
 use Rattle.hwp_plain.specs.Slots.{home_of, content_of, body_of, slot_of, carries, content_at, met, homes_carried}
 use Rattle.hwp_plain.proofs.Homes.{contents-same}
 use Rattle.hwp_plain.proofs.Stepped

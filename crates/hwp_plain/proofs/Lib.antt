@@ -1,14 +1,10 @@
 mod Beginning
 mod Carried
-mod Changing
-mod Firsts
 mod Handed
 mod Handing
 mod Homes
 mod Kept
-mod Noting
 mod Openings
-mod PageSheets
 mod Served
 mod Stepped
 mod Turning

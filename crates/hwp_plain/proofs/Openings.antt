@@ -16,7 +16,7 @@ use Rattle.hwp_rule.proofs.Opening.{length-below, below-at}
 use Rattle.hwp_plain.specs.declared.slot.Slot.{Slot}
 use Rattle.hwp_plain.specs.Boards.{IsBoard, IsLedger, IsOfLayout, state_of}
 use Rattle.hwp_plain.specs.Openings.{sheet_of, opening_sheets}
-use Rattle.hwp_plain.specs.Sheets.{Sheet, view_of}
+use Rattle.hwp_ledger.specs.Sheets.{Sheet, view_of}
 use Rattle.hwp_plain.specs.Slots.{home_of, body_of}
 
 -- one number more

@@ -16,7 +16,7 @@ use Rattle.hwp_rule.proofs.LockFrame.{keeps-lock_frame}
 use Rattle.hwp_rule.proofs.frames.Unlocking.{keeps-unlock_frame}
 use Rattle.hwp_rule.proofs.pages.LockPage.{keeps-lock_page}
 use Rattle.hwp_rule.proofs.pages.UnlockPage.{keeps-unlock_page}
-use Rattle.hwp_plain.specs.Served.{IsServed}
+use Rattle.hwp_ledger.specs.Served.{IsServed}
 
 pub keeps-served : (step : Step) → IsServed step → Keeps step
 keeps-served (steps.Load place) served = keeps-load place

@@ -44,8 +44,8 @@ use Rattle.hwp_rule.proofs.Split.{words-read}
 use Rattle.hwp_core.specs.Calls.{Steps, Puts, slots_after}
 use Rattle.hwp_plain.specs.declared.slot.Slot.{Slot}
 use Rattle.hwp_plain.specs.Boards.{Board, IsBoard, IsOfLayout, Moves, CanStep, has_slot, state_of, view_at, slots_of}
-use Rattle.hwp_plain.specs.Served.{IsServed, HasCountRoom}
-use Rattle.hwp_plain.specs.Sheets.{Sheet, view_of, HasOneLock, IsWithin}
+use Rattle.hwp_ledger.specs.Served.{IsServed, HasCountRoom}
+use Rattle.hwp_ledger.specs.Sheets.{Sheet, view_of, HasOneLock, IsWithin}
 use Rattle.hwp_plain.specs.Slots.{home_of, content_of, body_of, slot_of, carries, met, homes_carried}
 use Rattle.hwp_plain.proofs.Carried.{carried}
 use Rattle.hwp_plain.proofs.Homes.{home-content, homes-stepped, contents-same}

@@ -19,7 +19,7 @@ use Rattle.hwp_rule.specs.Steps.{kind_of}
 use Rattle.hwp_rule.specs.Views.{locks_on, page_locks_on, frame_slot, shelf_slot}
 use Rattle.hwp_core.specs.Calls.{Slots, CanPutBack}
 use Rattle.hwp_plain.specs.declared.slot.Slot.{Slot}
-use Rattle.hwp_plain.specs.Sheets.{Sheet, view_of, IsRoomy}
+use Rattle.hwp_ledger.specs.Sheets.{Sheet, view_of, IsRoomy}
 use Rattle.hwp_plain.specs.Slots.{body_of, home_of}
 
 -- the layout, the words, slots and views, what is in each slot, at home or carried, the command whose steps follow,

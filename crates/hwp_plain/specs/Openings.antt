@@ -4,7 +4,7 @@ use Rattle.std.specs.List.{sum_by}
 use Rattle.std.specs.Int.{from_bool}
 use Rattle.hwp_geom.specs.declared.Layout.{Layout}
 use Rattle.hwp_rule.specs.Opening.{below}
-use Rattle.hwp_plain.specs.Sheets.{Sheet, opening_sheet}
+use Rattle.hwp_ledger.specs.Sheets.{Sheet, opening_sheet}
 
 abbrev pub sheet_of : Layout → ℕ → Sheet
 sheet_of layout c = opening_sheet layout (record { 0 = c })

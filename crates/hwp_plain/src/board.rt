@@ -6,15 +6,14 @@ ghost use Rattle.hwp_rule.specs.Steps.{kind_of};
 ghost use Rattle.hwp_rule.specs.Words.{IsPlace, read, words_of};
 ghost use Rattle.hwp_core.specs.Calls.{Steps, HasBody, log_of};
 ghost use Rattle.hwp_plain.specs.Boards.{Board, own_view, own_slots, CanStep, Moves};
-ghost use Rattle.hwp_plain.specs.Served.{IsServed};
+ghost use Rattle.hwp_ledger.specs.Served.{IsServed};
 
-use crate::ledger::Ledger;
 use crate::opening::{opening_ledgers, opening_slots, opening_words};
 use crate::places::index;
 use crate::slot::Slot;
-use crate::slots::{body_in, carry};
-use crate::tables::{carries, kind_of, place_of, slot_of, word_after};
+use crate::slots::{body_in, carries, carry, slot_of};
 use hwp_geom::{Cpu, Kind, Layout, OutOfMemory, Who};
+use hwp_ledger::{Ledger, kind_of, place_of, word_after};
 use hwp_page::Body;
 use hwp_rule::{Place, Step};
 use std::alloc::Global;

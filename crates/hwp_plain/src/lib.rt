@@ -3,19 +3,17 @@
 #![tactic(auto)]
 
 mod board;
-mod known;
-mod ledger;
-mod lists;
 mod opening;
 mod ops;
-mod pages;
 mod places;
 mod slot;
 mod slots;
-mod tables;
 mod turns;
 
 pub use board::PlainBoard;
+
+#[cfg(test)]
+mod checks;
 
 #[cfg(test)]
 mod tests;

@@ -8,9 +8,9 @@ ghost use Rattle.hwp_rule.specs.Lists.{EachMember};
 ghost use Rattle.hwp_plain.specs.Boards.{IsOfLayout};
 ghost use Rattle.hwp_plain.specs.Slots.{home_of, body_of};
 
-use crate::ledger::Ledger;
 use crate::slot::Slot;
 use hwp_geom::{Cpu, Layout, OutOfMemory, Page};
+use hwp_ledger::Ledger;
 use hwp_page::Body;
 use std::alloc::Global;
 use std::sync::Arc;

@@ -2,9 +2,10 @@ ghost use Rattle.std.specs.Prelude.{◌≡◌, true};
 ghost use Rattle.hwp_core.specs.Calls.{home_slot};
 
 use crate::board::PlainBoard;
-use crate::tables::{goes, shelf_slot};
+use crate::slots::shelf_slot;
 use hwp_core::{Home, Ops, Tried};
 use hwp_geom::{Damage, Frame, Layout, Page, Proc, Thread, VSlot};
+use hwp_ledger::goes;
 use hwp_page::Body;
 use hwp_rule::{Place, Step};
 use hwp_words::Pte;

@@ -8,7 +8,7 @@ ghost use Rattle.hwp_plain.specs.Boards.{own_view, own_slots, view_at};
 ghost use Rattle.hwp_plain.specs.Slots.{content_of};
 
 use super::PlainBoard;
-use crate::ledger::tests::{has_lock, has_no_page, has_ref_room, has_refs, has_room, is_on_turn};
+use crate::checks::{has_lock, has_no_page, has_ref_room, has_refs, has_room, is_on_turn};
 use crate::slot::Slot;
 use hwp_geom::{Frame, Page, Who};
 

@@ -9,8 +9,7 @@ ghost use Rattle.hwp_plain.specs.Boards.{view_at, slots_at};
 
 use crate::board::PlainBoard;
 use crate::board::tests::can_lock_page;
-use crate::tables::frame_in;
-use hwp_core::{Board, Hold, Ops, Task, Tried, Turn, Unhold, UnholdAnswer};
+use hwp_core::{Board, Hold, Ops, Task, Tried, Turn, Unhold, UnholdAnswer, frame_in};
 use hwp_geom::{Cpu, Frame, Kind, Layout, List, OutOfMemory, Page, PageKind, Who};
 use hwp_rule::Place;
 use std::alloc::Global;

@@ -1,7 +1,7 @@
 use Rattle.std.proofs.Common.{true, false, true≢false, None, map, sym, ap, ◌∙◌, rules}
 use Rattle.std.specs.Arc.{arc_value}
 use Rattle.hwp_plain.specs.Boards.{Board}
-use Rattle.hwp_plain.specs.Sheets.{Sheet, view_of}
+use Rattle.hwp_ledger.specs.Sheets.{Sheet, view_of}
 use Rattle.hwp_plain.specs.Slots.{content_of}
 use Rattle.hwp_plain.proofs.Kept.{kept-room, room-state}
 use Rattle.hwp_plain.proofs.board.PlainBoard.prepare.Goals as goal

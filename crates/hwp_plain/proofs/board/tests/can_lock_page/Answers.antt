@@ -4,7 +4,7 @@ use Rattle.hwp_rule.specs.Asks.{Asks}
 use Rattle.hwp_core.specs.Calls.{lock_page}
 use Rattle.hwp_core.specs.Turns.{IsOnTurn}
 use Rattle.hwp_plain.specs.Boards.{Board, own_view}
-use Rattle.hwp_plain.specs.Sheets.{view_of}
+use Rattle.hwp_ledger.specs.Sheets.{view_of}
 use Rattle.hwp_plain.proofs.Beginning.{can-lock-page}
 use Rattle.hwp_plain.proofs.board.tests.can_lock_page.Goals as goal
 

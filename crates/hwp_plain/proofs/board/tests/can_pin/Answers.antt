@@ -4,7 +4,7 @@ use Rattle.hwp_core.specs.Pins.{Fits, begin}
 use Rattle.hwp_core.specs.Turns.{IsOnTurn}
 use Rattle.hwp_rule.specs.Asks.{HasRoom}
 use Rattle.hwp_plain.specs.Boards.{Board, view_at}
-use Rattle.hwp_plain.specs.Sheets.{view_of}
+use Rattle.hwp_ledger.specs.Sheets.{view_of}
 use Rattle.hwp_plain.proofs.Beginning.{can-pin}
 use Rattle.hwp_plain.proofs.board.tests.can_pin.Goals as goal
 

@@ -3,7 +3,7 @@ use Rattle.std.specs.Arc.{arc_value}
 use Rattle.hwp_core.specs.Takes.{Fits, begin}
 use Rattle.hwp_core.specs.Turns.{IsOnTurn}
 use Rattle.hwp_plain.specs.Boards.{Board, view_at}
-use Rattle.hwp_plain.specs.Sheets.{view_of}
+use Rattle.hwp_ledger.specs.Sheets.{view_of}
 use Rattle.hwp_plain.proofs.Beginning.{can-take}
 use Rattle.hwp_plain.proofs.board.tests.can_take.Goals as goal
 

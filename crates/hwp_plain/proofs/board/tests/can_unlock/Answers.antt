@@ -3,7 +3,7 @@ use Rattle.std.specs.Arc.{arc_value}
 use Rattle.hwp_core.specs.Calls.{CanFreeFrame}
 use Rattle.hwp_core.specs.Turns.{IsOnTurn}
 use Rattle.hwp_plain.specs.Boards.{Board, own_view, own_slots}
-use Rattle.hwp_plain.specs.Sheets.{view_of}
+use Rattle.hwp_ledger.specs.Sheets.{view_of}
 use Rattle.hwp_plain.specs.Slots.{content_of}
 use Rattle.hwp_plain.proofs.Beginning.{can-free}
 use Rattle.hwp_plain.proofs.board.tests.can_unlock.Goals as goal

@@ -1,0 +1,4 @@
+mod Changing
+mod Firsts
+mod Noting
+mod PageSheets
