@@ -1,17 +1,15 @@
 -- What is kept of pages and bodies, as the rule has it.
-use Rattle.std.proofs.Common.{◌≡◌, ℕ, ◌+◌, ◌<◌, Bool, true, false, cond, List, [], ◌∷◌, ◌++◌, Option, Some, None, map, set, length, get_or, refl, sym, ap, ◌∙◌, subst}
+use Rattle.std.proofs.Common.{◌≡◌, ℕ, ◌+◌, ◌<◌, Bool, false, cond, List, [], ◌∷◌, ◌++◌, Option, Some, None, map, set, length, get_or, refl, sym, ap, ◌∙◌, subst}
 use Rattle.std.specs.List.{find, remove, flat_map}
 use Rattle.std.specs.declared.snapshot.Snapshot.{Snapshot}
 use Rattle.std.proofs.lemmas.List.{map-set, length-map, length-set, flat_map_more}
 use Rattle.std.proofs.lemmas.Option.{slice_get_read, get_or_from_slice_get}
-use Rattle.hwp_geom.specs.declared.FileNo.{FileNo}
 use Rattle.hwp_geom.specs.declared.Layout.{Layout}
 use Rattle.hwp_geom.specs.declared.Page.{Page}
 use Rattle.hwp_words.specs.Names.{frame_name}
 use Rattle.hwp_rule.specs.declared.Held.{Held}
 use Rattle.hwp_rule.specs.declared.Length.{Length}
 use Rattle.hwp_rule.specs.declared.Log.{Log}
-use Rattle.hwp_rule.specs.declared.Made.{Made}
 use Rattle.hwp_rule.specs.declared.Stamp.{Stamp}
 use Rattle.hwp_rule.specs.Logs.{state_of, fitting}
 use Rattle.hwp_rule.specs.Views.{changed, without, is_body_of}
@@ -129,6 +127,6 @@ module _ (layout : Layout) (locked : Option LockedPage) (changes : List PteChang
     away-listed log is items items-are first at again s same =
         ap (λ (l : List Listing). kept (map held_of left) l false) items-are
         ∙ subst (λ (l : Log). IsFirst (is_of l.page) bodies place → map held_of left ≡ changed (is_body_of l.page) (listed_with l) (map held_of (remove bodies place))
-            → kept (map held_of left) (listings ++ listing ∷ []) false ≡ put_away stamp l (find (is_body_of l.page) (before roomy).bodies) (before roomy)) is
-            (λ f a. away-found f at a) first again
+        → kept (map held_of left) (listings ++ listing ∷ []) false ≡ put_away stamp l (find (is_body_of l.page) (before roomy).bodies) (before roomy)) is
+        (λ f a. away-found f at a) first again
         ∙ ap (λ (s : PageSheet). put_away stamp log (find (is_body_of log.page) s.bodies) s) same

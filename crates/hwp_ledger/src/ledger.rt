@@ -10,7 +10,9 @@ ghost use Rattle.hwp_ledger.specs.Pages.{word_written, cache_seen, cache_set};
 ghost use Rattle.hwp_ledger.specs.Served.{IsServed, IsOfPages};
 ghost use Rattle.hwp_ledger.specs.Sheets.{Sheet, view_of, opening_sheet, came_to, shown, loaded_on, taken_on, put_home_on, stamp_with, at_frame, owner_set, IsRoomy, IsWithin};
 
-use crate::lists::{add_named, add_refs, own_locks, remove_named, remove_hand, remove_lock, remove_refs};
+use crate::lists::{
+    add_named, add_refs, own_locks, remove_hand, remove_lock, remove_named, remove_refs,
+};
 use crate::pages::PageLedger;
 use crate::tables::{goes, place_of};
 use hwp_core::frame_in;

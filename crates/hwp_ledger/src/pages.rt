@@ -250,9 +250,7 @@ fn history_of(body: &Body) -> History
 fn body_at(bodies: &[InHand], page: Page) -> Option<usize>
     ensures { result ≡ position (λ (b : InHandOf). is_body_of page (held_of b)) bodies.now }
 {
-    bodies
-        .iter()
-        .position(|body| body.history.page.0 == page.0)
+    bodies.iter().position(|body| body.history.page.0 == page.0)
 }
 
 /// The lock of a page, just taken, where these bodies are in hand.

@@ -1,9 +1,8 @@
 -- The slots that a processor carries, after a step.
 use Rattle.std.proofs.Common.{◌≡◌, ◌≢◌, inl, inr, ℕ, ◌+◌, ◌-◌, ◌/◌, ◌<◌, ◌≤◌, ◌==◌, nat_lt, le-ltb, ltb-true, ltb-false, eqb-true, Bool, true, false, cond, List, [], ◌∷◌, ◌++◌, Option, Some, None, map, is_some, length, option_map, slice_get, slice_index_or, slice_set, refl, sym, ap, ◌∙◌, subst, arith}
 use Rattle.std.specs.Int.{from_bool}
-use Rattle.std.specs.List.{sum_by}
 use Rattle.std.proofs.lemmas.Bool.{lt-ltb, ne_eqb}
-use Rattle.std.proofs.lemmas.List.Sums.{sum_by_push, sum_by-cons}
+use Rattle.std.proofs.lemmas.List.Sums.{sum_by_push}
 use Rattle.std.proofs.lemmas.Option.{slice_get-get_or}
 use Rattle.hwp_geom.specs.declared.Frame.{Frame}
 use Rattle.hwp_geom.specs.declared.Layout.{Layout}
@@ -259,22 +258,22 @@ module _ (layout : Layout) (who : Who) (contents : List (Option Log)) (whole : l
   carried (steps.GetRef frame seen count) found served place asks = same (view_by layout who (steps.GetRef frame seen count) found None v) (same-either (found == seen) (record v { refs = with_refs frame count v.refs }) (sighted who (places.Frame frame) found v) v (record { frames = λ f. refl; pages = λ q. refl }) (record { frames = λ f. refl; pages = λ q. refl }))
   carried (steps.PutRef frame count) found served place asks = refl
   carried (steps.LockFrame frame) found served place asks = either-frame (goes (steps.LockFrame frame) found) frame found place
-  carried (steps.UnlockFrame frame) found served place asks = 
+  carried (steps.UnlockFrame frame) found served place asks =
       frame-fewer layout.frames contents (view_by layout who (steps.UnlockFrame frame) found (met layout (steps.UnlockFrame frame) contents) v) v frame place (frame-once frame place)
       (locks-fewer frame v asks.has) (same-put layout who (met layout (steps.UnlockFrame frame) contents) v).pages
   carried (steps.Retire frame) found served place asks = absurd served
   carried (steps.Revive frame seen) found served place asks = absurd served
-  carried (steps.SetOwner frame page owned) found served place asks = 
+  carried (steps.SetOwner frame page owned) found served place asks =
       same (view_by layout who (steps.SetOwner frame page owned) found None v)
       (record { frames = locks-changed (is_lock_of frame) (λ (l : FrameLock). record l { owner = cond owned (page.0 + 1) 0 }) v.locks (λ l. refl); pages = λ q. refl })
   carried (steps.LockPage page) found served place asks = either-page (goes (steps.LockPage page) found) page place
-  carried (steps.UnlockPage page) found served place asks = 
+  carried (steps.UnlockPage page) found served place asks =
       page-fewer layout.frames contents (view_by layout who (steps.UnlockPage page) found (met layout (steps.UnlockPage page) contents) v) v page (page-once page place)
       (pages-fewer page v asks.has) (same-put layout who (met layout (steps.UnlockPage page) contents) v).frames
-  carried (steps.SetPte slot pte) found served place asks = 
+  carried (steps.SetPte slot pte) found served place asks =
       same (view_by layout who (steps.SetPte slot pte) found None v)
       (record { frames = λ f. refl; pages = all-mapped (λ (l : PageLock). record l { trans = option_map (λ (ws : List ℕ). slice_set ws slot.0 (pte_word pte)) l.trans }) v.pages (λ l. refl) })
-  carried (steps.SetCache page frame) found served place asks = 
+  carried (steps.SetCache page frame) found served place asks =
       same (view_by layout who (steps.SetCache page frame) found None v)
       (record { frames = λ f. refl; pages = pages-changed (is_page_lock_of page) (λ (l : PageLock). record l { resident = is_some frame; cache = Some (frame_name frame) }) v.pages (λ l. refl) })
   carried (steps.Poison frame hardware) found served place asks = absurd served

@@ -1,5 +1,5 @@
 -- A body taken out of a slot that a processor carries, or put into it.
-use Rattle.std.proofs.Common.{◌≡◌, inl, inr, ℕ, ◌+◌, ◌-◌, ◌<◌, ◌≤◌, nat_lt, ltb-true, ltb-false, Bool, true, false, true≢false, cond, List, Option, Some, None, map, set, length, option_map, slice_get, slice_index, get_or, refl, sym, ap, ◌∙◌, subst, arith}
+use Rattle.std.proofs.Common.{◌≡◌, ℕ, ◌+◌, ◌-◌, ◌<◌, ◌≤◌, nat_lt, ltb-true, ltb-false, Bool, true, false, cond, List, Option, Some, None, map, set, length, option_map, slice_get, slice_index, get_or, refl, sym, ap, ◌∙◌, subst, arith}
 use Rattle.std.specs.List.{sum_by}
 use Rattle.std.proofs.lemmas.List.{length-map, map-set}
 use Rattle.std.proofs.lemmas.Option.{none-some, same_Some, slice_get_read, slice_get_within, slice_get-get_or}
@@ -9,16 +9,15 @@ use Rattle.hwp_page.specs.History.{Held}
 use Rattle.hwp_words.specs.Frames.{lock_of}
 use Rattle.hwp_rule.specs.declared.FrameLock.{FrameLock}
 use Rattle.hwp_rule.specs.declared.Log.{Log}
-use Rattle.hwp_rule.specs.declared.PageLock.{PageLock}
 use Rattle.hwp_rule.specs.declared.Ref.{Ref}
 use Rattle.hwp_rule.specs.declared.State.{State}
 use Rattle.hwp_rule.specs.declared.View.{View}
-use Rattle.hwp_rule.specs.Lists.{Homes, EachMember}
+use Rattle.hwp_rule.specs.Lists.{EachMember}
 use Rattle.hwp_rule.specs.Opening.{opening_view}
-use Rattle.hwp_rule.specs.Rule.{FrameRule, Holds}
+use Rattle.hwp_rule.specs.Rule.{Holds}
 use Rattle.hwp_rule.specs.Views.{locks_on, page_locks_on}
 use Rattle.hwp_rule.specs.Words.{Words, words_of}
-use Rattle.hwp_rule.proofs.Lists.{at_map, map-was, set_again, each-set, term-le}
+use Rattle.hwp_rule.proofs.Lists.{at_map, set_again, each-set, term-le}
 use Rattle.hwp_rule.proofs.Moving.{shaped}
 use Rattle.hwp_rule.proofs.Split.{word-there}
 use Rattle.hwp_core.specs.Calls.{log_of}

@@ -1,5 +1,5 @@
 -- Lists that grow by the next number, and bits of the frames.
-use Rattle.std.proofs.Common.{◌≡◌, ℕ, zero, suc, ◌+◌, ◌*◌, ◌<◌, Bool, false, true≢false, not, List, [], ◌∷◌, ◌++◌, Option, Some, None, map, length, drop, replicate, get_or, slice_get, refl, sym, ap, ◌∙◌, subst, arith}
+use Rattle.std.proofs.Common.{◌≡◌, ℕ, suc, ◌+◌, ◌*◌, ◌<◌, Bool, false, true≢false, not, List, [], ◌∷◌, ◌++◌, Option, Some, None, map, length, drop, replicate, get_or, slice_get, refl, sym, ap, ◌∙◌, subst, arith}
 use Rattle.std.specs.Int.{from_bool}
 use Rattle.std.proofs.lemmas.List.{append_assoc, append-nil, map-append, drop_more, length-map, replicate_more}
 use Rattle.std.proofs.lemmas.Option.{none-some, same_Some, slice_get_within}

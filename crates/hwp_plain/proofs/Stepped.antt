@@ -1,5 +1,5 @@
 -- A step of the plain board is a move that keeps the frame rule.
-use Rattle.std.proofs.Common.{◌≡◌, ◌≢◌, inl, inr, ℕ, zero, suc, ◌+◌, ◌^◌, ◌<◌, ◌≤◌, ◌==◌, Bool, true, false, not, cond, List, [], ◌∷◌, Option, Some, None, map, set, length, option_map, slice_get, slice_set, slice_index, slice_index_or, get_or, true≢false, refl, sym, ap, ◌∙◌, subst, arith}
+use Rattle.std.proofs.Common.{◌≡◌, ◌≢◌, inl, inr, ℕ, ◌+◌, ◌^◌, ◌<◌, ◌≤◌, ◌==◌, Bool, true, false, not, cond, List, [], ◌∷◌, Option, Some, None, map, set, length, slice_get, slice_set, slice_index, slice_index_or, true≢false, refl, sym, ap, ◌∙◌, subst, arith}
 use Rattle.std.specs.List.{sum_by}
 use Rattle.std.specs.Option.{IfSome}
 use Rattle.std.proofs.lemmas.Bool.{eqb-false}
@@ -11,7 +11,6 @@ use Rattle.hwp_geom.specs.declared.Kind.{Kind}
 use Rattle.hwp_geom.specs.declared.Layout.{Layout}
 use Rattle.hwp_geom.specs.declared.Page.{Page}
 use Rattle.hwp_geom.specs.declared.Who.{Who}
-use Rattle.hwp_page.specs.History.{Held}
 use Rattle.hwp_words.specs.Frames.{lock_of, count_of, owner_of}
 use Rattle.hwp_rule.specs.declared.FrameLock.{FrameLock}
 use Rattle.hwp_rule.specs.declared.Log.{Log}
@@ -28,7 +27,7 @@ use Rattle.hwp_rule.specs.Lists.{Homes, EachMember}
 use Rattle.hwp_rule.specs.Moves.{Move, Meets, IsIn, Told}
 use Rattle.hwp_rule.specs.Opening.{opening_view}
 use Rattle.hwp_rule.specs.Rule.{FrameRule, holdings_of}
-use Rattle.hwp_rule.specs.Steps.{place_of, word_after, goes, kind_of}
+use Rattle.hwp_rule.specs.Steps.{place_of, word_after, kind_of}
 use Rattle.hwp_rule.specs.Views.{view_after, refs_on, locks_on, page_locks_on, noted}
 use Rattle.hwp_rule.specs.Words.{Words, words_of, index, IsPlace}
 use Rattle.hwp_rule.specs.parts.Bodies.{IsAtHome}
@@ -303,7 +302,7 @@ module _ (layout : Layout) (words : List ℕ) (slots : List Slot) (ledgers : Lis
     slot-in (steps.TakeBit frame) served place kind met-word = tt
     slot-in (steps.GiveBit frame) served place kind met-word = tt
     slot-in steps.Unreserve served place kind met-word = tt
-    slot-in (steps.Adopt frame) served place kind met-word = 
+    slot-in (steps.Adopt frame) served place kind met-word =
         let some : 1 ≤ in_hand frame.0 (map (λ (v : View). v.hands) (map view_of ledgers)) =
         in_hand-mine (map (λ (v : View). v.hands) (map view_of ledgers)) who.cpu.0 sheet.hands frame (at_map (λ (v : View). v.hands) (map view_of ledgers) who.cpu.0 (view_of sheet) me) kind.0.0 (kind.0.2 ∙ ap Some kind.0.3) in
         let bare = h.places.idle frame.0 (slice_index w.frames frame.0) (there frame.0 place) (omega (arith, some)) in

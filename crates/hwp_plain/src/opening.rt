@@ -117,10 +117,7 @@ pub fn opening_ledgers(alloc: Global, layout: &Layout) -> Result<Vec<Ledger>, Ou
 }
 
 /// The slots of the frames, which are empty, and then the shelves of the pages, with the bodies at opening.
-pub fn opening_slots(
-    alloc: Global,
-    layout: &Arc<Layout, Global>,
-) -> Result<Vec<Slot>, OutOfMemory>
+pub fn opening_slots(alloc: Global, layout: &Arc<Layout, Global>) -> Result<Vec<Slot>, OutOfMemory>
     requires sound { IsSound (arc_value layout.now) }
     ensures homes { IfOk result (λ slots. map home_of slots.items ≡ opening_homes (arc_value layout.now)) }
     ensures bodies { IfOk result (λ slots. EachMember (IsOfLayout (arc_value layout.now)) (map body_of slots.items)) }

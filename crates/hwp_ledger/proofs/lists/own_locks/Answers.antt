@@ -10,7 +10,7 @@ loop-place-preserved c =
     let test = c.loop-place-test.true in
     let less : c.loop-place.place < length c.args.locks.now.items = omega (arith, c.len-place-end.ensures) in
     let done = done-one (is_lock_of c.args.frame) (λ (k : FrameLock). record k { owner = c.args.owner }) c.args.locks.now.items c.loop-place.locks.items c.loop-place.place
-        c.index_mut.result.now c.own_lock.new.lock less c.loop-place.invariant.1 c.loop-place.invariant.0 c.index_mut.ensures.value c.own_lock.ensures in
+    c.index_mut.result.now c.own_lock.new.lock less c.loop-place.invariant.1 c.loop-place.invariant.0 c.index_mut.ensures.value c.own_lock.ensures in
     (done.0, done.1, c.loop-place.invariant.2)
 
 pub returns-clause-items : goal.returns-clause-items

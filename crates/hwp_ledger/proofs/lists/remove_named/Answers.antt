@@ -1,4 +1,4 @@
-use Rattle.std.proofs.Common.{ℕ, ◌≤◌, List, sym, subst}
+use Rattle.std.proofs.Common.{◌≤◌, List, sym, subst}
 use Rattle.hwp_rule.specs.declared.Ref.{Ref}
 use Rattle.hwp_rule.specs.Views.{refs_on}
 use Rattle.hwp_ledger.proofs.Firsts.{fewer-on}

@@ -1,4 +1,4 @@
-use Rattle.std.proofs.Common.{◌≡◌, ◌+◌, map, length, vec_len, vec_capacity}
+use Rattle.std.proofs.Common.{◌≡◌, map, length}
 use Rattle.hwp_rule.specs.Views.{is_body_of}
 use Rattle.hwp_core.specs.Calls.{log_of}
 use Rattle.hwp_ledger.specs.Pages.{held_of, listed_with}

@@ -1,4 +1,4 @@
-use Rattle.std.proofs.Common.{◌≡◌, ℕ, ◌+◌, ◌≤◌, List, Some, None, map, replicate, sym, ap, ◌∙◌, subst, arith}
+use Rattle.std.proofs.Common.{◌≡◌, ◌+◌, List, Some, None, map, replicate, sym, ap, subst, arith}
 use Rattle.std.specs.Arc.{arc_value}
 use Rattle.hwp_geom.specs.declared.Layout.{Layout}
 use Rattle.hwp_plain.specs.declared.slot.Slot.{Slot}

@@ -1,6 +1,5 @@
-use Rattle.std.proofs.Common.{◌≡◌, ◌<◌, Bool, Option, Some, ℕ, List, length, map, sym, subst, ◌∙◌, ap}
+use Rattle.std.proofs.Common.{◌<◌, Option, ℕ, length, subst}
 use Rattle.std.specs.Option.{IfSome}
-use Rattle.hwp_plain.specs.Slots.{content_of, home_of, homes_carried}
 use Rattle.hwp_plain.proofs.Homes.{out-home, out-bodies}
 use Rattle.hwp_plain.proofs.slots.carry.Goals as goal
 

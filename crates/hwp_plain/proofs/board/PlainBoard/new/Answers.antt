@@ -1,7 +1,6 @@
-use Rattle.std.proofs.Common.{◌≡◌, false, map, sym, ap, ◌∙◌, subst, rules}
+use Rattle.std.proofs.Common.{◌≡◌, false, sym, ap, ◌∙◌, subst, rules}
 use Rattle.std.specs.Arc.{arc_value}
 use Rattle.hwp_geom.specs.declared.Layout.{Layout}
-use Rattle.hwp_geom.specs.Layout.{IsSound}
 use Rattle.hwp_rule.specs.Opening.{opening_homes}
 use Rattle.hwp_plain.specs.Boards.{IsBoard}
 use Rattle.hwp_plain.proofs.Openings.{AreOfLayout, state-open, board-open}

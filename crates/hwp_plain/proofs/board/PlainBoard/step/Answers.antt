@@ -24,12 +24,14 @@ pub body_in-content-requires : goal.body_in-content-requires
 body_in-content-requires c =
     let same : length c.self.inside.slots.items ≡ length c.as_slice.result.now =
     sym (length-map c.self.inside.slots.items body_of) ∙ ap (λ (l : List (Option Held)). length l) (sym c.carry.ensures.bodies) ∙ length-map c.carry.new.slots.items body_of
-        ∙ ap (λ (l : List Slot). length l) (sym c.as_slice.ensures.value) in
-    record { within = subst (λ (m : ℕ). IfSome c.slot_of-slot.result (λ n. n < m)) same
-    (slot-inside (arc_value c.self.inside.layout) c.self.inside.words.items c.self.inside.slots.items c.self.inside.ledgers.items
-    c.self.inside.who c.args.step.now c.self.inside.ready c.self.invariant (ap (λ (b : Board). b.ready) c.self.view_is ∙ c.requires.ready) c.requires.served
-    (subst (λ (b : Board). CanStep b.layout b.who c.args.step.now (own_view b) (own_slots b)) (sym c.self.view_is) c.requires.asks)
-    c.slot_of-slot.result (c.slot_of-slot.ensures ∙ ap (λ (l : Layout). slot_of l c.args.step.now) c.deref-2.ensures)) }
+    ∙ ap (λ (l : List Slot). length l) (sym c.as_slice.ensures.value) in
+    record {
+      within = subst (λ (m : ℕ). IfSome c.slot_of-slot.result (λ n. n < m)) same
+          (slot-inside (arc_value c.self.inside.layout) c.self.inside.words.items c.self.inside.slots.items c.self.inside.ledgers.items
+          c.self.inside.who c.args.step.now c.self.inside.ready c.self.invariant (ap (λ (b : Board). b.ready) c.self.view_is ∙ c.requires.ready) c.requires.served
+          (subst (λ (b : Board). CanStep b.layout b.who c.args.step.now (own_view b) (own_slots b)) (sym c.self.view_is) c.requires.asks)
+          c.slot_of-slot.result (c.slot_of-slot.ensures ∙ ap (λ (l : Layout). slot_of l c.args.step.now) c.deref-2.ensures));
+    }
 
 pub step-requires-clause-own : goal.step-requires-clause-own
 step-requires-clause-own c =

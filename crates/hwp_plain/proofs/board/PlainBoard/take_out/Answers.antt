@@ -1,8 +1,6 @@
-use Rattle.std.proofs.Common.{◌≡◌, Option, Some, None, map, option_map, slice_set, sym, ap, ◌∙◌, subst}
+use Rattle.std.proofs.Common.{◌≡◌, Some, None, option_map, slice_set, sym, ap, ◌∙◌, subst}
 use Rattle.std.specs.Arc.{arc_value}
-use Rattle.std.proofs.lemmas.Option.{none-some, same_Some}
-use Rattle.hwp_page.specs.History.{Held}
-use Rattle.hwp_rule.specs.declared.State.{State}
+use Rattle.std.proofs.lemmas.Option.{none-some}
 use Rattle.hwp_core.specs.Calls.{log_of}
 use Rattle.hwp_plain.specs.Boards.{Board, own_slots}
 use Rattle.hwp_plain.proofs.Handing.{content-is, body-of-layout, kept-body, same-state, new-contents}
@@ -33,11 +31,11 @@ returns-clause-board c = rw c.take.ensures.after
     ((λ i. record {
       layout = arc_value c.self.inside.layout;
       state = same-state (arc_value c.self.inside.layout) c.self.inside.words.items c.self.inside.slots.items c.self.inside.ledgers.items c.self.inside.who c.self.inside.ready c.self.invariant
-    c.args.slot (Some c.requires.carried.0) (subst (λ (b : Board). own_slots b c.args.slot ≡ Some (Some c.requires.carried.0)) (sym c.self.view_is) c.requires.carried.1)
-    c.index_mut.result.now c.index_mut.ensures.value None (λ b e. absurd (none-some b e)) i;
+          c.args.slot (Some c.requires.carried.0) (subst (λ (b : Board). own_slots b c.args.slot ≡ Some (Some c.requires.carried.0)) (sym c.self.view_is) c.requires.carried.1)
+          c.index_mut.result.now c.index_mut.ensures.value None (λ b e. absurd (none-some b e)) i;
       contents = new-contents (arc_value c.self.inside.layout) c.self.inside.words.items c.self.inside.slots.items c.self.inside.ledgers.items c.self.inside.who c.self.inside.ready c.self.invariant
-    c.args.slot (Some c.requires.carried.0) (subst (λ (b : Board). own_slots b c.args.slot ≡ Some (Some c.requires.carried.0)) (sym c.self.view_is) c.requires.carried.1)
-    c.index_mut.result.now c.index_mut.ensures.value None (λ b e. absurd (none-some b e)) i;
+          c.args.slot (Some c.requires.carried.0) (subst (λ (b : Board). own_slots b c.args.slot ≡ Some (Some c.requires.carried.0)) (sym c.self.view_is) c.requires.carried.1)
+          c.index_mut.result.now c.index_mut.ensures.value None (λ b e. absurd (none-some b e)) i;
       who = c.self.inside.who;
       ready = c.self.inside.ready;
       made = c.self.inside.made;

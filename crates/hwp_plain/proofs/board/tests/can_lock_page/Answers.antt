@@ -1,4 +1,4 @@
-use Rattle.std.proofs.Common.{◌≡◌, ◌<◌, None, length, subst, rules}
+use Rattle.std.proofs.Common.{◌<◌, None, length, subst, rules}
 use Rattle.std.specs.Arc.{arc_value}
 use Rattle.hwp_rule.specs.Asks.{Asks}
 use Rattle.hwp_core.specs.Calls.{lock_page}

@@ -1,4 +1,4 @@
-use Rattle.std.proofs.Common.{◌≡◌, sym, subst}
+use Rattle.std.proofs.Common.{sym, subst}
 use Rattle.hwp_geom.specs.declared.Page.{Page}
 use Rattle.hwp_rule.specs.declared.View.{View}
 use Rattle.hwp_core.specs.declared.Hold.{Hold}

@@ -1,4 +1,4 @@
-use Rattle.std.proofs.Common.{◌≡◌, ℕ, Some, sym, ap, ◌∙◌, subst}
+use Rattle.std.proofs.Common.{ℕ, sym, ◌∙◌, subst}
 use Rattle.hwp_geom.specs.declared.Page.{Page}
 use Rattle.hwp_core.specs.declared.Unhold.{Unhold}
 use Rattle.hwp_core.specs.Unholds.{Fits, begin}
