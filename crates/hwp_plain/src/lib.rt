@@ -14,6 +14,5 @@ pub use board::PlainBoard;
 
 #[cfg(test)]
 mod checks;
-
 #[cfg(test)]
 mod tests;

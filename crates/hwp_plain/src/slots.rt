@@ -49,10 +49,10 @@ pub fn slot_of(layout: &Layout, step: &Step) -> Option<usize>
     ensures { result ≡ slot_of layout.now step.now }
 {
     match step {
-        Step::Adopt { frame } | Step::LockFrame { frame } | Step::UnlockFrame { frame } =>
-            Some(usize::from(frame.0)),
-        Step::LockPage { page } | Step::UnlockPage { page } =>
-            Some(shelf_slot(layout, *page)),
+        Step::Adopt { frame } | Step::LockFrame { frame } | Step::UnlockFrame { frame } => Some(
+            usize::from(frame.0),
+        ),
+        Step::LockPage { page } | Step::UnlockPage { page } => Some(shelf_slot(layout, *page)),
         _ => None,
     }
 }
@@ -76,9 +76,5 @@ pub fn carries(step: &Step, found: u64) -> Option<bool>
 fn if_taken(goes: bool) -> Option<bool>
     ensures { result ≡ cond goes (Some true) None }
 {
-    if goes {
-        Some(true)
-    } else {
-        None
-    }
+    if goes { Some(true) } else { None }
 }

@@ -1,7 +1,5 @@
-use Rattle.std.proofs.Common.{◌≡◌, ◌<◌, false, None, length, get_or, eqb-true, subst, arith, rules}
-use Rattle.hwp_rule.specs.Asks.{CanUnlockFrame}
+use Rattle.std.proofs.Common.{◌≡◌, ◌<◌, false, length, get_or, eqb-true, arith, rules}
 use Rattle.hwp_rule.specs.declared.FrameLock.{FrameLock}
-use Rattle.hwp_ledger.specs.Sheets.{Sheet, view_of}
 use Rattle.hwp_plain.proofs.Beginning.{lock-freed}
 use Rattle.hwp_plain.proofs.checks.has_lock.Goals as goal
 
@@ -10,7 +8,6 @@ default = record { frame = record { 0 = 0 }; owner = 0; handled = false; poisone
 
 pub returns-then-eq : goal.returns-then-eq
 returns-then-eq c = λ e layout who.
-    let some : 0 < length c.as_slice.result.now = omega (arith, c.in-len1.len_at_least) in
-    let frame-is : (get_or c.as_slice.result.now 0 default).frame ≡ c.args.frame = search rules in
-    subst (λ (s : Sheet). CanUnlockFrame layout who (view_of s) c.args.frame None) c.ledger.view_is
-    (lock-freed layout who (record { cpu = c.ledger.inside.cpu; latest = c.ledger.inside.latest; fresh = c.ledger.inside.fresh; refs = c.ledger.inside.refs.items; locks = c.ledger.inside.locks.items; reserved = c.ledger.inside.reserved; hands = c.ledger.inside.hands.items; sights = c.ledger.inside.sights.items; paged = c.ledger.inside.paged; roomy = c.ledger.inside.roomy }) c.as_slice.result.now default c.args.frame c.as_slice.ensures.value some frame-is (eqb-true (get_or c.as_slice.result.now 0 default).owner 0 e))
+    let some : 0 < length c.locks.result.now = omega (arith, c.in-len1.len_at_least) in
+    let frame-is : (get_or c.locks.result.now 0 default).frame ≡ c.args.frame = search rules in
+    lock-freed layout who c.args.ledger.now c.locks.result.now default c.args.frame c.locks.ensures some frame-is (eqb-true (get_or c.locks.result.now 0 default).owner 0 e)
