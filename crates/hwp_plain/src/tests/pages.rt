@@ -37,7 +37,7 @@ fn machine(alloc: Global) -> Result<Layout, OutOfMemory>
 }
 
 /// The board at opening, on which each processor can hold the page.
-fn opened(alloc: Global) -> Result<PlainBoard, OutOfMemory>
+pub(super) fn opened(alloc: Global) -> Result<PlainBoard, OutOfMemory>
     ensures numbers { IfOk result (λ board. (board.layout.cpus ≡ 2) × (board.layout.frames ≡ 1) × (length board.layout.pages ≡ 1)) }
     ensures views { IfOk result (λ board. (c : ℕ) → c < 2 → view_at c board.state ≡ opening_view c) }
 {
@@ -47,7 +47,7 @@ fn opened(alloc: Global) -> Result<PlainBoard, OutOfMemory>
 }
 
 /// All words of the board, in their order.
-fn words(board: &PlainBoard) -> [u64; 9]
+pub(super) fn words(board: &PlainBoard) -> [u64; 9]
     requires frames { 0 < board.now.layout.frames }
     requires pages { 0 < length board.now.layout.pages }
 {
@@ -65,10 +65,10 @@ fn words(board: &PlainBoard) -> [u64; 9]
 }
 
 /// The words at opening: the frame is free and available.
-const OPEN: [u64; 9] = [0, 0, 0, 1, 1, 0, 0, 0, 0];
+pub(super) const OPEN: [u64; 9] = [0, 0, 0, 1, 1, 0, 0, 0, 0];
 
 /// The same with the page's lock.
-const LOCKED: [u64; 9] = [0, 0, 1, 1, 1, 0, 0, 0, 0];
+pub(super) const LOCKED: [u64; 9] = [0, 0, 1, 1, 1, 0, 0, 0, 0];
 
 /// A task that holds the page for the processor's first command.
 fn holding(board: &PlainBoard, who: Who) -> Hold
