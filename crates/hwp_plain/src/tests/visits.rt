@@ -1,14 +1,11 @@
 //! Two processors that each hold one page and let it go, in every order of their turns.
 
 ghost use Rattle.std.specs.Prelude.{◌≡◌, ◌≢◌, ℕ, ◌<◌, IfSome, IsTrue, Some, None, length};
-ghost use Rattle.hwp_geom.specs.declared.Layout.{Layout};
 ghost use Rattle.hwp_geom.specs.declared.Who.{Who as WhoOf};
-ghost use Rattle.hwp_rule.specs.declared.View.{View};
-ghost use Rattle.hwp_core.specs.Calls.{Slots};
 ghost use Rattle.hwp_core.specs.Fills.{Fits as FillFits, CanBring};
 ghost use Rattle.hwp_core.specs.Holds.{Fits as HoldFits};
 ghost use Rattle.hwp_core.specs.Unholds.{Fits as UnholdFits};
-ghost use Rattle.hwp_plain.specs.Boards.{view_at, slots_at};
+ghost use Rattle.hwp_plain.specs.Boards.{Board as BoardOf, view_at, slots_at};
 
 use super::pages::{LOCKED, OPEN, opened, words};
 use crate::board::PlainBoard;
@@ -33,16 +30,16 @@ enum Stage {
 
 /// What a stage needs of what its processor knows and carries.
 trait Staged {
-    ghost fits: { Layout → View → Slots → WhoOf → Self → Type 0 };
+    ghost fits: { BoardOf → WhoOf → Self → Type 0 };
 }
 
 impl Staged for Stage {
     ghost use Rattle.hwp_plain.specs.declared.tests.visits.Stage.TheVariants.{Holding, Filling, Unholding, Over};
 
-    ghost fits = { λ layout view slots who stage. elim stage as (λ _. Type 0) [
-      | Holding hold ↦ (hold.who ≡ who) × HoldFits layout view slots hold
-      | Filling cache fill ↦ (fill.who ≡ who) × FillFits layout view slots fill
-      | Unholding cache unhold ↦ (unhold.who ≡ who) × UnholdFits layout view slots unhold
+    ghost fits = { λ board who stage. elim stage as (λ _. Type 0) [
+      | Holding hold ↦ (hold.who ≡ who) × HoldFits board.layout (view_at who.cpu.0 board.state) (slots_at who.cpu.0 board) hold
+      | Filling cache fill ↦ (fill.who ≡ who) × FillFits board.layout (view_at who.cpu.0 board.state) (slots_at who.cpu.0 board) fill
+      | Unholding cache unhold ↦ (unhold.who ≡ who) × UnholdFits board.layout (view_at who.cpu.0 board.state) (slots_at who.cpu.0 board) unhold
       | Over cache ↦ Unit {0}
     ] };
 }
@@ -72,7 +69,7 @@ fn after_hold(board: &PlainBoard, who: Who, fills: bool, hold: Hold) -> Stage
     requires pages { length board.now.layout.pages ≡ 1 }
     requires own { hold.who ≡ who }
     requires fits { HoldFits board.now.layout (view_at who.cpu.0 board.now.state) (slots_at who.cpu.0 board.now) hold }
-    ensures { ⟦<Stage as Staged>⟧.fits board.now.layout (view_at who.cpu.0 board.now.state) (slots_at who.cpu.0 board.now) who result }
+    ensures { ⟦<Stage as Staged>⟧.fits board.now who result }
 {
     let _board = board;
     let Some(cache) = hold.answer() else {
@@ -97,7 +94,7 @@ fn after_fill(board: &PlainBoard, who: Who, cache: u64, fill: Fill) -> Stage
     requires pages { length board.now.layout.pages ≡ 1 }
     requires own { fill.who ≡ who }
     requires fits { FillFits board.now.layout (view_at who.cpu.0 board.now.state) (slots_at who.cpu.0 board.now) fill }
-    ensures { ⟦<Stage as Staged>⟧.fits board.now.layout (view_at who.cpu.0 board.now.state) (slots_at who.cpu.0 board.now) who result }
+    ensures { ⟦<Stage as Staged>⟧.fits board.now who result }
 {
     let _board = board;
     match fill.answer() {
@@ -117,7 +114,7 @@ fn after_fill(board: &PlainBoard, who: Who, cache: u64, fill: Fill) -> Stage
 fn after_unhold(board: &PlainBoard, who: Who, cache: u64, unhold: Unhold) -> Stage
     requires own { unhold.who ≡ who }
     requires fits { UnholdFits board.now.layout (view_at who.cpu.0 board.now.state) (slots_at who.cpu.0 board.now) unhold }
-    ensures { ⟦<Stage as Staged>⟧.fits board.now.layout (view_at who.cpu.0 board.now.state) (slots_at who.cpu.0 board.now) who result }
+    ensures { ⟦<Stage as Staged>⟧.fits board.now who result }
 {
     let _board = board;
     match unhold.answer() {
@@ -135,10 +132,10 @@ fn turned(
 ) -> (Stage, (Turn, Option<Kind>))
     requires cpu { who.cpu.0 < board.old.layout.cpus }
     requires pages { length board.old.layout.pages ≡ 1 }
-    requires fits { ⟦<Stage as Staged>⟧.fits board.old.layout (view_at who.cpu.0 board.old.state) (slots_at who.cpu.0 board.old) who stage }
+    requires fits { ⟦<Stage as Staged>⟧.fits board.old who stage }
     ensures layout { board.new.layout ≡ board.old.layout }
     ensures others { (c : ℕ) → c ≢ who.cpu.0 → (view_at c board.new.state ≡ view_at c board.old.state) × (slots_at c board.new ≡ slots_at c board.old) }
-    ensures fits { ⟦<Stage as Staged>⟧.fits board.new.layout (view_at who.cpu.0 board.new.state) (slots_at who.cpu.0 board.new) who result.0 }
+    ensures fits { ⟦<Stage as Staged>⟧.fits board.new who result.0 }
 {
     match stage {
         Stage::Holding(mut hold) => {
@@ -162,7 +159,7 @@ impl Visit {
     fn new(board: &PlainBoard, who: Who, fills: bool) -> Option<Visit>
         requires { who.cpu.0 < board.now.layout.cpus }
         ensures who { IfSome result (λ visit. visit.who ≡ who) }
-        ensures fits { IfSome result (λ visit. ⟦<Stage as Staged>⟧.fits board.now.layout (view_at who.cpu.0 board.now.state) (slots_at who.cpu.0 board.now) who visit.stage) }
+        ensures fits { IfSome result (λ visit. ⟦<Stage as Staged>⟧.fits board.now who visit.stage) }
     {
         if !can_hold(board, who, Page(0)) {
             return None;
@@ -178,11 +175,11 @@ impl Visit {
     fn turn(&mut self, board: &mut PlainBoard) -> (Turn, Option<Kind>)
         requires cpu { self.old.who.cpu.0 < board.old.layout.cpus }
         requires pages { length board.old.layout.pages ≡ 1 }
-        requires fits { ⟦<Stage as Staged>⟧.fits board.old.layout (view_at self.old.who.cpu.0 board.old.state) (slots_at self.old.who.cpu.0 board.old) self.old.who self.old.stage }
+        requires fits { ⟦<Stage as Staged>⟧.fits board.old self.old.who self.old.stage }
         ensures layout { board.new.layout ≡ board.old.layout }
         ensures who { self.new.who ≡ self.old.who }
         ensures others { (c : ℕ) → c ≢ self.old.who.cpu.0 → (view_at c board.new.state ≡ view_at c board.old.state) × (slots_at c board.new ≡ slots_at c board.old) }
-        ensures fits { ⟦<Stage as Staged>⟧.fits board.new.layout (view_at self.new.who.cpu.0 board.new.state) (slots_at self.new.who.cpu.0 board.new) self.new.who self.new.stage }
+        ensures fits { ⟦<Stage as Staged>⟧.fits board.new self.new.who self.new.stage }
     {
         let stage = mem::replace(&mut self.stage, Stage::Over { cache: 0 });
         let (stage, made) = turned(board, self.who, self.fills, stage);
@@ -218,7 +215,7 @@ struct Row {
     cache: u64,
     /// The words while no processor has the page's lock; while one has it; has a reference to the page's frame too; and that
     /// frame's lock too.
-    words: [[u64; 9]; 4],
+    words: &'static [[u64; 9]],
 }
 
 /// By hand. The frame word has 16 for each reference, the cache word's among them, 1 for its lock, and from bit 24 on its
@@ -228,13 +225,13 @@ const ROWS: [Row; 2] = [
         resident: false,
         turns: 12,
         cache: 0,
-        words: [OPEN, LOCKED, LOCKED, LOCKED],
+        words: &[OPEN, LOCKED],
     },
     Row {
         resident: true,
         turns: 16,
         cache: 1,
-        words: [
+        words: &[
             [16777232, 1, 0, 0, 0, 0, 0, 0, 0],
             [16777232, 1, 1, 0, 0, 0, 0, 0, 0],
             [16777248, 1, 1, 0, 0, 0, 0, 0, 0],
@@ -292,12 +289,12 @@ fn turn_of(
     requires cpus { 1 < board.old.layout.cpus }
     requires pages { length board.old.layout.pages ≡ 1 }
     requires own { (first.old.who.cpu.0 ≡ 0) × (second.old.who.cpu.0 ≡ 1) }
-    requires first { ⟦<Stage as Staged>⟧.fits board.old.layout (view_at first.old.who.cpu.0 board.old.state) (slots_at first.old.who.cpu.0 board.old) first.old.who first.old.stage }
-    requires second { ⟦<Stage as Staged>⟧.fits board.old.layout (view_at second.old.who.cpu.0 board.old.state) (slots_at second.old.who.cpu.0 board.old) second.old.who second.old.stage }
+    requires first { ⟦<Stage as Staged>⟧.fits board.old first.old.who first.old.stage }
+    requires second { ⟦<Stage as Staged>⟧.fits board.old second.old.who second.old.stage }
     ensures layout { board.new.layout ≡ board.old.layout }
     ensures own { (first.new.who.cpu.0 ≡ 0) × (second.new.who.cpu.0 ≡ 1) }
-    ensures first { ⟦<Stage as Staged>⟧.fits board.new.layout (view_at first.new.who.cpu.0 board.new.state) (slots_at first.new.who.cpu.0 board.new) first.new.who first.new.stage }
-    ensures second { ⟦<Stage as Staged>⟧.fits board.new.layout (view_at second.new.who.cpu.0 board.new.state) (slots_at second.new.who.cpu.0 board.new) second.new.who second.new.stage }
+    ensures first { ⟦<Stage as Staged>⟧.fits board.new first.new.who first.new.stage }
+    ensures second { ⟦<Stage as Staged>⟧.fits board.new second.new.who second.new.stage }
 {
     if other {
         second.turn(board)
@@ -312,8 +309,9 @@ fn race(board: &mut PlainBoard, first: &mut Visit, second: &mut Visit, row: &Row
     requires frames { 0 < board.old.layout.frames }
     requires pages { length board.old.layout.pages ≡ 1 }
     requires own { (first.old.who.cpu.0 ≡ 0) × (second.old.who.cpu.0 ≡ 1) }
-    requires first { ⟦<Stage as Staged>⟧.fits board.old.layout (view_at first.old.who.cpu.0 board.old.state) (slots_at first.old.who.cpu.0 board.old) first.old.who first.old.stage }
-    requires second { ⟦<Stage as Staged>⟧.fits board.old.layout (view_at second.old.who.cpu.0 board.old.state) (slots_at second.old.who.cpu.0 board.old) second.old.who second.old.stage }
+    requires first { ⟦<Stage as Staged>⟧.fits board.old first.old.who first.old.stage }
+    requires second { ⟦<Stage as Staged>⟧.fits board.old second.old.who second.old.stage }
+    ensures { board.new.layout ≡ board.old.layout }
 {
     let mut levels = [0usize, 0];
     for turn in 0..64u32 {
@@ -333,10 +331,14 @@ fn race(board: &mut PlainBoard, first: &mut Visit, second: &mut Visit, row: &Row
 }
 
 /// What the visits of the row come to in this order.
-fn outcome(alloc: Global, row: &Row, order: u64) -> Result<End, OutOfMemory> {
-    let mut board = opened(alloc)?;
-    if row.resident && !fill(&mut board) {
-        return Ok(End::NotBegun);
+fn visited(board: &mut PlainBoard, row: &Row, order: u64) -> End
+    requires cpus { 1 < board.old.layout.cpus }
+    requires frames { 0 < board.old.layout.frames }
+    requires pages { length board.old.layout.pages ≡ 1 }
+    ensures { board.new.layout ≡ board.old.layout }
+{
+    if row.resident && !fill(board) {
+        return End::NotBegun;
     }
     let own = Who {
         cpu: Cpu(0),
@@ -346,26 +348,33 @@ fn outcome(alloc: Global, row: &Row, order: u64) -> Result<End, OutOfMemory> {
         cpu: Cpu(1),
         seq: 0,
     };
-    let (Some(mut first), Some(mut second)) = (
-        Visit::new(&board, own, false),
-        Visit::new(&board, its, false),
-    ) else {
-        return Ok(End::NotBegun);
+    let Some(mut first) = Visit::new(board, own, false) else {
+        return End::NotBegun;
     };
-    if words(&board) != row.words[0] {
-        return Ok(End::NotBegun);
+    let Some(mut second) = Visit::new(board, its, false) else {
+        return End::NotBegun;
+    };
+    if row.words.first() != Some(&words(board)) {
+        return End::NotBegun;
     }
-    Ok(race(&mut board, &mut first, &mut second, row, order))
+    race(board, &mut first, &mut second, row, order)
+}
+
+/// What the visits come to on a board at opening, and the words then.
+fn outcome(alloc: Global, row: &Row, order: u64) -> Result<(End, [u64; 9]), OutOfMemory> {
+    let mut board = opened(alloc)?;
+    let end = visited(&mut board, row, order);
+    Ok((end, words(&board)))
 }
 
 #[test]
 fn a_page_is_held_and_let_go_in_any_order(rt: HostRuntime) -> Result<(), Fail> {
     for row in ROWS.iter() {
         for order in 0..1u64 << (row.turns % 64) {
-            let end = outcome(rt.alloc(), row, order)?;
+            let (end, left) = outcome(rt.alloc(), row, order)?;
             assert_eq!(rt;
-                end,
-                End::Over([row.cache, row.cache]),
+                (end, Some(&left)),
+                (End::Over([row.cache, row.cache]), row.words.first()),
                 "resident: {}, order {order}",
                 row.resident
             );
