@@ -1,16 +1,20 @@
 -- A processor at opening can begin a task.
-use Rattle.std.proofs.Common.{◌≡◌, ℕ, zero, suc, ◌+◌, ◌<◌, ◌≤◌, Bool, true, true≢false, None, is_none, option_map, List, [], ◌∷◌, Some, map, length, slice_get, get_or, refl, sym, ap, ◌∙◌, subst, arith}
+use Rattle.std.proofs.Common.{◌≡◌, ℕ, zero, suc, ◌+◌, ◌<◌, ◌≤◌, inl, inr, Bool, true, true≢false, None, is_none, option_map, List, [], ◌∷◌, Some, map, length, slice_get, get_or, refl, sym, ap, ◌∙◌, subst, arith}
+use Rattle.std.proofs.lemmas.List.{nil_from_length}
 use Rattle.std.proofs.lemmas.Option.{none-some, same_Some, slice_get-get_or, get_or_from_slice_get}
 use Rattle.hwp_geom.specs.declared.Frame.{Frame}
 use Rattle.hwp_geom.specs.declared.Layout.{Layout}
 use Rattle.hwp_geom.specs.declared.Page.{Page}
 use Rattle.hwp_geom.specs.declared.Who.{Who}
 use Rattle.hwp_rule.specs.declared.FrameLock.{FrameLock}
+use Rattle.hwp_rule.specs.declared.Held.{Held as InHand}
 use Rattle.hwp_rule.specs.declared.Part.{Part}
 use Rattle.hwp_rule.specs.declared.View.{View}
 use Rattle.hwp_rule.specs.declared.PageLock.{PageLock}
 use Rattle.hwp_rule.specs.Asks.{Asks, CanUnlockFrame, HasRoom}
-use Rattle.hwp_rule.specs.Views.{refs_on, locks_on}
+use Rattle.hwp_rule.specs.Rule.{holder_of}
+use Rattle.hwp_rule.specs.Views.{refs_on, locks_on, page_locks_on}
+use Rattle.hwp_rule.specs.parts.Bodies.{IsHolding}
 use Rattle.hwp_rule.specs.Opening.{below, opening, opening_view}
 use Rattle.hwp_rule.proofs.Lists.{at_map}
 use Rattle.hwp_rule.proofs.Opening.{below-at}
@@ -91,6 +95,35 @@ module _ (layout : Layout) (words : List ℕ) (slots : List Slot) (ledgers : Lis
 
   pub can-lock-page : (page : Page) → page.0 < length layout.pages → IsOnTurn (view_of sheet) who → length sheet.paged.locked ≡ 0 → Asks layout who (lock_page page) None (view_at who.cpu.0 (state_of words slots ledgers))
   can-lock-page page inside on none = subst (λ (v : View). Asks layout who (lock_page page) None v) (sym mine) (record { turn = on.turn; place = inside; kind = none })
+
+  -- with no lock there is no body in hand
+  no-body : sheet.locks ≡ [] → sheet.paged.locked ≡ [] → (bodies : List InHand) → bodies ≡ sheet.paged.bodies → sheet.paged.bodies ≡ []
+  no-body unlocked closed [] same = sym same
+  no-body unlocked closed (b ∷ bs) same = elim here [
+    | inl page ↦ (let none : page_locks_on b.log.page.0 sheet.paged.locked ≡ 0 = ap (λ (l : List PageLock). page_locks_on b.log.page.0 l) closed in absurd (omega (arith, page, none)))
+    | inr some ↦ absurd (none-some some.1 (sym (ap (λ (l : List FrameLock). slice_get l some.0) unlocked) ∙ some.2))
+  ]
+    where
+      there : slice_get ledgers who.cpu.0 ≡ Some sheet
+      there = read-there layout words slots ledgers at ready kept who.cpu.0 n sheet less n-is value
+
+      here : IsHolding b (holder_of (view_of sheet))
+      here = kept.holds.rule.bodies.in_hand who.cpu.0 (holder_of (view_of sheet)) (at_map holder_of (map view_of ledgers) who.cpu.0 (view_of sheet) (at_map view_of ledgers who.cpu.0 sheet there)) 0 b (ap (λ (l : List InHand). slice_get l 0) (sym same))
+
+  pub can-hold : (page : Page) → page.0 < length layout.pages → IsOnTurn (view_of sheet) who → HasRoom (view_of sheet) → length sheet.locks ≡ 0 → length sheet.refs ≡ 0 → length sheet.paged.locked ≡ 0
+      → holds.Fits layout (view_at who.cpu.0 (state_of words slots ledgers)) (slots_of layout.frames (map content_of slots) (view_at who.cpu.0 (state_of words slots ledgers))) (holds.begin who page)
+  can-hold page inside on room unlocked unreferred closed = subst (λ (v : View). holds.Fits layout v (slots_of layout.frames (map content_of slots) v) (holds.begin who page)) (sym mine)
+      (record {
+        on_turn = on;
+        page = inside;
+        at = record {
+          locks = nil_from_length sheet.locks unlocked;
+          pages = nil_from_length sheet.paged.locked closed;
+          refs = nil_from_length sheet.refs unreferred;
+          bodies = no-body (nil_from_length sheet.locks unlocked) (nil_from_length sheet.paged.locked closed) sheet.paged.bodies refl;
+          room = room;
+        };
+      })
 
 -- no lock of a page, where none is read
 pub no-page : (locked : List PageLock) → is_none (option_map (λ (l : PageLock). l.page) (slice_get locked 0)) ≡ true → length locked ≡ 0

@@ -68,3 +68,10 @@ pub fn has_no_page(ledger: &Ledger) -> bool
 {
     ledger.page().is_none()
 }
+
+/// Whether it has no lock and no reference, and there is room for a frame.
+pub fn holds_nothing(ledger: &Ledger) -> bool
+    ensures { IsTrue result → HasRoom (view_of ledger.now) × (length ledger.now.locks ≡ 0) × (length ledger.now.refs ≡ 0) × (length ledger.now.paged.locked ≡ 0) }
+{
+    ledger.locks().is_empty() && ledger.refs().is_empty() && has_no_page(ledger) && has_room(ledger)
+}

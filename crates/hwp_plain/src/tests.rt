@@ -174,3 +174,4 @@ fn of_two_processors_one_reserves_the_only_frame(rt: HostRuntime) -> Result<(), 
 
 mod pages;
 mod races;
+mod visits;

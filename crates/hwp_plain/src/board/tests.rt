@@ -1,14 +1,17 @@
 ghost use Rattle.std.specs.Prelude.{◌≡◌, ◌<◌, Some, None, IsTrue, map, slice_get};
 ghost use Rattle.hwp_rule.specs.Asks.{Asks};
 ghost use Rattle.hwp_core.specs.Calls.{CanFreeFrame, lock_page};
+ghost use Rattle.hwp_core.specs.Holds.{Fits as HoldFits, begin as begin_hold};
 ghost use Rattle.hwp_core.specs.Pins.{Fits as PinFits, begin as begin_pin};
 ghost use Rattle.hwp_core.specs.Releases.{Fits, begin};
 ghost use Rattle.hwp_core.specs.Takes.{Fits as TakeFits, begin as begin_take};
-ghost use Rattle.hwp_plain.specs.Boards.{own_view, own_slots, view_at};
+ghost use Rattle.hwp_plain.specs.Boards.{own_view, own_slots, view_at, slots_at};
 ghost use Rattle.hwp_plain.specs.Slots.{content_of};
 
 use super::PlainBoard;
-use crate::checks::{has_lock, has_no_page, has_ref_room, has_refs, has_room, is_on_turn};
+use crate::checks::{
+    has_lock, has_no_page, has_ref_room, has_refs, has_room, holds_nothing, is_on_turn,
+};
 use crate::slot::Slot;
 use hwp_geom::{Frame, Page, Who};
 
@@ -90,4 +93,19 @@ pub fn can_lock_page(board: &PlainBoard, page: Page) -> bool
         return false;
     }
     has_no_page(ledger)
+}
+
+/// Whether the processor can hold the page.
+pub fn can_hold(board: &PlainBoard, who: Who, page: Page) -> bool
+    requires { who.cpu.0 < board.now.layout.cpus }
+    ensures { IsTrue result → HoldFits board.now.layout (view_at who.cpu.0 board.now.state) (slots_at who.cpu.0 board.now) (begin_hold who page) }
+{
+    if usize::from(page.0) >= board.layout.pages.len() {
+        return false;
+    }
+    let ledger = &board.ledgers[usize::from(who.cpu.0)];
+    if !is_on_turn(ledger, who) {
+        return false;
+    }
+    holds_nothing(ledger)
 }

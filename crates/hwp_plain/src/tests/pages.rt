@@ -36,7 +36,7 @@ fn machine(alloc: Global) -> Result<Layout, OutOfMemory>
 }
 
 /// The board at opening, on which each processor can hold the page.
-fn opened(alloc: Global) -> Result<PlainBoard, OutOfMemory>
+pub(super) fn opened(alloc: Global) -> Result<PlainBoard, OutOfMemory>
     ensures numbers { IfOk result (λ board. (board.layout.cpus ≡ 2) × (board.layout.frames ≡ 1) × (length board.layout.pages ≡ 1)) }
     ensures views { IfOk result (λ board. (c : ℕ) → c < 2 → view_at c board.state ≡ opening_view c) }
 {
@@ -46,7 +46,7 @@ fn opened(alloc: Global) -> Result<PlainBoard, OutOfMemory>
 }
 
 /// All words of the board, in their order.
-fn words(board: &PlainBoard) -> [u64; 9]
+pub(super) fn words(board: &PlainBoard) -> [u64; 9]
     requires frames { 0 < board.now.layout.frames }
     requires pages { 0 < length board.now.layout.pages }
 {
@@ -64,10 +64,10 @@ fn words(board: &PlainBoard) -> [u64; 9]
 }
 
 /// The words at opening: the frame is free and available.
-const OPEN: [u64; 9] = [0, 0, 0, 1, 1, 0, 0, 0, 0];
+pub(super) const OPEN: [u64; 9] = [0, 0, 0, 1, 1, 0, 0, 0, 0];
 
 /// The same with the page's lock.
-const LOCKED: [u64; 9] = [0, 0, 1, 1, 1, 0, 0, 0, 0];
+pub(super) const LOCKED: [u64; 9] = [0, 0, 1, 1, 1, 0, 0, 0, 0];
 
 /// A task that holds the page for the processor's first command.
 fn holding(board: &PlainBoard, who: Who) -> Hold
@@ -200,117 +200,5 @@ fn a_page_is_held_let_go_and_held_by_another(rt: HostRuntime) -> Result<(), Fail
     );
     assert_eq!(rt; unhold.answer(), Some(UnholdAnswer::Done));
     assert_eq!(rt; again.answer(), Some(UnholdAnswer::Done));
-    Ok(())
-}
-
-/// Runs both tasks turn by turn as the bits of the order say, and then two turns of each. Whether after each turn the words
-/// were those at opening, but for the page's lock.
-fn race<A: Task, B: Task>(
-    board: &mut PlainBoard,
-    own: Cpu,
-    first: &mut A,
-    its: Cpu,
-    second: &mut B,
-    order: u32,
-) -> bool
-    requires cpus { (own.0 < board.old.layout.cpus) × (its.0 < board.old.layout.cpus) × (its.0 ≢ own.0) × (own.0 ≢ its.0) }
-    requires words { (0 < board.old.layout.frames) × (0 < length board.old.layout.pages) }
-    requires own { ((A.who first.old).cpu ≡ own) × ((B.who second.old).cpu ≡ its) }
-    requires first { A.fits board.old.layout (view_at own.0 board.old.state) (slots_at own.0 board.old) first.old }
-    requires second { B.fits board.old.layout (view_at its.0 board.old.state) (slots_at its.0 board.old) second.old }
-    ensures layout { board.new.layout ≡ board.old.layout }
-    ensures own { (A.who first.new ≡ A.who first.old) × (B.who second.new ≡ B.who second.old) }
-    ensures first { A.fits board.new.layout (view_at own.0 board.new.state) (slots_at own.0 board.new) first.new }
-    ensures second { B.fits board.new.layout (view_at its.0 board.new.state) (slots_at its.0 board.new) second.new }
-{
-    let mut sound = true;
-    for turn in 0..10u32 {
-        let other = if turn < 6 {
-            (order >> turn) % 2 == 1
-        } else {
-            turn >= 8
-        };
-        one_turn(board, own, first, its, second, other);
-        let words = words(board);
-        sound = sound && (words == OPEN || words == LOCKED);
-    }
-    sound
-}
-
-/// One turn of the first task, or of the other.
-fn one_turn<A: Task, B: Task>(
-    board: &mut PlainBoard,
-    own: Cpu,
-    first: &mut A,
-    its: Cpu,
-    second: &mut B,
-    other: bool,
-)
-    requires cpus { (own.0 < board.old.layout.cpus) × (its.0 < board.old.layout.cpus) × (its.0 ≢ own.0) × (own.0 ≢ its.0) }
-    requires own { ((A.who first.old).cpu ≡ own) × ((B.who second.old).cpu ≡ its) }
-    requires first { A.fits board.old.layout (view_at own.0 board.old.state) (slots_at own.0 board.old) first.old }
-    requires second { B.fits board.old.layout (view_at its.0 board.old.state) (slots_at its.0 board.old) second.old }
-    ensures layout { board.new.layout ≡ board.old.layout }
-    ensures own { (A.who first.new ≡ A.who first.old) × (B.who second.new ≡ B.who second.old) }
-    ensures first { A.fits board.new.layout (view_at own.0 board.new.state) (slots_at own.0 board.new) first.new }
-    ensures second { B.fits board.new.layout (view_at its.0 board.new.state) (slots_at its.0 board.new) second.new }
-{
-    if other {
-        turn_of(board, its, second, first);
-    } else {
-        turn_of(board, own, first, second);
-    }
-}
-
-/// A processor lets go what it held, while the other waits for it, and then the other does. Whether both come to their end,
-/// the words are sound after each turn, and those at opening at the end.
-fn pass_on(
-    board: &mut PlainBoard,
-    own: Who,
-    held: Hold,
-    its: Who,
-    mut waiting: Hold,
-    order: u32,
-) -> bool
-    requires cpus { (own.cpu.0 < board.old.layout.cpus) × (its.cpu.0 < board.old.layout.cpus) × (its.cpu.0 ≢ own.cpu.0) × (own.cpu.0 ≢ its.cpu.0) }
-    requires words { (0 < board.old.layout.frames) × (length board.old.layout.pages ≡ 1) }
-    requires own { (held.who ≡ own) × (waiting.who ≡ its) }
-    requires first { HoldFits board.old.layout (view_at own.cpu.0 board.old.state) (slots_at own.cpu.0 board.old) held }
-    requires second { HoldFits board.old.layout (view_at its.cpu.0 board.old.state) (slots_at its.cpu.0 board.old) waiting }
-{
-    let Some(mut unhold) = letting_go(board, own, held) else {
-        return false;
-    };
-    let sound = race(board, own.cpu, &mut unhold, its.cpu, &mut waiting, order);
-    let Some(mut again) = letting_go(board, its, waiting) else {
-        return false;
-    };
-    turn_of(board, its.cpu, &mut again, &unhold);
-    let over = unhold.answer().is_some() && again.answer().is_some();
-    sound && over && words(board) == OPEN
-}
-
-#[test]
-fn a_page_is_held_by_one_at_a_time_in_any_order(rt: HostRuntime) -> Result<(), Fail> {
-    for order in 0..4096u32 {
-        let mut board = opened(rt.alloc())?;
-        let own = Who {
-            cpu: Cpu(0),
-            seq: 0,
-        };
-        let its = Who {
-            cpu: Cpu(1),
-            seq: 0,
-        };
-        let mut first = holding(&board, own);
-        let mut second = holding(&board, its);
-        assert!(rt; race(&mut board, Cpu(0), &mut first, Cpu(1), &mut second, order));
-        let passed = match (first.answer(), second.answer()) {
-            (Some(0), None) => pass_on(&mut board, own, first, its, second, order >> 6),
-            (None, Some(0)) => pass_on(&mut board, its, second, own, first, order >> 6),
-            _ => false,
-        };
-        assert!(rt; passed, "order {order}");
-    }
     Ok(())
 }
