@@ -1,4 +1,4 @@
-ghost use Rattle.std.specs.Prelude.{◌≡◌, ℕ, ◌+◌, ◌<◌, true, false, None, Some, length, slice_set, OnOk, OnErr, IfOk};
+ghost use Rattle.std.specs.Prelude.{◌≡◌, ◌+◌, ◌<◌, true, false, None, Some, length, slice_set, OnOk, OnErr, IfOk};
 ghost use Rattle.hwp_geom.specs.Layout.{IsSound};
 ghost use Rattle.hwp_rule.specs.Opening.{opening};
 ghost use Rattle.hwp_rule.specs.Rule.{Holds};

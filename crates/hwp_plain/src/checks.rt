@@ -1,6 +1,6 @@
 //! What a processor can do, by what its ledger has.
 
-ghost use Rattle.std.specs.Prelude.{◌≡◌, ℕ, ◌+◌, ◌<◌, ◌≤◌, None, length, IsTrue};
+ghost use Rattle.std.specs.Prelude.{◌≡◌, ◌+◌, ◌<◌, ◌≤◌, None, length, IsTrue};
 ghost use Rattle.hwp_geom.specs.declared.Layout.{Layout as LayoutOf};
 ghost use Rattle.hwp_geom.specs.declared.Who.{Who as WhoOf};
 ghost use Rattle.hwp_rule.specs.Asks.{CanUnlockFrame, HasRoom};
