@@ -168,10 +168,10 @@ pub ahead-unholds : {layout : Layout} {view : View} {slots : Slots} (who : Who) 
     → Fits layout view slots (begin who page frame 1 body)
 ahead-unholds {layout} {view} {slots} who page frame body on inside has = record { on_turn = on; page = inside; at = lets-go layout view slots who page frame body has }
 
--- the page that a task holds, which is over, is let go: with the frame that its answer names, one reference and the body
-pub held-unholds : (layout : Layout) (view : View) (slots : Slots) (h : Hold) (cache : ℕ) (body : Held) → holds.answer h ≡ Some cache → holds.IsBody h body → holds.Fits layout view slots h
-    → Fits layout view slots (begin h.who h.page (frame_in cache) 1 body)
-held-unholds layout view slots h cache body answered is fits = ahead-unholds h.who h.page (frame_in cache) body fits.on_turn fits.page (holds-ahead h.who (which h.at answered is fits.at))
+-- the page that a task holds, which is over, is held in the frame that its answer names, with the body
+pub held-page : (layout : Layout) (view : View) (slots : Slots) (h : Hold) (cache : ℕ) (body : Held) → holds.answer h ≡ Some cache → holds.IsBody h body → holds.Fits layout view slots h
+    → HoldsPage layout view slots h.page (frame_in cache) body
+held-page layout view slots h cache body answered is fits = which h.at answered is fits.at
   where
     which : (x : HoldAt) → holds.answer_at x ≡ Some cache → holds.IsBodyAt x body → holds.FitsAt layout view slots h.who h.page x → HoldsPage layout view slots h.page (frame_in cache) body
     which hold_at.LockPage over own at = absurd (none-some cache over)
@@ -179,3 +179,22 @@ held-unholds layout view slots h cache body answered is fits = ahead-unholds h.w
     which (hold_at.Pin p) over own at = absurd (none-some cache over)
     which (hold_at.LockFrame frame) over own at = absurd (none-some cache over)
     which (hold_at.Held word taken) over own at = subst (λ (n : ℕ). HoldsPage layout view slots h.page (frame_in n) body) (same_Some word cache over) (subst (λ (b : Held). HoldsPage layout view slots h.page (frame_in word) b) (sym own) at.1)
+
+-- it is let go: with that frame, one reference and the body
+pub held-unholds : (layout : Layout) (view : View) (slots : Slots) (h : Hold) (cache : ℕ) (body : Held) → holds.answer h ≡ Some cache → holds.IsBody h body → holds.Fits layout view slots h
+    → Fits layout view slots (begin h.who h.page (frame_in cache) 1 body)
+held-unholds layout view slots h cache body answered is fits = ahead-unholds h.who h.page (frame_in cache) body fits.on_turn fits.page (holds-ahead h.who (held-page layout view slots h cache body answered is fits))
+
+-- room that is made in a body leaves it held
+pub held-roomy : {layout : Layout} {view : View} {slots : Slots} (page : Page) (frame : Option Frame) (body : Held) (spare : ℕ) → HoldsPage layout view slots page frame body
+    → HoldsPage layout view slots page frame (record body { spare = spare })
+held-roomy {layout} {view} {slots} page frame body spare held = record {
+  lock = held.lock;
+  pages = held.pages;
+  page_is = held.page_is;
+  resident = held.resident;
+  taken = held.taken;
+  layout_is = held.layout_is;
+  shelf = held.shelf;
+  frame_held = held.frame_held;
+}

@@ -1,4 +1,4 @@
-ghost use Rattle.std.specs.Prelude.{◌≡◌, ℕ, ◌+◌, ◌^◌, ◌<◌, ◌≤◌, ◌==◌, cond, length, vec_len, vec_capacity};
+ghost use Rattle.std.specs.Prelude.{◌≡◌, ℕ, ◌+◌, ◌^◌, ◌<◌, ◌≤◌, ◌==◌, cond, vec_len, vec_capacity};
 ghost use Rattle.std.specs.List.{position};
 ghost use Rattle.hwp_rule.specs.declared.FrameLock.{FrameLock as FrameLockOf};
 ghost use Rattle.hwp_rule.specs.Views.{changed, without, is_frame, is_lock_of, with_refs, less_refs, with_named, less_named, refs_on};

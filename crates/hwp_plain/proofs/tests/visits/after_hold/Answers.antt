@@ -1,5 +1,4 @@
 use Rattle.std.proofs.Common.{◌≡◌, ℕ, ◌<◌, Option, Some, None, length, sym, ap, ◌∙◌, subst, arith}
-use Rattle.std.proofs.lemmas.Option.{none-some, same_Some}
 use Rattle.hwp_geom.specs.declared.Frame.{Frame}
 use Rattle.hwp_geom.specs.declared.Layout.{Layout}
 use Rattle.hwp_geom.specs.declared.Page.{Page}
@@ -9,15 +8,13 @@ use Rattle.hwp_rule.specs.declared.View.{View}
 use Rattle.hwp_rule.specs.Views.{frame_in}
 use Rattle.hwp_core.specs.declared.Fill.{Fill}
 use Rattle.hwp_core.specs.declared.Hold.{Hold}
-use Rattle.hwp_core.specs.declared.hold.HoldAt.{HoldAt}
-use Rattle.hwp_core.specs.declared.hold.HoldAt.TheVariants as hold_at
 use Rattle.hwp_core.specs.declared.Unhold.{Unhold}
 use Rattle.hwp_core.specs.Calls.{Slots}
 use Rattle.hwp_core.specs.Fills as fills
 use Rattle.hwp_core.specs.Holds as holds
 use Rattle.hwp_core.specs.Unholds as unholds
 use Rattle.hwp_core.proofs.Filling.{held-fills}
-use Rattle.hwp_core.proofs.Letting.{holds-ahead, ahead-unholds}
+use Rattle.hwp_core.proofs.Letting.{holds-ahead, ahead-unholds, held-page, held-roomy}
 use Rattle.hwp_plain.proofs.tests.visits.after_hold.Goals as goal
 
 abbrev page-of : ℕ → Page
@@ -32,28 +29,8 @@ module _ {layout : Layout} {view : View} {slots : Slots} (h : Hold) (who : Who) 
   first : h.page.0 ≡ 0
   first = let inside : h.page.0 < length layout.pages = fits.page in omega (arith, inside, one)
 
-  held : holds.HoldsPage layout view slots h.page (frame_in cache) body
-  held = which h.at answered is fits.at
-    where
-      which : (x : HoldAt) → holds.answer_at x ≡ Some cache → holds.IsBodyAt x body → holds.FitsAt layout view slots h.who h.page x → holds.HoldsPage layout view slots h.page (frame_in cache) body
-      which (hold_at.Held word taken) over same at = subst (λ (n : ℕ). holds.HoldsPage layout view slots h.page (frame_in n) body) (same_Some word cache over)
-          (subst (λ (b : Held). holds.HoldsPage layout view slots h.page (frame_in word) b) (sym same) at.1)
-      which hold_at.LockPage over same at = absurd (none-some cache over)
-      which hold_at.LoadCache over same at = absurd (none-some cache over)
-      which (hold_at.Pin p) over same at = absurd (none-some cache over)
-      which (hold_at.LockFrame frame) over same at = absurd (none-some cache over)
-
   roomy : holds.HoldsPage layout view slots h.page (frame_in cache) (with-room body spare)
-  roomy = record {
-    lock = held.lock;
-    pages = held.pages;
-    page_is = held.page_is;
-    resident = held.resident;
-    taken = held.taken;
-    layout_is = held.layout_is;
-    shelf = held.shelf;
-    frame_held = held.frame_held;
-  }
+  roomy = held-roomy h.page (frame_in cache) body spare (held-page layout view slots h cache body answered is fits)
 
   lets-go : (u : Unhold) (frame : Option Frame) (now : Held) → frame ≡ frame_in cache → now ≡ with-room body spare → u ≡ unholds.begin who (page-of 0) frame 1 now
       → (u.who ≡ who) × unholds.Fits layout view slots u
