@@ -57,9 +57,15 @@ by_try got other (tries.Changed word) = other word
 abbrev pub turn_of : {T : Type 0} → Tried T → Turn
 turn_of tried = by_try Moved (λ word. Changed word) tried
 
--- the room for a step was refused: nothing changed
-pub record IsRefused {S : Type 0} (a b : State) (before after : S) (result : Turn × Option Kind) : Type 0 where
+-- nothing changed: neither the board, nor what the processor knows and carries
+pub record Stays (a b : State) (old new : View) (was now : Slots) : Type 0 where
   pub board : b ≡ a
+  pub view : new ≡ old
+  pub slots : now ≡ was
+
+-- the room for a step was refused: nothing changed
+pub record IsRefused {S : Type 0} (board_stays : Type 0) (before after : S) (result : Turn × Option Kind) : Type 0 where
+  pub board : board_stays
   pub task : after ≡ before
   pub refused : result.0 ≡ NoMemory
   pub no_kind : result.1 ≡ None
@@ -69,10 +75,11 @@ abbrev pub MovesBoard : Layout → ℕ → State → State → Option Kind → R
 MovesBoard layout cpu a b kind r content = Move layout cpu r a b × (kind ≡ kind_of r.step)
 
 -- no step was made
-abbrev pub IsSame : State → State → Option Kind → Type 0
-IsSame a b kind = (b ≡ a) × (kind ≡ None)
+abbrev pub IsSame : Type 0 → Option Kind → Type 0
+IsSame board_stays kind = board_stays × (kind ≡ None)
 
 -- a turn of a task on a board made the planned step, or none
 abbrev pub MakesTurn : {S : Type 0} → Layout → ℕ → Who → Option Step → (ℕ → Slots → Slots → S → Type 0) → (ℕ → Turn) → View → View → Slots → Slots → State → State → S → S → Turn × Option Kind → Type 0
 MakesTurn layout cpu who plan next answer old new was now a b before after result =
-    IsRefused a b before after result ⊎ Advances layout who plan next answer old new was now (MovesBoard layout cpu a b result.1) (IsSame a b result.1) before after result.0
+    IsRefused (Stays a b old new was now) before after result
+    ⊎ Advances layout who plan next answer old new was now (MovesBoard layout cpu a b result.1) (IsSame (Stays a b old new was now) result.1) before after result.0

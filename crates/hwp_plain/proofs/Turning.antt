@@ -38,7 +38,7 @@ made-turn : {S : Type 0} (a b : Board) (cpu : Cpu) (who : Who) (plan : Option St
     → Advances a.layout who plan next answer (view_at cpu.0 a.state) (own_view b) (slots_at cpu.0 a) (own_slots b) (λ r c. Moves (prepared a cpu) r b) (b ≡ prepared a cpu) before after result
     → MakesTurn a.layout cpu.0 who plan next answer (view_at cpu.0 a.state) (view_at cpu.0 b.state) (slots_at cpu.0 a) (slots_at cpu.0 b) a.state b.state before after (result, kind)
 made-turn a b cpu who None next answer before after result kind kind-is over = inr (record {
-  board = (ap (λ (x : Board). x.state) over.board, kind-is ∙ ap (λ (x : Board). x.made) over.board);
+  board = (record { board = ap (λ (x : Board). x.state) over.board; view = ap (λ (x : Board). view_at cpu.0 x.state) over.board; slots = ap (slots_at cpu.0) over.board }, kind-is ∙ ap (λ (x : Board). x.made) over.board);
   task = over.task;
   finished = over.finished;
 })
