@@ -29,7 +29,7 @@ pub record IsKept (layout : Layout) (page : Page) (log : List Entry) (state : Pa
   pub replay : IsReplay layout page log state
 
 -- what clauses see of a body: `spare` is the number of entries that it can take without memory
-pub record Held : Type 0 where
+pub record BodyValue : Type 0 where
   pub page : Page
   pub layout : Layout
   pub state : PageState
@@ -37,7 +37,7 @@ pub record Held : Type 0 where
   pub spare : ℕ
 
 -- a body at opening: no entry, and the opening state of what is declared behind its page
-pub record IsFresh (layout : Layout) (page : Page) (body : Held) : Type 0 where
+pub record IsFresh (layout : Layout) (page : Page) (body : BodyValue) : Type 0 where
   pub page_is : body.page ≡ page
   pub layout_is : body.layout ≡ layout
   pub no_entry : body.log ≡ []

@@ -25,11 +25,11 @@ pub struct Body {
 impl Model for Body {
     ghost use Rattle.std.specs.Prelude.{◌-◌, vec_len, vec_capacity};
     ghost use Rattle.std.specs.Arc.{arc_value};
-    ghost use Rattle.hwp_page.specs.History.{Held, IsKept};
+    ghost use Rattle.hwp_page.specs.History.{BodyValue, IsKept};
     ghost use Rattle.hwp_kill.specs.contracts.Slots as slots;
     ghost use Rattle.std.specs.Coded.{codes};
 
-    ghost Value = { Held };
+    ghost Value = { BodyValue };
 
     ghost coded = { Prim.hlevel (codes, slots.the_row.coded) };
 

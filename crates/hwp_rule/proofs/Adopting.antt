@@ -12,7 +12,7 @@ use Rattle.hwp_rule.specs.declared.log.Log.{Log}
 use Rattle.hwp_rule.specs.declared.place.Place.TheVariants as places
 use Rattle.hwp_rule.specs.declared.step.Step.TheVariants as steps
 use Rattle.hwp_rule.specs.declared.view.FrameLock.{FrameLock}
-use Rattle.hwp_rule.specs.declared.view.Held.{Held}
+use Rattle.hwp_rule.specs.declared.view.InHand.{InHand}
 use Rattle.hwp_rule.specs.declared.view.Ref.{Ref}
 use Rattle.hwp_rule.specs.declared.view.View.{View}
 use Rattle.hwp_rule.specs.Asks.{HasInHand}
@@ -213,8 +213,8 @@ module _ (layout : Layout) (w : Words) (homes : Homes) (views : List View) (seat
       shelf_out = λ q x a locked. set_else homes frame.0 (layout.frames + q) None (λ e. absurd (omega (arith, inside))) ∙ h.bodies.shelf_out q x a locked;
       one = λ q less. keep (λ (o : Holder). o.bodies) (λ l. sum_bodies (λ (log : Log). from_bool (log.page.0 == q)) out l ≡ 1) (map holder_of views) seat (holder_of v) (holder_of u) holder refl
           (bodies-sum homes frame.0 (Some slot.content) None slot.there empty refl (λ (log : Log). from_bool (log.page.0 == q)) (map (λ (o : Holder). o.bodies) (map holder_of views)) ∙ h.bodies.one q less);
-      in_hand = each-set (λ (o : Holder). EachMember (λ (b : Held). IsHolding b o) o.bodies) (map holder_of views) seat (holder_of u)
-          (each-weaken (λ (b : Held). IsHolding b (holder_of v)) (λ (b : Held). IsHolding b (holder_of u)) v.bodies
+      in_hand = each-set (λ (o : Holder). EachMember (λ (b : InHand). IsHolding b o) o.bodies) (map holder_of views) seat (holder_of u)
+          (each-weaken (λ (b : InHand). IsHolding b (holder_of v)) (λ (b : InHand). IsHolding b (holder_of u)) v.bodies
           (λ b holding. holding-push b v.locks v.pages v.bodies (lock_found frame word) holding) (h.bodies.in_hand seat (holder_of v) holder))
           h.bodies.in_hand;
     }

@@ -11,14 +11,14 @@ use Rattle.hwp_rule.specs.declared.step.Step.{Step}
 use Rattle.hwp_rule.specs.declared.step.Step.TheVariants as steps
 use Rattle.hwp_rule.specs.declared.view.View.{View}
 use Rattle.hwp_rule.specs.Asks.{AsksOf, HasLock, HasPageLock, HasPage, CanPut, CanSetOwner, CanFree, CanName, CanChange, OwesCount}
-use Rattle.hwp_rule.specs.declared.view.Held.{Held}
+use Rattle.hwp_rule.specs.declared.view.InHand.{InHand}
 use Rattle.hwp_rule.specs.Lists.{SomeMember}
 use Rattle.hwp_rule.specs.Rule.{losing_of}
 use Rattle.hwp_rule.specs.Views.{noted, listed, listed_of, body_of, without, view_by}
 use Rattle.hwp_rule.specs.parts.Losses.{IsPoisonLoss}
 
 -- a view with the losses of a body's further entries, and one of the file paid
-abbrev lost : Layout → Who → FileNo → Log → Option Held → View → View
+abbrev lost : Layout → Who → FileNo → Log → Option InHand → View → View
 lost layout who file log body u =
     record (listed_of layout who log body u) { owed = record (listed_of layout who log body u).owed { losses = without (λ (n : FileNo). n.0 == file.0) (listed_of layout who log body u).owed.losses } }
 
@@ -62,14 +62,14 @@ module _ (layout : Layout) (who : Who) (r : Rec) (v : View) where
   owed-noted : (file : FileNo) (log : Log) → SomeMember (λ (n : FileNo). n ≡ file) (listed layout who log v).owed.losses → SomeMember (λ (n : FileNo). n ≡ file) (listed layout who log (noted r v)).owed.losses
   owed-noted file log h = by-body (body_of log.page v) h
     where
-      by-body : (body : Option Held) → SomeMember (λ (n : FileNo). n ≡ file) (listed_of layout who log body v).owed.losses → SomeMember (λ (n : FileNo). n ≡ file) (listed_of layout who log body (noted r v)).owed.losses
+      by-body : (body : Option InHand) → SomeMember (λ (n : FileNo). n ≡ file) (listed_of layout who log body v).owed.losses → SomeMember (λ (n : FileNo). n ≡ file) (listed_of layout who log body (noted r v)).owed.losses
       by-body None h = h
       by-body (Some body) h = h
 
   poisoned-noted : (file : FileNo) (log : Log) → IsPoisonLoss (losing_of (view_by layout who (steps.Lose file log) 0 None v)) → IsPoisonLoss (losing_of (view_by layout who (steps.Lose file log) 0 None (noted r v)))
   poisoned-noted file log h = by-body (body_of log.page v) h
     where
-      by-body : (body : Option Held) → IsPoisonLoss (losing_of (lost layout who file log body v)) → IsPoisonLoss (losing_of (lost layout who file log body (noted r v)))
+      by-body : (body : Option InHand) → IsPoisonLoss (losing_of (lost layout who file log body v)) → IsPoisonLoss (losing_of (lost layout who file log body (noted r v)))
       by-body None h = h
       by-body (Some body) h = h
 

@@ -12,7 +12,7 @@ use Rattle.hwp_geom.specs.declared.Proc.{Proc}
 use Rattle.hwp_page.specs.declared.Entry.{Entry}
 use Rattle.hwp_rule.specs.declared.log.Log.{Log}
 use Rattle.hwp_rule.specs.declared.view.FrameLock.{FrameLock}
-use Rattle.hwp_rule.specs.declared.view.Held.{Held}
+use Rattle.hwp_rule.specs.declared.view.InHand.{InHand}
 use Rattle.hwp_rule.specs.declared.view.Length.{Length}
 use Rattle.hwp_rule.specs.declared.view.PageLock.{PageLock}
 use Rattle.hwp_rule.specs.declared.view.Stamp.{Stamp}
@@ -37,43 +37,43 @@ use Rattle.hwp_rule.proofs.TakenBodies.{sum-taken, each-taken, only-at-home}
 use Rattle.hwp_rule.proofs.frames.Without.{others-unfound, sum-without-one}
 use Rattle.hwp_rule.proofs.Kept
 
-abbrev pub all_bodies : List View → List (List Held)
+abbrev pub all_bodies : List View → List (List InHand)
 all_bodies views = map (λ (v : View). v.bodies) views
 
 pub held-bodies : (views : List View) → map (λ (o : Holder). o.bodies) (map holder_of views) ≡ all_bodies views
 held-bodies [] = refl
-held-bodies (v ∷ vs) = ap (λ (l : List (List Held)). v.bodies ∷ l) (held-bodies vs)
+held-bodies (v ∷ vs) = ap (λ (l : List (List InHand)). v.bodies ∷ l) (held-bodies vs)
 
 -- A slot becomes y, and of a view v the page locks, the bodies in hand and the lengths become these: of y, and of each new
 -- member, what the parts ask of it.
-pub record Carries (layout : Layout) (w : Words) (homes : Homes) (views : List View) (seat : ℕ) (v : View) (slot : ℕ) (y : Option (Option Log)) (pages : List PageLock) (bodies : List Held) (lengths : List Length) : Type 1 where
+pub record Carries (layout : Layout) (w : Words) (homes : Homes) (views : List View) (seat : ℕ) (v : View) (slot : ℕ) (y : Option (Option Log)) (pages : List PageLock) (bodies : List InHand) (lengths : List Length) : Type 1 where
   -- the bodies are the same, wherever they are
   pub sums : (g : Log → ℕ) → sum_bodies g (set homes slot y) (set (all_bodies views) seat bodies) ≡ sum_bodies g homes (all_bodies views)
   pub eachs : (P : Log → Type 0) → EachBody P homes (all_bodies views) → EachBody P (set homes slot y) (set (all_bodies views) seat bodies)
   pub home : (log : Log) → y ≡ Some (Some log) → AreEnded layout w.processes log.entries × Fits layout w.trans w.caches log
   -- the bodies in hand
   pub reached : EachMember (λ (l : Length). EachBody (λ (log : Log). log.page ≡ l.page → l.entries ≤ length log.entries) homes (all_bodies views)) lengths
-  pub before : EachMember (λ (b : Held). AreEnded layout w.processes (take b.since b.log.entries)) bodies
-  pub taken : EachMember (λ (b : Held). b.since ≤ length b.log.entries) bodies
-  pub killed : EachMember (λ (b : Held). EachMember (λ (p : Proc). (x : ℕ) → slice_get w.processes p.0 ≡ Some x → x ≢ 0) b.killed) bodies
-  pub fits : EachMember (λ (b : Held). page_locks_on b.log.page.0 pages ≡ 0 → Fits layout w.trans w.caches b.log) bodies
+  pub before : EachMember (λ (b : InHand). AreEnded layout w.processes (take b.since b.log.entries)) bodies
+  pub taken : EachMember (λ (b : InHand). b.since ≤ length b.log.entries) bodies
+  pub killed : EachMember (λ (b : InHand). EachMember (λ (p : Proc). (x : ℕ) → slice_get w.processes p.0 ≡ Some x → x ≢ 0) b.killed) bodies
+  pub fits : EachMember (λ (b : InHand). page_locks_on b.log.page.0 pages ≡ 0 → Fits layout w.trans w.caches b.log) bodies
   pub knows : EachMember (KnowsWords layout w.trans w.caches) pages
-  pub own : EachMember (λ (b : Held). 0 < page_locks_on b.log.page.0 pages → KnowsOwn pages b) bodies
+  pub own : EachMember (λ (b : InHand). 0 < page_locks_on b.log.page.0 pages → KnowsOwn pages b) bodies
   pub past : EachMember (λ (l : Length). IsPast v.parts l.stamp.who) lengths
 
 module _ (layout : Layout) (w : Words) (homes : Homes) (views : List View) (seat : ℕ) (v : View) (me : slice_get views seat ≡ Some v) (h : FrameRule layout w homes views) where
   pub my_bodies : slice_get (all_bodies views) seat ≡ Some v.bodies
   my_bodies = at_map (λ (v : View). v.bodies) views seat v me
 
-  my_fit : slice_get {X = List PageLock × List Held} (map (λ (v : View). (v.pages, v.bodies)) views) seat ≡ Some (v.pages, v.bodies)
+  my_fit : slice_get {X = List PageLock × List InHand} (map (λ (v : View). (v.pages, v.bodies)) views) seat ≡ Some (v.pages, v.bodies)
   my_fit = at_map (λ (v : View). (v.pages, v.bodies)) views seat v me
 
   pub one-body : (q : ℕ) → q < length layout.pages → sum_bodies (λ (x : Log). from_bool (x.page.0 == q)) homes (all_bodies views) ≡ 1
-  one-body q within = subst (λ (l : List (List Held)). sum_bodies (λ (x : Log). from_bool (x.page.0 == q)) homes l ≡ 1) (held-bodies views) (h.bodies.one q within)
+  one-body q within = subst (λ (l : List (List InHand)). sum_bodies (λ (x : Log). from_bool (x.page.0 == q)) homes l ≡ 1) (held-bodies views) (h.bodies.one q within)
 
   -- ---- the parts, after the step
 
-  module _ (slot : ℕ) (y : Option (Option Log)) (locks : List FrameLock) (pages : List PageLock) (bodies : List Held) (lengths : List Length) (x : Carries layout w homes views seat v slot y pages bodies lengths) where
+  module _ (slot : ℕ) (y : Option (Option Log)) (locks : List FrameLock) (pages : List PageLock) (bodies : List InHand) (lengths : List Length) (x : Carries layout w homes views seat v slot y pages bodies lengths) where
     abbrev u : View
     u = record v { locks = locks; pages = pages; bodies = bodies; lengths = lengths }
 
@@ -83,8 +83,8 @@ module _ (layout : Layout) (w : Words) (homes : Homes) (views : List View) (seat
     pub one-carried : (q : ℕ) → q < length layout.pages → sum_bodies (λ (log : Log). from_bool (log.page.0 == q)) after (map (λ (o : Holder). o.bodies) (set (map holder_of views) seat (holder_of u))) ≡ 1
     one-carried q within =
         let lists : map (λ (o : Holder). o.bodies) (set (map holder_of views) seat (holder_of u)) ≡ set (all_bodies views) seat bodies =
-        map-set (λ (o : Holder). o.bodies) (map holder_of views) seat (holder_of u) ∙ ap (λ (l : List (List Held)). set l seat bodies) (held-bodies views) in
-        subst (λ (l : List (List Held)). sum_bodies (λ (log : Log). from_bool (log.page.0 == q)) after l ≡ 1) (sym lists) (x.sums (λ (log : Log). from_bool (log.page.0 == q)) ∙ one-body q within)
+        map-set (λ (o : Holder). o.bodies) (map holder_of views) seat (holder_of u) ∙ ap (λ (l : List (List InHand)). set l seat bodies) (held-bodies views) in
+        subst (λ (l : List (List InHand)). sum_bodies (λ (log : Log). from_bool (log.page.0 == q)) after l ≡ 1) (sym lists) (x.sums (λ (log : Log). from_bool (log.page.0 == q)) ∙ one-body q within)
 
     entries-changed : EntriesListed after (set (all_bodies views) seat bodies) (map (λ (v : View). (v.made, v.sights)) views) (set (map (λ (v : View). v.lengths) views) seat lengths)
     entries-changed = record {
@@ -115,8 +115,8 @@ module _ (layout : Layout) (w : Words) (homes : Homes) (views : List View) (seat
         | inl t ↦ (x.home log t.1).0
         | inr t ↦ h.endings.ended i log t.1
       ];
-      ended_before = each-set (EachMember (λ (b : Held). AreEnded layout w.processes (take b.since b.log.entries))) (all_bodies views) seat bodies x.before h.endings.ended_before;
-      taken = each-set (EachMember (λ (b : Held). b.since ≤ length b.log.entries)) (all_bodies views) seat bodies x.taken h.endings.taken;
+      ended_before = each-set (EachMember (λ (b : InHand). AreEnded layout w.processes (take b.since b.log.entries))) (all_bodies views) seat bodies x.before h.endings.ended_before;
+      taken = each-set (EachMember (λ (b : InHand). b.since ≤ length b.log.entries)) (all_bodies views) seat bodies x.taken h.endings.taken;
       shown = λ i list at j s is process place.
           x.eachs (λ (log : Log). s.word ≡ log.page.0 + 1 → SomeMember (λ (e : Entry). (is_ending layout process e.what ≡ true) × IsNotLater e.who s.stamp.who) log.entries)
           (h.endings.shown i list at j s is process place);
@@ -135,7 +135,7 @@ module _ (layout : Layout) (w : Words) (homes : Homes) (views : List View) (seat
 
     stops-changed : EndingsAndStopsStay w.processes w.stop (set (all_bodies views) seat bodies) (map (λ (v : View). v.sights) views) (map (λ (v : View). v.stops) views)
     stops-changed = record {
-      killed = each-set (EachMember (λ (b : Held). EachMember (λ (p : Proc). (x : ℕ) → slice_get w.processes p.0 ≡ Some x → x ≢ 0) b.killed)) (all_bodies views) seat bodies x.killed h.stops.killed;
+      killed = each-set (EachMember (λ (b : InHand). EachMember (λ (p : Proc). (x : ℕ) → slice_get w.processes p.0 ≡ Some x → x ≢ 0) b.killed)) (all_bodies views) seat bodies x.killed h.stops.killed;
       ended_stays = h.stops.ended_stays;
       stop_stays = h.stops.stop_stays;
       one = h.stops.one;
@@ -153,9 +153,9 @@ module _ (layout : Layout) (w : Words) (homes : Homes) (views : List View) (seat
         | inl t ↦ (x.home log t.1).1
         | inr t ↦ h.fits.at_home i log t.1
       ];
-      in_hand = each-set (λ (o : List PageLock × List Held). EachMember (λ (b : Held). page_locks_on b.log.page.0 o.0 ≡ 0 → Fits layout w.trans w.caches b.log) o.1) (map (λ (v : View). (v.pages, v.bodies)) views) seat (pages, bodies) x.fits h.fits.in_hand;
-      known = each-set (λ (o : List PageLock × List Held). EachMember (KnowsWords layout w.trans w.caches) o.0) (map (λ (v : View). (v.pages, v.bodies)) views) seat (pages, bodies) x.knows h.fits.known;
-      own = each-set (λ (o : List PageLock × List Held). EachMember (λ (b : Held). 0 < page_locks_on b.log.page.0 o.0 → KnowsOwn o.0 b) o.1) (map (λ (v : View). (v.pages, v.bodies)) views) seat (pages, bodies) x.own h.fits.own;
+      in_hand = each-set (λ (o : List PageLock × List InHand). EachMember (λ (b : InHand). page_locks_on b.log.page.0 o.0 ≡ 0 → Fits layout w.trans w.caches b.log) o.1) (map (λ (v : View). (v.pages, v.bodies)) views) seat (pages, bodies) x.fits h.fits.in_hand;
+      known = each-set (λ (o : List PageLock × List InHand). EachMember (KnowsWords layout w.trans w.caches) o.0) (map (λ (v : View). (v.pages, v.bodies)) views) seat (pages, bodies) x.knows h.fits.known;
+      own = each-set (λ (o : List PageLock × List InHand). EachMember (λ (b : InHand). 0 < page_locks_on b.log.page.0 o.0 → KnowsOwn o.0 b) o.1) (map (λ (v : View). (v.pages, v.bodies)) views) seat (pages, bodies) x.own h.fits.own;
     })
 
     pub unpoisoned-carried : NothingPoisonedYet w.frames (map (λ (v : View). v.spoiled) (set views seat u)) after (map (λ (v : View). v.bodies) (set views seat u))
@@ -175,13 +175,13 @@ module _ (layout : Layout) (w : Words) (homes : Homes) (views : List View) (seat
   -- ---- a slot without a body, before and after
 
   pub carry-none : (slot : ℕ) (was y : Option (Option Log)) (pages : List PageLock) → slice_get homes slot ≡ Some was → is_bodiless was ≡ true → is_bodiless y ≡ true
-      → EachMember (λ (b : Held). page_locks_on b.log.page.0 pages ≡ 0 → Fits layout w.trans w.caches b.log) v.bodies
+      → EachMember (λ (b : InHand). page_locks_on b.log.page.0 pages ≡ 0 → Fits layout w.trans w.caches b.log) v.bodies
       → EachMember (KnowsWords layout w.trans w.caches) pages
-      → EachMember (λ (b : Held). 0 < page_locks_on b.log.page.0 pages → KnowsOwn pages b) v.bodies
+      → EachMember (λ (b : InHand). 0 < page_locks_on b.log.page.0 pages → KnowsOwn pages b) v.bodies
       → Carries layout w homes views seat v slot y pages v.bodies v.lengths
   carry-none slot was y pages there empty still fits knows own = record {
-    sums = λ g. subst (λ (l : List (List Held)). sum_bodies g (set homes slot y) l ≡ sum_bodies g homes (all_bodies views)) (sym same) (bodies-sum homes slot was y there empty still g (all_bodies views));
-    eachs = λ P each. subst (λ (l : List (List Held)). EachBody P (set homes slot y) l) (sym same) (bodies-each homes slot was y there empty still P (all_bodies views) each);
+    sums = λ g. subst (λ (l : List (List InHand)). sum_bodies g (set homes slot y) l ≡ sum_bodies g homes (all_bodies views)) (sym same) (bodies-sum homes slot was y there empty still g (all_bodies views));
+    eachs = λ P each. subst (λ (l : List (List InHand)). EachBody P (set homes slot y) l) (sym same) (bodies-each homes slot was y there empty still P (all_bodies views) each);
     home = λ log e. absurd (none-body log (ap is_bodiless (sym e) ∙ still));
     reached = h.entries.lengths_reached seat v.lengths (at_map (λ (v : View). v.lengths) views seat v me);
     before = h.endings.ended_before seat v.bodies my_bodies;
@@ -202,7 +202,7 @@ module _ (layout : Layout) (w : Words) (homes : Homes) (views : List View) (seat
   -- ---- a body that is taken
 
   module _ (log : Log) (slot : ℕ) (inside : slice_get homes slot ≡ Some (Some (Some log))) (within : log.page.0 < length layout.pages) (frame : Option Frame) (stamp : Stamp) (past : IsPast v.parts stamp.who) where
-    abbrev body : Held
+    abbrev body : InHand
     body = record { log = log; since = length log.entries; frame = frame; from = length v.sights; killed = [] }
 
     abbrev seen : Length
@@ -224,9 +224,9 @@ module _ (layout : Layout) (w : Words) (homes : Homes) (views : List View) (seat
             subst (λ (y : Log). length log.entries ≤ length y.entries) (sym same) (omega arith)
 
     pub carry-out : (pages : List PageLock)
-        → EachMember (λ (b : Held). page_locks_on b.log.page.0 pages ≡ 0 → Fits layout w.trans w.caches b.log) v.bodies
+        → EachMember (λ (b : InHand). page_locks_on b.log.page.0 pages ≡ 0 → Fits layout w.trans w.caches b.log) v.bodies
         → EachMember (KnowsWords layout w.trans w.caches) pages
-        → EachMember (λ (b : Held). 0 < page_locks_on b.log.page.0 pages → KnowsOwn pages b) v.bodies
+        → EachMember (λ (b : InHand). 0 < page_locks_on b.log.page.0 pages → KnowsOwn pages b) v.bodies
         → (0 < page_locks_on log.page.0 pages → KnowsOwn pages body)
         → Carries layout w homes views seat v slot None pages (v.bodies ++ body ∷ []) (v.lengths ++ seen ∷ [])
     carry-out pages fits knows own own-new = record {
@@ -235,47 +235,47 @@ module _ (layout : Layout) (w : Words) (homes : Homes) (views : List View) (seat
       home = λ x e. absurd (none-some (Some x) e);
       reached = each-push (λ (l : Length). EachBody (λ (x : Log). x.page ≡ l.page → l.entries ≤ length x.entries) homes (all_bodies views)) v.lengths seen reached-now
           (h.entries.lengths_reached seat v.lengths (at_map (λ (v : View). v.lengths) views seat v me));
-      before = each-push (λ (b : Held). AreEnded layout w.processes (take b.since b.log.entries)) v.bodies body
+      before = each-push (λ (b : InHand). AreEnded layout w.processes (take b.since b.log.entries)) v.bodies body
           (subst (AreEnded layout w.processes) (sym (take-length log.entries)) (h.endings.ended slot log inside)) (h.endings.ended_before seat v.bodies my_bodies);
-      taken = each-push (λ (b : Held). b.since ≤ length b.log.entries) v.bodies body (omega arith) (h.endings.taken seat v.bodies my_bodies);
-      killed = each-push (λ (b : Held). EachMember (λ (p : Proc). (x : ℕ) → slice_get w.processes p.0 ≡ Some x → x ≢ 0) b.killed) v.bodies body (λ i p e. absurd (none-some p e)) (h.stops.killed seat v.bodies my_bodies);
-      fits = each-push (λ (b : Held). page_locks_on b.log.page.0 pages ≡ 0 → Fits layout w.trans w.caches b.log) v.bodies body (λ none. h.fits.at_home slot log inside) fits;
+      taken = each-push (λ (b : InHand). b.since ≤ length b.log.entries) v.bodies body (omega arith) (h.endings.taken seat v.bodies my_bodies);
+      killed = each-push (λ (b : InHand). EachMember (λ (p : Proc). (x : ℕ) → slice_get w.processes p.0 ≡ Some x → x ≢ 0) b.killed) v.bodies body (λ i p e. absurd (none-some p e)) (h.stops.killed seat v.bodies my_bodies);
+      fits = each-push (λ (b : InHand). page_locks_on b.log.page.0 pages ≡ 0 → Fits layout w.trans w.caches b.log) v.bodies body (λ none. h.fits.at_home slot log inside) fits;
       knows = knows;
-      own = each-push (λ (b : Held). 0 < page_locks_on b.log.page.0 pages → KnowsOwn pages b) v.bodies body own-new own;
+      own = each-push (λ (b : InHand). 0 < page_locks_on b.log.page.0 pages → KnowsOwn pages b) v.bodies body own-new own;
       past = each-push (λ (l : Length). IsPast v.parts l.stamp.who) v.lengths seen past (h.commands.own seat v me).lengths;
     }
 
   -- ---- a body that goes home
 
-  module _ (log : Log) (place : ℕ) (body : Held) (there : slice_get v.bodies place ≡ Some body) (test : is_body_of log.page body ≡ true) (within : log.page.0 < length layout.pages) where
-    abbrev left : List Held
+  module _ (log : Log) (place : ℕ) (body : InHand) (there : slice_get v.bodies place ≡ Some body) (test : is_body_of log.page body ≡ true) (within : log.page.0 < length layout.pages) where
+    abbrev left : List InHand
     left = without (is_body_of log.page) v.bodies
 
     -- the page's body is in hand once
-    pub once : sum_by (λ (b : Held). from_bool (is_body_of log.page b)) v.bodies ≡ 1
+    pub once : sum_by (λ (b : InHand). from_bool (is_body_of log.page b)) v.bodies ≡ 1
     once =
         let all : sum_bodies (λ (x : Log). from_bool (x.page.0 == log.page.0)) homes (all_bodies views) ≡ 1 = one-body log.page.0 within in
-        let mine : sum_by (λ (b : Held). from_bool (b.log.page.0 == log.page.0)) v.bodies ≤ sum_all (λ (b : Held). from_bool (b.log.page.0 == log.page.0)) (all_bodies views) =
-        term-le (sum_by (λ (b : Held). from_bool (b.log.page.0 == log.page.0))) (all_bodies views) seat v.bodies my_bodies in
-        let this : from_bool (body.log.page.0 == log.page.0) ≤ sum_by (λ (b : Held). from_bool (b.log.page.0 == log.page.0)) v.bodies = term-le (λ (b : Held). from_bool (b.log.page.0 == log.page.0)) v.bodies place body there in
+        let mine : sum_by (λ (b : InHand). from_bool (b.log.page.0 == log.page.0)) v.bodies ≤ sum_all (λ (b : InHand). from_bool (b.log.page.0 == log.page.0)) (all_bodies views) =
+        term-le (sum_by (λ (b : InHand). from_bool (b.log.page.0 == log.page.0))) (all_bodies views) seat v.bodies my_bodies in
+        let this : from_bool (body.log.page.0 == log.page.0) ≤ sum_by (λ (b : InHand). from_bool (b.log.page.0 == log.page.0)) v.bodies = term-le (λ (b : InHand). from_bool (b.log.page.0 == log.page.0)) v.bodies place body there in
         omega (arith, ap from_bool test)
 
     -- the bodies that are left are of other pages
-    pub another : EachMember (λ (b : Held). is_body_of log.page b ≡ false) left
+    pub another : EachMember (λ (b : InHand). is_body_of log.page b ≡ false) left
     another = others-unfound (is_body_of log.page) v.bodies once
 
     pub carry-home : body.log ≡ log → (slot : ℕ) (pages : List PageLock) → slice_get homes slot ≡ Some None → AreEnded layout w.processes log.entries → Fits layout w.trans w.caches log
-        → EachMember (λ (b : Held). page_locks_on b.log.page.0 pages ≡ 0 → Fits layout w.trans w.caches b.log) left
+        → EachMember (λ (b : InHand). page_locks_on b.log.page.0 pages ≡ 0 → Fits layout w.trans w.caches b.log) left
         → EachMember (KnowsWords layout w.trans w.caches) pages
-        → EachMember (λ (b : Held). 0 < page_locks_on b.log.page.0 pages → KnowsOwn pages b) left
+        → EachMember (λ (b : InHand). 0 < page_locks_on b.log.page.0 pages → KnowsOwn pages b) left
         → Carries layout w homes views seat v slot (Some (Some log)) pages left v.lengths
     carry-home log_is slot pages out ended fit fits knows own = record {
       sums = λ g.
           let home : sum_by (of_home g) (set homes slot (Some (Some log))) + 0 ≡ sum_by (of_home g) homes + g log = sum-set (of_home g) homes slot None (Some (Some log)) out in
-          let hand : sum_all (λ (b : Held). g b.log) (set (all_bodies views) seat left) + sum_by (λ (b : Held). g b.log) v.bodies ≡ sum_all (λ (b : Held). g b.log) (all_bodies views) + sum_by (λ (b : Held). g b.log) left =
-          sum-set (sum_by (λ (b : Held). g b.log)) (all_bodies views) seat v.bodies left my_bodies in
-          let gone : sum_by (λ (b : Held). g b.log) left + g body.log ≡ sum_by (λ (b : Held). g b.log) v.bodies =
-          sum-without-one (is_body_of log.page) (λ (b : Held). g b.log) v.bodies place body once there test in
+          let hand : sum_all (λ (b : InHand). g b.log) (set (all_bodies views) seat left) + sum_by (λ (b : InHand). g b.log) v.bodies ≡ sum_all (λ (b : InHand). g b.log) (all_bodies views) + sum_by (λ (b : InHand). g b.log) left =
+          sum-set (sum_by (λ (b : InHand). g b.log)) (all_bodies views) seat v.bodies left my_bodies in
+          let gone : sum_by (λ (b : InHand). g b.log) left + g body.log ≡ sum_by (λ (b : InHand). g b.log) v.bodies =
+          sum-without-one (is_body_of log.page) (λ (b : InHand). g b.log) v.bodies place body once there test in
           let same : g body.log ≡ g log = ap g log_is in
           omega arith;
       eachs = λ P each. record {
@@ -283,13 +283,13 @@ module _ (layout : Layout) (w : Words) (homes : Homes) (views : List View) (seat
           | inl t ↦ subst P (log_is ∙ same_Some log x (same_Some (Some log) (Some x) t.1)) (each.in_hand seat v.bodies my_bodies place body there)
           | inr t ↦ each.at_home i x t.1
         ];
-        in_hand = each-set (EachMember (λ (b : Held). P b.log)) (all_bodies views) seat left (each-without (λ (b : Held). P b.log) (is_body_of log.page) v.bodies (each.in_hand seat v.bodies my_bodies)) each.in_hand;
+        in_hand = each-set (EachMember (λ (b : InHand). P b.log)) (all_bodies views) seat left (each-without (λ (b : InHand). P b.log) (is_body_of log.page) v.bodies (each.in_hand seat v.bodies my_bodies)) each.in_hand;
       };
       home = λ x e. let same : log ≡ x = same_Some log x (same_Some (Some log) (Some x) e) in (subst (λ (y : Log). AreEnded layout w.processes y.entries) same ended, subst (Fits layout w.trans w.caches) same fit);
       reached = h.entries.lengths_reached seat v.lengths (at_map (λ (v : View). v.lengths) views seat v me);
-      before = each-without (λ (b : Held). AreEnded layout w.processes (take b.since b.log.entries)) (is_body_of log.page) v.bodies (h.endings.ended_before seat v.bodies my_bodies);
-      taken = each-without (λ (b : Held). b.since ≤ length b.log.entries) (is_body_of log.page) v.bodies (h.endings.taken seat v.bodies my_bodies);
-      killed = each-without (λ (b : Held). EachMember (λ (p : Proc). (x : ℕ) → slice_get w.processes p.0 ≡ Some x → x ≢ 0) b.killed) (is_body_of log.page) v.bodies (h.stops.killed seat v.bodies my_bodies);
+      before = each-without (λ (b : InHand). AreEnded layout w.processes (take b.since b.log.entries)) (is_body_of log.page) v.bodies (h.endings.ended_before seat v.bodies my_bodies);
+      taken = each-without (λ (b : InHand). b.since ≤ length b.log.entries) (is_body_of log.page) v.bodies (h.endings.taken seat v.bodies my_bodies);
+      killed = each-without (λ (b : InHand). EachMember (λ (p : Proc). (x : ℕ) → slice_get w.processes p.0 ≡ Some x → x ≢ 0) b.killed) (is_body_of log.page) v.bodies (h.stops.killed seat v.bodies my_bodies);
       fits = fits;
       knows = knows;
       own = own;

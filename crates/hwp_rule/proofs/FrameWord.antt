@@ -12,7 +12,7 @@ use Rattle.hwp_words.specs.Counters.{biased_poisoned_of}
 use Rattle.hwp_words.proofs.FrameSteps.{FieldsAre}
 use Rattle.hwp_rule.specs.declared.view.Debts.{Debts}
 use Rattle.hwp_rule.specs.declared.view.FrameLock.{FrameLock}
-use Rattle.hwp_rule.specs.declared.view.Held.{Held}
+use Rattle.hwp_rule.specs.declared.view.InHand.{InHand}
 use Rattle.hwp_rule.specs.declared.view.Mark.{Mark}
 use Rattle.hwp_rule.specs.declared.view.PageLock.{PageLock}
 use Rattle.hwp_rule.specs.declared.view.Ref.{Ref}
@@ -134,7 +134,7 @@ module _ (frames : List ℕ) (f w u : ℕ) (there : slice_get frames f ≡ Some 
         };
   }
 
-  pub like-unpoisoned : (spoiled : List (List Spoiled)) (homes : Homes) (bodies : List (List Held)) → NothingPoisonedYet frames spoiled homes bodies → NothingPoisonedYet (set frames f u) spoiled homes bodies
+  pub like-unpoisoned : (spoiled : List (List Spoiled)) (homes : Homes) (bodies : List (List InHand)) → NothingPoisonedYet frames spoiled homes bodies → NothingPoisonedYet (set frames f u) spoiled homes bodies
   like-unpoisoned spoiled homes bodies h = record {
     sound = λ g x a.
         let was : (y : ℕ) × (slice_get frames g ≡ Some y) × IsLike y x = word-was g x a in

@@ -8,7 +8,7 @@ use Rattle.hwp_geom.specs.declared.Proc.{Proc}
 use Rattle.hwp_geom.specs.declared.Who.{Who}
 use Rattle.hwp_page.specs.declared.Entry.{Entry}
 use Rattle.hwp_rule.specs.declared.log.Log.{Log}
-use Rattle.hwp_rule.specs.declared.view.Held.{Held}
+use Rattle.hwp_rule.specs.declared.view.InHand.{InHand}
 use Rattle.hwp_rule.specs.declared.view.PageLock.{PageLock}
 use Rattle.hwp_rule.specs.declared.view.View.{View}
 use Rattle.hwp_rule.specs.Asks.{CanGoHome}
@@ -37,7 +37,7 @@ module _ (layout : Layout) (w : Words) (homes : Homes) (views : List View) (seat
   abbrev pub renewed : View
   renewed = record v {
     made = v.made ++ made_from (stamp_of who v) log.page can.body.frame (length can.body.log.entries) (more_of can.body log);
-    bodies = changed (is_body_of log.page) (λ (b : Held). record b { log = log }) v.bodies;
+    bodies = changed (is_body_of log.page) (λ (b : InHand). record b { log = log }) v.bodies;
   }
 
   pub rule : FrameRule layout w homes (set views seat renewed)
@@ -47,7 +47,7 @@ module _ (layout : Layout) (w : Words) (homes : Homes) (views : List View) (seat
   me-renewed = set_here views seat renewed v me
 
   pub body-renewed : slice_get renewed.bodies found-body.0 ≡ Some (record can.body { log = log })
-  body-renewed = changed-at (is_body_of log.page) (λ (b : Held). record b { log = log }) v.bodies found-body.0 can.body found-body.1 found-body.2
+  body-renewed = changed-at (is_body_of log.page) (λ (b : InHand). record b { log = log }) v.bodies found-body.0 can.body found-body.1 found-body.2
 
   -- each process that the history ended has a word: from before, or by a `kill`
   pub ended : AreEnded layout w.processes log.entries

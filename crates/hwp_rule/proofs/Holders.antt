@@ -3,7 +3,7 @@ use Rattle.std.proofs.Common.{◌≡◌, ℕ, ◌+◌, ◌==◌, List, [], ◌�
 use Rattle.std.specs.Int.{from_bool}
 use Rattle.std.proofs.lemmas.List.Sums.{sum_by_push}
 use Rattle.hwp_rule.specs.declared.view.FrameLock.{FrameLock}
-use Rattle.hwp_rule.specs.declared.view.Held.{Held}
+use Rattle.hwp_rule.specs.declared.view.InHand.{InHand}
 use Rattle.hwp_rule.specs.declared.view.PageLock.{PageLock}
 use Rattle.hwp_rule.specs.Views.{locks_on}
 use Rattle.hwp_rule.specs.parts.Bodies.{IsHolding, IsLockFor}
@@ -19,7 +19,7 @@ pub both-push : (f q : ℕ) (locks : List FrameLock) (pages : List PageLock) (lo
 both-push f q locks pages lock both = record { frame = omega (arith, both.frame, locks-push f locks lock); page = both.page }
 
 -- a view that holds a lock for a body in hand still does
-pub holding-push : (b : Held) (locks : List FrameLock) (pages : List PageLock) (bodies : List Held) (lock : FrameLock)
+pub holding-push : (b : InHand) (locks : List FrameLock) (pages : List PageLock) (bodies : List InHand) (lock : FrameLock)
     → IsHolding b (record { locks = locks; pages = pages; bodies = bodies }) → IsHolding b (record { locks = locks ++ lock ∷ []; pages = pages; bodies = bodies })
 holding-push b locks pages bodies lock holding = elim holding [
   | inl page ↦ inl page

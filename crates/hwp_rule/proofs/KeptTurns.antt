@@ -10,7 +10,7 @@ use Rattle.hwp_rule.specs.declared.place.Place.TheVariants as places
 use Rattle.hwp_rule.specs.declared.record.Rec.{Rec}
 use Rattle.hwp_rule.specs.declared.step.Step.{Step}
 use Rattle.hwp_rule.specs.declared.step.Step.TheVariants as steps
-use Rattle.hwp_rule.specs.declared.view.Held.{Held}
+use Rattle.hwp_rule.specs.declared.view.InHand.{InHand}
 use Rattle.hwp_rule.specs.declared.view.Part.{Part}
 use Rattle.hwp_rule.specs.declared.view.View.{View}
 use Rattle.hwp_rule.specs.Asks.{IsTurnOf}
@@ -46,7 +46,7 @@ by-take : (layout : Layout) (who : Who) (frame : Option Frame) (content : Option
 by-take layout who frame None v = refl
 by-take layout who frame (Some log) v = refl
 
-by-list : (layout : Layout) (who : Who) (log : Log) (body : Option Held) (v : View) → turns_of (listed_of layout who log body v) ≡ turns_of v
+by-list : (layout : Layout) (who : Who) (log : Log) (body : Option InHand) (v : View) → turns_of (listed_of layout who log body v) ≡ turns_of v
 by-list layout who log None v = refl
 by-list layout who log (Some body) v = refl
 

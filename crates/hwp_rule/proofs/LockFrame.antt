@@ -13,7 +13,7 @@ use Rattle.hwp_words.proofs.FrameSteps.{fields-lock}
 use Rattle.hwp_rule.specs.declared.log.Log.{Log}
 use Rattle.hwp_rule.specs.declared.step.Step.TheVariants as steps
 use Rattle.hwp_rule.specs.declared.view.FrameLock.{FrameLock}
-use Rattle.hwp_rule.specs.declared.view.Held.{Held}
+use Rattle.hwp_rule.specs.declared.view.InHand.{InHand}
 use Rattle.hwp_rule.specs.declared.view.Length.{Length}
 use Rattle.hwp_rule.specs.declared.view.PageLock.{PageLock}
 use Rattle.hwp_rule.specs.declared.view.Ref.{Ref}
@@ -87,20 +87,20 @@ module _ (layout : Layout) (w : Words) (homes : Homes) (views : List View) (seat
   locked-now : lock_of now ≡ 0 → ⊥
   locked-now none = omega (arith, none, (fields-lock found).lock)
 
-  abbrev holder : List PageLock → List Held → Holder
+  abbrev holder : List PageLock → List InHand → Holder
   holder pages bodies = record { locks = locks; pages = pages; bodies = bodies }
 
   -- what a view holds it still holds
-  holding-more : (b : Held) (pages : List PageLock) (bodies : List Held) → page_locks_on b.log.page.0 pages ≡ page_locks_on b.log.page.0 v.pages → IsHolding b (holder_of v) → IsHolding b (holder pages bodies)
+  holding-more : (b : InHand) (pages : List PageLock) (bodies : List InHand) → page_locks_on b.log.page.0 pages ≡ page_locks_on b.log.page.0 v.pages → IsHolding b (holder_of v) → IsHolding b (holder pages bodies)
   holding-more b pages bodies same holds = elim holds [
     | inl page ↦ inl (subst (λ (n : ℕ). 0 < n) (sym same) page)
     | inr some ↦ inr (some-push (IsLockFor b) v.locks lock some)
   ]
 
-  my_fit : slice_get {X = List PageLock × List Held} (map (λ (v : View). (v.pages, v.bodies)) views) seat ≡ Some (v.pages, v.bodies)
+  my_fit : slice_get {X = List PageLock × List InHand} (map (λ (v : View). (v.pages, v.bodies)) views) seat ≡ Some (v.pages, v.bodies)
   my_fit = at_map (λ (v : View). (v.pages, v.bodies)) views seat v me
 
-  old-in_hand : EachMember (λ (b : Held). IsHolding b (holder_of v)) v.bodies
+  old-in_hand : EachMember (λ (b : InHand). IsHolding b (holder_of v)) v.bodies
   old-in_hand = h.bodies.in_hand seat (holder_of v) (at_map holder_of views seat v me)
 
   pub keeps-lock-empty : IsIn homes frame.0 None → FrameRule layout (record w { frames = set w.frames frame.0 now }) (set homes frame.0 None) (set views seat (record v { locks = locks }))
@@ -117,15 +117,15 @@ module _ (layout : Layout) (w : Words) (homes : Homes) (views : List View) (seat
     cached = λ g x q at owner both. inr (both-more g q both);
     free_home = λ none. absurd (locked-now none);
     out = λ locked. set_here homes frame.0 None (Some None) empty;
-    in_hand = each-weaken (λ (b : Held). IsHolding b (holder_of v)) (λ (b : Held). IsHolding b (holder v.pages v.bodies)) v.bodies (λ b holds. holding-more b v.pages v.bodies refl holds) old-in_hand;
+    in_hand = each-weaken (λ (b : InHand). IsHolding b (holder_of v)) (λ (b : InHand). IsHolding b (holder v.pages v.bodies)) v.bodies (λ b holds. holding-more b v.pages v.bodies refl holds) old-in_hand;
   }) less
 
   -- ---- with the owner's body
   module _ (log : Log) (inside : IsIn homes frame.0 (Some log)) where
-    abbrev body : Held
+    abbrev body : InHand
     body = record { log = log; since = length log.entries; frame = Some frame; from = length v.sights; killed = [] }
 
-    abbrev bodies : List Held
+    abbrev bodies : List InHand
     bodies = v.bodies ++ body ∷ []
 
     abbrev seen : Length
@@ -167,7 +167,7 @@ module _ (layout : Layout) (w : Words) (homes : Homes) (views : List View) (seat
         number : l.page.0 ≡ log.page.0
         number = eqb-true l.page.0 log.page.0 is
 
-    own-changed : (b : Held) → KnowsOwn v.pages b → KnowsOwn pages b
+    own-changed : (b : InHand) → KnowsOwn v.pages b → KnowsOwn pages b
     own-changed b own = which (is_page_lock_of log.page own.lock)
       where
         at : slice_get pages 0 ≡ Some (cond (is_page_lock_of log.page own.lock) (knowing layout log (Some frame) own.lock) own.lock)
@@ -198,10 +198,10 @@ module _ (layout : Layout) (w : Words) (homes : Homes) (views : List View) (seat
       like = like;
       count = (fields-lock found).count;
       carries = carry-out layout w homes views seat v me h log frame.0 inside within (Some frame) (stamp_of who (record v { locks = locks })) past pages
-          (each-weaken (λ (b : Held). page_locks_on b.log.page.0 v.pages ≡ 0 → Fits layout w.trans w.caches b.log) (λ (b : Held). page_locks_on b.log.page.0 pages ≡ 0 → Fits layout w.trans w.caches b.log) v.bodies
+          (each-weaken (λ (b : InHand). page_locks_on b.log.page.0 v.pages ≡ 0 → Fits layout w.trans w.caches b.log) (λ (b : InHand). page_locks_on b.log.page.0 pages ≡ 0 → Fits layout w.trans w.caches b.log) v.bodies
           (λ b fits none. fits (sym (page_locks b.log.page.0) ∙ none)) (h.fits.in_hand seat (v.pages, v.bodies) my_fit))
           (each-changed (KnowsWords layout w.trans w.caches) (is_page_lock_of log.page) (knowing layout log (Some frame)) v.pages knows-new (h.fits.known seat (v.pages, v.bodies) my_fit))
-          (each-weaken (λ (b : Held). 0 < page_locks_on b.log.page.0 v.pages → KnowsOwn v.pages b) (λ (b : Held). 0 < page_locks_on b.log.page.0 pages → KnowsOwn pages b) v.bodies
+          (each-weaken (λ (b : InHand). 0 < page_locks_on b.log.page.0 v.pages → KnowsOwn v.pages b) (λ (b : InHand). 0 < page_locks_on b.log.page.0 pages → KnowsOwn pages b) v.bodies
           (λ b own some. own-changed b (own (subst (λ (n : ℕ). 0 < n) (page_locks b.log.page.0) some))) (h.fits.own seat (v.pages, v.bodies) my_fit))
           own-new;
       here = here;
@@ -213,9 +213,9 @@ module _ (layout : Layout) (w : Words) (homes : Homes) (views : List View) (seat
       cached = λ g x q at is both. inr (both-more g q both);
       free_home = λ none. absurd (locked-now none);
       out = λ locked. set_here homes frame.0 None (Some (Some log)) inside;
-      in_hand = each-push (λ (b : Held). IsHolding b (holder pages bodies)) v.bodies body
+      in_hand = each-push (λ (b : InHand). IsHolding b (holder pages bodies)) v.bodies body
           (inr (some-last (IsLockFor body) v.locks lock (owner, refl)))
-          (each-weaken (λ (b : Held). IsHolding b (holder_of v)) (λ (b : Held). IsHolding b (holder pages bodies)) v.bodies
+          (each-weaken (λ (b : InHand). IsHolding b (holder_of v)) (λ (b : InHand). IsHolding b (holder pages bodies)) v.bodies
           (λ b holds. holding-more b pages bodies (page_locks b.log.page.0) holds) old-in_hand);
     }) less
 

@@ -6,7 +6,7 @@ use Rattle.hwp_geom.specs.declared.Layout.{Layout}
 use Rattle.hwp_words.specs.Frames.{lock_of, count_of, owner_of, handled_of, is_kernel}
 use Rattle.hwp_rule.specs.declared.log.Log.{Log}
 use Rattle.hwp_rule.specs.declared.view.FrameLock.{FrameLock}
-use Rattle.hwp_rule.specs.declared.view.Held.{Held}
+use Rattle.hwp_rule.specs.declared.view.InHand.{InHand}
 use Rattle.hwp_rule.specs.declared.view.Length.{Length}
 use Rattle.hwp_rule.specs.declared.view.PageLock.{PageLock}
 use Rattle.hwp_rule.specs.declared.view.View.{View}
@@ -27,7 +27,7 @@ use Rattle.hwp_rule.proofs.Kept
 
 -- The word of frame f becomes `now`, its slot y; of a view v with references to the frame the locks, the page locks, the
 -- bodies in hand and the lengths become these. Of y, and of each new member, what the parts ask of it.
-pub record Locking (layout : Layout) (w : Words) (homes : Homes) (views : List View) (seat : ℕ) (v : View) (f word now : ℕ) (y : Option (Option Log)) (locks : List FrameLock) (pages : List PageLock) (bodies : List Held) (lengths : List Length) : Type 1 where
+pub record Locking (layout : Layout) (w : Words) (homes : Homes) (views : List View) (seat : ℕ) (v : View) (f word now : ℕ) (y : Option (Option Log)) (locks : List FrameLock) (pages : List PageLock) (bodies : List InHand) (lengths : List Length) : Type 1 where
   pub like : IsLike word now
   pub count : count_of now ≡ count_of word
   pub carries : Carries layout w homes views seat v f y pages bodies lengths
@@ -42,9 +42,9 @@ pub record Locking (layout : Layout) (w : Words) (homes : Homes) (views : List V
   -- the slot
   pub free_home : lock_of now ≡ 0 → IsAtHome (set homes f y) f (owner_of now)
   pub out : lock_of now ≡ 1 → slice_get (set homes f y) f ≡ Some None
-  pub in_hand : EachMember (λ (b : Held). IsHolding b (record { locks = locks; pages = pages; bodies = bodies })) bodies
+  pub in_hand : EachMember (λ (b : InHand). IsHolding b (record { locks = locks; pages = pages; bodies = bodies })) bodies
 
-module _ (layout : Layout) (w : Words) (homes : Homes) (views : List View) (seat : ℕ) (v : View) (f word now : ℕ) (y : Option (Option Log)) (locks : List FrameLock) (pages : List PageLock) (bodies : List Held) (lengths : List Length) where
+module _ (layout : Layout) (w : Words) (homes : Homes) (views : List View) (seat : ℕ) (v : View) (f word now : ℕ) (y : Option (Option Log)) (locks : List FrameLock) (pages : List PageLock) (bodies : List InHand) (lengths : List Length) where
   abbrev u : View
   u = record v { locks = locks; pages = pages; bodies = bodies; lengths = lengths }
 
@@ -137,7 +137,7 @@ module _ (layout : Layout) (w : Words) (homes : Homes) (views : List View) (seat
           record { content = was.content; there = set_else homes f (layout.frames + q) y (λ e. absurd (omega (arith, less, e))) ∙ was.there; named = was.named };
       shelf_out = λ q p at locked. set_else homes f (layout.frames + q) y (λ e. absurd (omega (arith, less, e))) ∙ h.bodies.shelf_out q p at locked;
       one = Carrying.one-carried layout w homes views seat v me h f y locks pages bodies lengths x.carries;
-      in_hand = each-set (λ (o : Holder). EachMember (λ (b : Held). IsHolding b o) o.bodies) (map holder_of views) seat (holder_of u) x.in_hand h.bodies.in_hand;
+      in_hand = each-set (λ (o : Holder). EachMember (λ (b : InHand). IsHolding b o) o.bodies) (map holder_of views) seat (holder_of u) x.in_hand h.bodies.in_hand;
     }
 
     pub keeps-locking : f < layout.frames → FrameRule layout (record w { frames = set w.frames f now }) (set homes f y) (set views seat u)

@@ -18,7 +18,7 @@ use Rattle.hwp_words.specs.Translations.{pte_word}
 use Rattle.hwp_words.proofs.Packed.{frame_named-frame_name}
 use Rattle.hwp_rule.specs.declared.log.Log.{Log}
 use Rattle.hwp_rule.specs.declared.view.FrameLock.{FrameLock}
-use Rattle.hwp_rule.specs.declared.view.Held.{Held}
+use Rattle.hwp_rule.specs.declared.view.InHand.{InHand}
 use Rattle.hwp_rule.specs.declared.view.PageLock.{PageLock}
 use Rattle.hwp_rule.specs.declared.view.Ref.{Ref}
 use Rattle.hwp_rule.specs.declared.view.View.{View}
@@ -94,17 +94,17 @@ module _ (layout : Layout) (w : Words) (homes : Homes) (views : List View) (seat
   abbrev of_page : Log → ℕ
   of_page log = from_bool (log.page.0 == page.0)
 
-  abbrev bodies : List (List Held)
+  abbrev bodies : List (List InHand)
   bodies = map (λ (o : Holder). o.bodies) (map holder_of views)
 
   bodies-at : (i : ℕ) (x : View) → slice_get views i ≡ Some x → slice_get bodies i ≡ Some x.bodies
   bodies-at i x at = at_map (λ (o : Holder). o.bodies) (map holder_of views) i (holder_of x) (at_map holder_of views i x at)
 
-  body-here : 0 < sum_by (λ (b : Held). of_page b.log) v.bodies
+  body-here : 0 < sum_by (λ (b : InHand). of_page b.log) v.bodies
   body-here =
       let found : (i : ℕ) × (slice_get v.bodies i ≡ Some has.body) × (is_body_of page has.body ≡ true) = find-is (is_body_of page) v.bodies has.body has.body_is in
       let one : of_page has.body.log ≡ 1 = ap from_bool found.2 in
-      let more : of_page has.body.log ≤ sum_by (λ (b : Held). of_page b.log) v.bodies = term-le (λ (b : Held). of_page b.log) v.bodies found.0 has.body found.1 in
+      let more : of_page has.body.log ≤ sum_by (λ (b : InHand). of_page b.log) v.bodies = term-le (λ (b : InHand). of_page b.log) v.bodies found.0 has.body found.1 in
       omega arith
 
   not-home : (i : ℕ) (log : Log) → slice_get homes i ≡ Some (Some (Some log)) → log.page.0 ≢ page.0
@@ -112,16 +112,16 @@ module _ (layout : Layout) (w : Words) (homes : Homes) (views : List View) (seat
       let one : sum_bodies of_page homes bodies ≡ 1 = h.bodies.one page.0 within in
       let this : of_page log ≡ 1 = ap from_bool (same-number log.page.0 page.0 same) in
       let home : of_page log ≤ sum_by (of_home of_page) homes = term-le (of_home of_page) homes i (Some (Some log)) at in
-      let hand : sum_by (λ (b : Held). of_page b.log) v.bodies ≤ sum_all (λ (b : Held). of_page b.log) bodies = term-le (sum_by (λ (b : Held). of_page b.log)) bodies seat v.bodies (bodies-at seat v me) in
+      let hand : sum_by (λ (b : InHand). of_page b.log) v.bodies ≤ sum_all (λ (b : InHand). of_page b.log) bodies = term-le (sum_by (λ (b : InHand). of_page b.log)) bodies seat v.bodies (bodies-at seat v me) in
       omega (arith, body-here)
 
-  not-in-hand : (i : ℕ) (x : View) → i ≢ seat → slice_get views i ≡ Some x → EachMember (λ (b : Held). b.log.page.0 ≢ page.0) x.bodies
+  not-in-hand : (i : ℕ) (x : View) → i ≢ seat → slice_get views i ≡ Some x → EachMember (λ (b : InHand). b.log.page.0 ≢ page.0) x.bodies
   not-in-hand i x differs at j b listed same =
       let one : sum_bodies of_page homes bodies ≡ 1 = h.bodies.one page.0 within in
       let this : of_page b.log ≡ 1 = ap from_bool (same-number b.log.page.0 page.0 same) in
-      let theirs : of_page b.log ≤ sum_by (λ (b : Held). of_page b.log) x.bodies = term-le (λ (b : Held). of_page b.log) x.bodies j b listed in
-      let both : sum_by (λ (b : Held). of_page b.log) x.bodies + sum_by (λ (b : Held). of_page b.log) v.bodies ≤ sum_all (λ (b : Held). of_page b.log) bodies =
-      terms-le (sum_by (λ (b : Held). of_page b.log)) bodies i seat x.bodies v.bodies differs (bodies-at i x at) (bodies-at seat v me) in
+      let theirs : of_page b.log ≤ sum_by (λ (b : InHand). of_page b.log) x.bodies = term-le (λ (b : InHand). of_page b.log) x.bodies j b listed in
+      let both : sum_by (λ (b : InHand). of_page b.log) x.bodies + sum_by (λ (b : InHand). of_page b.log) v.bodies ≤ sum_all (λ (b : InHand). of_page b.log) bodies =
+      terms-le (sum_by (λ (b : InHand). of_page b.log)) bodies i seat x.bodies v.bodies differs (bodies-at i x at) (bodies-at seat v me) in
       omega (arith, body-here)
 
   -- the page's word is locked
@@ -143,7 +143,7 @@ module _ (layout : Layout) (w : Words) (homes : Homes) (views : List View) (seat
       terms-le (page_locks_on page.0) (map (λ (v : View). v.pages) views) i seat x.pages v.pages differs (at_map (λ (v : View). v.pages) views i x at) (at_map (λ (v : View). v.pages) views seat v me) in
       omega (arith, page-listed v page has.lock)
 
-  my_fit : slice_get {X = List PageLock × List Held} (map (λ (v : View). (v.pages, v.bodies)) views) seat ≡ Some (v.pages, v.bodies)
+  my_fit : slice_get {X = List PageLock × List InHand} (map (λ (v : View). (v.pages, v.bodies)) views) seat ≡ Some (v.pages, v.bodies)
   my_fit = at_map (λ (v : View). (v.pages, v.bodies)) views seat v me
 
   -- what the page's lock lists
@@ -165,7 +165,7 @@ module _ (layout : Layout) (w : Words) (homes : Homes) (views : List View) (seat
     abbrev pages : List PageLock
     pages = changed test to v.pages
 
-    abbrev fitting : List (List PageLock × List Held)
+    abbrev fitting : List (List PageLock × List InHand)
     fitting = map (λ (v : View). (v.pages, v.bodies)) views
 
     module _ (is : test has.lock.lock ≡ true)
@@ -192,7 +192,7 @@ module _ (layout : Layout) (w : Words) (homes : Homes) (views : List View) (seat
           → PageFits layout trans caches homes (set fitting seat (pages, v.bodies))
       fits-naming knows cache cache_is ws ws_is = record {
         at_home = λ i log at. fits-else log (not-home i log at) (h.fits.at_home i log at);
-        in_hand = in-each (λ (x : List PageLock × List Held). EachMember (λ (b : Held). page_locks_on b.log.page.0 x.0 ≡ 0 → Fits layout trans caches b.log) x.1)
+        in_hand = in-each (λ (x : List PageLock × List InHand). EachMember (λ (b : InHand). page_locks_on b.log.page.0 x.0 ≡ 0 → Fits layout trans caches b.log) x.1)
             (λ j b at none. elim (same-or b.log.page.0 page.0) [
               | inl this ↦
                   let some : 0 < page_locks_on page.0 v.pages = page-listed v page has.lock in
@@ -202,10 +202,10 @@ module _ (layout : Layout) (w : Words) (homes : Homes) (views : List View) (seat
               | inr differs ↦ fits-else b.log differs (h.fits.in_hand seat (v.pages, v.bodies) my_fit j b at (sym (same-locks test to same v.pages b.log.page.0) ∙ none))
             ])
             (λ i x differs at j b listed none. fits-else b.log (not-in-hand i x differs at j b listed) (h.fits.in_hand i (x.pages, x.bodies) (at_map (λ (v : View). (v.pages, v.bodies)) views i x at) j b listed none));
-        known = in-each (λ (x : List PageLock × List Held). EachMember (KnowsWords layout trans caches) x.0)
+        known = in-each (λ (x : List PageLock × List InHand). EachMember (KnowsWords layout trans caches) x.0)
             (only-member (KnowsWords layout trans caches) pages (to has.lock.lock) (subst (λ (n : ℕ). n ≤ 1) (sym (length-changed test to v.pages)) once) listed knows)
             (λ i x differs at j l listed. knows-else l (not-locked i x differs at j l listed) (h.fits.known i (x.pages, x.bodies) (at_map (λ (v : View). (v.pages, v.bodies)) views i x at) j l listed));
-        own = each-set (λ (x : List PageLock × List Held). EachMember (λ (b : Held). 0 < page_locks_on b.log.page.0 x.0 → KnowsOwn x.0 b) x.1) fitting seat (pages, v.bodies)
+        own = each-set (λ (x : List PageLock × List InHand). EachMember (λ (b : InHand). 0 < page_locks_on b.log.page.0 x.0 → KnowsOwn x.0 b) x.1) fitting seat (pages, v.bodies)
             (λ j b at some. record { lock = to has.lock.lock; there = listed; cache = cache; cache_is = cache_is; trans = ws; trans_is = ws_is }) h.fits.own;
       }
         where
@@ -213,7 +213,7 @@ module _ (layout : Layout) (w : Words) (homes : Homes) (views : List View) (seat
           once = h.page_locks.page_once seat v.pages (at_map (λ (v : View). v.pages) views seat v me)
 
           -- this view, and the others
-          in-each : (P : List PageLock × List Held → Type 0) → P (pages, v.bodies) → ((i : ℕ) (x : View) → i ≢ seat → slice_get views i ≡ Some x → P (x.pages, x.bodies)) → EachMember P (set fitting seat (pages, v.bodies))
+          in-each : (P : List PageLock × List InHand → Type 0) → P (pages, v.bodies) → ((i : ℕ) (x : View) → i ≢ seat → slice_get views i ≡ Some x → P (x.pages, x.bodies)) → EachMember P (set fitting seat (pages, v.bodies))
           in-each P mine theirs i y at = elim (at_set fitting seat i (pages, v.bodies) y at) [
             | inl t ↦ subst P t.1 mine
             | inr t ↦

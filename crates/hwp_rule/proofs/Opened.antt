@@ -46,7 +46,7 @@ use Rattle.hwp_words.specs.Stops.{stopper_of}
 use Rattle.hwp_rule.specs.declared.view.Ref.{Ref}
 use Rattle.hwp_rule.specs.declared.view.FrameLock.{FrameLock}
 use Rattle.hwp_rule.specs.declared.view.PageLock.{PageLock}
-use Rattle.hwp_rule.specs.declared.view.Held.{Held}
+use Rattle.hwp_rule.specs.declared.view.InHand.{InHand}
 use Rattle.hwp_rule.specs.declared.view.Debts.{Debts}
 use Rattle.hwp_rule.specs.declared.view.Mark.{Mark}
 use Rattle.hwp_rule.specs.declared.view.Made.{Made}
@@ -286,7 +286,7 @@ module _ (layout : Layout) (sound : IsSound layout) (w : Words) (o : AreOpening 
   entries-opened = record {
     balance = λ f.
         let home : sum_by (of_home (weigh f)) (opening_homes layout) ≡ 0 = homes-zero layout (weigh f) (λ q. refl) in
-        let hand : sum_all (λ (b : Held). weigh f b.log) (map (λ (v : View). v.bodies) (opening_views layout)) ≡ 0 = no-sum (λ (v : View). v.bodies) (sum_by (λ (b : Held). weigh f b.log)) (λ c. refl) in
+        let hand : sum_all (λ (b : InHand). weigh f b.log) (map (λ (v : View). v.bodies) (opening_views layout)) ≡ 0 = no-sum (λ (v : View). v.bodies) (sum_by (λ (b : InHand). weigh f b.log)) (λ c. refl) in
         let made : sum_by (λ (v : List Made × List Sight). sum_by (λ (m : Made). f m.page m.place m.entry) v.0) (map (λ (v : View). (v.made, v.sights)) (opening_views layout)) ≡ 0 =
         no-sum (λ (v : View). (v.made, v.sights)) (λ (v : List Made × List Sight). sum_by (λ (m : Made). f m.page m.place m.entry) v.0) (λ c. refl) in
         omega arith;
@@ -296,15 +296,15 @@ module _ (layout : Layout) (sound : IsSound layout) (w : Words) (o : AreOpening 
 
   -- a property of all bodies at opening
   each-body : (P : Log → Type 0) → ((q : ℕ) → q < length layout.pages → P (opening_log q)) → EachBody P (opening_homes layout) (map (λ (v : View). v.bodies) (opening_views layout))
-  each-body P each = record { at_home = no-entry layout P each; in_hand = unlisted (λ (v : View). v.bodies) (λ (b : Held). P b.log) (λ c. refl) }
+  each-body P each = record { at_home = no-entry layout P each; in_hand = unlisted (λ (v : View). v.bodies) (λ (b : InHand). P b.log) (λ c. refl) }
 
   endings-opened : EndingsAgree layout w.processes (opening_homes layout) (map (λ (v : View). v.bodies) (opening_views layout)) (map (λ (v : View). v.sights) (opening_views layout))
   endings-opened = record {
     caused = λ process x there. each-body (λ (log : Log). x ≡ log.page.0 + 1 → has_ending layout process log.entries ≡ true)
         (λ q less is. let none : x ≡ 0 = is-zero w.processes layout.procs process.0 x o.processes there in absurd (let one : x ≡ q + 1 = is in omega arith));
     ended = no-entry layout (λ (log : Log). AreEnded layout w.processes log.entries) (λ q less process x there is. absurd (true≢false (sym is)));
-    ended_before = unlisted (λ (v : View). v.bodies) (λ (b : Held). AreEnded layout w.processes (take b.since b.log.entries)) (λ c. refl);
-    taken = unlisted (λ (v : View). v.bodies) (λ (b : Held). b.since ≤ length b.log.entries) (λ c. refl);
+    ended_before = unlisted (λ (v : View). v.bodies) (λ (b : InHand). AreEnded layout w.processes (take b.since b.log.entries)) (λ c. refl);
+    taken = unlisted (λ (v : View). v.bodies) (λ (b : InHand). b.since ≤ length b.log.entries) (λ c. refl);
     shown = unlisted (λ (v : View). v.sights) (ShowsEnding layout (opening_homes layout) (map (λ (v : View). v.bodies) (opening_views layout))) (λ c. refl);
   }
 
@@ -329,7 +329,7 @@ module _ (layout : Layout) (sound : IsSound layout) (w : Words) (o : AreOpening 
         let reported : sum_by (λ (v : Losing). sum_by (λ (r : Reported). cond (r.file.0 == file.0) r.count 0) v.reported) (map losing_of (opening_views layout)) ≡ 0 = no-sum losing_of (λ (v : Losing). sum_by (λ (r : Reported). cond (r.file.0 == file.0) r.count 0) v.reported) (λ c. refl) in
         let owed : sum_by (λ (v : Losing). sum_by (λ (n : FileNo). from_bool (n.0 == file.0)) v.owed) (map losing_of (opening_views layout)) ≡ 0 = no-sum losing_of (λ (v : Losing). sum_by (λ (n : FileNo). from_bool (n.0 == file.0)) v.owed) (λ c. refl) in
         let home : sum_by (of_home (losses_of layout file)) (opening_homes layout) ≡ 0 = homes-zero layout (losses_of layout file) (λ q. either-zero (is_file file (file_of layout (opening_log q).page))) in
-        let hand : sum_all (λ (b : Held). losses_of layout file b.log) (map (λ (v : View). v.bodies) (opening_views layout)) ≡ 0 = no-sum (λ (v : View). v.bodies) (sum_by (λ (b : Held). losses_of layout file b.log)) (λ c. refl) in
+        let hand : sum_all (λ (b : InHand). losses_of layout file b.log) (map (λ (v : View). v.bodies) (opening_views layout)) ≡ 0 = no-sum (λ (v : View). v.bodies) (sum_by (λ (b : InHand). losses_of layout file b.log)) (λ c. refl) in
         omega arith;
     poisoned = Opening.each-view losing_of IsPoisonLoss layout.cpus (λ c less. omega arith);
   }
@@ -346,7 +346,7 @@ module _ (layout : Layout) (sound : IsSound layout) (w : Words) (o : AreOpening 
 
   stops-opened : EndingsAndStopsStay w.processes w.stop (map (λ (v : View). v.bodies) (opening_views layout)) (map (λ (v : View). v.sights) (opening_views layout)) (map (λ (v : View). v.stops) (opening_views layout))
   stops-opened = record {
-    killed = unlisted (λ (v : View). v.bodies) (λ (b : Held). EachMember (λ (p : Proc). (x : ℕ) → slice_get w.processes p.0 ≡ Some x → x ≢ 0) b.killed) (λ c. refl);
+    killed = unlisted (λ (v : View). v.bodies) (λ (b : InHand). EachMember (λ (p : Proc). (x : ℕ) → slice_get w.processes p.0 ≡ Some x → x ≢ 0) b.killed) (λ c. refl);
     ended_stays = λ process x there. unlisted (λ (v : View). v.sights) (λ (s : Sight). s.place ≡ places.Process process → s.word ≢ 0 → x ≡ s.word) (λ c. refl);
     stop_stays = unlisted (λ (v : View). v.sights) (λ (s : Sight). s.place ≡ places.Stop → stopper_of s.word ≢ 0 → stopper_of w.stop ≡ stopper_of s.word) (λ c. refl);
     one =
@@ -362,9 +362,9 @@ module _ (layout : Layout) (sound : IsSound layout) (w : Words) (o : AreOpening 
       cached = ap (λ (n : ℕ). not (n == 0)) (is-zero w.caches (length layout.pages) q cache o.caches is) ∙ sym (opening-state layout q);
       used = λ v x t there same at. is-zero w.trans (length layout.trans) v x o.trans at ∙ sym (opening-word layout q cache v);
     });
-    in_hand = Opening.each-view (λ (v : View). (v.pages, v.bodies)) (λ (h : List PageLock × List Held). EachMember (λ (b : Held). page_locks_on b.log.page.0 h.0 ≡ 0 → Fits layout w.trans w.caches b.log) h.1) layout.cpus (λ c less. each-none (λ (b : Held). page_locks_on b.log.page.0 [] ≡ 0 → Fits layout w.trans w.caches b.log));
-    known = Opening.each-view (λ (v : View). (v.pages, v.bodies)) (λ (h : List PageLock × List Held). EachMember (KnowsWords layout w.trans w.caches) h.0) layout.cpus (λ c less. each-none (KnowsWords layout w.trans w.caches));
-    own = Opening.each-view (λ (v : View). (v.pages, v.bodies)) (λ (h : List PageLock × List Held). EachMember (λ (b : Held). 0 < page_locks_on b.log.page.0 h.0 → KnowsOwn h.0 b) h.1) layout.cpus (λ c less. each-none (λ (b : Held). 0 < page_locks_on b.log.page.0 [] → KnowsOwn [] b));
+    in_hand = Opening.each-view (λ (v : View). (v.pages, v.bodies)) (λ (h : List PageLock × List InHand). EachMember (λ (b : InHand). page_locks_on b.log.page.0 h.0 ≡ 0 → Fits layout w.trans w.caches b.log) h.1) layout.cpus (λ c less. each-none (λ (b : InHand). page_locks_on b.log.page.0 [] ≡ 0 → Fits layout w.trans w.caches b.log));
+    known = Opening.each-view (λ (v : View). (v.pages, v.bodies)) (λ (h : List PageLock × List InHand). EachMember (KnowsWords layout w.trans w.caches) h.0) layout.cpus (λ c less. each-none (KnowsWords layout w.trans w.caches));
+    own = Opening.each-view (λ (v : View). (v.pages, v.bodies)) (λ (h : List PageLock × List InHand). EachMember (λ (b : InHand). 0 < page_locks_on b.log.page.0 h.0 → KnowsOwn h.0 b) h.1) layout.cpus (λ c less. each-none (λ (b : InHand). 0 < page_locks_on b.log.page.0 [] → KnowsOwn [] b));
   }
 
   one-part : (c : ℕ) (P : Part → Type 0) → P (record { cpu = record { 0 = c }; latest = 0 }) → EachMember P (opening_view c).parts
@@ -452,12 +452,12 @@ module _ (layout : Layout) (sound : IsSound layout) (w : Words) (o : AreOpening 
       shelf_out = λ q x there held. let none : lock_of x ≡ 0 = ap lock_of (is-zero w.pages (length layout.pages) q x o.pages there) in absurd (omega arith);
       one = λ q less.
           let shelf : sum_by (of_home (λ (log : Log). from_bool (log.page.0 == q))) (opening_homes layout) ≡ 1 = homes-sum layout (λ (log : Log). from_bool (log.page.0 == q)) ∙ one-below (length layout.pages) q less in
-          let no_hand : sum_all (λ (b : Held). from_bool (b.log.page.0 == q)) (map (λ (h : Holder). h.bodies) (map holder_of (opening_views layout))) ≡ 0 =
-          sum-zero (sum_by (λ (b : Held). from_bool (b.log.page.0 == q))) (map (λ (h : Holder). h.bodies) (map holder_of (opening_views layout)))
-          (each-map (λ (h : Holder). h.bodies) (λ (l : List Held). sum_by (λ (b : Held). from_bool (b.log.page.0 == q)) l ≡ 0) (map holder_of (opening_views layout))
-          (Opening.each-view holder_of (λ (h : Holder). sum_by (λ (b : Held). from_bool (b.log.page.0 == q)) h.bodies ≡ 0) layout.cpus (λ c less. refl))) in
+          let no_hand : sum_all (λ (b : InHand). from_bool (b.log.page.0 == q)) (map (λ (h : Holder). h.bodies) (map holder_of (opening_views layout))) ≡ 0 =
+          sum-zero (sum_by (λ (b : InHand). from_bool (b.log.page.0 == q))) (map (λ (h : Holder). h.bodies) (map holder_of (opening_views layout)))
+          (each-map (λ (h : Holder). h.bodies) (λ (l : List InHand). sum_by (λ (b : InHand). from_bool (b.log.page.0 == q)) l ≡ 0) (map holder_of (opening_views layout))
+          (Opening.each-view holder_of (λ (h : Holder). sum_by (λ (b : InHand). from_bool (b.log.page.0 == q)) h.bodies ≡ 0) layout.cpus (λ c less. refl))) in
           omega arith;
-      in_hand = Opening.each-view holder_of (λ (h : Holder). EachMember (λ (b : Held). IsHolding b h) h.bodies) layout.cpus (λ c less. each-none (λ (b : Held). IsHolding b (holder_of (opening_view c))));
+      in_hand = Opening.each-view holder_of (λ (h : Holder). EachMember (λ (b : InHand). IsHolding b h) h.bodies) layout.cpus (λ c less. each-none (λ (b : InHand). IsHolding b (holder_of (opening_view c))));
     };
     handled = record { out = λ f x there is. let none : handled_of x ≡ 0 = (frame f x there).2.handled in absurd (omega arith) };
     counter = counter-opened;

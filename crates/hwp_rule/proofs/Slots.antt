@@ -4,7 +4,7 @@ use Rattle.std.specs.List.{sum_by, list_any}
 use Rattle.hwp_geom.specs.declared.Layout.{Layout}
 use Rattle.hwp_page.specs.declared.Entry.{Entry}
 use Rattle.hwp_rule.specs.declared.log.Log.{Log}
-use Rattle.hwp_rule.specs.declared.view.Held.{Held}
+use Rattle.hwp_rule.specs.declared.view.InHand.{InHand}
 use Rattle.hwp_rule.specs.declared.view.Length.{Length}
 use Rattle.hwp_rule.specs.declared.view.Made.{Made}
 use Rattle.hwp_rule.specs.declared.view.PageLock.{PageLock}
@@ -48,25 +48,25 @@ module _ (homes : Homes) (slot : ℕ) (was now : Option (Option Log)) (there : s
     | inr t ↦ t.1
   ]
 
-  pub bodies-each : (P : Log → Type 0) (bodies : List (List Held)) → EachBody P homes bodies → EachBody P after bodies
+  pub bodies-each : (P : Log → Type 0) (bodies : List (List InHand)) → EachBody P homes bodies → EachBody P after bodies
   bodies-each P bodies each = record { at_home = λ i log at. each.at_home i log (home-was i log at); in_hand = each.in_hand }
 
-  pub bodies-sum : (f : Log → ℕ) (bodies : List (List Held)) → sum_bodies f after bodies ≡ sum_bodies f homes bodies
+  pub bodies-sum : (f : Log → ℕ) (bodies : List (List InHand)) → sum_bodies f after bodies ≡ sum_bodies f homes bodies
   bodies-sum f bodies =
       let moved : sum_by (of_home f) after + of_home f was ≡ sum_by (of_home f) homes + of_home f now = sum-set (of_home f) homes slot was now there in
       let before : of_home f was ≡ 0 = bodiless-none f was empty in
       let later : of_home f now ≡ 0 = bodiless-none f now still in
       let same : sum_by (of_home f) after ≡ sum_by (of_home f) homes = omega arith in
-      ap (λ (n : ℕ). n + sum_all (λ (b : Held). f b.log) bodies) same
+      ap (λ (n : ℕ). n + sum_all (λ (b : InHand). f b.log) bodies) same
 
-  pub slot-entries : (bodies : List (List Held)) (made : List (List Made × List Sight)) (lengths : List (List Length)) → EntriesListed homes bodies made lengths → EntriesListed after bodies made lengths
+  pub slot-entries : (bodies : List (List InHand)) (made : List (List Made × List Sight)) (lengths : List (List Length)) → EntriesListed homes bodies made lengths → EntriesListed after bodies made lengths
   slot-entries bodies made lengths h = record {
     balance = λ f. bodies-sum (weigh f) bodies ∙ h.balance f;
     shown = h.shown;
     lengths_reached = λ i list at j l is. bodies-each (λ (log : Log). log.page ≡ l.page → l.entries ≤ length log.entries) bodies (h.lengths_reached i list at j l is);
   }
 
-  pub slot-endings : (layout : Layout) (processes : List ℕ) (bodies : List (List Held)) (sights : List (List Sight)) → EndingsAgree layout processes homes bodies sights → EndingsAgree layout processes after bodies sights
+  pub slot-endings : (layout : Layout) (processes : List ℕ) (bodies : List (List InHand)) (sights : List (List Sight)) → EndingsAgree layout processes homes bodies sights → EndingsAgree layout processes after bodies sights
   slot-endings layout processes bodies sights h = record {
     caused = λ process word there. bodies-each (λ (log : Log). word ≡ log.page.0 + 1 → has_ending layout process log.entries ≡ true) bodies (h.caused process word there);
     ended = λ i log at. h.ended i log (home-was i log at);
@@ -76,16 +76,16 @@ module _ (homes : Homes) (slot : ℕ) (was now : Option (Option Log)) (there : s
         bodies-each (λ (log : Log). s.word ≡ log.page.0 + 1 → SomeMember (λ (e : Entry). (is_ending layout process e.what ≡ true) × IsNotLater e.who s.stamp.who) log.entries) bodies (h.shown i list at j s is process e);
   }
 
-  pub slot-losses : (layout : Layout) (losses : List ℕ) (bodies : List (List Held)) (views : List Losing) → LossesBalance layout losses homes bodies views → LossesBalance layout losses after bodies views
+  pub slot-losses : (layout : Layout) (losses : List ℕ) (bodies : List (List InHand)) (views : List Losing) → LossesBalance layout losses homes bodies views → LossesBalance layout losses after bodies views
   slot-losses layout losses bodies views h = record {
     balance = λ file word there. h.balance file word there ∙ sym (bodies-sum (losses_of layout file) bodies);
     poisoned = h.poisoned;
   }
 
-  pub slot-fits : (layout : Layout) (trans caches : List ℕ) (held : List (List PageLock × List Held)) → PageFits layout trans caches homes held → PageFits layout trans caches after held
+  pub slot-fits : (layout : Layout) (trans caches : List ℕ) (held : List (List PageLock × List InHand)) → PageFits layout trans caches homes held → PageFits layout trans caches after held
   slot-fits layout trans caches held h = record { at_home = λ i log at. h.at_home i log (home-was i log at); in_hand = h.in_hand; known = h.known; own = h.own }
 
-  pub slot-unpoisoned : (frames : List ℕ) (spoiled : List (List Spoiled)) (bodies : List (List Held)) → NothingPoisonedYet frames spoiled homes bodies → NothingPoisonedYet frames spoiled after bodies
+  pub slot-unpoisoned : (frames : List ℕ) (spoiled : List (List Spoiled)) (bodies : List (List InHand)) → NothingPoisonedYet frames spoiled homes bodies → NothingPoisonedYet frames spoiled after bodies
   slot-unpoisoned frames spoiled bodies h = record {
     sound = h.sound;
     unspoiled = h.unspoiled;

@@ -9,7 +9,7 @@ use Rattle.hwp_geom.specs.declared.Page.{Page}
 use Rattle.hwp_geom.specs.declared.Who.{Who}
 use Rattle.hwp_page.specs.declared.Entry.{Entry}
 use Rattle.hwp_rule.specs.declared.log.Log.{Log}
-use Rattle.hwp_rule.specs.declared.view.Held.{Held}
+use Rattle.hwp_rule.specs.declared.view.InHand.{InHand}
 use Rattle.hwp_rule.specs.declared.view.Made.{Made}
 use Rattle.hwp_rule.specs.declared.view.Part.{Part}
 use Rattle.hwp_rule.specs.declared.view.Sight.{Sight}
@@ -135,8 +135,8 @@ module _ (layout : Layout) (w : Words) (homes : Homes) (views : List View) (seat
         let one : weigh f log ≤ sum_by (of_home (weigh f)) homes = term-le (of_home (weigh f)) homes i (Some (Some log)) is in
         in-log log.page 0 log.entries (omega (arith, one, none-later));
     in_hand = λ i bodies is j b listed.
-        let one : weigh f b.log ≤ sum_by (λ (b : Held). weigh f b.log) bodies = term-le (λ (b : Held). weigh f b.log) bodies j b listed in
-        let all : sum_by (λ (b : Held). weigh f b.log) bodies ≤ sum_all (λ (b : Held). weigh f b.log) (map (λ (v : View). v.bodies) views) = term-le (sum_by (λ (b : Held). weigh f b.log)) (map (λ (v : View). v.bodies) views) i bodies is in
+        let one : weigh f b.log ≤ sum_by (λ (b : InHand). weigh f b.log) bodies = term-le (λ (b : InHand). weigh f b.log) bodies j b listed in
+        let all : sum_by (λ (b : InHand). weigh f b.log) bodies ≤ sum_all (λ (b : InHand). weigh f b.log) (map (λ (v : View). v.bodies) views) = term-le (sum_by (λ (b : InHand). weigh f b.log)) (map (λ (v : View). v.bodies) views) i bodies is in
         in-log b.log.page 0 b.log.entries (omega (arith, one, all, none-later));
   }
     where

@@ -25,7 +25,7 @@ use Rattle.hwp_rule.specs.declared.view.View.{View}
 use Rattle.hwp_rule.specs.declared.view.Part.{Part}
 use Rattle.hwp_rule.specs.declared.view.FrameLock.{FrameLock}
 use Rattle.hwp_rule.specs.declared.view.PageLock.{PageLock}
-use Rattle.hwp_rule.specs.declared.view.Held.{Held}
+use Rattle.hwp_rule.specs.declared.view.InHand.{InHand}
 use Rattle.hwp_rule.specs.declared.view.Sight.{Sight}
 use Rattle.hwp_rule.specs.Lists.{EachMember, SomeMember}
 use Rattle.hwp_rule.specs.Logs.{state_of, has_ending, file_of}
@@ -75,7 +75,7 @@ pub record HasPageLock (v : View) (page : Page) : Type 0 where
 -- the page's lock and its body in hand, and the words that the lock lists then
 pub record HasPage (v : View) (page : Page) : Type 0 where
   pub lock : HasPageLock v page
-  pub body : Held
+  pub body : InHand
   pub body_is : body_of page v ≡ Some body
   pub cache : ℕ
   pub cache_is : lock.lock.cache ≡ Some cache
@@ -84,7 +84,7 @@ pub record HasPage (v : View) (page : Page) : Type 0 where
 
 -- the history is that of a body in hand with more entries: each is allowed after those before it, of this command, and
 -- rests on what the command was shown since the body was taken; until memory failure is served, none is a failure
-pub record Extends (layout : Layout) (who : Who) (sights : List Sight) (body : Held) (log : Log) : Type 0 where
+pub record Extends (layout : Layout) (who : Who) (sights : List Sight) (body : InHand) (log : Log) : Type 0 where
   pub page_is : log.page ≡ body.log.page
   pub longer : log.entries ≡ body.log.entries ++ more_of body log
   pub leads : Leads layout log.page (state_of layout body.log) (more_of body log) (state_of layout log)
@@ -99,13 +99,13 @@ pub record HasSameWords (s t : PageState) : Type 0 where
   pub bar : s.bar ≡ t.bar
 
 -- the page's words fit the body: those that its lock lists, or without the lock those of before
-pub record PutFits (layout : Layout) (v : View) (body : Held) (log : Log) : Type 0 where
+pub record PutFits (layout : Layout) (v : View) (body : InHand) (log : Log) : Type 0 where
   pub unlocked : page_locks_on log.page.0 v.pages ≡ 0 → HasSameWords (state_of layout log) (state_of layout body.log)
   pub locked : (lock : PageLock) (cache : ℕ) (trans : List ℕ) → slice_get v.pages 0 ≡ Some lock → lock.page ≡ log.page → lock.cache ≡ Some cache → lock.trans ≡ Some trans → FitsWords layout log cache trans
 
 -- the body of this history can go home: a `kill` met each process that it ended since it was taken
 pub record CanGoHome (layout : Layout) (who : Who) (v : View) (log : Log) : Type 0 where
-  pub body : Held
+  pub body : InHand
   pub body_is : body_of log.page v ≡ Some body
   pub extends : Extends layout who v.sights body log
   pub fits : PutFits layout v body log

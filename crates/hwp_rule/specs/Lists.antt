@@ -3,7 +3,7 @@ use Rattle.std.specs.Prelude.{◌≡◌, ℕ, ◌+◌, ◌≤◌, List, Option, 
 use Rattle.std.specs.List.{sum_by}
 use Rattle.hwp_geom.specs.declared.Who.{Who}
 use Rattle.hwp_rule.specs.declared.log.Log.{Log}
-use Rattle.hwp_rule.specs.declared.view.Held.{Held}
+use Rattle.hwp_rule.specs.declared.view.InHand.{InHand}
 
 -- some member of the list is so
 abbrev pub SomeMember : {A : Type 0} → (A → Type 0) → List A → Type 0
@@ -29,9 +29,9 @@ abbrev pub Homes : Type 0
 Homes = List (Option (Option Log))
 
 -- each body is so: those at home, and those in hand as they are listed
-pub record EachBody (P : Log → Type 0) (homes : Homes) (bodies : List (List Held)) : Type 0 where
+pub record EachBody (P : Log → Type 0) (homes : Homes) (bodies : List (List InHand)) : Type 0 where
   pub at_home : (i : ℕ) (log : Log) → slice_get homes i ≡ Some (Some (Some log)) → P log
-  pub in_hand : EachListed (λ (b : Held). P b.log) bodies
+  pub in_hand : EachListed (λ (b : InHand). P b.log) bodies
 
 -- what f says of the body in a slot, and 0 where it has none
 abbrev pub of_home : (Log → ℕ) → Option (Option Log) → ℕ
@@ -40,8 +40,8 @@ of_home f (Some None) = 0
 of_home f (Some (Some log)) = f log
 
 -- a sum over all bodies
-abbrev pub sum_bodies : (Log → ℕ) → Homes → List (List Held) → ℕ
-sum_bodies f homes bodies = sum_by (of_home f) homes + sum_all (λ (b : Held). f b.log) bodies
+abbrev pub sum_bodies : (Log → ℕ) → Homes → List (List InHand) → ℕ
+sum_bodies f homes bodies = sum_by (of_home f) homes + sum_all (λ (b : InHand). f b.log) bodies
 
 -- the one is of no later command than the other, where both are of one processor
 abbrev pub IsNotLater : Who → Who → Type 0

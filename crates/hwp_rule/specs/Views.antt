@@ -24,7 +24,7 @@ use Rattle.hwp_rule.specs.declared.view.Part.{Part}
 use Rattle.hwp_rule.specs.declared.view.Ref.{Ref}
 use Rattle.hwp_rule.specs.declared.view.FrameLock.{FrameLock}
 use Rattle.hwp_rule.specs.declared.view.PageLock.{PageLock}
-use Rattle.hwp_rule.specs.declared.view.Held.{Held}
+use Rattle.hwp_rule.specs.declared.view.InHand.{InHand}
 use Rattle.hwp_rule.specs.declared.view.Debts.{Debts}
 use Rattle.hwp_rule.specs.declared.view.Stamp.{Stamp}
 use Rattle.hwp_rule.specs.declared.view.Made.{Made}
@@ -80,7 +80,7 @@ is_lock_of frame lock = lock.frame.0 == frame.0
 abbrev pub is_page_lock_of : Page → PageLock → Bool
 is_page_lock_of page lock = lock.page.0 == page.0
 
-abbrev pub is_body_of : Page → Held → Bool
+abbrev pub is_body_of : Page → InHand → Bool
 is_body_of page body = body.log.page.0 == page.0
 
 -- how many locks of the frame, or of the page, are listed
@@ -124,7 +124,7 @@ taken layout who frame (Some log) v = record v {
 }
 
 -- the entries of a history past those that are listed
-abbrev pub more_of : Held → Log → List Entry
+abbrev pub more_of : InHand → Log → List Entry
 more_of body log = drop (length body.log.entries) log.entries
 
 -- the entries as made, from a place of the page on
@@ -143,21 +143,21 @@ losses_made layout page [] = []
 losses_made layout page (e ∷ es) = loss_made (file_of layout page) (is_loss e.what) ++ losses_made layout page es
 
 -- the body of a page that is in hand
-abbrev pub body_of : Page → View → Option Held
+abbrev pub body_of : Page → View → Option InHand
 body_of page v = find (is_body_of page) v.bodies
 
 -- a page's lock, just taken: where the page's body is in hand already, from a frame, the page's words fit it
-abbrev pub lock_of_page : Layout → Page → Option Log → Option Held → PageLock
+abbrev pub lock_of_page : Layout → Page → Option Log → Option InHand → PageLock
 lock_of_page layout page content None = record { page = page; resident = is_none content; cache = None; trans = None }
 lock_of_page layout page content (Some body) = knowing layout body.log body.frame (record { page = page; resident = is_none content; cache = None; trans = None })
 
 -- the entries past those that are listed are listed now, and the losses that they make are owed
-abbrev pub listed_of : Layout → Who → Log → Option Held → View → View
+abbrev pub listed_of : Layout → Who → Log → Option InHand → View → View
 listed_of layout who log None v = v
 listed_of layout who log (Some body) v = record v {
   made = v.made ++ made_from (stamp_of who v) log.page body.frame (length body.log.entries) (more_of body log);
   owed = record v.owed { losses = v.owed.losses ++ losses_made layout log.page (more_of body log) };
-  bodies = changed (is_body_of log.page) (λ (b : Held). record b { log = log }) v.bodies;
+  bodies = changed (is_body_of log.page) (λ (b : InHand). record b { log = log }) v.bodies;
 }
 
 abbrev pub listed : Layout → Who → Log → View → View
@@ -202,7 +202,7 @@ revived_by who frame found v =
 
 abbrev pub killed_by : Proc → Page → View → View
 killed_by process page v =
-    record v { bodies = changed (is_body_of page) (λ (b : Held). record b { killed = b.killed ++ process ∷ [] }) v.bodies }
+    record v { bodies = changed (is_body_of page) (λ (b : InHand). record b { killed = b.killed ++ process ∷ [] }) v.bodies }
 
 -- what its own kind of step makes of a seat's view, when the step is noted: `found` is the word that it met, and `content` what was in
 -- the slot that it took, or what it put there

@@ -14,6 +14,6 @@ pub use place::Place;
 pub use record::{Rec, State};
 pub use step::Step;
 pub use view::{
-    Debts, FrameLock, Held, Length, Made, Mark, MarkKind, PageLock, Part, Ref, Reported, Setting,
+    Debts, FrameLock, InHand, Length, Made, Mark, MarkKind, PageLock, Part, Ref, Reported, Setting,
     Sight, Spoiled, Stamp, View,
 };

@@ -42,7 +42,7 @@ pub struct PageLock {
 /// A body in hand: its history as it was listed last, how many entries it had when it was taken, the frame that it was
 /// in, how many sights the view had then, and the processes that a `kill` met since.
 #[derive(Drop)]
-pub struct Held {
+pub struct InHand {
     pub log: Log,
     pub since: u64,
     pub frame: Option<Frame>,
@@ -155,7 +155,7 @@ pub struct View {
     pub reserved: u32,
     pub hands: List<Frame>,
     pub owed: Debts,
-    pub bodies: List<Held>,
+    pub bodies: List<InHand>,
     pub made: List<Made>,
     pub marks: List<Mark>,
     pub sights: List<Sight>,

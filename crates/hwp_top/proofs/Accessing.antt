@@ -8,7 +8,7 @@ use Rattle.hwp_page.specs.declared.Entry.{Entry}
 use Rattle.hwp_page.specs.declared.PageState.{PageState}
 use Rattle.hwp_page.specs.declared.What.{What}
 use Rattle.hwp_page.specs.Step.{after}
-use Rattle.hwp_page.specs.History.{Held}
+use Rattle.hwp_page.specs.History.{BodyValue}
 use Rattle.hwp_script.specs.declared.Command.{Command}
 use Rattle.hwp_script.specs.declared.Command.TheVariants as commands
 use Rattle.hwp_script.specs.declared.Script.{Script}
@@ -25,7 +25,7 @@ use Rattle.hwp_top.proofs.Machines.{IsStill}
 use Rattle.hwp_top.proofs.Serving.{made-by}
 
 -- what an access that answers leaves of the state
-pub still-given : {old new : List Held} {at : At} {e : Entry} (command : Command) (at0 : At) (answer : Answer) (added : Appended old new at e) → Gives command at0 e.what answer → IsStill added.held.state added.now.state
+pub still-given : {old new : List BodyValue} {at : At} {e : Entry} (command : Command) (at0 : At) (answer : Answer) (added : Appended old new at e) → Gives command at0 e.what answer → IsStill added.held.state added.now.state
 still-given {old} {new} {at} {e} command at0 answer added gives =
     let kept = kept_by command at0 e.what answer added.held.state gives in
     record { cached = ap (λ (s : PageState). s.cached) added.state_is ∙ kept.cached; bar = ap (λ (s : PageState). s.bar) added.state_is ∙ kept.bar; lost = ap (λ (s : PageState). s.lost) added.state_is ∙ kept.lost }
@@ -60,7 +60,7 @@ answer-given script pages who (commands.Store thread slot line word) at what ans
     subst (IsAnswer script pages None who (commands.Store thread slot line word)) (sym gives.2) (gives.0, subst (StandsAt pages who at) gives.1 stands)
 answer-given script pages who _ at what answer stands gives = absurd gives
 
-pub Answers-given : (script : Script) (seq : ℕ) (command : Command) (page : Page) (answer : Answer) {old new : List Held} {at : At} (e : Entry) (at0 : At) → Appended old new at e
+pub Answers-given : (script : Script) (seq : ℕ) (command : Command) (page : Page) (answer : Answer) {old new : List BodyValue} {at : At} (e : Entry) (at0 : At) → Appended old new at e
     → at0 ≡ at → at.page ≡ page → Serves script seq command page → e.who ≡ at_command seq → Gives command at0 e.what answer → Answers script seq command answer (logs old) (logs new)
 Answers-given script seq command page answer {old} {new} {at} e at0 added same of_page serves who given =
     let gives : Gives command at e.what answer = subst (λ (b : At). Gives command b e.what answer) same given in
@@ -71,11 +71,11 @@ Answers-given script seq command page answer {old} {new} {at} e at0 added same o
     (answer-given script (logs new) (at_command seq) command at e.what answer stands gives) (place-given command at e.what answer gives) (stateless-given command at e.what answer gives)
 
 -- the place that was counted before the append is where the entry stands
-pub counted-place : (old new : List Held) (at : At) (e : Entry) (page : Page) (n : ℕ) (h : Held) → Appended old new at e → at.page ≡ page → slice_get old page.0 ≡ Some h → n ≡ length h.log
+pub counted-place : (old new : List BodyValue) (at : At) (e : Entry) (page : Page) (n : ℕ) (h : BodyValue) → Appended old new at e → at.page ≡ page → slice_get old page.0 ≡ Some h → n ≡ length h.log
     → ◌≡◌ {A = At} (record { page = page; entry = n }) at
 counted-place old new at e page n h added of_page there count =
     let same : h ≡ added.held = same_Some h added.held (sym there ∙ ap (λ (q : Page). slice_get old q.0) (sym of_page) ∙ added.was) in
-    same_place (record { page = page; entry = n }) at (ap (λ (q : Page). q.0) (sym of_page)) (count ∙ ap (λ (b : Held). length b.log) same ∙ sym added.last)
+    same_place (record { page = page; entry = n }) at (ap (λ (q : Page). q.0) (sym of_page)) (count ∙ ap (λ (b : BodyValue). length b.log) same ∙ sym added.last)
 
 -- the answer where no frame is free
 pub Answers-noframe : (script : Script) (seq : ℕ) (command : Command) (slot : VSlot) (old new : List (List Entry)) → IsAccessBy command slot → Keeps script seq old new → is_ample script ≡ false → Answers script seq command answers.NoFrame old new

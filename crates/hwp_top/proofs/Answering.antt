@@ -26,7 +26,7 @@ use Rattle.hwp_page.specs.declared.Situation.{Situation}
 use Rattle.hwp_page.specs.declared.Situation.TheVariants as situations
 use Rattle.hwp_page.specs.Actions.{acted}
 use Rattle.hwp_page.specs.Step.{Allowed, after, is_file, opening_of}
-use Rattle.hwp_page.specs.History.{Held, Leads, state_after}
+use Rattle.hwp_page.specs.History.{BodyValue, Leads, state_after}
 use Rattle.hwp_script.specs.declared.Command.{Command}
 use Rattle.hwp_script.specs.declared.Script.{Script}
 use Rattle.hwp_report.specs.declared.Answer.{Answer}
@@ -48,11 +48,11 @@ Leads-state layout page s t [] leads = leads
 Leads-state layout page s t (e ∷ log) leads = Leads-state layout page (after s e.what) t log leads.1
 
 -- what a body's state is like now, its page was like after all its entries
-pub HadState-now : (layout : Layout) (bodies : List Held) (frames : List Place) (page : Page) (at : At) (P : PageState → Type 0) → Machine layout bodies frames → (now : IsNow bodies page at) → P now.body.state → HadState layout (logs bodies) at P
+pub HadState-now : (layout : Layout) (bodies : List BodyValue) (frames : List Place) (page : Page) (at : At) (P : PageState → Type 0) → Machine layout bodies frames → (now : IsNow bodies page at) → P now.body.state → HadState layout (logs bodies) at P
 HadState-now layout bodies frames page at P machine now holds =
     let body = machine.each page now.body now.there in
     let log_there : slice_get (logs bodies) at.page.0 ≡ Some now.body.log =
-    ap (λ (q : Page). slice_get (logs bodies) q.0) now.page_is ∙ slice_get-map (λ (h : Held). h.log) bodies page.0 ∙ ap (option_map (λ (h : Held). h.log)) now.there in
+    ap (λ (q : Page). slice_get (logs bodies) q.0) now.page_is ∙ slice_get-map (λ (h : BodyValue). h.log) bodies page.0 ∙ ap (option_map (λ (h : BodyValue). h.log)) now.there in
     let whole : take at.entry now.body.log ≡ now.body.log = take_all at.entry now.body.log (omega (arith, now.entry_is)) in
     let state_is : state_after (opening_of body.replay.kind) now.body.log ≡ now.body.state = Leads-state layout page (opening_of body.replay.kind) now.body.state now.body.log body.replay.leads in
     record {
@@ -65,15 +65,15 @@ HadState-now layout bodies frames page at P machine now holds =
     }
 
 -- an answer that names where its page stands now
-pub NamesNow-at : (bodies : List Held) (page : Page) (at : At) (answer : Answer) → IsNow bodies page at → place_named answer ≡ Some at → NamesNow (logs bodies) answer
+pub NamesNow-at : (bodies : List BodyValue) (page : Page) (at : At) (answer : Answer) → IsNow bodies page at → place_named answer ≡ Some at → NamesNow (logs bodies) answer
 NamesNow-at bodies page at answer now names bt also =
     let same : bt ≡ at = same_Some bt at (sym also ∙ names) in
     let log_there : slice_get (logs bodies) at.page.0 ≡ Some now.body.log =
-    ap (λ (q : Page). slice_get (logs bodies) q.0) now.page_is ∙ slice_get-map (λ (h : Held). h.log) bodies page.0 ∙ ap (option_map (λ (h : Held). h.log)) now.there in
+    ap (λ (q : Page). slice_get (logs bodies) q.0) now.page_is ∙ slice_get-map (λ (h : BodyValue). h.log) bodies page.0 ∙ ap (option_map (λ (h : BodyValue). h.log)) now.there in
     (now.body.log, ap (λ (b : At). slice_get (logs bodies) b.page.0) same ∙ log_there, ap (λ (b : At). b.entry) same ∙ now.entry_is)
 
 -- an entry that is its command's answer
-pub Answers-made : (script : Script) (seq : ℕ) (command : Command) (page : Page) {old new : List Held} {at : At} (what : What) → Appended old new at (record { who = at_command seq; what = what }) → at.page ≡ page
+pub Answers-made : (script : Script) (seq : ℕ) (command : Command) (page : Page) {old new : List BodyValue} {at : At} (what : What) → Appended old new at (record { who = at_command seq; what = what }) → at.page ≡ page
     → Serves script seq command page → Fits command what
     → (StandsAt (logs new) (at_command seq) at what → IsAnswer script (logs new) None (at_command seq) command (answers.DoneAt at))
     → Answers script seq command (answers.DoneAt at) (logs old) (logs new)
@@ -83,24 +83,24 @@ Answers-made script seq command page {old} {new} {at} what added of_page serves 
     Answers-entry script seq command (answers.DoneAt at) added refl (subst (λ (q : Page). IsMade script q e) (sym of_page) made) (is (OneMore-appended added).placed) refl refl
 
 -- entries that leave a page in its frame
-pub still-Free : {old new : List Held} {at : At} {e : Entry} (slot : VSlot) (added : Appended old new at e) → e.what ≡ entries.Free slot → IsStill added.held.state added.now.state
+pub still-Free : {old new : List BodyValue} {at : At} {e : Entry} (slot : VSlot) (added : Appended old new at e) → e.what ≡ entries.Free slot → IsStill added.held.state added.now.state
 still-Free slot added what =
     let state_is = added.state_is ∙ ap (after added.held.state) what in
     record { cached = ap (λ (s : PageState). s.cached) state_is; bar = ap (λ (s : PageState). s.bar) state_is; lost = ap (λ (s : PageState). s.lost) state_is }
 
-pub still-Sync : {old new : List Held} {at : At} {e : Entry} (added : Appended old new at e) → e.what ≡ entries.Sync → IsStill added.held.state added.now.state
+pub still-Sync : {old new : List BodyValue} {at : At} {e : Entry} (added : Appended old new at e) → e.what ≡ entries.Sync → IsStill added.held.state added.now.state
 still-Sync added what =
     let state_is = added.state_is ∙ ap (after added.held.state) what in
     record { cached = ap (λ (s : PageState). s.cached) state_is; bar = ap (λ (s : PageState). s.bar) state_is; lost = ap (λ (s : PageState). s.lost) state_is }
 
 -- the state that was read of a body is that of the body at its place
-pub state-here : (old : List Held) (page : Page) (i : ℕ) (held : Held) (state : PageState) → i ≡ page.0 → page.0 < length old → held ≡ get_or old i held → state ≡ (get_or old i held).state
-    → (h : Held) → slice_get old page.0 ≡ Some h → h.state ≡ state
+pub state-here : (old : List BodyValue) (page : Page) (i : ℕ) (held : BodyValue) (state : PageState) → i ≡ page.0 → page.0 < length old → held ≡ get_or old i held → state ≡ (get_or old i held).state
+    → (h : BodyValue) → slice_get old page.0 ≡ Some h → h.state ≡ state
 state-here old page i held state at within read value h there =
-    ap (λ (b : Held). b.state) (same_Some h (get_or old i held) (sym there ∙ read-at old page i held at within read)) ∙ sym value
+    ap (λ (b : BodyValue). b.state) (same_Some h (get_or old i held) (sym there ∙ read-at old page i held at within read)) ∙ sym value
 
 -- an answer that says what state the page is in now
-pub Answers-state : (script : Script) (seq : ℕ) (command : Command) (page : Page) (bodies : List Held) (frames : List Place) (at : At) (answer : Answer) (P : PageState → Type 0)
+pub Answers-state : (script : Script) (seq : ℕ) (command : Command) (page : Page) (bodies : List BodyValue) (frames : List Place) (at : At) (answer : Answer) (P : PageState → Type 0)
     → Machine script.layout bodies frames → (now : IsNow bodies page at) → place_named answer ≡ Some at → P now.body.state
     → ((at.page ≡ page) → HadState script.layout (logs bodies) at P → IsAnswer script (logs bodies) None (at_command seq) command answer)
     → Answers script seq command answer (logs bodies) (logs bodies)
@@ -133,7 +133,7 @@ none_of page (p ∷ frames) none =
     omega (arith, rest, first, both)
 
 -- where no frame says the page, it is not cached
-pub uncached-unfound : (layout : Layout) (bodies : List Held) (frames : List Place) (page : Page) (body : Held) → Machine layout bodies frames → slice_get bodies page.0 ≡ Some body → position (is_of page) frames ≡ None → body.state.cached ≡ false
+pub uncached-unfound : (layout : Layout) (bodies : List BodyValue) (frames : List Place) (page : Page) (body : BodyValue) → Machine layout bodies frames → slice_get bodies page.0 ≡ Some body → position (is_of page) frames ≡ None → body.state.cached ≡ false
 uncached-unfound layout bodies frames page body machine there none =
     let held : count_by (is_of page) frames ≡ flag body.state.cached = (machine.each page body there).held in
     let zero_is : count_by (is_of page) frames ≡ 0 = none_of page frames (none_passes (is_of page) frames none) in
@@ -153,7 +153,7 @@ left_state s entries.Drop leaves = (refl, refl, refl)
 left_state s entries.Out leaves = (refl, refl, refl)
 left_state s _ leaves = absurd leaves
 
-pub Machine-leaves : (layout : Layout) (frames : List Place) (f : ℕ) (page : Page) {old new : List Held} {at : At} {e : Entry} (added : Appended old new at e) → at.page ≡ page → Leaves e.what
+pub Machine-leaves : (layout : Layout) (frames : List Place) (f : ℕ) (page : Page) {old new : List BodyValue} {at : At} {e : Entry} (added : Appended old new at e) → at.page ≡ page → Leaves e.what
     → Some f ≡ position (is_of page) frames → Machine layout old frames → Machine layout new (set frames f places.Free)
 Machine-leaves layout frames f page {old} {new} {at} {e} added of_page leaves found machine =
     let there : slice_get frames f ≡ Some (places.Of at.page) = frame-found frames page f found ∙ ap (λ (q : Page). Some (places.Of q)) (sym of_page) in
@@ -190,7 +190,7 @@ kind-led : (layout : Layout) (page : Page) (s t : PageState) (log : List Entry) 
 kind-led layout page s t [] leads = ap (λ (x : PageState). x.kind) (sym leads)
 kind-led layout page s t (e ∷ log) leads = kind-led layout page (after s e.what) t log leads.1 ∙ kept_kind s e.what
 
-pub backed-by : (layout : Layout) (bodies : List Held) (frames : List Place) (page : Page) (by_file : Bool) (h : Held) → Machine layout bodies frames → IsBackedBy layout page by_file → slice_get bodies page.0 ≡ Some h → is_file h.state.kind ≡ by_file
+pub backed-by : (layout : Layout) (bodies : List BodyValue) (frames : List Place) (page : Page) (by_file : Bool) (h : BodyValue) → Machine layout bodies frames → IsBackedBy layout page by_file → slice_get bodies page.0 ≡ Some h → is_file h.state.kind ≡ by_file
 backed-by layout bodies frames page by_file h machine backed there =
     let replay = (machine.each page h there).replay in
     let kind_is : h.state.kind ≡ replay.kind = kind-led layout page (opening_of replay.kind) h.state h.log replay.leads in

@@ -13,7 +13,7 @@ use Rattle.hwp_page.specs.declared.At.{At}
 use Rattle.hwp_page.specs.declared.Entry.{Entry}
 use Rattle.hwp_page.specs.declared.PageState.{PageState}
 use Rattle.hwp_page.specs.Step.{opening_of}
-use Rattle.hwp_page.specs.History.{Held, IsFresh, IsReplay, Leads}
+use Rattle.hwp_page.specs.History.{BodyValue, IsFresh, IsReplay, Leads}
 use Rattle.hwp_script.specs.declared.Command.{Command}
 use Rattle.hwp_script.specs.declared.Script.{Script}
 use Rattle.hwp_report.specs.declared.CpuLine.{CpuLine}
@@ -50,7 +50,7 @@ opened_places layout (true ∷ kernel) = (refl, opened_places layout kernel)
 opened_places layout (false ∷ kernel) = (refl, opened_places layout kernel)
 
 -- a fresh body's state is the opening of its page's kind
-opened_state : (layout : Layout) (bodies : List Held) → AreFresh layout bodies → length bodies ≡ length layout.pages → (page : Page) (body : Held) → slice_get bodies page.0 ≡ Some body
+opened_state : (layout : Layout) (bodies : List BodyValue) → AreFresh layout bodies → length bodies ≡ length layout.pages → (page : Page) (body : BodyValue) → slice_get bodies page.0 ≡ Some body
     → (kind : PageKind) × (slice_get layout.pages page.0 ≡ Some kind) × (body.state ≡ opening_of kind)
 opened_state layout bodies fresh fit page body there =
     let within : page.0 < length bodies = slice_get_within bodies page.0 body there in
@@ -58,16 +58,16 @@ opened_state layout bodies fresh fit page body there =
     (get_or layout.pages page.0 Anon, declared, (fresh page body there).opening (get_or layout.pages page.0 Anon) declared)
 
 -- at opening the bodies and the frames fit
-pub Machine-opened : (layout : Layout) (bodies : List Held) → AreFresh layout bodies → length bodies ≡ length layout.pages → Machine layout bodies (map opening_place layout.kernel)
+pub Machine-opened : (layout : Layout) (bodies : List BodyValue) → AreFresh layout bodies → length bodies ≡ length layout.pages → Machine layout bodies (map opening_place layout.kernel)
 Machine-opened layout bodies fresh fit =
-    let cached : (i : ℕ) (d : Held) → i < length bodies → flag (get_or bodies i d).state.cached ≤ 0 =
-    λ (i : ℕ) (d : Held) (within : i < length bodies).
+    let cached : (i : ℕ) (d : BodyValue) → i < length bodies → flag (get_or bodies i d).state.cached ≤ 0 =
+    λ (i : ℕ) (d : BodyValue) (within : i < length bodies).
     let q : Page = record { 0 = i } in
     let there = slice_get-get_or bodies i d within in
     let opened = opened_state layout bodies fresh fit q (get_or bodies i d) there in
     let none : flag (get_or bodies i d).state.cached ≡ 0 = ap (λ (s : PageState). flag s.cached) opened.2 in
     omega (arith, none) in
-    let few = sum_by-le (λ (h : Held). flag h.state.cached) 0 bodies (λ i d within. cached i d within) in
+    let few = sum_by-le (λ (h : BodyValue). flag h.state.cached) 0 bodies (λ i d within. cached i d within) in
     let frames = none_opened is_used refl refl layout.kernel in
     record {
       fit = fit;
@@ -87,12 +87,12 @@ Machine-opened layout bodies fresh fit =
       counted = omega (arith, few, frames);
     }
 
-no_entries : (layout : Layout) (bodies : List Held) → AreFresh layout bodies → (at : At) (e : Entry) → entry_at (logs bodies) at ≡ Some e → ⊥
+no_entries : (layout : Layout) (bodies : List BodyValue) → AreFresh layout bodies → (at : At) (e : Entry) → entry_at (logs bodies) at ≡ Some e → ⊥
 no_entries layout bodies fresh at e there =
     nothing (slice_get bodies at.page.0) (λ body is. (fresh at.page body is).no_entry)
-    (sym (ap (λ (o : Option (List Entry)). option_and_then (λ (entries : List Entry). slice_get entries at.entry) o) (slice_get-map (λ (h : Held). h.log) bodies at.page.0)) ∙ there)
+    (sym (ap (λ (o : Option (List Entry)). option_and_then (λ (entries : List Entry). slice_get entries at.entry) o) (slice_get-map (λ (h : BodyValue). h.log) bodies at.page.0)) ∙ there)
   where
-    nothing : (o : Option Held) → ((body : Held) → o ≡ Some body → body.log ≡ []) → option_and_then (λ (entries : List Entry). slice_get entries at.entry) (option_map (λ (h : Held). h.log) o) ≡ Some e → ⊥
+    nothing : (o : Option BodyValue) → ((body : BodyValue) → o ≡ Some body → body.log ≡ []) → option_and_then (λ (entries : List Entry). slice_get entries at.entry) (option_map (λ (h : BodyValue). h.log) o) ≡ Some e → ⊥
     nothing None empty is = cc
     nothing (Some body) empty is =
         let gone : slice_get body.log at.entry ≡ None = ap (λ (l : List Entry). slice_get l at.entry) (empty body refl) in
@@ -102,7 +102,7 @@ no_rows : {row : CpuLine} (rows : List CpuLine) (i cpu : ℕ) → slice_get ([] 
 no_rows {row} rows i cpu of_cpu there = none-some row (ap (λ (r : List CpuLine). slice_get r i) (sym (only_rows [] rows cpu of_cpu).1) ∙ there)
 
 -- at opening nothing is followed yet
-pub Follows-none : (script : Script) (layout : Layout) (bodies : List Held) → AreFresh layout bodies → Follows script [] 0 (logs bodies) [] None
+pub Follows-none : (script : Script) (layout : Layout) (bodies : List BodyValue) → AreFresh layout bodies → Follows script [] 0 (logs bodies) [] None
 Follows-none script layout bodies fresh = record {
   made = λ at e there. absurd (no_entries layout bodies fresh at e there);
   ordered = λ at later e f there. absurd (no_entries layout bodies fresh at e there);
@@ -138,7 +138,7 @@ only_first {A} x y cpu there = (ap (λ (n : ℕ). let c : Cpu = record { 0 = n }
     at_zero (suc n) is = absurd (none-some y is)
 
 -- the report of a run that is over keeps the report law
-pub IsReport-whole : (script : Script) (report : Report) (bodies : List Held) (frames : List Place) (rows : List CpuLine) (stop : Option Stop) (list : List Command) (n : ℕ)
+pub IsReport-whole : (script : Script) (report : Report) (bodies : List BodyValue) (frames : List Place) (rows : List CpuLine) (stop : Option Stop) (list : List Command) (n : ℕ)
     → script.layout.cpus ≡ 1 → script.lists ≡ list ∷ [] → Machine script.layout bodies frames → Follows script list n (logs bodies) rows stop
     → Reports script.layout.files report bodies frames rows stop → IsReport script report
 IsReport-whole script report bodies frames rows stop list n one lists machine follows reports =
@@ -148,9 +148,9 @@ IsReport-whole script report bodies frames rows stop list n one lists machine fo
     let history : (page : Page) (entries : List Entry) → slice_get (logs bodies) page.0 ≡ Some entries → IsHistory layout report.frames page entries =
     λ (page : Page) (entries : List Entry) (there : slice_get (logs bodies) page.0 ≡ Some entries).
     of_body layout report.frames frames page entries held (slice_get bodies page.0) (machine.each page)
-    (sym (slice_get-map (λ (h : Held). h.log) bodies page.0) ∙ there) in
+    (sym (slice_get-map (λ (h : BodyValue). h.log) bodies page.0) ∙ there) in
     record {
-      pages_fit = ap length reports.pages_are ∙ length-map bodies (λ (h : Held). h.log) ∙ machine.fit;
+      pages_fit = ap length reports.pages_are ∙ length-map bodies (λ (h : BodyValue). h.log) ∙ machine.fit;
       cpus_fit = ap length reports.cpus_are ∙ sym one;
       histories = λ page entries there. history page entries (ap (λ (l : List (List Entry)). slice_get l page.0) (sym reports.pages_are) ∙ there);
       made = subst (AreMade script) (sym reports.pages_are) follows.made;
@@ -173,7 +173,7 @@ IsReport-whole script report bodies frames rows stop list n one lists machine fo
   where
     of_body : (layout : Layout) (lines : List FrameLine) (frames : List Place) (page : Page) (entries : List Entry)
         → ((q : Page) → count_by (λ (f : FrameLine). is_of q f.place) lines ≡ count_by (is_of q) frames)
-        → (o : Option Held) → ((body : Held) → o ≡ Some body → IsBodyOf layout frames page body) → option_map (λ (h : Held). h.log) o ≡ Some entries → IsHistory layout lines page entries
+        → (o : Option BodyValue) → ((body : BodyValue) → o ≡ Some body → IsBodyOf layout frames page body) → option_map (λ (h : BodyValue). h.log) o ≡ Some entries → IsHistory layout lines page entries
     of_body layout lines frames page entries held None each is = absurd (none-some entries is)
     of_body layout lines frames page entries held (Some body) each is =
         let mine : IsBodyOf layout frames page body = each body refl in

@@ -5,7 +5,7 @@ use Rattle.std.proofs.lemmas.Option.{none-some, same_Some, slice_get-map, slice_
 use Rattle.hwp_geom.specs.declared.Cpu.{Cpu}
 use Rattle.hwp_page.specs.declared.At.{At}
 use Rattle.hwp_page.specs.declared.Entry.{Entry}
-use Rattle.hwp_page.specs.History.{Held}
+use Rattle.hwp_page.specs.History.{BodyValue}
 use Rattle.hwp_script.specs.declared.Command.{Command}
 use Rattle.hwp_script.specs.declared.Script.{Script}
 use Rattle.hwp_report.specs.declared.Answer.{Answer}
@@ -24,12 +24,12 @@ use Rattle.hwp_law.proofs.Windows.{AreBelow-push, AreInWindows-more, AreInWindow
 use Rattle.hwp_top.specs.Bench.{Follows, Appended, Keeps, Answers, IsBefore, logs, at_command, first_cpu}
 
 -- an appended entry is one more entry of the histories
-pub OneMore-appended : {old new : List Held} {at : At} {e : Entry} → Appended old new at e → OneMore (logs old) (logs new) at e
+pub OneMore-appended : {old new : List BodyValue} {at : At} {e : Entry} → Appended old new at e → OneMore (logs old) (logs new) at e
 OneMore-appended {old} {new} {at} {e} added =
     let there : slice_get (logs old) at.page.0 ≡ Some added.held.log =
-    slice_get-map (λ (h : Held). h.log) old at.page.0 ∙ ap (option_map (λ (h : Held). h.log)) added.was in
+    slice_get-map (λ (h : BodyValue). h.log) old at.page.0 ∙ ap (option_map (λ (h : BodyValue). h.log)) added.was in
     let longer : logs new ≡ set (logs old) at.page.0 (added.held.log ++ e ∷ []) =
-    ap logs added.new_is ∙ map-set (λ (h : Held). h.log) old at.page.0 added.now ∙ ap (set (logs old) at.page.0) added.log_is in
+    ap logs added.new_is ∙ map-set (λ (h : BodyValue). h.log) old at.page.0 added.now ∙ ap (set (logs old) at.page.0) added.log_is in
     subst (λ (pages : List (List Entry)). OneMore (logs old) pages at e) (sym longer) (OneMore-set (logs old) at added.held.log e there added.last)
 
 -- no entry is of a command later than n
@@ -75,7 +75,7 @@ weaker-below : (n : ℕ) (list : List Command) (rows : List CpuLine) → length 
 weaker-below n list rows count below i seq answer row = let under : seq < length list = below i seq answer row in omega arith
 
 -- an entry that answers nothing
-pub Keeps-quiet : (script : Script) (n : ℕ) {old new : List Held} {at : At} {e : Entry} → Appended old new at e
+pub Keeps-quiet : (script : Script) (n : ℕ) {old new : List BodyValue} {at : At} {e : Entry} → Appended old new at e
     → e.who ≡ at_command n → IsMade script at.page e → is_answering e.what ≡ false → Keeps script n (logs old) (logs new)
 Keeps-quiet script n {old} {new} {at} {e} added who made quiet list rows count follows =
     let more : OneMore (logs old) (logs new) at e = OneMore-appended added in
@@ -99,7 +99,7 @@ longer list command rows n answer count below =
     subst (λ (k : ℕ). AreBelow k (rows ++ lines.Answer n answer ∷ [])) (sym all) (AreBelow-push rows n answer below)
 
 -- an entry, and the answer that names it
-pub Answers-entry : (script : Script) (n : ℕ) (command : Command) (answer : Answer) {old new : List Held} {at : At} {e : Entry} → Appended old new at e
+pub Answers-entry : (script : Script) (n : ℕ) (command : Command) (answer : Answer) {old new : List BodyValue} {at : At} {e : Entry} → Appended old new at e
     → e.who ≡ at_command n → IsMade script at.page e → IsAnswer script (logs new) None (at_command n) command answer → place_named answer ≡ Some at → state_named answer ≡ None
     → Answers script n command answer (logs old) (logs new)
 Answers-entry script n command answer {old} {new} {at} {e} added who made is place stateless list rows count follows =

@@ -14,7 +14,7 @@ use Rattle.hwp_page.specs.declared.Entry.{Entry}
 use Rattle.hwp_page.specs.declared.What.TheVariants as entries
 use Rattle.hwp_page.specs.declared.PageState.{PageState}
 use Rattle.hwp_page.specs.Step.{Allowed, after}
-use Rattle.hwp_page.specs.History.{Held, IsReplay, Leads}
+use Rattle.hwp_page.specs.History.{BodyValue, IsReplay, Leads}
 use Rattle.hwp_report.specs.declared.Place.{Place}
 use Rattle.hwp_report.specs.declared.Place.TheVariants as places
 use Rattle.hwp_law.specs.Report.{is_of, IsPlace}
@@ -40,7 +40,7 @@ pub record IsStill (s t : PageState) : Type 0 where
   pub lost : t.lost ≡ s.lost
 
 -- the body of the appended entry is the page's still
-IsBodyOf-more : (layout : Layout) (frames frames' : List Place) {old new : List Held} {at : At} {e : Entry} (added : Appended old new at e)
+IsBodyOf-more : (layout : Layout) (frames frames' : List Place) {old new : List BodyValue} {at : At} {e : Entry} (added : Appended old new at e)
     → IsBodyOf layout frames at.page added.held → added.now.state.bar ≡ added.held.state.bar → added.now.state.lost ≡ added.held.state.lost
     → count_by (is_of at.page) frames' ≡ flag added.now.state.cached → IsBodyOf layout frames' at.page added.now
 IsBodyOf-more layout frames frames' {old} {new} {at} {e} added was bar lost held =
@@ -60,32 +60,32 @@ IsBodyOf-more layout frames frames' {old} {new} {at} {e} added was bar lost held
     }
 
 -- an entry that brings no page in and takes none out
-pub Machine-still : (layout : Layout) (frames : List Place) {old new : List Held} {at : At} {e : Entry} (added : Appended old new at e)
+pub Machine-still : (layout : Layout) (frames : List Place) {old new : List BodyValue} {at : At} {e : Entry} (added : Appended old new at e)
     → IsStill added.held.state added.now.state → Machine layout old frames → Machine layout new frames
 Machine-still layout frames {old} {new} {at} {e} added still machine =
     let within : at.page.0 < length old = slice_get_within old at.page.0 added.held added.was in
     let was : IsBodyOf layout frames at.page added.held = machine.each at.page added.held added.was in
     let mine : IsBodyOf layout frames at.page added.now =
     IsBodyOf-more layout frames frames added was still.bar still.lost (was.held ∙ ap flag (sym still.cached)) in
-    let counts : count_by (λ (h : Held). h.state.cached) (set old at.page.0 added.now) ≡ count_by (λ (h : Held). h.state.cached) old =
-    let moved = sum_by-set (λ (h : Held). flag h.state.cached) old at.page.0 added.now added.held within in
+    let counts : count_by (λ (h : BodyValue). h.state.cached) (set old at.page.0 added.now) ≡ count_by (λ (h : BodyValue). h.state.cached) old =
+    let moved = sum_by-set (λ (h : BodyValue). flag h.state.cached) old at.page.0 added.now added.held within in
     let there : flag (get_or old at.page.0 added.held).state.cached ≡ flag added.held.state.cached =
-    ap (λ (h : Held). flag h.state.cached) (get_or_from_slice_get old at.page.0 added.held added.held added.was) in
+    ap (λ (h : BodyValue). flag h.state.cached) (get_or_from_slice_get old at.page.0 added.held added.held added.was) in
     let same : flag added.now.state.cached ≡ flag added.held.state.cached = ap flag still.cached in
     omega (arith, moved, there, same) in
     record {
       fit = ap length added.new_is ∙ length-set old at.page.0 added.now ∙ machine.fit;
       each = λ page body there.
-          let there' : slice_get (set old at.page.0 added.now) page.0 ≡ Some body = subst (λ (l : List Held). slice_get l page.0 ≡ Some body) added.new_is there in
+          let there' : slice_get (set old at.page.0 added.now) page.0 ≡ Some body = subst (λ (l : List BodyValue). slice_get l page.0 ≡ Some body) added.new_is there in
           elim (cases_eq page.0 at.page.0) [
             | inl same ↦
                 let body_is : body ≡ added.now = same_Some body added.now (sym there' ∙ ap (slice_get (set old at.page.0 added.now)) same ∙ slice_get-set_at old at.page.0 added.now within) in
-                subst (λ (h : Held). IsBodyOf layout frames page h) (sym body_is)
+                subst (λ (h : BodyValue). IsBodyOf layout frames page h) (sym body_is)
                 (subst (λ (n : ℕ). let q : Page = record { 0 = n } in IsBodyOf layout frames q added.now) (sym same) mine)
             | inr other ↦ machine.each page body (sym (slice_get-set_other old at.page.0 page.0 added.now other) ∙ there')
           ];
       places = machine.places;
-      counted = machine.counted ∙ sym counts ∙ ap (count_by (λ (h : Held). h.state.cached)) (sym added.new_is);
+      counted = machine.counted ∙ sym counts ∙ ap (count_by (λ (h : BodyValue). h.state.cached)) (sym added.new_is);
     }
 
 -- member by member, after a write at one place
@@ -110,7 +110,7 @@ eqb-other : (n m : ℕ) → (n ≡ m → ⊥) → (n == m) ≡ false
 eqb-other n m other = ne_eqb n m other
 
 -- an entry with which the page comes into a frame or leaves it
-Machine-moved : (layout : Layout) (frames : List Place) (f : ℕ) (p p' : Place) {old new : List Held} {at : At} {e : Entry} (added : Appended old new at e)
+Machine-moved : (layout : Layout) (frames : List Place) (f : ℕ) (p p' : Place) {old new : List BodyValue} {at : At} {e : Entry} (added : Appended old new at e)
     → slice_get frames f ≡ Some p → ((kernel : Bool) → IsPlace layout kernel p → IsPlace layout kernel p')
     → flag (is_used p') + flag added.held.state.cached ≡ flag (is_used p) + flag added.now.state.cached
     → flag (is_of at.page p') + flag added.held.state.cached ≡ flag (is_of at.page p) + flag added.now.state.cached
@@ -124,33 +124,33 @@ Machine-moved layout frames f p p' {old} {new} {at} {e} added there fits uses he
     let moved = count-set (is_of at.page) frames f p p' there in
     omega (arith, moved, here, was.held) in
     let mine : IsBodyOf layout (set frames f p') at.page added.now = IsBodyOf-more layout frames (set frames f p') added was bar lost mine_held in
-    let others : (page : Page) (body : Held) → (page.0 ≡ at.page.0 → ⊥) → IsBodyOf layout frames page body → IsBodyOf layout (set frames f p') page body =
-    λ (page : Page) (body : Held) (other : page.0 ≡ at.page.0 → ⊥) (is : IsBodyOf layout frames page body).
+    let others : (page : Page) (body : BodyValue) → (page.0 ≡ at.page.0 → ⊥) → IsBodyOf layout frames page body → IsBodyOf layout (set frames f p') page body =
+    λ (page : Page) (body : BodyValue) (other : page.0 ≡ at.page.0 → ⊥) (is : IsBodyOf layout frames page body).
     let moved = count-set (is_of page) frames f p p' there in
     let same = away page other in
     let held : count_by (is_of page) (set frames f p') ≡ flag body.state.cached = omega (arith, moved, same, is.held) in
     record { page_is = is.page_is; layout_is = is.layout_is; replay = is.replay; unbarred = is.unbarred; kept = is.kept; held = held } in
     let used = count-set is_used frames f p p' there in
-    let counts = count-set (λ (h : Held). h.state.cached) old at.page.0 added.held added.now added.was in
-    let before : count_by is_used frames ≡ count_by (λ (h : Held). h.state.cached) old = machine.counted in
-    let after_set : count_by is_used (set frames f p') ≡ count_by (λ (h : Held). h.state.cached) (set old at.page.0 added.now) = omega (arith, used, counts, uses, before) in
+    let counts = count-set (λ (h : BodyValue). h.state.cached) old at.page.0 added.held added.now added.was in
+    let before : count_by is_used frames ≡ count_by (λ (h : BodyValue). h.state.cached) old = machine.counted in
+    let after_set : count_by is_used (set frames f p') ≡ count_by (λ (h : BodyValue). h.state.cached) (set old at.page.0 added.now) = omega (arith, used, counts, uses, before) in
     record {
       fit = ap length added.new_is ∙ length-set old at.page.0 added.now ∙ machine.fit;
       each = λ page body there.
-          let there' : slice_get (set old at.page.0 added.now) page.0 ≡ Some body = subst (λ (l : List Held). slice_get l page.0 ≡ Some body) added.new_is there in
+          let there' : slice_get (set old at.page.0 added.now) page.0 ≡ Some body = subst (λ (l : List BodyValue). slice_get l page.0 ≡ Some body) added.new_is there in
           elim (cases_eq page.0 at.page.0) [
             | inl same ↦
                 let body_is : body ≡ added.now = same_Some body added.now (sym there' ∙ ap (slice_get (set old at.page.0 added.now)) same ∙ slice_get-set_at old at.page.0 added.now within) in
-                subst (λ (h : Held). IsBodyOf layout (set frames f p') page h) (sym body_is)
+                subst (λ (h : BodyValue). IsBodyOf layout (set frames f p') page h) (sym body_is)
                 (subst (λ (n : ℕ). let q : Page = record { 0 = n } in IsBodyOf layout (set frames f p') q added.now) (sym same) mine)
             | inr other ↦ others page body other (machine.each page body (sym (slice_get-set_other old at.page.0 page.0 added.now other) ∙ there'))
           ];
       places = Pairs-set (IsPlace layout) layout.kernel frames f p p' there fits machine.places;
-      counted = after_set ∙ ap (count_by (λ (h : Held). h.state.cached)) (sym added.new_is);
+      counted = after_set ∙ ap (count_by (λ (h : BodyValue). h.state.cached)) (sym added.new_is);
     }
 
 -- a page is brought into a free frame
-pub Machine-brought : (layout : Layout) (frames : List Place) (f : ℕ) {old new : List Held} {at : At} {e : Entry} (added : Appended old new at e)
+pub Machine-brought : (layout : Layout) (frames : List Place) (f : ℕ) {old new : List BodyValue} {at : At} {e : Entry} (added : Appended old new at e)
     → slice_get frames f ≡ Some places.Free → e.what ≡ entries.FaultIn → Machine layout old frames → Machine layout new (set frames f (places.Of at.page))
 Machine-brought layout frames f {old} {new} {at} {e} added free brings machine =
     let within : at.page.0 < length old = slice_get_within old at.page.0 added.held added.was in
@@ -164,7 +164,7 @@ Machine-brought layout frames f {old} {new} {at} {e} added free brings machine =
     (ap (λ (s : PageState). s.bar) state_is) (ap (λ (s : PageState). s.lost) state_is) machine
 
 -- a page leaves its frame, which is free then
-pub Machine-left : (layout : Layout) (frames : List Place) (f : ℕ) {old new : List Held} {at : At} {e : Entry} (added : Appended old new at e)
+pub Machine-left : (layout : Layout) (frames : List Place) (f : ℕ) {old new : List BodyValue} {at : At} {e : Entry} (added : Appended old new at e)
     → slice_get frames f ≡ Some (places.Of at.page) → added.held.state.cached ≡ true → added.now.state.cached ≡ false
     → added.now.state.bar ≡ added.held.state.bar → added.now.state.lost ≡ added.held.state.lost → Machine layout old frames → Machine layout new (set frames f places.Free)
 Machine-left layout frames f {old} {new} {at} {e} added there held now bar lost machine =
@@ -195,10 +195,10 @@ used-full layout (k ∷ kernel) (p ∷ frames) full pairs =
     same_use layout k (places.Of page) full is = ap (λ (b : Bool). flag (not b)) is.0
 
 -- where no frame is free, the frames are no more than the pages
-pub full-few : (layout : Layout) (bodies : List Held) (frames : List Place) → Machine layout bodies frames → All (λ (p : Place). is_free p ≡ false) frames → count_by (λ (k : Bool). not k) layout.kernel ≤ length layout.pages
+pub full-few : (layout : Layout) (bodies : List BodyValue) (frames : List Place) → Machine layout bodies frames → All (λ (p : Place). is_free p ≡ false) frames → count_by (λ (k : Bool). not k) layout.kernel ≤ length layout.pages
 full-few layout bodies frames machine full =
     let used : count_by (λ (k : Bool). not k) layout.kernel ≡ count_by is_used frames = used-full layout layout.kernel frames full machine.places in
-    let counted : count_by is_used frames ≡ count_by (λ (h : Held). h.state.cached) bodies = machine.counted in
+    let counted : count_by is_used frames ≡ count_by (λ (h : BodyValue). h.state.cached) bodies = machine.counted in
     let fit : length bodies ≡ length layout.pages = machine.fit in
-    let few = count_by-le-length (λ (h : Held). h.state.cached) bodies in
+    let few = count_by-le-length (λ (h : BodyValue). h.state.cached) bodies in
     omega (arith, used, counted, fit, few)

@@ -16,7 +16,7 @@ use Rattle.hwp_page.specs.declared.Entry.{Entry}
 use Rattle.hwp_page.specs.declared.PageState.{PageState}
 use Rattle.hwp_page.specs.declared.What.TheVariants as entries
 use Rattle.hwp_page.specs.Step.{Allowed, IsOf, after}
-use Rattle.hwp_page.specs.History.{Held}
+use Rattle.hwp_page.specs.History.{BodyValue}
 use Rattle.hwp_script.specs.declared.Command.{Command}
 use Rattle.hwp_script.specs.declared.Command.TheVariants as commands
 use Rattle.hwp_script.specs.declared.Script.{Script}
@@ -42,7 +42,7 @@ none_passes p xs none i d within =
           omega arith
     ])
 
-pub unample-full : (script : Script) (bodies : List Held) (frames : List Place) → Machine script.layout bodies frames → position is_free frames ≡ None → is_ample script ≡ false
+pub unample-full : (script : Script) (bodies : List BodyValue) (frames : List Place) → Machine script.layout bodies frames → position is_free frames ≡ None → is_ample script ≡ false
 unample-full script bodies frames machine none =
     let few : usable_frames script ≤ length script.layout.pages = full-few script.layout bodies frames machine (none_passes is_free frames none) in
     ltb_not (length script.layout.pages + 2 * script.layout.cpus) (usable_frames script) (omega arith)
@@ -63,9 +63,9 @@ found_free frames f found =
     only_free (places.Of page) passes = cc
 
 -- what was read of a body is so of the body at that place
-pub read-at : (old : List Held) (page : Page) (i : ℕ) (held : Held) → i ≡ page.0 → page.0 < length old → held ≡ get_or old i held → slice_get old page.0 ≡ Some (get_or old i held)
+pub read-at : (old : List BodyValue) (page : Page) (i : ℕ) (held : BodyValue) → i ≡ page.0 → page.0 < length old → held ≡ get_or old i held → slice_get old page.0 ≡ Some (get_or old i held)
 read-at old page i held at within read =
-    slice_get_read old (length old) page.0 held refl within (subst (λ (n : ℕ). held ≡ get_or old n held) at read) ∙ ap (λ (h : Held). Some h) read
+    slice_get_read old (length old) page.0 held refl within (subst (λ (n : ℕ). held ≡ get_or old n held) at read) ∙ ap (λ (h : BodyValue). Some h) read
 
 -- an entry of a command is made where the command makes it
 pub made-by : (script : Script) (seq : ℕ) (command : Command) (page : Page) (e : Entry) → Serves script seq command page → e.who ≡ at_command seq → Fits command e.what → IsMade script page e
@@ -79,12 +79,12 @@ fits-FaultIn (commands.Store thread own line word) slot is = tt
 fits-FaultIn _ slot is = absurd is
 
 -- after a fault-in the page is cached
-pub cached-after : {old new : List Held} {at : At} {e : Entry} → Appended old new at e → e.what ≡ entries.FaultIn → IsCached new at.page
+pub cached-after : {old new : List BodyValue} {at : At} {e : Entry} → Appended old new at e → e.what ≡ entries.FaultIn → IsCached new at.page
 cached-after {old} {new} {at} {e} added brings =
     let within : at.page.0 < length old = slice_get_within old at.page.0 added.held added.was in
-    let there : slice_get new at.page.0 ≡ Some added.now = ap (λ (l : List Held). slice_get l at.page.0) added.new_is ∙ slice_get-set_at old at.page.0 added.now within in
+    let there : slice_get new at.page.0 ≡ Some added.now = ap (λ (l : List BodyValue). slice_get l at.page.0) added.new_is ∙ slice_get-set_at old at.page.0 added.now within in
     let cached : added.now.state.cached ≡ true = ap (λ (s : PageState). s.cached) (added.state_is ∙ ap (after added.held.state) brings) in
-    subst (λ (o : Option Held). IsSomeAnd o (λ (h : Held). h.state.cached ≡ true)) (sym there) cached
+    subst (λ (o : Option BodyValue). IsSomeAnd o (λ (h : BodyValue). h.state.cached ≡ true)) (sym there) cached
 
 -- the page that the command names is that of its translation
 names_slot : (layout : Layout) (command : Command) (page : Page) (slot : VSlot) → IsAccessBy command slot → Names layout command page → IsOf layout page slot
@@ -98,33 +98,33 @@ fits-Map (commands.Store thread own line word) slot is = is
 fits-Map _ slot is = absurd is
 
 -- a body whose page is cached, and which has the command's translation neither in use nor poisoned, allows it to be mapped
-pub allowed-Map : (script : Script) (bodies : List Held) (frames : List Place) (command : Command) (page : Page) (slot : VSlot) (seq : ℕ) → Machine script.layout bodies frames
-    → Serves script seq command page → IsCached bodies page → IsAccessBy command slot → (h : Held) → slice_get bodies page.0 ≡ Some h
+pub allowed-Map : (script : Script) (bodies : List BodyValue) (frames : List Place) (command : Command) (page : Page) (slot : VSlot) (seq : ℕ) → Machine script.layout bodies frames
+    → Serves script seq command page → IsCached bodies page → IsAccessBy command slot → (h : BodyValue) → slice_get bodies page.0 ≡ Some h
     → set.contains h.state.maps slot.0 ≡ false → Allowed h.layout h.page h.state (entries.Map slot)
 allowed-Map script bodies frames command page slot seq machine serves cached is h there unmapped =
     let body = machine.each page h there in
-    let here : h.state.cached ≡ true = subst (λ (o : Option Held). IsSomeAnd o (λ (b : Held). b.state.cached ≡ true)) there cached in
+    let here : h.state.cached ≡ true = subst (λ (o : Option BodyValue). IsSomeAnd o (λ (b : BodyValue). b.state.cached ≡ true)) there cached in
     let of_script : IsOf script.layout page slot = names_slot script.layout command page slot is serves.names in
     let of_body : IsOf h.layout h.page slot = subst (λ (l : Layout). IsOf l h.page slot) (sym body.layout_is) (subst (λ (q : Page). IsOf script.layout q slot) (sym body.page_is) of_script) in
     let unbarred : set.contains h.state.bar slot.0 ≡ false = ap (λ (s : set.FinSet nat_cmp). set.contains s slot.0) body.unbarred ∙ set.contains-empty nat_cmp slot.0 in
     (here, of_body, unmapped, unbarred)
 
 -- a new translation changes neither whether the page is cached nor its poison entries
-pub still-Map : {old new : List Held} {at : At} {e : Entry} (slot : VSlot) (added : Appended old new at e) → e.what ≡ entries.Map slot → IsStill added.held.state added.now.state
+pub still-Map : {old new : List BodyValue} {at : At} {e : Entry} (slot : VSlot) (added : Appended old new at e) → e.what ≡ entries.Map slot → IsStill added.held.state added.now.state
 still-Map slot added maps =
     let state_is = added.state_is ∙ ap (after added.held.state) maps in
     record { cached = ap (λ (s : PageState). s.cached) state_is; bar = ap (λ (s : PageState). s.bar) state_is; lost = ap (λ (s : PageState). s.lost) state_is }
 
 -- after a mapping the translation is in use
-pub mapped-after : {old new : List Held} {at : At} {e : Entry} (slot : VSlot) → Appended old new at e → e.what ≡ entries.Map slot → IsMapped new at.page slot
+pub mapped-after : {old new : List BodyValue} {at : At} {e : Entry} (slot : VSlot) → Appended old new at e → e.what ≡ entries.Map slot → IsMapped new at.page slot
 mapped-after {old} {new} {at} {e} slot added maps =
     let within : at.page.0 < length old = slice_get_within old at.page.0 added.held added.was in
-    let there : slice_get new at.page.0 ≡ Some added.now = ap (λ (l : List Held). slice_get l at.page.0) added.new_is ∙ slice_get-set_at old at.page.0 added.now within in
+    let there : slice_get new at.page.0 ≡ Some added.now = ap (λ (l : List BodyValue). slice_get l at.page.0) added.new_is ∙ slice_get-set_at old at.page.0 added.now within in
     let maps_are : added.now.state.maps ≡ set.insert added.held.state.maps slot.0 = ap (λ (s : PageState). s.maps) (added.state_is ∙ ap (after added.held.state) maps) in
     let in_it : set.contains (set.insert added.held.state.maps slot.0) slot.0 ≡ true = grind (set.members, rules) in
     let mapped : set.contains added.now.state.maps slot.0 ≡ true = ap (λ (s : set.FinSet nat_cmp). set.contains s slot.0) maps_are ∙ in_it in
-    subst (λ (o : Option Held). IsSomeAnd o (λ (h : Held). IsTrue (set.contains h.state.maps slot.0))) (sym there) mapped
+    subst (λ (o : Option BodyValue). IsSomeAnd o (λ (h : BodyValue). IsTrue (set.contains h.state.maps slot.0))) (sym there) mapped
 
 -- what was read of the translations is so of the body at that place
-pub mapped-read : (bodies : List Held) (page : Page) (slot : VSlot) (h : Held) → slice_get bodies page.0 ≡ Some h → set.contains h.state.maps slot.0 ≡ true → IsMapped bodies page slot
-mapped-read bodies page slot h there is = subst (λ (o : Option Held). IsSomeAnd o (λ (b : Held). IsTrue (set.contains b.state.maps slot.0))) (sym there) is
+pub mapped-read : (bodies : List BodyValue) (page : Page) (slot : VSlot) (h : BodyValue) → slice_get bodies page.0 ≡ Some h → set.contains h.state.maps slot.0 ≡ true → IsMapped bodies page slot
+mapped-read bodies page slot h there is = subst (λ (o : Option BodyValue). IsSomeAnd o (λ (b : BodyValue). IsTrue (set.contains b.state.maps slot.0))) (sym there) is

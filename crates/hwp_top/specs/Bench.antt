@@ -17,7 +17,7 @@ use Rattle.hwp_page.specs.declared.Met.TheVariants.{Word}
 use Rattle.hwp_page.specs.declared.What.{What}
 use Rattle.hwp_page.specs.declared.What.TheVariants as entries
 use Rattle.hwp_page.specs.Step.{Allowed, after, is_file}
-use Rattle.hwp_page.specs.History.{Held, IsFresh, IsReplay}
+use Rattle.hwp_page.specs.History.{BodyValue, IsFresh, IsReplay}
 use Rattle.hwp_script.specs.declared.Command.{Command}
 use Rattle.hwp_script.specs.declared.Command.TheVariants as commands
 use Rattle.hwp_script.specs.declared.Script.{Script}
@@ -51,8 +51,8 @@ abbrev pub at_command : ℕ → Who
 at_command n = record { cpu = first_cpu; seq = n }
 
 -- the histories of the bodies
-abbrev pub logs : List Held → List (List Entry)
-logs bodies = map (λ (h : Held). h.log) bodies
+abbrev pub logs : List BodyValue → List (List Entry)
+logs bodies = map (λ (h : BodyValue). h.log) bodies
 
 -- the entry is of a command of the first processor below this number
 abbrev pub IsBefore : ℕ → Entry → Type 0
@@ -96,7 +96,7 @@ is_free places.Handled = false
 is_free (places.Of page) = false
 
 -- the body is the page's, and one frame says the page exactly where it is cached
-pub record IsBodyOf (layout : Layout) (frames : List Place) (page : Page) (body : Held) : Type 0 where
+pub record IsBodyOf (layout : Layout) (frames : List Place) (page : Page) (body : BodyValue) : Type 0 where
   pub page_is : body.page ≡ page
   pub layout_is : body.layout ≡ layout
   pub replay : IsReplay layout page body.log body.state
@@ -105,16 +105,16 @@ pub record IsBodyOf (layout : Layout) (frames : List Place) (page : Page) (body 
   pub held : count_by (is_of page) frames ≡ cond body.state.cached 1 0
 
 -- the bodies and the frames fit the layout and one another
-pub record Machine (layout : Layout) (bodies : List Held) (frames : List Place) : Type 0 where
+pub record Machine (layout : Layout) (bodies : List BodyValue) (frames : List Place) : Type 0 where
   pub fit : length bodies ≡ length layout.pages
-  pub each : (page : Page) (body : Held) → slice_get bodies page.0 ≡ Some body → IsBodyOf layout frames page body
+  pub each : (page : Page) (body : BodyValue) → slice_get bodies page.0 ≡ Some body → IsBodyOf layout frames page body
   pub places : Pairs (IsPlace layout) layout.kernel frames
-  pub counted : count_by is_used frames ≡ count_by (λ (h : Held). h.state.cached) bodies
+  pub counted : count_by is_used frames ≡ count_by (λ (h : BodyValue). h.state.cached) bodies
 
 -- the new bodies are the old ones with one entry more, at this place
-pub record Appended (old new : List Held) (at : At) (e : Entry) : Type 0 where
-  pub held : Held
-  pub now : Held
+pub record Appended (old new : List BodyValue) (at : At) (e : Entry) : Type 0 where
+  pub held : BodyValue
+  pub now : BodyValue
   pub was : slice_get old at.page.0 ≡ Some held
   pub last : at.entry ≡ length held.log
   pub allowed : Allowed held.layout held.page held.state e.what
@@ -125,16 +125,16 @@ pub record Appended (old new : List Held) (at : At) (e : Entry) : Type 0 where
   pub new_is : new ≡ slice_set old at.page.0 now
 
 -- the page is in a frame
-abbrev pub IsCached : List Held → Page → Type 0
-IsCached bodies page = IsSomeAnd (slice_get bodies page.0) (λ (h : Held). h.state.cached ≡ true)
+abbrev pub IsCached : List BodyValue → Page → Type 0
+IsCached bodies page = IsSomeAnd (slice_get bodies page.0) (λ (h : BodyValue). h.state.cached ≡ true)
 
 -- the translation to the page is in use
-abbrev pub IsMapped : List Held → Page → VSlot → Type 0
-IsMapped bodies page slot = IsSomeAnd (slice_get bodies page.0) (λ (h : Held). IsTrue (set.contains h.state.maps slot.0))
+abbrev pub IsMapped : List BodyValue → Page → VSlot → Type 0
+IsMapped bodies page slot = IsSomeAnd (slice_get bodies page.0) (λ (h : BodyValue). IsTrue (set.contains h.state.maps slot.0))
 
 -- the bodies are those of the first pages, at their opening
-abbrev pub AreFresh : Layout → List Held → Type 0
-AreFresh layout bodies = (page : Page) (body : Held) → slice_get bodies page.0 ≡ Some body → IsFresh layout page body
+abbrev pub AreFresh : Layout → List BodyValue → Type 0
+AreFresh layout bodies = (page : Page) (body : BodyValue) → slice_get bodies page.0 ≡ Some body → IsFresh layout page body
 
 -- where a frame is at opening
 abbrev pub opening_place : Bool → Place
@@ -145,7 +145,7 @@ abbrev pub frame_line : Place → FrameLine
 frame_line place = record { place = place; bad = record { 0 = 0 }; weak = record { 0 = 0 }; marks = [] }
 
 -- what a report holds of the bodies, the frames and the lines
-pub record Reports (files : ℕ) (report : Report) (bodies : List Held) (frames : List Place) (rows : List CpuLine) (stop : Option Stop) : Type 0 where
+pub record Reports (files : ℕ) (report : Report) (bodies : List BodyValue) (frames : List Place) (rows : List CpuLine) (stop : Option Stop) : Type 0 where
   pub stop_is : report.stop ≡ stop
   pub count : report.count ≡ 0
   pub losses : report.files ≡ replicate files 0
@@ -178,9 +178,9 @@ Gives (commands.Store thread slot line word) at what answer =
 Gives _ at what answer = ⊥
 
 -- where the page stands now: as many entries as its history has
-pub record IsNow (bodies : List Held) (page : Page) (at : At) : Type 0 where
+pub record IsNow (bodies : List BodyValue) (page : Page) (at : At) : Type 0 where
   pub page_is : at.page ≡ page
-  pub body : Held
+  pub body : BodyValue
   pub there : slice_get bodies page.0 ≡ Some body
   pub entry_is : at.entry ≡ length body.log
 

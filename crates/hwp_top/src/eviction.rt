@@ -1,7 +1,7 @@
 //! Commands that take a page out of its frame, or a translation out of use, on the bench.
 ghost use Rattle.std.specs.Prelude.{◌≡◌, ◌<◌, ◌↔◌, IsTrue, length, slice_get, true, false, IfOk, OnOk, Some};
 ghost use Rattle.std.specs.FinSet as set;
-ghost use Rattle.hwp_page.specs.History.{Held};
+ghost use Rattle.hwp_page.specs.History.{BodyValue};
 ghost use Rattle.hwp_law.specs.Answers.{IsUnsaved};
 ghost use Rattle.hwp_page.specs.Step.{Allowed};
 ghost use Rattle.hwp_top.specs.Bench.{Answers, Appended, IsBackedBy, Leaves, Machine, Serves, logs};
@@ -83,7 +83,7 @@ fn leave(
 ) -> Result<At, OutOfMemory>
     requires inside { page.0 < length script.now.layout.pages }
     requires leaves { Leaves entry.what }
-    requires allowed { (h : Held) → slice_get bodies.old page.0 ≡ Some h → Allowed h.layout h.page h.state entry.what }
+    requires allowed { (h : BodyValue) → slice_get bodies.old page.0 ≡ Some h → Allowed h.layout h.page h.state entry.what }
     requires machine { Machine script.now.layout bodies.old frames.old }
     ensures machine { OnOk result (Machine script.now.layout bodies.new frames.new) }
     ensures place { IfOk result (λ at. at.page ≡ page) }

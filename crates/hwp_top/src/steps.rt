@@ -1,6 +1,6 @@
 //! The small steps of the bench: an entry more, a free frame, a page's frame.
 ghost use Rattle.std.specs.Prelude.{◌≡◌, ◌<◌, position, length, slice_get, IfOk, Some};
-ghost use Rattle.hwp_page.specs.History.{Held};
+ghost use Rattle.hwp_page.specs.History.{BodyValue};
 ghost use Rattle.hwp_page.specs.Step.{Allowed};
 ghost use Rattle.hwp_law.specs.Report.{is_of};
 ghost use Rattle.hwp_top.specs.Bench.{Appended, IsNow, at_command, is_free};
@@ -19,7 +19,7 @@ pub fn who_at(seq: u32) -> Who
 /// Adds an entry to the history of a page, whose state allows it.
 pub fn add(bodies: &mut [Body], page: Page, entry: Entry) -> Result<At, OutOfMemory>
     requires inside { page.0 < length bodies.old }
-    requires allowed { (h : Held) → slice_get bodies.old page.0 ≡ Some h → Allowed h.layout h.page h.state entry.what }
+    requires allowed { (h : BodyValue) → slice_get bodies.old page.0 ≡ Some h → Allowed h.layout h.page h.state entry.what }
     ensures place { IfOk result (λ at. at.page ≡ page) }
     ensures added { IfOk result (λ at. Appended bodies.old bodies.new at entry) }
 {

@@ -13,7 +13,7 @@ use Rattle.hwp_geom.specs.declared.Proc.{Proc}
 use Rattle.hwp_geom.specs.declared.Who.{Who}
 use Rattle.hwp_page.specs.declared.Entry.{Entry}
 use Rattle.hwp_rule.specs.declared.log.Log.{Log}
-use Rattle.hwp_rule.specs.declared.view.Held.{Held}
+use Rattle.hwp_rule.specs.declared.view.InHand.{InHand}
 use Rattle.hwp_rule.specs.declared.view.Length.{Length}
 use Rattle.hwp_rule.specs.declared.view.Made.{Made}
 use Rattle.hwp_rule.specs.declared.view.Mark.{Mark}
@@ -54,17 +54,17 @@ losses-of-made stamp page frame place (e ∷ es) =
     omega arith
 
 -- a history becomes longer in the view that has the body in hand
-module _ (layout : Layout) (w : Words) (homes : Homes) (views : List View) (seat : ℕ) (v : View) (who : Who) (log : Log) (place : ℕ) (body : Held)
+module _ (layout : Layout) (w : Words) (homes : Homes) (views : List View) (seat : ℕ) (v : View) (who : Who) (log : Log) (place : ℕ) (body : InHand)
     (me : slice_get views seat ≡ Some v) (past : IsPast v.parts who) (there : slice_get v.bodies place ≡ Some body) (test : is_body_of log.page body ≡ true)
     (extends : Extends layout who v.sights body log) (within : log.page.0 < length layout.pages)
     (same_words : page_locks_on log.page.0 v.pages ≡ 0 → HasSameWords (state_of layout log) (state_of layout body.log)) (h : FrameRule layout w homes views) where
   abbrev more : List Entry
   more = more_of body log
 
-  abbrev renewed : Held → Held
+  abbrev renewed : InHand → InHand
   renewed b = record b { log = log }
 
-  abbrev bodies : List Held
+  abbrev bodies : List InHand
   bodies = changed (is_body_of log.page) renewed v.bodies
 
   abbrev made : List Made
@@ -77,21 +77,21 @@ module _ (layout : Layout) (w : Words) (homes : Homes) (views : List View) (seat
   my_bodies = at_map (λ (v : View). v.bodies) views seat v me
 
   -- the page's body is in hand once
-  once : sum_by (λ (b : Held). from_bool (is_body_of log.page b)) v.bodies ≡ 1
+  once : sum_by (λ (b : InHand). from_bool (is_body_of log.page b)) v.bodies ≡ 1
   once = Carrying.once layout w homes views seat v me h log place body there test within
 
   sums : (g : Log → ℕ) → sum_bodies g homes (set (all_bodies views) seat bodies) + g body.log ≡ sum_bodies g homes (all_bodies views) + g log
   sums g =
-      let hand : sum_all (λ (b : Held). g b.log) (set (all_bodies views) seat bodies) + sum_by (λ (b : Held). g b.log) v.bodies ≡ sum_all (λ (b : Held). g b.log) (all_bodies views) + sum_by (λ (b : Held). g b.log) bodies =
-      sum-set (sum_by (λ (b : Held). g b.log)) (all_bodies views) seat v.bodies bodies my_bodies in
-      let other : sum_by (λ (b : Held). g b.log) bodies + g body.log ≡ sum_by (λ (b : Held). g b.log) v.bodies + g log = sum-changed-one (is_body_of log.page) (λ (b : Held). g b.log) renewed v.bodies place body once there test in
+      let hand : sum_all (λ (b : InHand). g b.log) (set (all_bodies views) seat bodies) + sum_by (λ (b : InHand). g b.log) v.bodies ≡ sum_all (λ (b : InHand). g b.log) (all_bodies views) + sum_by (λ (b : InHand). g b.log) bodies =
+      sum-set (sum_by (λ (b : InHand). g b.log)) (all_bodies views) seat v.bodies bodies my_bodies in
+      let other : sum_by (λ (b : InHand). g b.log) bodies + g body.log ≡ sum_by (λ (b : InHand). g b.log) v.bodies + g log = sum-changed-one (is_body_of log.page) (λ (b : InHand). g b.log) renewed v.bodies place body once there test in
       omega arith
 
   eachs : (P : Log → Type 0) → (P body.log → P log) → EachBody P homes (all_bodies views) → EachBody P homes (set (all_bodies views) seat bodies)
   eachs P longer each = record {
     at_home = each.at_home;
-    in_hand = each-set (EachMember (λ (b : Held). P b.log)) (all_bodies views) seat bodies
-        (each-changed-one (is_body_of log.page) (λ (b : Held). P b.log) renewed v.bodies place body once there test (longer (each.in_hand seat v.bodies my_bodies place body there)) (each.in_hand seat v.bodies my_bodies))
+    in_hand = each-set (EachMember (λ (b : InHand). P b.log)) (all_bodies views) seat bodies
+        (each-changed-one (is_body_of log.page) (λ (b : InHand). P b.log) renewed v.bodies place body once there test (longer (each.in_hand seat v.bodies my_bodies place body there)) (each.in_hand seat v.bodies my_bodies))
         each.in_hand;
   }
 
@@ -110,17 +110,17 @@ module _ (layout : Layout) (w : Words) (homes : Homes) (views : List View) (seat
     shelf_out = h.bodies.shelf_out;
     one = λ q inside.
         let lists : map (λ (o : Holder). o.bodies) (set (map holder_of views) seat (holder_of u)) ≡ set (all_bodies views) seat bodies =
-        map-set (λ (o : Holder). o.bodies) (map holder_of views) seat (holder_of u) ∙ ap (λ (l : List (List Held)). set l seat bodies) (held-bodies views) in
+        map-set (λ (o : Holder). o.bodies) (map holder_of views) seat (holder_of u) ∙ ap (λ (l : List (List InHand)). set l seat bodies) (held-bodies views) in
         let was : sum_bodies (λ (x : Log). from_bool (x.page.0 == q)) homes (all_bodies views) ≡ 1 = Carrying.one-body layout w homes views seat v me h q inside in
         let page : from_bool (log.page.0 == q) ≡ from_bool (body.log.page.0 == q) = ap (λ (p : Page). from_bool (p.0 == q)) extends.page_is in
-        subst (λ (l : List (List Held)). sum_bodies (λ (x : Log). from_bool (x.page.0 == q)) homes l ≡ 1) (sym lists) (omega (arith, sums (λ (x : Log). from_bool (x.page.0 == q)), was, page));
-    in_hand = each-set (λ (o : Holder). EachMember (λ (b : Held). IsHolding b o) o.bodies) (map holder_of views) seat (holder_of u)
-        (each-changed-one (is_body_of log.page) (λ (b : Held). IsHolding b (holder_of u)) renewed v.bodies place body once there test
+        subst (λ (l : List (List InHand)). sum_bodies (λ (x : Log). from_bool (x.page.0 == q)) homes l ≡ 1) (sym lists) (omega (arith, sums (λ (x : Log). from_bool (x.page.0 == q)), was, page));
+    in_hand = each-set (λ (o : Holder). EachMember (λ (b : InHand). IsHolding b o) o.bodies) (map holder_of views) seat (holder_of u)
+        (each-changed-one (is_body_of log.page) (λ (b : InHand). IsHolding b (holder_of u)) renewed v.bodies place body once there test
         (subst (λ (p : Page). IsHolding (record body { log = record log { page = p } }) (holder_of u)) (sym extends.page_is) (mine place body there)) mine)
         h.bodies.in_hand;
   }
     where
-      mine : EachMember (λ (b : Held). IsHolding b (holder_of u)) v.bodies
+      mine : EachMember (λ (b : InHand). IsHolding b (holder_of u)) v.bodies
       mine i b at = elim (h.bodies.in_hand seat (holder_of v) (at_map holder_of views seat v me) i b at) [ inl page ↦ inl page | inr some ↦ inr some ]
 
   entries-listed : EntriesListed homes (set (all_bodies views) seat bodies) (set (map (λ (v : View). (v.made, v.sights)) views) seat (made, v.sights)) (map (λ (v : View). v.lengths) views)
@@ -167,13 +167,13 @@ module _ (layout : Layout) (w : Words) (homes : Homes) (views : List View) (seat
   endings-listed = record {
     caused = λ process x at. eachs (λ (y : Log). x ≡ y.page.0 + 1 → has_ending layout process y.entries ≡ true) (λ old is. has-more process (old (is ∙ ap (λ (p : Page). p.0 + 1) extends.page_is))) (h.endings.caused process x at);
     ended = h.endings.ended;
-    ended_before = each-set (EachMember (λ (b : Held). AreEnded layout w.processes (take b.since b.log.entries))) (all_bodies views) seat bodies
-        (each-changed-one (is_body_of log.page) (λ (b : Held). AreEnded layout w.processes (take b.since b.log.entries)) renewed v.bodies place body once there test
+    ended_before = each-set (EachMember (λ (b : InHand). AreEnded layout w.processes (take b.since b.log.entries))) (all_bodies views) seat bodies
+        (each-changed-one (is_body_of log.page) (λ (b : InHand). AreEnded layout w.processes (take b.since b.log.entries)) renewed v.bodies place body once there test
         (subst (AreEnded layout w.processes) (sym (ap (take body.since) extends.longer ∙ take-append-le body.since body.log.entries more since)) (h.endings.ended_before seat v.bodies my_bodies place body there))
         (h.endings.ended_before seat v.bodies my_bodies))
         h.endings.ended_before;
-    taken = each-set (EachMember (λ (b : Held). b.since ≤ length b.log.entries)) (all_bodies views) seat bodies
-        (each-changed-one (is_body_of log.page) (λ (b : Held). b.since ≤ length b.log.entries) renewed v.bodies place body once there test (omega (arith, since, reaches)) (h.endings.taken seat v.bodies my_bodies))
+    taken = each-set (EachMember (λ (b : InHand). b.since ≤ length b.log.entries)) (all_bodies views) seat bodies
+        (each-changed-one (is_body_of log.page) (λ (b : InHand). b.since ≤ length b.log.entries) renewed v.bodies place body once there test (omega (arith, since, reaches)) (h.endings.taken seat v.bodies my_bodies))
         h.endings.taken;
     shown = λ i list at j s is process place'.
         eachs (λ (y : Log). s.word ≡ y.page.0 + 1 → SomeMember (λ (e : Entry). (is_ending layout process e.what ≡ true) × IsNotLater e.who s.stamp.who) y.entries)
@@ -216,8 +216,8 @@ module _ (layout : Layout) (w : Words) (homes : Homes) (views : List View) (seat
 
   stops-listed : EndingsAndStopsStay w.processes w.stop (set (all_bodies views) seat bodies) (map (λ (v : View). v.sights) views) (map (λ (v : View). v.stops) views)
   stops-listed = record {
-    killed = each-set (EachMember (λ (b : Held). EachMember (λ (p : Proc). (x : ℕ) → slice_get w.processes p.0 ≡ Some x → x ≢ 0) b.killed)) (all_bodies views) seat bodies
-        (each-changed (λ (b : Held). EachMember (λ (p : Proc). (x : ℕ) → slice_get w.processes p.0 ≡ Some x → x ≢ 0) b.killed) (is_body_of log.page) renewed v.bodies (λ b is killed. killed) (h.stops.killed seat v.bodies my_bodies)) h.stops.killed;
+    killed = each-set (EachMember (λ (b : InHand). EachMember (λ (p : Proc). (x : ℕ) → slice_get w.processes p.0 ≡ Some x → x ≢ 0) b.killed)) (all_bodies views) seat bodies
+        (each-changed (λ (b : InHand). EachMember (λ (p : Proc). (x : ℕ) → slice_get w.processes p.0 ≡ Some x → x ≢ 0) b.killed) (is_body_of log.page) renewed v.bodies (λ b is killed. killed) (h.stops.killed seat v.bodies my_bodies)) h.stops.killed;
     ended_stays = h.stops.ended_stays;
     stop_stays = h.stops.stop_stays;
     one = h.stops.one;
@@ -227,15 +227,15 @@ module _ (layout : Layout) (w : Words) (homes : Homes) (views : List View) (seat
   fits-listed : PageFits layout w.trans w.caches homes (set (map (λ (v : View). (v.pages, v.bodies)) views) seat (v.pages, bodies))
   fits-listed = record {
     at_home = h.fits.at_home;
-    in_hand = each-set (λ (o : List PageLock × List Held). EachMember (λ (b : Held). page_locks_on b.log.page.0 o.0 ≡ 0 → Fits layout w.trans w.caches b.log) o.1) (map (λ (v : View). (v.pages, v.bodies)) views) seat (v.pages, bodies)
-        (each-changed-one (is_body_of log.page) (λ (b : Held). page_locks_on b.log.page.0 v.pages ≡ 0 → Fits layout w.trans w.caches b.log) renewed v.bodies place body once there test
+    in_hand = each-set (λ (o : List PageLock × List InHand). EachMember (λ (b : InHand). page_locks_on b.log.page.0 o.0 ≡ 0 → Fits layout w.trans w.caches b.log) o.1) (map (λ (v : View). (v.pages, v.bodies)) views) seat (v.pages, bodies)
+        (each-changed-one (is_body_of log.page) (λ (b : InHand). page_locks_on b.log.page.0 v.pages ≡ 0 → Fits layout w.trans w.caches b.log) renewed v.bodies place body once there test
         (λ none. fits-same layout w.trans w.caches log body.log extends.page_is (same_words none)
         (h.fits.in_hand seat (v.pages, v.bodies) my_fit place body there (ap (λ (p : Page). page_locks_on p.0 v.pages) (sym extends.page_is) ∙ none)))
         (h.fits.in_hand seat (v.pages, v.bodies) my_fit))
         h.fits.in_hand;
-    known = each-set (λ (o : List PageLock × List Held). EachMember (KnowsWords layout w.trans w.caches) o.0) (map (λ (v : View). (v.pages, v.bodies)) views) seat (v.pages, bodies) (h.fits.known seat (v.pages, v.bodies) my_fit) h.fits.known;
-    own = each-set (λ (o : List PageLock × List Held). EachMember (λ (b : Held). 0 < page_locks_on b.log.page.0 o.0 → KnowsOwn o.0 b) o.1) (map (λ (v : View). (v.pages, v.bodies)) views) seat (v.pages, bodies)
-        (each-changed-one (is_body_of log.page) (λ (b : Held). 0 < page_locks_on b.log.page.0 v.pages → KnowsOwn v.pages b) renewed v.bodies place body once there test
+    known = each-set (λ (o : List PageLock × List InHand). EachMember (KnowsWords layout w.trans w.caches) o.0) (map (λ (v : View). (v.pages, v.bodies)) views) seat (v.pages, bodies) (h.fits.known seat (v.pages, v.bodies) my_fit) h.fits.known;
+    own = each-set (λ (o : List PageLock × List InHand). EachMember (λ (b : InHand). 0 < page_locks_on b.log.page.0 o.0 → KnowsOwn o.0 b) o.1) (map (λ (v : View). (v.pages, v.bodies)) views) seat (v.pages, bodies)
+        (each-changed-one (is_body_of log.page) (λ (b : InHand). 0 < page_locks_on b.log.page.0 v.pages → KnowsOwn v.pages b) renewed v.bodies place body once there test
         (λ some.
         let own : KnowsOwn v.pages body = h.fits.own seat (v.pages, v.bodies) my_fit place body there (subst (λ (p : Page). 0 < page_locks_on p.0 v.pages) extends.page_is some) in
         record { lock = own.lock; there = own.there; cache = own.cache; cache_is = own.cache_is; trans = own.trans; trans_is = own.trans_is })
@@ -243,7 +243,7 @@ module _ (layout : Layout) (w : Words) (homes : Homes) (views : List View) (seat
         h.fits.own;
   }
     where
-      my_fit : slice_get {X = List PageLock × List Held} (map (λ (v : View). (v.pages, v.bodies)) views) seat ≡ Some (v.pages, v.bodies)
+      my_fit : slice_get {X = List PageLock × List InHand} (map (λ (v : View). (v.pages, v.bodies)) views) seat ≡ Some (v.pages, v.bodies)
       my_fit = at_map (λ (v : View). (v.pages, v.bodies)) views seat v me
 
   unpoisoned-listed : NothingPoisonedYet w.frames (map (λ (v : View). v.spoiled) views) homes (set (all_bodies views) seat bodies)
@@ -305,6 +305,6 @@ module _ (layout : Layout) (w : Words) (homes : Homes) (views : List View) (seat
 
   -- without losses nothing more is owed
   pub listed-is : body_of log.page v ≡ Some body → listed layout who log v ≡ u
-  listed-is is = ap (λ (o : Option Held). listed_of layout who log o v) is
+  listed-is is = ap (λ (o : Option InHand). listed_of layout who log o v) is
       ∙ ap (λ (l : List FileNo). record v { made = made; bodies = bodies; owed = record v.owed { losses = v.owed.losses ++ l } }) (losses-none layout log.page more extends.sound)
       ∙ ap (λ (l : List FileNo). record v { made = made; bodies = bodies; owed = record v.owed { losses = l } }) (append-nil v.owed.losses)

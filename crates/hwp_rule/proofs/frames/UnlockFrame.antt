@@ -10,7 +10,7 @@ use Rattle.hwp_words.specs.Frames.{lock_of, count_of, owner_of}
 use Rattle.hwp_words.proofs.FrameSteps.{fields-unlock}
 use Rattle.hwp_rule.specs.declared.log.Log.{Log}
 use Rattle.hwp_rule.specs.declared.view.FrameLock.{FrameLock}
-use Rattle.hwp_rule.specs.declared.view.Held.{Held}
+use Rattle.hwp_rule.specs.declared.view.InHand.{InHand}
 use Rattle.hwp_rule.specs.declared.view.PageLock.{PageLock}
 use Rattle.hwp_rule.specs.declared.view.Ref.{Ref}
 use Rattle.hwp_rule.specs.declared.view.View.{View}
@@ -106,7 +106,7 @@ module _ (layout : Layout) (w : Words) (homes : Homes) (views : List View) (seat
   both-still g q differs both = record { frame = subst (λ (n : ℕ). 0 < n) (sym (others g differs)) both.frame; page = both.page }
 
   -- the page of another body than the frame's is still held
-  holding-still : (b : Held) (pages : List PageLock) (bodies : List Held) → page_locks_on b.log.page.0 pages ≡ page_locks_on b.log.page.0 v.pages → lock.owner ≢ b.log.page.0 + 1 → IsHolding b (holder_of v) → IsHolding b (record { locks = locks; pages = pages; bodies = bodies })
+  holding-still : (b : InHand) (pages : List PageLock) (bodies : List InHand) → page_locks_on b.log.page.0 pages ≡ page_locks_on b.log.page.0 v.pages → lock.owner ≢ b.log.page.0 + 1 → IsHolding b (holder_of v) → IsHolding b (record { locks = locks; pages = pages; bodies = bodies })
   holding-still b pages bodies same other holds = elim holds [
     | inl page ↦ inl (subst (λ (n : ℕ). 0 < n) (sym same) page)
     | inr some ↦
@@ -116,10 +116,10 @@ module _ (layout : Layout) (w : Words) (homes : Homes) (views : List View) (seat
         inr (still.0, still.1, still.2, still.3.0)
   ]
 
-  my_fit : slice_get {X = List PageLock × List Held} (map (λ (v : View). (v.pages, v.bodies)) views) seat ≡ Some (v.pages, v.bodies)
+  my_fit : slice_get {X = List PageLock × List InHand} (map (λ (v : View). (v.pages, v.bodies)) views) seat ≡ Some (v.pages, v.bodies)
   my_fit = at_map (λ (v : View). (v.pages, v.bodies)) views seat v me
 
-  old-in_hand : EachMember (λ (b : Held). IsHolding b (holder_of v)) v.bodies
+  old-in_hand : EachMember (λ (b : InHand). IsHolding b (holder_of v)) v.bodies
   old-in_hand = h.bodies.in_hand seat (holder_of v) (at_map holder_of views seat v me)
 
   -- what the page's lock lists of the owner's cache word
@@ -150,12 +150,12 @@ module _ (layout : Layout) (w : Words) (homes : Homes) (views : List View) (seat
     ];
     free_home = λ free. record { content = None; there = set_here homes frame.0 (Some None) None out; named = sym (like.owner ∙ owner ∙ unowned) };
     out = λ set_still. absurd (unlocked-now set_still);
-    in_hand = each-weaken (λ (b : Held). IsHolding b (holder_of v)) (λ (b : Held). IsHolding b (record { locks = locks; pages = v.pages; bodies = v.bodies })) v.bodies
+    in_hand = each-weaken (λ (b : InHand). IsHolding b (holder_of v)) (λ (b : InHand). IsHolding b (record { locks = locks; pages = v.pages; bodies = v.bodies })) v.bodies
         (λ b holds. holding-still b v.pages v.bodies refl (λ e. absurd (omega (arith, e, unowned))) holds) old-in_hand;
   }) less
 
   -- ---- the owner's body goes home
-  module _ (log : Log) (place' : ℕ) (body : Held) (body_there : slice_get v.bodies place' ≡ Some body) (body_test : is_body_of log.page body ≡ true) (log_is : body.log ≡ log)
+  module _ (log : Log) (place' : ℕ) (body : InHand) (body_there : slice_get v.bodies place' ≡ Some body) (body_test : is_body_of log.page body ≡ true) (log_is : body.log ≡ log)
       (named : log.page.0 + 1 ≡ lock.owner) (within : log.page.0 < length layout.pages)
       (cache : (l : PageLock) → slice_get v.pages 0 ≡ Some l → lock.owner ≡ l.page.0 + 1 → l.cache ≡ Some (frame.0 + 1))
       (ended : AreEnded layout w.processes log.entries) (fit : Fits layout w.trans w.caches log) where
@@ -165,16 +165,16 @@ module _ (layout : Layout) (w : Words) (homes : Homes) (views : List View) (seat
     abbrev pages : List PageLock
     pages = changed (is_page_lock_of log.page) forgetting v.pages
 
-    abbrev bodies : List Held
+    abbrev bodies : List InHand
     bodies = without (is_body_of log.page) v.bodies
 
     page_locks : (q : ℕ) → page_locks_on q pages ≡ page_locks_on q v.pages
     page_locks q = sum-changed (λ (l : PageLock). from_bool (l.page.0 == q)) (is_page_lock_of log.page) forgetting v.pages (λ l. refl)
 
-    others-left : EachMember (λ (b : Held). is_body_of log.page b ≡ false) bodies
+    others-left : EachMember (λ (b : InHand). is_body_of log.page b ≡ false) bodies
     others-left = another layout w homes views seat v me h log place' body body_there body_test within
 
-    own-still : (b : Held) → is_body_of log.page b ≡ false → (0 < page_locks_on b.log.page.0 v.pages → KnowsOwn v.pages b) → 0 < page_locks_on b.log.page.0 pages → KnowsOwn pages b
+    own-still : (b : InHand) → is_body_of log.page b ≡ false → (0 < page_locks_on b.log.page.0 v.pages → KnowsOwn v.pages b) → 0 < page_locks_on b.log.page.0 pages → KnowsOwn pages b
     own-still b other knows some = record { lock = own.lock; there = at; cache = own.cache; cache_is = own.cache_is; trans = own.trans; trans_is = own.trans_is }
       where
         some-before : 0 < page_locks_on b.log.page.0 v.pages
@@ -200,12 +200,12 @@ module _ (layout : Layout) (w : Words) (homes : Homes) (views : List View) (seat
       like = like;
       count = (fields-unlock found).count;
       carries = carry-home layout w homes views seat v me h log place' body body_there body_test within log_is frame.0 pages out ended fit
-          (each-weaken (λ (b : Held). page_locks_on b.log.page.0 v.pages ≡ 0 → Fits layout w.trans w.caches b.log) (λ (b : Held). page_locks_on b.log.page.0 pages ≡ 0 → Fits layout w.trans w.caches b.log) bodies
+          (each-weaken (λ (b : InHand). page_locks_on b.log.page.0 v.pages ≡ 0 → Fits layout w.trans w.caches b.log) (λ (b : InHand). page_locks_on b.log.page.0 pages ≡ 0 → Fits layout w.trans w.caches b.log) bodies
           (λ b fits none. fits (sym (page_locks b.log.page.0) ∙ none))
-          (each-without (λ (b : Held). page_locks_on b.log.page.0 v.pages ≡ 0 → Fits layout w.trans w.caches b.log) (is_body_of log.page) v.bodies (h.fits.in_hand seat (v.pages, v.bodies) my_fit)))
+          (each-without (λ (b : InHand). page_locks_on b.log.page.0 v.pages ≡ 0 → Fits layout w.trans w.caches b.log) (is_body_of log.page) v.bodies (h.fits.in_hand seat (v.pages, v.bodies) my_fit)))
           (each-changed (KnowsWords layout w.trans w.caches) (is_page_lock_of log.page) forgetting v.pages
           (λ l is knows. record { resident = knows.resident; cache = knows.cache; words = λ ws e n t decl page. absurd (none-some ws e) }) (h.fits.known seat (v.pages, v.bodies) my_fit))
-          (λ i b at. own-still b (others-left i b at) (each-without (λ (b : Held). 0 < page_locks_on b.log.page.0 v.pages → KnowsOwn v.pages b) (is_body_of log.page) v.bodies (h.fits.own seat (v.pages, v.bodies) my_fit) i b at));
+          (λ i b at. own-still b (others-left i b at) (each-without (λ (b : InHand). 0 < page_locks_on b.log.page.0 v.pages → KnowsOwn v.pages b) (is_body_of log.page) v.bodies (h.fits.own seat (v.pages, v.bodies) my_fit) i b at));
       here = here;
       others = others;
       known = known;
@@ -221,7 +221,7 @@ module _ (layout : Layout) (w : Words) (homes : Homes) (views : List View) (seat
       free_home = λ free. record { content = Some log; there = set_here homes frame.0 (Some (Some log)) None out; named = named ∙ sym (like.owner ∙ owner) };
       out = λ set_still. absurd (unlocked-now set_still);
       in_hand = λ i b at.
-          let was : IsHolding b (holder_of v) = each-without (λ (b : Held). IsHolding b (holder_of v)) (is_body_of log.page) v.bodies old-in_hand i b at in
+          let was : IsHolding b (holder_of v) = each-without (λ (b : InHand). IsHolding b (holder_of v)) (is_body_of log.page) v.bodies old-in_hand i b at in
           let other : b.log.page.0 ≢ log.page.0 = eqb-false b.log.page.0 log.page.0 (others-left i b at) in
           holding-still b pages bodies (page_locks b.log.page.0) (λ e. other (omega (arith, e, named))) was;
     }) less

@@ -15,7 +15,7 @@ use Rattle.hwp_words.specs.Names.{frame_name}
 use Rattle.hwp_words.proofs.FrameSteps.{fields-lock}
 use Rattle.hwp_rule.specs.declared.log.Log.{Log}
 use Rattle.hwp_rule.specs.declared.step.Step.TheVariants as steps
-use Rattle.hwp_rule.specs.declared.view.Held.{Held}
+use Rattle.hwp_rule.specs.declared.view.InHand.{InHand}
 use Rattle.hwp_rule.specs.declared.view.PageLock.{PageLock}
 use Rattle.hwp_rule.specs.declared.view.Stamp.{Stamp}
 use Rattle.hwp_rule.specs.declared.view.View.{View}
@@ -55,7 +55,7 @@ module _ (layout : Layout) (w : Words) (homes : Homes) (views : List View) (seat
   none-on : (q : ℕ) → page_locks_on q v.pages ≡ 0
   none-on q = ap (page_locks_on q) none
 
-  my_fit : slice_get {X = List PageLock × List Held} (map (λ (v : View). (v.pages, v.bodies)) views) seat ≡ Some (v.pages, v.bodies)
+  my_fit : slice_get {X = List PageLock × List InHand} (map (λ (v : View). (v.pages, v.bodies)) views) seat ≡ Some (v.pages, v.bodies)
   my_fit = at_map (λ (v : View). (v.pages, v.bodies)) views seat v me
 
   -- no view lists the page's lock
@@ -90,17 +90,17 @@ module _ (layout : Layout) (w : Words) (homes : Homes) (views : List View) (seat
     others : (q : ℕ) → q ≢ page.0 → page_locks_on q (new ∷ []) ≡ page_locks_on q v.pages
     others q differs = omega (arith, none-on q, new-on q, from_bool-other page.0 q (λ e. differs (sym e)))
 
-    fits-still : EachMember (λ (b : Held). page_locks_on b.log.page.0 (new ∷ []) ≡ 0 → Fits layout w.trans w.caches b.log) v.bodies
-    fits-still = each-weaken (λ (b : Held). page_locks_on b.log.page.0 v.pages ≡ 0 → Fits layout w.trans w.caches b.log) (λ (b : Held). page_locks_on b.log.page.0 (new ∷ []) ≡ 0 → Fits layout w.trans w.caches b.log) v.bodies
+    fits-still : EachMember (λ (b : InHand). page_locks_on b.log.page.0 (new ∷ []) ≡ 0 → Fits layout w.trans w.caches b.log) v.bodies
+    fits-still = each-weaken (λ (b : InHand). page_locks_on b.log.page.0 v.pages ≡ 0 → Fits layout w.trans w.caches b.log) (λ (b : InHand). page_locks_on b.log.page.0 (new ∷ []) ≡ 0 → Fits layout w.trans w.caches b.log) v.bodies
         (λ b fits unlisted. fits (none-on b.log.page.0)) (h.fits.in_hand seat (v.pages, v.bodies) my_fit)
 
-    still-held : (bodies : List Held) → EachMember (λ (b : Held). IsHolding b (record { locks = v.locks; pages = new ∷ []; bodies = bodies })) v.bodies
+    still-held : (bodies : List InHand) → EachMember (λ (b : InHand). IsHolding b (record { locks = v.locks; pages = new ∷ []; bodies = bodies })) v.bodies
     still-held bodies i b at = elim (h.bodies.in_hand seat (holder_of v) (at_map holder_of views seat v me) i b at) [
       | inl locked ↦ absurd (omega (arith, locked, none-on b.log.page.0))
       | inr some ↦ inr some
     ]
 
-    pub keeps-lock-empty : KnowsWords layout w.trans w.caches new → EachMember (λ (b : Held). 0 < page_locks_on b.log.page.0 (new ∷ []) → KnowsOwn (new ∷ []) b) v.bodies → IsIn homes shelf None
+    pub keeps-lock-empty : KnowsWords layout w.trans w.caches new → EachMember (λ (b : InHand). 0 < page_locks_on b.log.page.0 (new ∷ []) → KnowsOwn (new ∷ []) b) v.bodies → IsIn homes shelf None
         → FrameRule layout words (set homes shelf None) (set views seat (record v { pages = new ∷ [] }))
     keeps-lock-empty knows own empty = keeps-paging layout w homes views seat v page.0 found now None (new ∷ []) v.bodies v.lengths me h shaped there (record {
       carries = carry-none layout w homes views seat v me h shelf (Some None) None (new ∷ []) empty refl refl fits-still (each-push (KnowsWords layout w.trans w.caches) [] new knows (λ i l e. absurd (none-some l e))) own;
@@ -113,7 +113,7 @@ module _ (layout : Layout) (w : Words) (homes : Homes) (views : List View) (seat
       in_hand = still-held v.bodies;
     })
 
-    pub keeps-lock-body : KnowsWords layout w.trans w.caches new → ((b : Held) → KnowsOwn (new ∷ []) b) → (log : Log) → log.page.0 ≡ page.0 → IsIn homes shelf (Some log) → (stamp : Stamp) → IsPast v.parts stamp.who
+    pub keeps-lock-body : KnowsWords layout w.trans w.caches new → ((b : InHand) → KnowsOwn (new ∷ []) b) → (log : Log) → log.page.0 ≡ page.0 → IsIn homes shelf (Some log) → (stamp : Stamp) → IsPast v.parts stamp.who
         → FrameRule layout words (set homes shelf None) (set views seat (record v {
           pages = new ∷ [];
           bodies = v.bodies ++ (record { log = log; since = length log.entries; frame = None; from = length v.sights; killed = [] }) ∷ [];
@@ -128,11 +128,11 @@ module _ (layout : Layout) (w : Words) (homes : Homes) (views : List View) (seat
       cached = λ f x q at owner both. absurd (omega (arith, both.page, none-on q));
       free_home = λ unset c at. absurd (omega (arith, unset, (fields-lock found).lock));
       out = λ is. set_here homes shelf None (Some (Some log)) inside;
-      in_hand = each-push (λ (b : Held). IsHolding b (record { locks = v.locks; pages = new ∷ []; bodies = v.bodies ++ body ∷ [] })) v.bodies body
+      in_hand = each-push (λ (b : InHand). IsHolding b (record { locks = v.locks; pages = new ∷ []; bodies = v.bodies ++ body ∷ [] })) v.bodies body
           (inl (subst (λ (n : ℕ). 0 < page_locks_on n (new ∷ [])) (sym number) (omega (arith, new-on page.0, from_bool-same page.0 page.0 refl)))) (still-held (v.bodies ++ body ∷ []));
     })
       where
-        body : Held
+        body : InHand
         body = record { log = log; since = length log.entries; frame = None; from = length v.sights; killed = [] }
 
   -- ---- the shelf is empty, as the page is in a frame
@@ -148,7 +148,7 @@ module _ (layout : Layout) (w : Words) (homes : Homes) (views : List View) (seat
     bare = record { page = page; resident = true; cache = None; trans = None }
 
     -- the body is in hand, from the frame that the cache word names
-    module _ (place : ℕ) (body : Held) (at : slice_get v.bodies place ≡ Some body) (number : body.log.page.0 ≡ page.0) where
+    module _ (place : ℕ) (body : InHand) (at : slice_get v.bodies place ≡ Some body) (number : body.log.page.0 ≡ page.0) where
       cached : slice_get w.caches body.log.page.0 ≡ Some (frame_name body.frame)
       cached = elim (h.bodies.in_hand seat (holder_of v) (at_map holder_of views seat v me) place body at) [
         | inl locked ↦ absurd (omega (arith, locked, none-on body.log.page.0))
@@ -167,7 +167,7 @@ module _ (layout : Layout) (w : Words) (homes : Homes) (views : List View) (seat
       knows-body = knows-knowing layout w.trans w.caches body.log body.frame bare shaped.trans (sym number) cached
           (h.fits.in_hand seat (v.pages, v.bodies) my_fit place body at (none-on body.log.page.0)) (in-frame (frame_name body.frame) (ap (slice_get w.caches) (sym number) ∙ cached))
 
-    keeps-empty : (b : Option Held) → body_of page v ≡ b → FrameRule layout words (set homes shelf None) (set views seat (record v { pages = lock_of_page layout page None b ∷ [] }))
+    keeps-empty : (b : Option InHand) → body_of page v ≡ b → FrameRule layout words (set homes shelf None) (set views seat (record v { pages = lock_of_page layout page None b ∷ [] }))
     keeps-empty None e = keeps-lock-empty bare refl
         (record { resident = λ c at. in-frame c at; cache = λ c is. absurd (none-some c is); words = λ ws is n t decl own. absurd (none-some ws is) })
         (λ i b at some.
@@ -202,10 +202,10 @@ module _ (layout : Layout) (w : Words) (homes : Homes) (views : List View) (seat
     knows = knows-knowing layout w.trans w.caches log None (record { page = page; resident = false; cache = None; trans = None }) shaped.trans (sym both.1)
         (ap (slice_get w.caches) both.1 ∙ cache-there ∙ ap (λ (n : ℕ). Some n) both.0) (h.fits.at_home shelf log inside) refl
 
-    lists : (b : Option Held) → changed (is_page_lock_of log.page) (knowing layout log None) (v.pages ++ lock_of_page layout page (Some log) b ∷ []) ≡ new ∷ []
+    lists : (b : Option InHand) → changed (is_page_lock_of log.page) (knowing layout log None) (v.pages ++ lock_of_page layout page (Some log) b ∷ []) ≡ new ∷ []
     lists b = ap (λ (l : List PageLock). changed (is_page_lock_of log.page) (knowing layout log None) (l ++ lock_of_page layout page (Some log) b ∷ [])) none ∙ by b
       where
-        by : (b : Option Held) → changed (is_page_lock_of log.page) (knowing layout log None) (lock_of_page layout page (Some log) b ∷ []) ≡ new ∷ []
+        by : (b : Option InHand) → changed (is_page_lock_of log.page) (knowing layout log None) (lock_of_page layout page (Some log) b ∷ []) ≡ new ∷ []
         by None = ap (λ (t : Bool). cond t new (lock_of_page layout page (Some log) None) ∷ []) (same-number page.0 log.page.0 (sym both.1))
         by (Some body) = ap (λ (t : Bool). cond t new (lock_of_page layout page (Some log) (Some body)) ∷ []) (same-number page.0 log.page.0 (sym both.1))
 

@@ -6,7 +6,7 @@ use Rattle.hwp_geom.specs.declared.Layout.{Layout}
 use Rattle.hwp_words.specs.Frames.{lock_of, owner_of}
 use Rattle.hwp_rule.specs.declared.log.Log.{Log}
 use Rattle.hwp_rule.specs.declared.view.FrameLock.{FrameLock}
-use Rattle.hwp_rule.specs.declared.view.Held.{Held}
+use Rattle.hwp_rule.specs.declared.view.InHand.{InHand}
 use Rattle.hwp_rule.specs.declared.view.Length.{Length}
 use Rattle.hwp_rule.specs.declared.view.PageLock.{PageLock}
 use Rattle.hwp_rule.specs.declared.view.View.{View}
@@ -25,7 +25,7 @@ use Rattle.hwp_rule.proofs.Kept
 
 -- The word of page p becomes `now`, its shelf y; of a view v the page locks, the bodies in hand and the lengths become
 -- these. Of y, and of each new member, what the parts ask of it.
-pub record Paging (layout : Layout) (w : Words) (homes : Homes) (views : List View) (seat : ℕ) (v : View) (p word now : ℕ) (y : Option (Option Log)) (pages : List PageLock) (bodies : List Held) (lengths : List Length) : Type 1 where
+pub record Paging (layout : Layout) (w : Words) (homes : Homes) (views : List View) (seat : ℕ) (v : View) (p word now : ℕ) (y : Option (Option Log)) (pages : List PageLock) (bodies : List InHand) (lengths : List Length) : Type 1 where
   pub carries : Carries layout w homes views seat v (layout.frames + p) y pages bodies lengths
   -- the lock
   pub here : lock_of now + page_locks_on p v.pages ≡ lock_of word + page_locks_on p pages
@@ -35,9 +35,9 @@ pub record Paging (layout : Layout) (w : Words) (homes : Homes) (views : List Vi
   -- the shelf
   pub free_home : lock_of now ≡ 0 → (c : ℕ) → slice_get w.caches p ≡ Some c → IsAtHome (set homes (layout.frames + p) y) (layout.frames + p) (cond (c == 0) (p + 1) 0)
   pub out : lock_of now ≡ 1 → slice_get (set homes (layout.frames + p) y) (layout.frames + p) ≡ Some None
-  pub in_hand : EachMember (λ (b : Held). IsHolding b (record { locks = v.locks; pages = pages; bodies = bodies })) bodies
+  pub in_hand : EachMember (λ (b : InHand). IsHolding b (record { locks = v.locks; pages = pages; bodies = bodies })) bodies
 
-module _ (layout : Layout) (w : Words) (homes : Homes) (views : List View) (seat : ℕ) (v : View) (p word now : ℕ) (y : Option (Option Log)) (pages : List PageLock) (bodies : List Held) (lengths : List Length) where
+module _ (layout : Layout) (w : Words) (homes : Homes) (views : List View) (seat : ℕ) (v : View) (p word now : ℕ) (y : Option (Option Log)) (pages : List PageLock) (bodies : List InHand) (lengths : List Length) where
   abbrev u : View
   u = record v { pages = pages; bodies = bodies; lengths = lengths }
 
@@ -111,7 +111,7 @@ module _ (layout : Layout) (w : Words) (homes : Homes) (views : List View) (seat
         | inr t ↦ set_else homes (layout.frames + p) (layout.frames + q) y (λ e. t.0 (omega (arith, e))) ∙ h.bodies.shelf_out q z t.1 locked
       ];
       one = Carrying.one-carried layout w homes views seat v me h (layout.frames + p) y v.locks pages bodies lengths x.carries;
-      in_hand = each-set (λ (o : Holder). EachMember (λ (b : Held). IsHolding b o) o.bodies) (map holder_of views) seat (holder_of u) x.in_hand h.bodies.in_hand;
+      in_hand = each-set (λ (o : Holder). EachMember (λ (b : InHand). IsHolding b o) o.bodies) (map holder_of views) seat (holder_of u) x.in_hand h.bodies.in_hand;
     }
 
     pub keeps-paging : FrameRule layout (record w { pages = set w.pages p now }) (set homes (layout.frames + p) y) (set views seat u)

@@ -13,7 +13,7 @@ use Rattle.hwp_words.proofs.FrameSteps.{fields-unlock}
 use Rattle.hwp_rule.specs.declared.log.Log.{Log}
 use Rattle.hwp_rule.specs.declared.step.Step.TheVariants as steps
 use Rattle.hwp_rule.specs.declared.view.FrameLock.{FrameLock}
-use Rattle.hwp_rule.specs.declared.view.Held.{Held}
+use Rattle.hwp_rule.specs.declared.view.InHand.{InHand}
 use Rattle.hwp_rule.specs.declared.view.PageLock.{PageLock}
 use Rattle.hwp_rule.specs.declared.view.View.{View}
 use Rattle.hwp_rule.specs.Asks.{CanUnlockPage, CanGoHome}
@@ -104,17 +104,17 @@ module _ (layout : Layout) (w : Words) (homes : Homes) (views : List View) (seat
           is-page true e = eqb-true page.0 q e
           is-page false e = absurd (omega (arith, both.page, mine-on q, ap from_bool e))
 
-  my_fit : slice_get {X = List PageLock × List Held} (map (λ (v : View). (v.pages, v.bodies)) views) seat ≡ Some (v.pages, v.bodies)
+  my_fit : slice_get {X = List PageLock × List InHand} (map (λ (v : View). (v.pages, v.bodies)) views) seat ≡ Some (v.pages, v.bodies)
   my_fit = at_map (λ (v : View). (v.pages, v.bodies)) views seat v me
 
   -- bodies of other pages don't need the lock
-  held-still : (bodies : List Held) (b : Held) → b.log.page.0 ≢ page.0 → IsHolding b (holder_of v) → IsHolding b (record { locks = v.locks; pages = []; bodies = bodies })
+  held-still : (bodies : List InHand) (b : InHand) → b.log.page.0 ≢ page.0 → IsHolding b (holder_of v) → IsHolding b (record { locks = v.locks; pages = []; bodies = bodies })
   held-still bodies b other holds = elim holds [
     | inl locked ↦ absurd (omega (arith, locked, others b.log.page.0 other))
     | inr some ↦ inr some
   ]
 
-  fits-still : (b : Held) → b.log.page.0 ≢ page.0 → (page_locks_on b.log.page.0 v.pages ≡ 0 → Fits layout w.trans w.caches b.log) → Fits layout w.trans w.caches b.log
+  fits-still : (b : InHand) → b.log.page.0 ≢ page.0 → (page_locks_on b.log.page.0 v.pages ≡ 0 → Fits layout w.trans w.caches b.log) → Fits layout w.trans w.caches b.log
   fits-still b other fits = fits (sym (others b.log.page.0 other))
 
   -- the shelf has what the cache word asks
@@ -142,17 +142,17 @@ module _ (layout : Layout) (w : Words) (homes : Homes) (views : List View) (seat
         in_hand = λ i b at. held-still v.bodies b (other i b at) (h.bodies.in_hand seat (holder_of v) (at_map holder_of views seat v me) i b at);
       }))
     where
-      other : (i : ℕ) (b : Held) → slice_get v.bodies i ≡ Some b → b.log.page.0 ≢ page.0
+      other : (i : ℕ) (b : InHand) → slice_get v.bodies i ≡ Some b → b.log.page.0 ≢ page.0
       other i b at = eqb-false b.log.page.0 page.0 (find-none (is_body_of page) v.bodies away i b at)
 
-  pub keeps-unlock-body : (log : Log) (place : ℕ) (body : Held) → slice_get v.bodies place ≡ Some body → is_body_of log.page body ≡ true → body.log ≡ log → log.page.0 < length layout.pages → log.page.0 ≡ page.0
+  pub keeps-unlock-body : (log : Log) (place : ℕ) (body : InHand) → slice_get v.bodies place ≡ Some body → is_body_of log.page body ≡ true → body.log ≡ log → log.page.0 < length layout.pages → log.page.0 ≡ page.0
       → content_name (Some log) ≡ cond lock.resident 0 (page.0 + 1) → AreEnded layout w.processes log.entries → Fits layout w.trans w.caches log
       → FrameRule layout words (set homes shelf (Some (Some log))) (set views seat (record v { pages = without (is_page_lock_of page) v.pages; bodies = without (is_body_of log.page) v.bodies }))
   keeps-unlock-body log place body at is log_is within same named ended fit =
       subst (λ (l : List PageLock). FrameRule layout words (set homes shelf (Some (Some log))) (set views seat (record v { pages = l; bodies = left }))) (sym none-left)
       (keeps-paging layout w homes views seat v page.0 found now (Some (Some log)) [] left v.lengths me h shaped there (record {
         carries = carry-home layout w homes views seat v me h log place body at is within log_is shelf [] out ended fit
-            (λ i b there unlisted. fits-still b (other i b there) (each-without (λ (b : Held). page_locks_on b.log.page.0 v.pages ≡ 0 → Fits layout w.trans w.caches b.log) (is_body_of log.page) v.bodies (h.fits.in_hand seat (v.pages, v.bodies) my_fit) i b there))
+            (λ i b there unlisted. fits-still b (other i b there) (each-without (λ (b : InHand). page_locks_on b.log.page.0 v.pages ≡ 0 → Fits layout w.trans w.caches b.log) (is_body_of log.page) v.bodies (h.fits.in_hand seat (v.pages, v.bodies) my_fit) i b there))
             (λ i l e. absurd (none-some l e)) (λ i b there some. absurd (omega (arith, some)));
         here = here;
         others = others;
@@ -161,13 +161,13 @@ module _ (layout : Layout) (w : Words) (homes : Homes) (views : List View) (seat
         free_home = λ free c cache. record { content = Some log; there = set_here homes shelf (Some (Some log)) None out; named = name-is (Some log) named c cache };
         out = λ is. absurd (omega (arith, is, (fields-unlock found).lock));
         in_hand = λ i b there. held-still left b (other i b there)
-            (each-without (λ (b : Held). IsHolding b (holder_of v)) (is_body_of log.page) v.bodies (h.bodies.in_hand seat (holder_of v) (at_map holder_of views seat v me)) i b there);
+            (each-without (λ (b : InHand). IsHolding b (holder_of v)) (is_body_of log.page) v.bodies (h.bodies.in_hand seat (holder_of v) (at_map holder_of views seat v me)) i b there);
       }))
     where
-      left : List Held
+      left : List InHand
       left = without (is_body_of log.page) v.bodies
 
-      other : (i : ℕ) (b : Held) → slice_get left i ≡ Some b → b.log.page.0 ≢ page.0
+      other : (i : ℕ) (b : InHand) → slice_get left i ≡ Some b → b.log.page.0 ≢ page.0
       other i b there e = eqb-false b.log.page.0 log.page.0 (another layout w homes views seat v me h log place body at is within i b there) (e ∙ sym same)
 
 -- the page's body goes home to its shelf

@@ -6,7 +6,7 @@ use Rattle.hwp_geom.specs.declared.Layout.{Layout}
 use Rattle.hwp_geom.specs.declared.Page.{Page}
 use Rattle.hwp_rule.specs.declared.log.Log.{Log}
 use Rattle.hwp_rule.specs.declared.view.FrameLock.{FrameLock}
-use Rattle.hwp_rule.specs.declared.view.Held.{Held}
+use Rattle.hwp_rule.specs.declared.view.InHand.{InHand}
 use Rattle.hwp_rule.specs.declared.view.PageLock.{PageLock}
 use Rattle.hwp_rule.specs.declared.view.View.{View}
 use Rattle.hwp_rule.specs.Lists.{Homes, EachMember, sum_bodies}
@@ -40,7 +40,7 @@ module _ (layout : Layout) (w : Words) (homes : Homes) (views : List View) (seat
   abbrev holders : List Holder
   holders = map holder_of views
 
-  abbrev fitting : List (List PageLock × List Held)
+  abbrev fitting : List (List PageLock × List InHand)
   fitting = map (λ (v : View). (v.pages, v.bodies)) views
 
   pub locks-listed : PageLocksHeld w.pages (set pages seat listing.pages) (map (λ (v : View). v.locks) views)
@@ -69,7 +69,7 @@ module _ (layout : Layout) (w : Words) (homes : Homes) (views : List View) (seat
     ];
   }
 
-  still-holding : (b : Held) → IsHolding b (holder_of v) → IsHolding b (holder_of listing)
+  still-holding : (b : InHand) → IsHolding b (holder_of v) → IsHolding b (holder_of listing)
   still-holding b (inl locked) = inl (subst (λ (n : ℕ). 0 < n) (sym (same-locks test to same v.pages b.log.page.0)) locked)
   still-holding b (inr some) = inr some
 
@@ -81,26 +81,26 @@ module _ (layout : Layout) (w : Words) (homes : Homes) (views : List View) (seat
     shelf_out = h.bodies.shelf_out;
     one = λ q declared.
         keep (λ (x : Holder). x.bodies) (λ l. OneBody q l) holders seat (holder_of v) (holder_of listing) there refl (h.bodies.one q declared);
-    in_hand = each-set (λ (x : Holder). EachMember (λ (b : Held). IsHolding b x) x.bodies) holders seat (holder_of listing)
-        (each-weaken (λ (b : Held). IsHolding b (holder_of v)) (λ (b : Held). IsHolding b (holder_of listing)) v.bodies (λ b holding. still-holding b holding)
+    in_hand = each-set (λ (x : Holder). EachMember (λ (b : InHand). IsHolding b x) x.bodies) holders seat (holder_of listing)
+        (each-weaken (λ (b : InHand). IsHolding b (holder_of v)) (λ (b : InHand). IsHolding b (holder_of listing)) v.bodies (λ b holding. still-holding b holding)
         (h.bodies.in_hand seat (holder_of v) there)) h.bodies.in_hand;
   }
     where
-      OneBody : ℕ → List (List Held) → Type 0
+      OneBody : ℕ → List (List InHand) → Type 0
       OneBody q l = sum_bodies (λ (log : Log). from_bool (log.page.0 == q)) homes l ≡ 1
 
       there : slice_get holders seat ≡ Some (holder_of v)
       there = at_map holder_of views seat v me
 
-  fits-listed : EachMember (KnowsWords layout w.trans w.caches) listing.pages → ((b : Held) → KnowsOwn v.pages b → KnowsOwn listing.pages b) → PageFits layout w.trans w.caches homes (set fitting seat (listing.pages, v.bodies))
+  fits-listed : EachMember (KnowsWords layout w.trans w.caches) listing.pages → ((b : InHand) → KnowsOwn v.pages b → KnowsOwn listing.pages b) → PageFits layout w.trans w.caches homes (set fitting seat (listing.pages, v.bodies))
   fits-listed knows own = record {
     at_home = h.fits.at_home;
-    in_hand = each-set (λ (x : List PageLock × List Held). EachMember (λ (b : Held). page_locks_on b.log.page.0 x.0 ≡ 0 → Fits layout w.trans w.caches b.log) x.1) fitting seat (listing.pages, v.bodies)
-        (each-weaken (λ (b : Held). page_locks_on b.log.page.0 v.pages ≡ 0 → Fits layout w.trans w.caches b.log) (λ (b : Held). page_locks_on b.log.page.0 listing.pages ≡ 0 → Fits layout w.trans w.caches b.log) v.bodies
+    in_hand = each-set (λ (x : List PageLock × List InHand). EachMember (λ (b : InHand). page_locks_on b.log.page.0 x.0 ≡ 0 → Fits layout w.trans w.caches b.log) x.1) fitting seat (listing.pages, v.bodies)
+        (each-weaken (λ (b : InHand). page_locks_on b.log.page.0 v.pages ≡ 0 → Fits layout w.trans w.caches b.log) (λ (b : InHand). page_locks_on b.log.page.0 listing.pages ≡ 0 → Fits layout w.trans w.caches b.log) v.bodies
         (λ b fits none. fits (sym (same-locks test to same v.pages b.log.page.0) ∙ none)) (h.fits.in_hand seat (v.pages, v.bodies) there)) h.fits.in_hand;
-    known = each-set (λ (x : List PageLock × List Held). EachMember (KnowsWords layout w.trans w.caches) x.0) fitting seat (listing.pages, v.bodies) knows h.fits.known;
-    own = each-set (λ (x : List PageLock × List Held). EachMember (λ (b : Held). 0 < page_locks_on b.log.page.0 x.0 → KnowsOwn x.0 b) x.1) fitting seat (listing.pages, v.bodies)
-        (each-weaken (λ (b : Held). 0 < page_locks_on b.log.page.0 v.pages → KnowsOwn v.pages b) (λ (b : Held). 0 < page_locks_on b.log.page.0 listing.pages → KnowsOwn listing.pages b) v.bodies
+    known = each-set (λ (x : List PageLock × List InHand). EachMember (KnowsWords layout w.trans w.caches) x.0) fitting seat (listing.pages, v.bodies) knows h.fits.known;
+    own = each-set (λ (x : List PageLock × List InHand). EachMember (λ (b : InHand). 0 < page_locks_on b.log.page.0 x.0 → KnowsOwn x.0 b) x.1) fitting seat (listing.pages, v.bodies)
+        (each-weaken (λ (b : InHand). 0 < page_locks_on b.log.page.0 v.pages → KnowsOwn v.pages b) (λ (b : InHand). 0 < page_locks_on b.log.page.0 listing.pages → KnowsOwn listing.pages b) v.bodies
         (λ b knows some. own b (knows (subst (λ (n : ℕ). 0 < n) (same-locks test to same v.pages b.log.page.0) some))) (h.fits.own seat (v.pages, v.bodies) there)) h.fits.own;
   }
     where
@@ -108,7 +108,7 @@ module _ (layout : Layout) (w : Words) (homes : Homes) (views : List View) (seat
       there = at_map (λ (v : View). (v.pages, v.bodies)) views seat v me
 
   -- the view may list so of its page's lock
-  pub keeps-listing : EachMember (KnowsWords layout w.trans w.caches) listing.pages → ((b : Held) → KnowsOwn v.pages b → KnowsOwn listing.pages b) → FrameRule layout w homes (set views seat listing)
+  pub keeps-listing : EachMember (KnowsWords layout w.trans w.caches) listing.pages → ((b : InHand) → KnowsOwn v.pages b → KnowsOwn listing.pages b) → FrameRule layout w homes (set views seat listing)
   keeps-listing knows own = record {
     counts = Kept.kept-counts views seat v u me w.frames w.trans w.caches refl h.counts;
     places = Kept.kept-places views seat v u me layout.kernel w.frames w.frees refl h.places;

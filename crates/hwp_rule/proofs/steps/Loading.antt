@@ -8,7 +8,7 @@ use Rattle.hwp_geom.specs.declared.VSlot.{VSlot}
 use Rattle.hwp_rule.specs.declared.place.Place.{Place}
 use Rattle.hwp_rule.specs.declared.place.Place.TheVariants as places
 use Rattle.hwp_rule.specs.declared.step.Step.TheVariants as steps
-use Rattle.hwp_rule.specs.declared.view.Held.{Held}
+use Rattle.hwp_rule.specs.declared.view.InHand.{InHand}
 use Rattle.hwp_rule.specs.declared.view.PageLock.{PageLock}
 use Rattle.hwp_rule.specs.declared.view.View.{View}
 use Rattle.hwp_rule.specs.Lists.{EachMember}
@@ -113,7 +113,7 @@ keeps-load-cache page layout w homes views seat v who content given =
         })
         (given.rule.fits.known seat (v.pages, v.bodies) (at_map (λ (v : View). (v.pages, v.bodies)) views seat v given.me))
 
-    own : (b : Held) → KnowsOwn v.pages b → KnowsOwn u.pages b
+    own : (b : InHand) → KnowsOwn v.pages b → KnowsOwn u.pages b
     own b k = which (test k.lock) refl
       where
         which : (c : Bool) → test k.lock ≡ c → KnowsOwn u.pages b

@@ -12,7 +12,7 @@ use Rattle.hwp_words.proofs.FrameSteps.{FieldsAre}
 use Rattle.hwp_rule.specs.declared.log.Log.{Log}
 use Rattle.hwp_rule.specs.declared.view.Debts.{Debts}
 use Rattle.hwp_rule.specs.declared.view.FrameLock.{FrameLock}
-use Rattle.hwp_rule.specs.declared.view.Held.{Held}
+use Rattle.hwp_rule.specs.declared.view.InHand.{InHand}
 use Rattle.hwp_rule.specs.declared.view.Mark.{Mark}
 use Rattle.hwp_rule.specs.declared.view.Ref.{Ref}
 use Rattle.hwp_rule.specs.declared.view.View.{View}
@@ -154,17 +154,17 @@ module _ (layout : Layout) (w : Words) (homes : Homes) (views : List View) (seat
             let it : from_bool (l.frame.0 == frame.0) ≡ 1 = ap from_bool (same-number l.frame.0 frame.0 same) in
             omega (arith, mine, locked, one, two, first, it)
 
-    bodies-owning : EachMember (λ (b : Held). IsHolding b (holder_of owning)) v.bodies → BodiesAtHome layout frames w.caches w.pages homes (set (map holder_of views) seat (holder_of owning))
+    bodies-owning : EachMember (λ (b : InHand). IsHolding b (holder_of owning)) v.bodies → BodiesAtHome layout frames w.caches w.pages homes (set (map holder_of views) seat (holder_of owning))
     bodies-owning holding = record {
       frame_home = at-frame (λ g x. lock_of x ≡ 0 → IsAtHome homes g (owner_of x)) (λ free. absurd (omega (arith, free, locked, are.lock))) (λ g x differs at free. h.bodies.frame_home g x at free);
       frame_out = at-frame (λ g x. lock_of x ≡ 1 → slice_get homes g ≡ Some None) (λ is. h.bodies.frame_out frame.0 word there locked) (λ g x differs at is. h.bodies.frame_out g x at is);
       shelf_home = h.bodies.shelf_home;
       shelf_out = h.bodies.shelf_out;
       one = λ q declared. keep (λ (x : Holder). x.bodies) (OneBody q) (map holder_of views) seat (holder_of v) (holder_of owning) (at_map holder_of views seat v me) refl (h.bodies.one q declared);
-      in_hand = each-set (λ (x : Holder). EachMember (λ (b : Held). IsHolding b x) x.bodies) (map holder_of views) seat (holder_of owning) holding h.bodies.in_hand;
+      in_hand = each-set (λ (x : Holder). EachMember (λ (b : InHand). IsHolding b x) x.bodies) (map holder_of views) seat (holder_of owning) holding h.bodies.in_hand;
     }
       where
-        OneBody : ℕ → List (List Held) → Type 0
+        OneBody : ℕ → List (List InHand) → Type 0
         OneBody q l = sum_bodies (λ (log : Log). from_bool (log.page.0 == q)) homes l ≡ 1
 
     handled-owning : HandledIsPoisoned frames
@@ -227,7 +227,7 @@ module _ (layout : Layout) (w : Words) (homes : Homes) (views : List View) (seat
     -- the rule stays, where the parts on owners do
     pub kept-owning : TranslationsOwned layout.trans frames w.trans
         → CacheWordsOwned frames w.caches (set (map (λ (v : View). (v.locks, v.pages)) views) seat (owning.locks, v.pages))
-        → EachMember (λ (b : Held). IsHolding b (holder_of owning)) v.bodies
+        → EachMember (λ (b : InHand). IsHolding b (holder_of owning)) v.bodies
         → FrameRule layout (record w { frames = frames }) homes (set views seat owning)
     kept-owning translations caches holding = record {
       counts = Kept.kept-counts views seat v owning me frames w.trans w.caches refl counts-owning;

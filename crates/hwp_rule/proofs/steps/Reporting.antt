@@ -6,7 +6,7 @@ use Rattle.std.proofs.lemmas.List.Sums.{sum_by_push}
 use Rattle.hwp_geom.specs.declared.FileNo.{FileNo}
 use Rattle.hwp_rule.specs.declared.place.Place.TheVariants as places
 use Rattle.hwp_rule.specs.declared.step.Step.TheVariants as steps
-use Rattle.hwp_rule.specs.declared.view.Held.{Held}
+use Rattle.hwp_rule.specs.declared.view.InHand.{InHand}
 use Rattle.hwp_rule.specs.declared.view.Reported.{Reported}
 use Rattle.hwp_rule.specs.declared.view.View.{View}
 use Rattle.hwp_rule.specs.Lists.{sum_bodies}
@@ -85,7 +85,7 @@ keeps-report-lost file layout w homes views seat v who content given =
     losings : List Losing
     losings = map losing_of all
 
-    bodies : List (List Held)
+    bodies : List (List InHand)
     bodies = map (λ (v : View). v.bodies) all
 
     there : slice_get losings seat ≡ Some (losing_of seen)

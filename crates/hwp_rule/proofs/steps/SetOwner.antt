@@ -11,7 +11,7 @@ use Rattle.hwp_words.specs.Frames.{lock_of, poison_of, handled_of, kernel_of, co
 use Rattle.hwp_words.proofs.FrameSteps.{FieldsAre, fields-set_owner}
 use Rattle.hwp_rule.specs.declared.step.Step.TheVariants as steps
 use Rattle.hwp_rule.specs.declared.view.FrameLock.{FrameLock}
-use Rattle.hwp_rule.specs.declared.view.Held.{Held}
+use Rattle.hwp_rule.specs.declared.view.InHand.{InHand}
 use Rattle.hwp_rule.specs.declared.view.PageLock.{PageLock}
 use Rattle.hwp_rule.specs.declared.view.View.{View}
 use Rattle.hwp_rule.specs.Asks.{HasLock, CanOwn, CanDisown}
@@ -109,10 +109,10 @@ module _ (layout : Layout) (w : Words) (homes : Homes) (views : List View) (seat
       here = at_map (λ (v : View). (v.locks, v.pages)) views seat v me
 
   -- a body in hand is still held, where it isn't by this frame's lock, or by the page's
-  holding-owning : ((q : ℕ) → owner_of word ≡ q + 1 → 0 < page_locks_on q v.pages) → EachMember (λ (b : Held). IsHolding b (holder_of u)) v.bodies
-  holding-owning by_page = each-weaken (λ (b : Held). IsHolding b (holder_of v)) (λ (b : Held). IsHolding b (holder_of u)) v.bodies (λ b is. still b is) (h.bodies.in_hand seat (holder_of v) (at_map holder_of views seat v me))
+  holding-owning : ((q : ℕ) → owner_of word ≡ q + 1 → 0 < page_locks_on q v.pages) → EachMember (λ (b : InHand). IsHolding b (holder_of u)) v.bodies
+  holding-owning by_page = each-weaken (λ (b : InHand). IsHolding b (holder_of v)) (λ (b : InHand). IsHolding b (holder_of u)) v.bodies (λ b is. still b is) (h.bodies.in_hand seat (holder_of v) (at_map holder_of views seat v me))
     where
-      still : (b : Held) → IsHolding b (holder_of v) → IsHolding b (holder_of u)
+      still : (b : InHand) → IsHolding b (holder_of v) → IsHolding b (holder_of u)
       still held (inl page_lock) = inl page_lock
       still held (inr some) = elim (same-or some.1.frame.0 frame.0) [
         | inl same ↦ inl (by_page held.log.page.0 ((locked some.0 some.1 some.2 same).0 ∙ some.3.0))

@@ -9,7 +9,7 @@ use Rattle.hwp_words.specs.Stops.{stopper_of}
 use Rattle.hwp_words.proofs.OtherSteps.{stopper_of-stop, stopper_of-give_up}
 use Rattle.hwp_rule.specs.declared.place.Place.TheVariants as places
 use Rattle.hwp_rule.specs.declared.step.Step.TheVariants as steps
-use Rattle.hwp_rule.specs.declared.view.Held.{Held}
+use Rattle.hwp_rule.specs.declared.view.InHand.{InHand}
 use Rattle.hwp_rule.specs.declared.view.Sight.{Sight}
 use Rattle.hwp_rule.specs.declared.view.View.{View}
 use Rattle.hwp_rule.specs.Lists.{EachMember, EachListed}
@@ -44,7 +44,7 @@ keeps-stop cpu layout w homes views seat v who content given = arm (w.stop == 0)
     sights : List (List Sight)
     sights = map (λ (v : View). v.sights) views
 
-    bodies : List (List Held)
+    bodies : List (List InHand)
     bodies = map (λ (v : View). v.bodies) views
 
     there : slice_get stops seat ≡ Some v.stops

@@ -6,7 +6,7 @@ use Rattle.hwp_words.specs.Frames.{owner_of, lock_of}
 use Rattle.hwp_rule.specs.declared.log.Log.{Log}
 use Rattle.hwp_rule.specs.declared.view.FrameLock.{FrameLock}
 use Rattle.hwp_rule.specs.declared.view.PageLock.{PageLock}
-use Rattle.hwp_rule.specs.declared.view.Held.{Held}
+use Rattle.hwp_rule.specs.declared.view.InHand.{InHand}
 use Rattle.hwp_rule.specs.Lists.{Homes, EachMember, SomeMember, sum_bodies}
 use Rattle.hwp_rule.specs.Views.{page_locks_on}
 
@@ -14,7 +14,7 @@ use Rattle.hwp_rule.specs.Views.{page_locks_on}
 pub record Holder : Type 0 where
   pub locks : List FrameLock
   pub pages : List PageLock
-  pub bodies : List Held
+  pub bodies : List InHand
 
 -- the page of the body in a slot, plus 1, or 0 for an empty slot
 abbrev pub content_name : Option Log → ℕ
@@ -28,11 +28,11 @@ pub record IsAtHome (homes : Homes) (slot name : ℕ) : Type 0 where
   pub named : content_name content ≡ name
 
 -- the lock is that of the frame that the body was in, and the body's page owns the frame
-abbrev pub IsLockFor : Held → FrameLock → Type 0
+abbrev pub IsLockFor : InHand → FrameLock → Type 0
 IsLockFor b l = (l.owner ≡ b.log.page.0 + 1) × (b.frame ≡ Some l.frame)
 
 -- the view has the page's lock, or the lock of the frame that the body was in and that the page owns
-abbrev pub IsHolding : Held → Holder → Type 0
+abbrev pub IsHolding : InHand → Holder → Type 0
 IsHolding b h = (0 < page_locks_on b.log.page.0 h.pages) ⊎ SomeMember (IsLockFor b) h.locks
 
 -- Each page has exactly one body. An unlocked frame has its owner's body in its slot, and none without owner; an unlocked
@@ -45,4 +45,4 @@ pub record BodiesAtHome (layout : Layout) (frames caches pages : List ℕ) (home
   pub shelf_home : (q w c : ℕ) → slice_get pages q ≡ Some w → slice_get caches q ≡ Some c → lock_of w ≡ 0 → IsAtHome homes (layout.frames + q) (cond (c == 0) (q + 1) 0)
   pub shelf_out : (q w : ℕ) → slice_get pages q ≡ Some w → lock_of w ≡ 1 → slice_get homes (layout.frames + q) ≡ Some None
   pub one : (q : ℕ) → q < length layout.pages → sum_bodies (λ (log : Log). from_bool (log.page.0 == q)) homes (map (λ (h : Holder). h.bodies) held) ≡ 1
-  pub in_hand : EachMember (λ (h : Holder). EachMember (λ (b : Held). IsHolding b h) h.bodies) held
+  pub in_hand : EachMember (λ (h : Holder). EachMember (λ (b : InHand). IsHolding b h) h.bodies) held

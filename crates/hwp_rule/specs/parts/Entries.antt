@@ -12,7 +12,7 @@ use Rattle.hwp_page.specs.declared.What.TheVariants as entries
 use Rattle.hwp_rule.specs.declared.log.Log.{Log}
 use Rattle.hwp_rule.specs.declared.place.Place.{Place}
 use Rattle.hwp_rule.specs.declared.place.Place.TheVariants as places
-use Rattle.hwp_rule.specs.declared.view.Held.{Held}
+use Rattle.hwp_rule.specs.declared.view.InHand.{InHand}
 use Rattle.hwp_rule.specs.declared.view.Length.{Length}
 use Rattle.hwp_rule.specs.declared.view.Made.{Made}
 use Rattle.hwp_rule.specs.declared.view.Sight.{Sight}
@@ -55,7 +55,7 @@ HasSeen sights who frame _ = Unit {0}
 -- The entries of the bodies are those that the views list, each at its place: whatever is summed over the ones is the same
 -- over the others. A view has the sights that its entries need, and no body is shorter than a view has seen it. Broken by:
 -- an entry appended and not listed; an older copy of a body put back; a load listed without the mask that was shown.
-pub record EntriesListed (homes : Homes) (bodies : List (List Held)) (made : List (List Made × List Sight)) (lengths : List (List Length)) : Type 0 where
+pub record EntriesListed (homes : Homes) (bodies : List (List InHand)) (made : List (List Made × List Sight)) (lengths : List (List Length)) : Type 0 where
   pub balance : (f : Page → ℕ → Entry → ℕ) → sum_bodies (weigh f) homes bodies ≡ sum_by (λ (v : List Made × List Sight). sum_by (λ (m : Made). f m.page m.place m.entry) v.0) made
   pub shown : EachMember (λ (v : List Made × List Sight). EachMember (λ (m : Made). HasSeen v.1 m.entry.who m.frame m.entry.what) v.0) made
   pub lengths_reached : EachListed (λ (l : Length). EachBody (λ (log : Log). log.page ≡ l.page → l.entries ≤ length log.entries) homes bodies) lengths

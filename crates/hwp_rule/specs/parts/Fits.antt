@@ -3,7 +3,7 @@ use Rattle.std.specs.Prelude.{◌≡◌, ℕ, ◌<◌, ◌==◌, not, List, Some
 use Rattle.hwp_geom.specs.declared.Layout.{Layout}
 use Rattle.hwp_geom.specs.declared.TransDecl.{TransDecl}
 use Rattle.hwp_rule.specs.declared.log.Log.{Log}
-use Rattle.hwp_rule.specs.declared.view.Held.{Held}
+use Rattle.hwp_rule.specs.declared.view.InHand.{InHand}
 use Rattle.hwp_rule.specs.declared.view.PageLock.{PageLock}
 use Rattle.hwp_rule.specs.Lists.{Homes, EachMember}
 use Rattle.hwp_rule.specs.Logs.{state_of, fitting_word}
@@ -26,7 +26,7 @@ pub record KnowsWords (layout : Layout) (trans caches : List ℕ) (lock : PageLo
   pub words : (ws : List ℕ) → lock.trans ≡ Some ws → (v : ℕ) (t : TransDecl) → slice_get layout.trans v ≡ Some t → t.page ≡ lock.page → slice_get ws v ≡ slice_get trans v
 
 -- where a view with the page's lock has the page's body in hand, the lock lists the page's words
-pub record KnowsOwn (locks : List PageLock) (body : Held) : Type 0 where
+pub record KnowsOwn (locks : List PageLock) (body : InHand) : Type 0 where
   pub lock : PageLock
   pub there : slice_get locks 0 ≡ Some lock
   pub cache : ℕ
@@ -36,8 +36,8 @@ pub record KnowsOwn (locks : List PageLock) (body : Held) : Type 0 where
 
 -- The words of each page fit its state, unless one view has the page's lock and its body in hand; that view lists the words
 -- as they are. Broken by: a translation changed without its entry; an entry without its translation.
-pub record PageFits (layout : Layout) (trans caches : List ℕ) (homes : Homes) (held : List (List PageLock × List Held)) : Type 0 where
+pub record PageFits (layout : Layout) (trans caches : List ℕ) (homes : Homes) (held : List (List PageLock × List InHand)) : Type 0 where
   pub at_home : (i : ℕ) (log : Log) → slice_get homes i ≡ Some (Some (Some log)) → Fits layout trans caches log
-  pub in_hand : EachMember (λ (h : List PageLock × List Held). EachMember (λ (b : Held). page_locks_on b.log.page.0 h.0 ≡ 0 → Fits layout trans caches b.log) h.1) held
-  pub known : EachMember (λ (h : List PageLock × List Held). EachMember (KnowsWords layout trans caches) h.0) held
-  pub own : EachMember (λ (h : List PageLock × List Held). EachMember (λ (b : Held). 0 < page_locks_on b.log.page.0 h.0 → KnowsOwn h.0 b) h.1) held
+  pub in_hand : EachMember (λ (h : List PageLock × List InHand). EachMember (λ (b : InHand). page_locks_on b.log.page.0 h.0 ≡ 0 → Fits layout trans caches b.log) h.1) held
+  pub known : EachMember (λ (h : List PageLock × List InHand). EachMember (KnowsWords layout trans caches) h.0) held
+  pub own : EachMember (λ (h : List PageLock × List InHand). EachMember (λ (b : InHand). 0 < page_locks_on b.log.page.0 h.0 → KnowsOwn h.0 b) h.1) held

@@ -4,7 +4,7 @@ use Rattle.std.specs.List.{sum_by}
 use Rattle.std.specs.Int.{from_bool}
 use Rattle.hwp_geom.specs.declared.FileNo.{FileNo}
 use Rattle.hwp_geom.specs.declared.Layout.{Layout}
-use Rattle.hwp_rule.specs.declared.view.Held.{Held}
+use Rattle.hwp_rule.specs.declared.view.InHand.{InHand}
 use Rattle.hwp_rule.specs.declared.view.Made.{Made}
 use Rattle.hwp_rule.specs.declared.view.Mark.{Mark}
 use Rattle.hwp_rule.specs.declared.view.Reported.{Reported}
@@ -25,7 +25,7 @@ IsPoisonLoss v = sum_by (λ (m : Made). from_bool (is_loss m.entry.what)) v.made
 
 -- For each file the loss word, the losses that views reported and those that they owe are the losses in the histories of
 -- its pages. Broken by: a lost content that isn't counted; `report_lost` that leaves the word; `lose` of a file twice.
-pub record LossesBalance (layout : Layout) (losses : List ℕ) (homes : Homes) (bodies : List (List Held)) (views : List Losing) : Type 0 where
+pub record LossesBalance (layout : Layout) (losses : List ℕ) (homes : Homes) (bodies : List (List InHand)) (views : List Losing) : Type 0 where
   pub balance : (file : FileNo) (w : ℕ) → slice_get losses file.0 ≡ Some w
       → w + sum_by (λ (v : Losing). sum_by (λ (r : Reported). cond (r.file.0 == file.0) r.count 0) v.reported) views
       + sum_by (λ (v : Losing). sum_by (λ (n : FileNo). from_bool (n.0 == file.0)) v.owed) views

@@ -6,7 +6,7 @@ use Rattle.hwp_page.specs.declared.What.{What}
 use Rattle.hwp_page.specs.declared.What.TheVariants as entries
 use Rattle.hwp_words.specs.Frames.{poison_of}
 use Rattle.hwp_rule.specs.declared.log.Log.{Log}
-use Rattle.hwp_rule.specs.declared.view.Held.{Held}
+use Rattle.hwp_rule.specs.declared.view.InHand.{InHand}
 use Rattle.hwp_rule.specs.declared.view.Spoiled.{Spoiled}
 use Rattle.hwp_rule.specs.Lists.{Homes, EachBody, EachMember}
 
@@ -16,7 +16,7 @@ is_failure _ = false
 
 -- No frame has POISON, no view lists a spoiled line, and no history has a failure. This part goes when memory failure is
 -- served. Broken by: any `poison` or `spoil`.
-pub record NothingPoisonedYet (frames : List ℕ) (spoiled : List (List Spoiled)) (homes : Homes) (bodies : List (List Held)) : Type 0 where
+pub record NothingPoisonedYet (frames : List ℕ) (spoiled : List (List Spoiled)) (homes : Homes) (bodies : List (List InHand)) : Type 0 where
   pub sound : (f w : ℕ) → slice_get frames f ≡ Some w → poison_of w ≡ 0
   pub unspoiled : EachMember (λ (l : List Spoiled). length l ≡ 0) spoiled
   pub no_failure : EachBody (λ (log : Log). list_any (λ (e : Entry). is_failure e.what) log.entries ≡ false) homes bodies

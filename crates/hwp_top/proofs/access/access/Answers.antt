@@ -1,5 +1,5 @@
 use Rattle.std.proofs.Common.{slice_index_or}
-use Rattle.hwp_page.specs.History.{Held}
+use Rattle.hwp_page.specs.History.{BodyValue}
 use Rattle.std.proofs.Common.{arith}
 use Rattle.hwp_page.specs.declared.Entry.{Entry}
 use Rattle.hwp_page.specs.declared.At.{At}
@@ -17,7 +17,7 @@ pub returns-clause-answers : goal.returns-clause-answers
 returns-clause-answers c =
     let e : Entry = record { who = c.who_at-who.result; what = c.access_of-what.result.0 } in
     let at0 : At = record { page = c.args.page; entry = c.len.result } in
-    let h : Held = slice_index_or c.args.bodies.now c.from.result c.index-bodies-from.result in
+    let h : BodyValue = slice_index_or c.args.bodies.now c.from.result c.index-bodies-from.result in
     let there = read-at c.args.bodies.now c.args.page c.from.result c.index-bodies-from.result c.from.ensures (omega (arith, c.requires.machine.fit)) c.index-bodies-from.is in
     let same = counted-place c.args.bodies.now c.add.new.bodies c.in_ok-add.field-0 e c.args.page c.len.result h c.in_ok-add.ensures.added c.in_ok-add.ensures.place there c.len.ensures in
     Answers-given c.args.script.now c.args.seq c.args.command c.args.page c.access_of-what.result.1 e at0 c.in_ok-add.ensures.added same

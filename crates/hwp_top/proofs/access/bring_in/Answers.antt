@@ -1,5 +1,5 @@
 use Rattle.std.proofs.Common.{◌≡◌, false, slice_index_or, slice_set}
-use Rattle.hwp_page.specs.History.{Held}
+use Rattle.hwp_page.specs.History.{BodyValue}
 use Rattle.hwp_top.specs.Bench.{IsCached, Machine}
 use Rattle.std.proofs.Common.{ap, ◌∙◌, refl, subst, sym, arith}
 use Rattle.std.proofs.lemmas.Option.{same_Some}
@@ -22,7 +22,7 @@ pub add-requires-clause-allowed : goal.add-requires-clause-allowed
 add-requires-clause-allowed c h there =
     let read = read-at c.args.bodies.now c.args.page c.from.result c.index-bodies-from.result c.from.ensures (omega (arith, c.requires.machine.fit)) c.index-bodies-from.is in
     let mine : h ≡ slice_index_or c.args.bodies.now c.from.result c.index-bodies-from.result = same_Some _ _ (sym there ∙ read) in
-    let out : h.state.cached ≡ false = ap (λ (b : Held). b.state.cached) mine ∙ ap (λ (s : PageState). s.cached) (sym c.state.ensures.value) ∙ c.if-state.false in
+    let out : h.state.cached ≡ false = ap (λ (b : BodyValue). b.state.cached) mine ∙ ap (λ (s : PageState). s.cached) (sym c.state.ensures.value) ∙ c.if-state.false in
     (out, (c.requires.machine.each c.args.page h there).kept)
 
 pub returns-clause-machine : goal.returns-clause-machine

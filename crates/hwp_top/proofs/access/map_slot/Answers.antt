@@ -1,6 +1,6 @@
 use Rattle.std.proofs.Common.{◌≡◌, false, slice_index_or}
 use Rattle.std.specs.FinSet as set
-use Rattle.hwp_page.specs.History.{Held}
+use Rattle.hwp_page.specs.History.{BodyValue}
 use Rattle.hwp_top.specs.Bench.{IsMapped}
 use Rattle.std.proofs.Common.{ap, ◌∙◌, refl, subst, sym, arith}
 use Rattle.std.proofs.lemmas.Option.{same_Some}
@@ -19,7 +19,7 @@ add-requires-clause-allowed c h there =
     let read = read-at c.args.bodies.now c.args.page c.from.result c.index-bodies-from.result c.from.ensures (omega (arith, c.requires.machine.fit)) c.index-bodies-from.is in
     let mine : h ≡ slice_index_or c.args.bodies.now c.from.result c.index-bodies-from.result = same_Some _ _ (sym there ∙ read) in
     let unmapped : set.contains h.state.maps c.args.slot.0 ≡ false =
-    ap (λ (b : Held). set.contains b.state.maps c.args.slot.0) mine
+    ap (λ (b : BodyValue). set.contains b.state.maps c.args.slot.0) mine
     ∙ ap (λ (s : PageState). set.contains s.maps c.args.slot.0) (sym c.state.ensures.value) ∙ sym c.if-has.ensures in
     allowed-Map c.args.script.now c.args.bodies.now c.args.frames.now c.args.command c.args.page c.args.slot c.args.seq c.requires.machine c.requires.serves c.requires.cached
     c.requires.access h there unmapped

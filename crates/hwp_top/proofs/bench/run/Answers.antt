@@ -4,7 +4,7 @@ use Rattle.hwp_law.specs.Report.{IsReport}
 use Rattle.hwp_top.specs.Bench.{AreFresh, Reports}
 use Rattle.std.proofs.Common.{arith, drop, sym, subst, ap, ◌∙◌, slice_index_or}
 use Rattle.std.proofs.lemmas.Result.{IfOk-weaker}
-use Rattle.hwp_page.specs.History.{Held}
+use Rattle.hwp_page.specs.History.{BodyValue}
 use Rattle.hwp_report.specs.declared.Place.{Place}
 use Rattle.hwp_script.specs.declared.Command.{Command}
 use Rattle.hwp_top.proofs.Ends.{IsReport-whole}
@@ -28,13 +28,13 @@ returns c =
     let only : c.args.script.now.lists ≡ c.as_slice-list.result.now ∷ [] =
     only_one c.args.script.now.lists c.index-as_slice-0.result (c.requires.valid.one_each ∙ c.requires.built.single)
     ∙ ap (λ (l : List Command). l ∷ []) (ap (λ (l : List (List Command)). slice_index_or l 0 c.index-as_slice-0.result) (sym c.as_slice.ensures) ∙ sym c.index-as_slice-0.is ∙ sym c.as_slice-list.ensures) in
-    let bodies_back : List Held = take c.in_ok-bodies.bodies.len (c.serve_all.new.bodies ++ drop (length c.serve_all.new.bodies) c.in_ok-bodies.bodies.items) in
+    let bodies_back : List BodyValue = take c.in_ok-bodies.bodies.len (c.serve_all.new.bodies ++ drop (length c.serve_all.new.bodies) c.in_ok-bodies.bodies.items) in
     let bodies_are : bodies_back ≡ c.serve_all.new.bodies = written_back c.in_ok-bodies.bodies.len c.serve_all.new.bodies c.in_ok-bodies.bodies.items (omega (arith, c.serve_all.auto.bodies, c.deref_mut.ensures.len)) in
     let frames_are : c.deref.result.now ≡ c.serve_all.new.frames =
     c.deref.ensures.value ∙ written_back c.in_ok-frames.frames.len c.serve_all.new.frames c.in_ok-frames.frames.items (omega (arith, c.serve_all.auto.frames, c.deref_mut-2.ensures.len)) in
     IfOk-weaker c.report_of.result (λ report. Reports c.args.script.now.layout.files report bodies_back c.deref.result.now c.in_ok-served.served.rows.items c.in_ok-served.served.stop) (IsReport c.args.script.now)
     (λ report is. IsReport-whole c.args.script.now report c.serve_all.new.bodies c.serve_all.new.frames c.in_ok-served.served.rows.items c.in_ok-served.served.stop c.as_slice-list.result.now
     (length c.as_slice-list.result.now) c.requires.built.single only c.in_ok-served.ensures.machine c.in_ok-served.ensures.follows
-    (subst (λ (b : List Held). Reports c.args.script.now.layout.files report b c.serve_all.new.frames c.in_ok-served.served.rows.items c.in_ok-served.served.stop) bodies_are
+    (subst (λ (b : List BodyValue). Reports c.args.script.now.layout.files report b c.serve_all.new.frames c.in_ok-served.served.rows.items c.in_ok-served.served.stop) bodies_are
     (subst (λ (f : List Place). Reports c.args.script.now.layout.files report bodies_back f c.in_ok-served.served.rows.items c.in_ok-served.served.stop) frames_are is)))
     c.report_of.ensures

@@ -1,8 +1,0 @@
-pub mod Calls
-pub mod Turns
-pub mod Pins
-pub mod Releases
-pub mod Takes
-pub mod Holds
-pub mod Unholds
-pub mod Fills

@@ -1,0 +1,5 @@
+pub mod Pins
+pub mod Holds
+pub mod Releases
+pub mod Unholds
+pub mod Ranks

@@ -1,0 +1,137 @@
+-- A page let go: the task's states, its steps and what they come to.
+use Rattle.std.specs.Prelude.{◌≡◌, ℕ, ◌+◌, ◌<◌, Bool, false, List, [], ◌∷◌, Option, Some, None, is_none, length}
+use Rattle.hwp_geom.specs.declared.Frame.{Frame}
+use Rattle.hwp_geom.specs.declared.Layout.{Layout}
+use Rattle.hwp_geom.specs.declared.Page.{Page}
+use Rattle.hwp_geom.specs.declared.Who.{Who}
+use Rattle.hwp_page.specs.History.{Held}
+use Rattle.hwp_rule.specs.declared.Held.{Held as InHand}
+use Rattle.hwp_rule.specs.declared.Step.{Step}
+use Rattle.hwp_rule.specs.declared.Step.TheVariants as steps
+use Rattle.hwp_rule.specs.declared.View.{View}
+use Rattle.hwp_rule.specs.Asks.{CanGoHome}
+use Rattle.hwp_core.specs.Calls.{log_of}
+use Rattle.hwp_hold.specs.declared.release.Release.{Release}
+use Rattle.hwp_hold.specs.declared.release.ReleaseAt.{ReleaseAt}
+use Rattle.hwp_hold.specs.declared.release.ReleaseAt.TheVariants as release_at
+use Rattle.hwp_hold.specs.declared.unhold.Unhold.{Unhold}
+use Rattle.hwp_hold.specs.declared.unhold.UnholdAt.{UnholdAt}
+use Rattle.hwp_hold.specs.declared.unhold.UnholdAt.TheVariants as at
+use Rattle.hwp_step.specs.Calls.{IsOnTurn}
+use Rattle.hwp_step.specs.Hands.{Hand, hand_of, empty}
+use Rattle.hwp_hold.specs.Holds.{page_lock, named, one_ref}
+use Rattle.hwp_hold.specs.Releases as releases
+
+abbrev pub begin_at : Option Frame → Held → UnholdAt
+begin_at None body = at.UnlockPage (Some body)
+begin_at (Some frame) body = at.UnlockFrame frame (Some body)
+
+abbrev pub begin : Who → Page → Option Frame → Held → Unhold
+begin who page frame body = record { who = who; page = page; at = begin_at frame body }
+
+abbrev pub plan_at : Page → UnholdAt → Option Step
+plan_at page (at.UnlockFrame frame body) = Some (steps.UnlockFrame frame)
+plan_at page (at.Release r) = releases.plan r
+plan_at page (at.UnlockPage body) = Some (steps.UnlockPage page)
+plan_at page at.Over = None
+
+abbrev pub plan : Unhold → Option Step
+plan u = plan_at u.page u.at
+
+abbrev pub put_at : UnholdAt → Option Held
+put_at (at.UnlockFrame frame body) = body
+put_at (at.UnlockPage body) = body
+put_at _ = None
+
+abbrev pub put : Unhold → Option Held
+put u = put_at u.at
+
+abbrev pub bare_at : UnholdAt → UnholdAt
+bare_at (at.UnlockFrame frame body) = at.UnlockFrame frame None
+bare_at (at.UnlockPage body) = at.UnlockPage None
+bare_at (at.Release r) = at.Release r
+bare_at at.Over = at.Over
+
+abbrev pub bare : Unhold → Unhold
+bare u = record u { at = bare_at u.at }
+
+abbrev pub after_release_at : Release → ReleaseAt → UnholdAt
+after_release_at r release_at.Back = at.UnlockPage None
+after_release_at r _ = at.Release r
+
+abbrev pub after_release : Release → UnholdAt
+after_release r = after_release_at r r.at
+
+abbrev pub next_at : Who → UnholdAt → ℕ → UnholdAt
+next_at who (at.UnlockFrame frame body) found = at.Release (releases.begin who frame 1)
+next_at who (at.Release r) found = after_release (releases.next r found)
+next_at who (at.UnlockPage body) found = at.Over
+next_at who at.Over found = at.Over
+
+abbrev pub next : Unhold → ℕ → Unhold
+next u found = record u { at = next_at u.who u.at found }
+
+abbrev pub ShowsAt : UnholdAt → ℕ → Type 0
+ShowsAt (at.Release r) found = releases.Shows r found
+ShowsAt _ found = Unit {0}
+
+abbrev pub Shows : Unhold → ℕ → Type 0
+Shows u found = ShowsAt u.at found
+
+-- the page is locked with its frame, if it is in one, and its body is in hand
+abbrev pub holding : Page → Option Frame → List ℕ → InHand → Bool → Bool → Hand
+holding page None trans body handled poisoned = record empty { pages = page_lock page None (Some trans) ∷ []; bodies = body ∷ [] }
+holding page (Some frame) trans body handled poisoned = record empty {
+  pages = page_lock page (Some frame) (Some trans) ∷ [];
+  bodies = body ∷ [];
+  locks = record { frame = frame; owner = page.0 + 1; handled = handled; poisoned = poisoned } ∷ [];
+  refs = one_ref frame;
+}
+
+-- and the body, with the entries that it has now, can go home
+pub record HoldsAhead (layout : Layout) (who : Who) (view : View) (page : Page) (frame : Option Frame) (given : Option Held) : Type 0 where
+  pub body : Held
+  pub given_is : given ≡ Some body
+  pub trans : List ℕ
+  pub taken : InHand
+  pub handled : Bool
+  pub poisoned : Bool
+  pub hand_is : hand_of view ≡ holding page frame trans taken handled poisoned
+  pub home : CanGoHome layout who view (log_of body)
+  pub page_is : body.page ≡ page
+  pub taken_is : taken.log.page ≡ page
+  pub layout_is : body.layout ≡ layout
+
+-- what is held while the frame is released
+abbrev pub releasing : Page → Frame → ReleaseAt → Hand
+releasing page frame release_at.Put = named page frame (one_ref frame)
+releasing page frame release_at.Give = record (named page frame []) { hands = frame ∷ [] }
+releasing page frame release_at.Unreserve = record (named page frame []) { reserved = 1 }
+releasing page frame release_at.Back = named page frame []
+
+pub record IsReleasing (layout : Layout) (view : View) (who : Who) (page : Page) (r : Release) : Type 0 where
+  pub hand_is : hand_of view ≡ releasing page r.frame r.at
+  pub release : releases.Fits layout view r
+  pub own : r.who ≡ who
+  pub count : r.count ≡ 1
+  pub under_way : is_none (releases.plan r) ≡ false
+
+-- the page's lock alone; its body is in this frame's slot
+pub record IsEmptied (view : View) (page : Page) : Type 0 where
+  pub frame : Frame
+  pub hand_is : hand_of view ≡ named page frame []
+
+abbrev pub FitsPage : Layout → Who → View → Page → Option Held → Type 0
+FitsPage layout who view page None = IsEmptied view page
+FitsPage layout who view page (Some body) = HoldsAhead layout who view page None (Some body)
+
+abbrev pub FitsAt : Layout → View → Who → Page → UnholdAt → Type 0
+FitsAt layout view who page (at.UnlockFrame frame body) = HoldsAhead layout who view page (Some frame) body × (frame.0 < layout.frames)
+FitsAt layout view who page (at.Release r) = IsReleasing layout view who page r
+FitsAt layout view who page (at.UnlockPage body) = FitsPage layout who view page body
+FitsAt layout view who page at.Over = hand_of view ≡ empty
+
+pub record Fits (layout : Layout) (view : View) (u : Unhold) : Type 0 where
+  pub on_turn : IsOnTurn view u.who
+  pub page : u.page.0 < length layout.pages
+  pub at : FitsAt layout view u.who u.page u.at

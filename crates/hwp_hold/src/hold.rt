@@ -1,0 +1,194 @@
+ghost use Rattle.std.specs.Prelude.{◌≡◌, is_some, true};
+
+use crate::machine::Machine;
+use crate::pin::{Pin, PinAnswer};
+use crate::ranked::Ranked;
+use hwp_core::{Turn, frame_in};
+use hwp_geom::{Frame, Layout, Page, Who};
+use hwp_page::Body;
+use hwp_rule::{Place, Step};
+use std::mem;
+
+/// Locks a page and, where the page is in a frame, takes a reference to that frame and locks it too; and takes the page's
+/// body in hand, from the frame or from the page's shelf (this project's rule).
+#[derive(Drop)]
+pub struct Hold {
+    who: Who,
+    page: Page,
+    at: HoldAt,
+}
+
+#[derive(Drop)]
+enum HoldAt {
+    LockPage,
+    LoadCache { body: Option<Body> },
+    Pin { pin: Pin },
+    LockFrame { frame: Frame },
+    Held { frame: Option<Frame>, body: Body },
+}
+
+impl Hold {
+    ghost use Rattle.hwp_hold.specs.Holds.{begin, answer, pinned, IsBody};
+
+    /// The command holds the page.
+    pub fn new(who: Who, page: Page) -> Hold
+        ensures { result ≡ begin who page }
+    {
+        Hold {
+            who,
+            page,
+            at: HoldAt::LockPage,
+        }
+    }
+
+    /// The frame that the page is in and that is locked, if any; `None` until the task is over.
+    pub fn answer(&self) -> Option<Option<Frame>>
+        ensures { result ≡ answer self.now }
+    {
+        match self.at {
+            HoldAt::Held { frame, .. } => Some(frame),
+            HoldAt::LockPage
+            | HoldAt::LoadCache { .. }
+            | HoldAt::Pin { .. }
+            | HoldAt::LockFrame { .. } => None,
+        }
+    }
+
+    /// The page's body, when the task is over.
+    pub fn body(self) -> Body
+        requires over { is_some (answer self) ≡ true }
+        ensures { IsBody self result }
+    {
+        match self.at {
+            HoldAt::Held { body, .. } => body,
+            HoldAt::LockPage
+            | HoldAt::LoadCache { .. }
+            | HoldAt::Pin { .. }
+            | HoldAt::LockFrame { .. } => unreachable!(),
+        }
+    }
+
+    fn at_pinned(pin: Pin) -> HoldAt
+        ensures { result ≡ pinned pin }
+    {
+        match pin.answer() {
+            Some(PinAnswer::Held(_)) => HoldAt::LockFrame { frame: pin.frame() },
+            Some(PinAnswer::Gone(_)) | None => HoldAt::Pin { pin },
+        }
+    }
+}
+
+ghost use Rattle.hwp_hold.specs.Holds.{is_free};
+
+/// The lock's word says that it was free.
+fn is_free(word: u64) -> bool
+    ensures { result ≡ is_free word }
+{
+    word & 1 == 0
+}
+
+impl Machine for Hold {
+    ghost use Rattle.std.specs.Prelude.{◌≡◌, None};
+    ghost use Rattle.hwp_hold.specs.Holds.{plan, next, turn, Shows, Fits};
+
+    ghost who = { λ h. h.who };
+
+    ghost plan = { λ h. plan h };
+
+    ghost put = { λ h. None };
+
+    ghost bare = { λ h. h };
+
+    ghost shows = { λ h found got. Shows h found got };
+
+    ghost next = { λ layout h found got after result. (after ≡ next h found got) × (result ≡ turn h found) };
+
+    ghost fits = { λ layout view h. Fits layout view h };
+
+    fn who(&self) -> Who {
+        self.who
+    }
+
+    fn plan(&self) -> Option<Step> {
+        match self.at {
+            HoldAt::LockPage => Some(Step::LockPage { page: self.page }),
+            HoldAt::LoadCache { .. } => Some(Step::Load {
+                place: Place::Cache(self.page),
+            }),
+            HoldAt::Pin { pin } => pin.plan(),
+            HoldAt::LockFrame { frame } => Some(Step::LockFrame { frame }),
+            HoldAt::Held { .. } => None,
+        }
+    }
+
+    fn give(&mut self) -> Option<Body> {
+        None
+    }
+
+    fn settle(&mut self, layout: &Layout, found: u64, body: Option<Body>) -> Turn {
+        match mem::replace(&mut self.at, HoldAt::LockPage) {
+            HoldAt::LockPage => {
+                if is_free(found) {
+                    self.at = HoldAt::LoadCache { body };
+                    Turn::Moved
+                } else {
+                    Turn::Waits(found)
+                }
+            }
+            HoldAt::LoadCache { body } => {
+                self.at = match frame_in(found) {
+                    Some(frame) => HoldAt::Pin {
+                        pin: Pin::new(self.who, frame),
+                    },
+                    None => match body {
+                        Some(body) => HoldAt::Held { frame: None, body },
+                        None => unreachable!(),
+                    },
+                };
+                Turn::Moved
+            }
+            HoldAt::Pin { mut pin } => {
+                let turn = pin.settle(layout, found, body);
+                self.at = Hold::at_pinned(pin);
+                turn
+            }
+            HoldAt::LockFrame { frame } => {
+                if is_free(found) {
+                    self.at = match body {
+                        Some(body) => HoldAt::Held {
+                            frame: Some(frame),
+                            body,
+                        },
+                        None => unreachable!(),
+                    };
+                    Turn::Moved
+                } else {
+                    self.at = HoldAt::LockFrame { frame };
+                    Turn::Waits(found)
+                }
+            }
+            HoldAt::Held { frame, body } => {
+                self.at = HoldAt::Held { frame, body };
+                Turn::Moved
+            }
+        }
+    }
+}
+
+impl Ranked for Hold {
+    ghost use Rattle.hwp_hold.specs.Ranks.{hold_class, hold_cost};
+
+    ghost class_of = { λ h. hold_class h };
+
+    ghost cost = { λ h words. hold_cost h words };
+
+    fn class(&self) -> u8 {
+        match self.at {
+            HoldAt::LockPage => 4,
+            HoldAt::LoadCache { .. } | HoldAt::Pin { .. } | HoldAt::LockFrame { .. } => 2,
+            HoldAt::Held { frame, .. } => if frame.is_some() { 1 } else { 2 },
+        }
+    }
+
+    fn ranked(&self) {}
+}

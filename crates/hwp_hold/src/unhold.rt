@@ -1,0 +1,128 @@
+ghost use Rattle.std.specs.Prelude.{◌≡◌, Some};
+
+use crate::machine::Machine;
+use crate::release::Release;
+use hwp_core::Turn;
+use hwp_geom::{Frame, Layout, Page, Who};
+use hwp_page::Body;
+use hwp_rule::Step;
+use std::mem;
+
+/// Lets a page go: its body goes home, to the frame that it is in, which is unlocked and released, or to the page's shelf;
+/// and the page is unlocked (this project's rule).
+#[derive(Drop)]
+pub struct Unhold {
+    who: Who,
+    page: Page,
+    at: UnholdAt,
+}
+
+#[derive(Drop)]
+enum UnholdAt {
+    UnlockFrame { frame: Frame, body: Option<Body> },
+    Release { release: Release },
+    UnlockPage { body: Option<Body> },
+    Over,
+}
+
+impl Unhold {
+    ghost use Rattle.hwp_hold.specs.Unholds.{begin, after_release};
+
+    /// The command lets the page go, with the frame that it is in, if any, and its body.
+    pub fn new(who: Who, page: Page, frame: Option<Frame>, body: Body) -> Unhold
+        ensures { result ≡ begin who page frame body }
+    {
+        Unhold {
+            who,
+            page,
+            at: match frame {
+                Some(frame) => UnholdAt::UnlockFrame {
+                    frame,
+                    body: Some(body),
+                },
+                None => UnholdAt::UnlockPage { body: Some(body) },
+            },
+        }
+    }
+
+    fn after_release(release: Release) -> UnholdAt
+        ensures { result ≡ after_release release }
+    {
+        if release.is_over() {
+            UnholdAt::UnlockPage { body: None }
+        } else {
+            UnholdAt::Release { release }
+        }
+    }
+}
+
+impl Machine for Unhold {
+    ghost use Rattle.std.specs.Prelude.{◌≡◌};
+    ghost use Rattle.hwp_step.specs.declared.turn.Turn.TheVariants.{Moved};
+    ghost use Rattle.hwp_hold.specs.Unholds.{plan, put, bare, next, Shows, Fits};
+
+    ghost who = { λ u. u.who };
+
+    ghost plan = { λ u. plan u };
+
+    ghost put = { λ u. put u };
+
+    ghost bare = { λ u. bare u };
+
+    ghost shows = { λ u found got. Shows u found };
+
+    ghost next = { λ layout u found got after result. (after ≡ next u found) × (result ≡ Moved) };
+
+    ghost fits = { λ layout view u. Fits layout view u };
+
+    fn who(&self) -> Who {
+        self.who
+    }
+
+    fn plan(&self) -> Option<Step> {
+        match self.at {
+            UnholdAt::UnlockFrame { frame, .. } => Some(Step::UnlockFrame { frame }),
+            UnholdAt::Release { release } => release.plan(),
+            UnholdAt::UnlockPage { .. } => Some(Step::UnlockPage { page: self.page }),
+            UnholdAt::Over => None,
+        }
+    }
+
+    fn give(&mut self) -> Option<Body> {
+        match mem::replace(&mut self.at, UnholdAt::Over) {
+            UnholdAt::UnlockFrame { frame, body } => {
+                self.at = UnholdAt::UnlockFrame { frame, body: None };
+                body
+            }
+            UnholdAt::UnlockPage { body } => {
+                self.at = UnholdAt::UnlockPage { body: None };
+                body
+            }
+            UnholdAt::Release { release } => {
+                self.at = UnholdAt::Release { release };
+                None
+            }
+            UnholdAt::Over => None,
+        }
+    }
+
+    fn settle(&mut self, layout: &Layout, found: u64, body: Option<Body>) -> Turn {
+        match self.at {
+            UnholdAt::UnlockFrame { frame, .. } => {
+                self.at = UnholdAt::Release {
+                    release: Release::new(self.who, frame, 1),
+                };
+                Turn::Moved
+            }
+            UnholdAt::Release { mut release } => {
+                let turn = release.settle(layout, found, body);
+                self.at = Unhold::after_release(release);
+                turn
+            }
+            UnholdAt::UnlockPage { .. } | UnholdAt::Over => {
+                self.at = UnholdAt::Over;
+                Turn::Moved
+            }
+        }
+    }
+}

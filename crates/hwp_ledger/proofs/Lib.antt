@@ -1,4 +1,0 @@
-mod Changing
-mod Firsts
-mod Noting
-mod PageSheets

@@ -1,0 +1,15 @@
+//! The step interface: what a processor can do to the shared words, one atomic step a call; tasks, which are data that say
+//! which step comes; and the one driver that makes their steps.
+#![tactic(auto)]
+
+mod driver;
+mod machine;
+mod ops;
+mod ranked;
+mod turn;
+
+pub use driver::advance;
+pub use machine::Machine;
+pub use ops::{Met, Ops};
+pub use ranked::Ranked;
+pub use turn::Turn;
