@@ -1,4 +1,4 @@
--- A step keeps the turn: the seat still has its processors and the right to their steps, and has come to no later command.
+-- A step keeps the turn: the seat still has its processors, and has come to no later command.
 use Rattle.std.proofs.Common.{◌≡◌, ℕ, ◌≤◌, ◌==◌, max, Bool, true, false, cond, List, Option, Some, None, refl, sym, ap, subst, arith}
 use Rattle.hwp_geom.specs.declared.Cpu.{Cpu}
 use Rattle.hwp_geom.specs.declared.Frame.{Frame}
@@ -15,19 +15,16 @@ use Rattle.hwp_rule.specs.declared.view.Part.{Part}
 use Rattle.hwp_rule.specs.declared.view.View.{View}
 use Rattle.hwp_rule.specs.Asks.{IsTurnOf}
 use Rattle.hwp_rule.specs.Lists.{EachMember, SomeMember}
+use Rattle.hwp_rule.specs.Logs.{log_of}
 use Rattle.hwp_rule.specs.Steps.{goes}
 use Rattle.hwp_rule.specs.Views.{loaded, taken, listed_of, body_of, put_home, view_by, noted, view_after}
 use Rattle.hwp_rule.proofs.Lists.{each-changed, some-changed}
 
--- what a view says of its processors
-abbrev turns_of : View → List Part × List Cpu
-turns_of v = (v.parts, v.rights)
-
-either-way : (b : Bool) (x y v : View) → turns_of x ≡ turns_of v → turns_of y ≡ turns_of v → turns_of (cond b x y) ≡ turns_of v
+either-way : (b : Bool) (x y v : View) → x.parts ≡ v.parts → y.parts ≡ v.parts → (cond b x y).parts ≡ v.parts
 either-way true x y v e g = e
 either-way false x y v e g = g
 
-by-load : (who : Who) (place : Place) (found : ℕ) (v : View) → turns_of (loaded who place found v) ≡ turns_of v
+by-load : (who : Who) (place : Place) (found : ℕ) (v : View) → (loaded who place found v).parts ≡ v.parts
 by-load who (places.Frame frame) found v = refl
 by-load who (places.Trans slot) found v = refl
 by-load who (places.Cache page) found v = refl
@@ -42,20 +39,20 @@ by-load who (places.Policy thread) found v = refl
 by-load who (places.Loss file) found v = refl
 by-load who places.Stop found v = refl
 
-by-take : (layout : Layout) (who : Who) (frame : Option Frame) (content : Option Log) (v : View) → turns_of (taken layout who frame content v) ≡ turns_of v
+by-take : (layout : Layout) (who : Who) (frame : Option Frame) (content : Option Log) (v : View) → (taken layout who frame content v).parts ≡ v.parts
 by-take layout who frame None v = refl
 by-take layout who frame (Some log) v = refl
 
-by-list : (layout : Layout) (who : Who) (log : Log) (body : Option InHand) (v : View) → turns_of (listed_of layout who log body v) ≡ turns_of v
+by-list : (layout : Layout) (who : Who) (log : Log) (body : Option InHand) (v : View) → (listed_of layout who log body v).parts ≡ v.parts
 by-list layout who log None v = refl
 by-list layout who log (Some body) v = refl
 
-by-put : (layout : Layout) (who : Who) (content : Option Log) (v : View) → turns_of (put_home layout who content v) ≡ turns_of v
+by-put : (layout : Layout) (who : Who) (content : Option Log) (v : View) → (put_home layout who content v).parts ≡ v.parts
 by-put layout who None v = refl
 by-put layout who (Some log) v = by-list layout who log (body_of log.page v) v
 
 -- no kind of step changes it
-by-step : (layout : Layout) (who : Who) (step : Step) (found : ℕ) (content : Option Log) (v : View) → turns_of (view_by layout who step found content v) ≡ turns_of v
+by-step : (layout : Layout) (who : Who) (step : Step) (found : ℕ) (content : Option Log) (v : View) → (view_by layout who step found content v).parts ≡ v.parts
 by-step layout who (steps.Load place) found content v = by-load who place found v
 by-step layout who (steps.Reserve seen) found content v = either-way (found == seen) _ _ v refl refl
 by-step layout who (steps.TakeBit frame) found content v = either-way (goes (steps.TakeBit frame) found) _ _ v refl refl
@@ -79,9 +76,9 @@ by-step layout who steps.Uncount found content v = refl
 by-step layout who (steps.Spoil frame line damage) found content v = refl
 by-step layout who (steps.Stop cpu) found content v = either-way (found == 0) _ _ v refl refl
 by-step layout who steps.GiveUp found content v = refl
-by-step layout who (steps.Kill process log) found content v = either-way (found == 0) _ _ v (by-list layout who log (body_of log.page v) v) (by-list layout who log (body_of log.page v) v)
+by-step layout who (steps.Kill process page body) found content v = either-way (found == 0) _ _ v (by-list layout who (log_of body.value) (body_of body.value.page v) v) (by-list layout who (log_of body.value) (body_of body.value.page v) v)
 by-step layout who (steps.SetPolicy thread policy settings) found content v = refl
-by-step layout who (steps.Lose file log) found content v = by-list layout who log (body_of log.page v) v
+by-step layout who (steps.Lose file body) found content v = by-list layout who (log_of body.value) (body_of body.value.page v) v
 by-step layout who (steps.ReportLost file) found content v = refl
 
 abbrev is_part : Who → Part → Bool
@@ -91,22 +88,19 @@ abbrev later : Who → Part → Part
 later who p = record p { latest = max p.latest who.seq }
 
 -- the processor has its turn, also after a step of its own
-pub turn-after : (layout : Layout) (r : Rec) (content : Option Log) (v : View) (who : Who) → r.who ≡ who → IsTurnOf v who → IsTurnOf (view_after layout r content v) who
-turn-after layout r content v who own turn = record {
-  right = subst (λ (t : List Part × List Cpu). SomeMember (λ (c : Cpu). c ≡ who.cpu) t.1) (sym same) turn.right;
-  part = subst (λ (t : List Part × List Cpu). SomeMember (λ (p : Part). (p.cpu ≡ who.cpu) × (p.latest ≤ who.seq)) t.0) (sym same) part;
-}
+pub turn-after : (layout : Layout) (r : Rec) (v : View) (who : Who) → r.who ≡ who → IsTurnOf v who → IsTurnOf (view_after layout r v) who
+turn-after layout r v who own turn = record { part = subst (SomeMember (λ (p : Part). (p.cpu ≡ who.cpu) × (p.latest ≤ who.seq))) (sym same) part }
   where
-    same : turns_of (view_after layout r content v) ≡ turns_of (noted r v)
-    same = by-step layout r.who r.step r.found content (noted r v)
+    same : (view_after layout r v).parts ≡ (noted r.who v).parts
+    same = by-step layout r.who r.step r.found r.content (noted r.who v)
 
-    part : SomeMember (λ (p : Part). (p.cpu ≡ who.cpu) × (p.latest ≤ who.seq)) (noted r v).parts
+    part : SomeMember (λ (p : Part). (p.cpu ≡ who.cpu) × (p.latest ≤ who.seq)) (noted r.who v).parts
     part = some-changed (λ (p : Part). (p.cpu ≡ who.cpu) × (p.latest ≤ who.seq)) (is_part r.who) (later r.who) v.parts
         (λ p is h. let below : p.latest ≤ who.seq = h.1 in let now : r.who.seq ≡ who.seq = ap (λ (w : Who). w.seq) own in (h.0, omega arith)) turn.part
 
 -- a processor of the view has come to no later command, also after a step of that command or of an earlier one
-pub none-later-after : (layout : Layout) (r : Rec) (content : Option Log) (v : View) (cpu : Cpu) (seq : ℕ) → r.who.seq ≤ seq
-    → EachMember (λ (p : Part). p.cpu ≡ cpu → p.latest ≤ seq) v.parts → EachMember (λ (p : Part). p.cpu ≡ cpu → p.latest ≤ seq) (view_after layout r content v).parts
-none-later-after layout r content v cpu seq now each = subst (λ (t : List Part × List Cpu). EachMember (λ (p : Part). p.cpu ≡ cpu → p.latest ≤ seq) t.0)
-    (sym (by-step layout r.who r.step r.found content (noted r v)))
+pub none-later-after : (layout : Layout) (r : Rec) (v : View) (cpu : Cpu) (seq : ℕ) → r.who.seq ≤ seq
+    → EachMember (λ (p : Part). p.cpu ≡ cpu → p.latest ≤ seq) v.parts → EachMember (λ (p : Part). p.cpu ≡ cpu → p.latest ≤ seq) (view_after layout r v).parts
+none-later-after layout r v cpu seq now each = subst (EachMember (λ (p : Part). p.cpu ≡ cpu → p.latest ≤ seq))
+    (sym (by-step layout r.who r.step r.found r.content (noted r.who v)))
     (each-changed (λ (p : Part). p.cpu ≡ cpu → p.latest ≤ seq) (is_part r.who) (later r.who) v.parts (λ p is h same. let below : p.latest ≤ seq = h same in omega arith) each)

@@ -73,42 +73,42 @@ length-homes layout steps.Uncount found content homes = refl
 length-homes layout (steps.Spoil frame line damage) found content homes = refl
 length-homes layout (steps.Stop cpu) found content homes = refl
 length-homes layout steps.GiveUp found content homes = refl
-length-homes layout (steps.Kill process log) found content homes = refl
+length-homes layout (steps.Kill process page body) found content homes = refl
 length-homes layout (steps.SetPolicy thread policy settings) found content homes = refl
-length-homes layout (steps.Lose file log) found content homes = refl
+length-homes layout (steps.Lose file body) found content homes = refl
 length-homes layout (steps.ReportLost file) found content homes = refl
 
-rule-moved : (layout : Layout) (seat : ℕ) (r : Rec) (a b : State) → Keeps r.step → Holds layout a → (m : Move layout seat r a b) → FrameRule layout (words_of layout (moved layout seat r m.content m.view a).words) (moved layout seat r m.content m.view a).homes (moved layout seat r m.content m.view a).views
+rule-moved : (layout : Layout) (seat : ℕ) (r : Rec) (a b : State) → Keeps r.step → Holds layout a → (m : Move layout seat r a b) → FrameRule layout (words_of layout (moved layout seat r m.view a).words) (moved layout seat r m.view a).homes (moved layout seat r m.view a).views
 rule-moved layout seat r a b keeps h m =
     let known : read (place_of r.step) w ≡ r.found = words-read layout a.words (place_of r.step) m.asks.place ∙ sym m.met in
-    let given : Given layout w a.homes noted-views seat (noted r m.view) r.who r.step m.content = record {
+    let given : Given layout w a.homes noted-views seat (noted r.who m.view) r.who r.step r.content = record {
       sound = h.sound;
       shaped = shaped layout a h;
-      me = set_here a.views seat (noted r m.view) m.view m.me;
-      past = past-now r m.view m.asks.turn;
-      turn = turn-noted r m.view m.asks.turn;
+      me = set_here a.views seat (noted r.who m.view) m.view m.me;
+      past = past-now r.who m.view m.asks.turn;
+      turn = turn-noted r.who m.view m.asks.turn;
       place = m.asks.place;
-      asks = asks-noted layout r.who r m.view r.step m.content m.asks.kind;
+      asks = asks-noted layout r.who m.view r.step r.content m.asks.kind;
       fits = subst (λ (n : ℕ). n < 2 ^ 64) (sym known) m.fits;
-      meets = subst (λ (n : ℕ). Meets layout a.homes r.step n m.content) (sym known) m.slot;
-      rule = keeps-noted layout w a.homes a.views seat m.view r m.me h.rule;
+      meets = subst (λ (n : ℕ). Meets layout a.homes r.step n r.content) (sym known) m.slot;
+      rule = keeps-noted layout w a.homes a.views seat m.view r.who m.me h.rule;
     } in
-    let after = keeps layout w a.homes noted-views seat (noted r m.view) r.who m.content given in
-    let there = subst (λ (n : ℕ). FrameRule layout (put (place_of r.step) (word_after r.step n) w) (homes_after layout r.step n m.content a.homes) (set noted-views seat (view_by layout r.who r.step n m.content (noted r m.view)))) known after in
-    subst (λ (ws : Words). FrameRule layout ws (homes_after layout r.step r.found m.content a.homes) (set a.views seat (view_by layout r.who r.step r.found m.content (noted r m.view)))) (sym (words-put layout a.words (place_of r.step) (word_after r.step r.found) h.words m.asks.place))
-    (subst (λ (vs : List View). FrameRule layout (put (place_of r.step) (word_after r.step r.found) w) (homes_after layout r.step r.found m.content a.homes) vs) (set-set a.views seat (noted r m.view) (view_by layout r.who r.step r.found m.content (noted r m.view))) there)
+    let after = keeps layout w a.homes noted-views seat (noted r.who m.view) r.who r.content given in
+    let there = subst (λ (n : ℕ). FrameRule layout (put (place_of r.step) (word_after r.step n) w) (homes_after layout r.step n r.content a.homes) (set noted-views seat (view_by layout r.who r.step n r.content (noted r.who m.view)))) known after in
+    subst (λ (ws : Words). FrameRule layout ws (homes_after layout r.step r.found r.content a.homes) (set a.views seat (view_by layout r.who r.step r.found r.content (noted r.who m.view)))) (sym (words-put layout a.words (place_of r.step) (word_after r.step r.found) h.words m.asks.place))
+    (subst (λ (vs : List View). FrameRule layout (put (place_of r.step) (word_after r.step r.found) w) (homes_after layout r.step r.found r.content a.homes) vs) (set-set a.views seat (noted r.who m.view) (view_by layout r.who r.step r.found r.content (noted r.who m.view))) there)
   where
     w : Words
     w = words_of layout a.words
 
     noted-views : List View
-    noted-views = set a.views seat (noted r m.view)
+    noted-views = set a.views seat (noted r.who m.view)
 
 -- a move whose kind of step keeps the rule
 pub holds-moved : (layout : Layout) (seat : ℕ) (r : Rec) (a b : State) → Keeps r.step → Holds layout a → Move layout seat r a b → Holds layout b
 holds-moved layout seat r a b keeps h m = subst (Holds layout) (sym m.next) (record {
   sound = h.sound;
   words = length-set a.words (index layout (place_of r.step)) (word_after r.step r.found) ∙ h.words;
-  slots = length-homes layout r.step r.found m.content a.homes ∙ h.slots;
+  slots = length-homes layout r.step r.found r.content a.homes ∙ h.slots;
   rule = rule-moved layout seat r a b keeps h m;
 })

@@ -5,7 +5,6 @@ use Rattle.std.specs.Int.{from_bool}
 use Rattle.hwp_geom.specs.declared.Cpu.{Cpu}
 use Rattle.hwp_geom.specs.declared.Layout.{Layout}
 use Rattle.hwp_geom.specs.declared.Who.{Who}
-use Rattle.hwp_rule.specs.declared.record.Rec.{Rec}
 use Rattle.hwp_rule.specs.declared.view.Part.{Part}
 use Rattle.hwp_rule.specs.declared.view.Setting.{Setting}
 use Rattle.hwp_rule.specs.declared.view.Made.{Made}
@@ -30,122 +29,121 @@ abbrev later : Who → Part → Part
 later who p = record p { latest = max p.latest who.seq }
 
 -- a command that was come to still is
-past-noted : (r : Rec) (v : View) (who : Who) → IsPast v.parts who → IsPast (noted r v).parts who
-past-noted r v who past = some-changed (λ (p : Part). (p.cpu ≡ who.cpu) × (who.seq ≤ p.latest)) (is_part r.who) (later r.who) v.parts (λ p is h. let below : who.seq ≤ p.latest = h.1 in (h.0, omega arith)) past
+past-noted : (by : Who) (v : View) (who : Who) → IsPast v.parts who → IsPast (noted by v).parts who
+past-noted by v who past = some-changed (λ (p : Part). (p.cpu ≡ who.cpu) × (who.seq ≤ p.latest)) (is_part by) (later by) v.parts (λ p is h. let below : who.seq ≤ p.latest = h.1 in (h.0, omega arith)) past
 
-own-noted : (r : Rec) (v : View) → AreOwn v → AreOwn (noted r v)
-own-noted r v own = record {
-  made = each-weaken (λ (m : Made). IsPast v.parts m.entry.who) (λ m. IsPast (noted r v).parts m.entry.who) v.made (λ m p. past-noted r v m.entry.who p) own.made;
-  marks = each-weaken (λ (m : Mark). IsPast v.parts m.stamp.who) (λ m. IsPast (noted r v).parts m.stamp.who) v.marks (λ m p. past-noted r v m.stamp.who p) own.marks;
-  sights = each-weaken (λ (s : Sight). IsPast v.parts s.stamp.who) (λ s. IsPast (noted r v).parts s.stamp.who) v.sights (λ s p. past-noted r v s.stamp.who p) own.sights;
-  lengths = each-weaken (λ (l : Length). IsPast v.parts l.stamp.who) (λ l. IsPast (noted r v).parts l.stamp.who) v.lengths (λ l p. past-noted r v l.stamp.who p) own.lengths;
-  settings = each-weaken (λ (s : Setting). IsPast v.parts s.stamp.who) (λ s. IsPast (noted r v).parts s.stamp.who) v.settings (λ s p. past-noted r v s.stamp.who p) own.settings;
-  stops = each-weaken (IsPast v.parts) (IsPast (noted r v).parts) v.stops (λ w p. past-noted r v w p) own.stops;
+own-noted : (who : Who) (v : View) → AreOwn v → AreOwn (noted who v)
+own-noted who v own = record {
+  made = each-weaken (λ (m : Made). IsPast v.parts m.entry.who) (λ m. IsPast (noted who v).parts m.entry.who) v.made (λ m p. past-noted who v m.entry.who p) own.made;
+  marks = each-weaken (λ (m : Mark). IsPast v.parts m.stamp.who) (λ m. IsPast (noted who v).parts m.stamp.who) v.marks (λ m p. past-noted who v m.stamp.who p) own.marks;
+  sights = each-weaken (λ (s : Sight). IsPast v.parts s.stamp.who) (λ s. IsPast (noted who v).parts s.stamp.who) v.sights (λ s p. past-noted who v s.stamp.who p) own.sights;
+  lengths = each-weaken (λ (l : Length). IsPast v.parts l.stamp.who) (λ l. IsPast (noted who v).parts l.stamp.who) v.lengths (λ l p. past-noted who v l.stamp.who p) own.lengths;
+  settings = each-weaken (λ (s : Setting). IsPast v.parts s.stamp.who) (λ s. IsPast (noted who v).parts s.stamp.who) v.settings (λ s p. past-noted who v s.stamp.who p) own.settings;
+  stops = each-weaken (IsPast v.parts) (IsPast (noted who v).parts) v.stops (λ w p. past-noted who v w p) own.stops;
 }
 
 -- the step's own command is come to
-pub past-now : (r : Rec) (v : View) → IsTurnOf v r.who → IsPast (noted r v).parts r.who
-past-now r v turn = (turn.part.0, cond-later, there, (cpus, below))
+pub past-now : (who : Who) (v : View) → IsTurnOf v who → IsPast (noted who v).parts who
+past-now who v turn = (turn.part.0, cond-later, there, (cpus, below))
   where
     p : Part
     p = turn.part.1
 
     cond-later : Part
-    cond-later = later r.who p
+    cond-later = later who p
 
-    is : is_part r.who p ≡ true
-    is = same-number p.cpu.0 r.who.cpu.0 (ap (λ (c : Cpu). c.0) turn.part.3.0)
+    is : is_part who p ≡ true
+    is = same-number p.cpu.0 who.cpu.0 (ap (λ (c : Cpu). c.0) turn.part.3.0)
 
-    there : slice_get (noted r v).parts turn.part.0 ≡ Some cond-later
-    there = at_map (λ (x : Part). cond (is_part r.who x) (later r.who x) x) v.parts turn.part.0 p turn.part.2 ∙ ap (λ (b : Bool). Some (cond b (later r.who p) p)) is
+    there : slice_get (noted who v).parts turn.part.0 ≡ Some cond-later
+    there = at_map (λ (x : Part). cond (is_part who x) (later who x) x) v.parts turn.part.0 p turn.part.2 ∙ ap (λ (b : Bool). Some (cond b (later who p) p)) is
 
-    cpus : cond-later.cpu ≡ r.who.cpu
+    cpus : cond-later.cpu ≡ who.cpu
     cpus = turn.part.3.0
 
-    below : r.who.seq ≤ cond-later.latest
+    below : who.seq ≤ cond-later.latest
     below = omega arith
 
 -- and it is still that processor's turn
-pub turn-noted : (r : Rec) (v : View) → IsTurnOf v r.who → IsTurnOf (noted r v) r.who
-turn-noted r v turn = record {
-  right = turn.right;
-  part = some-changed (λ (p : Part). (p.cpu ≡ r.who.cpu) × (p.latest ≤ r.who.seq)) (is_part r.who) (later r.who) v.parts (λ p is h. let below : p.latest ≤ r.who.seq = h.1 in (h.0, omega arith)) turn.part;
+pub turn-noted : (who : Who) (v : View) → IsTurnOf v who → IsTurnOf (noted who v) who
+turn-noted who v turn = record {
+  part = some-changed (λ (p : Part). (p.cpu ≡ who.cpu) × (p.latest ≤ who.seq)) (is_part who) (later who) v.parts (λ p is h. let below : p.latest ≤ who.seq = h.1 in (h.0, omega arith)) turn.part;
 }
 
 cpu-kept : (who : Who) (b : Bool) (p : Part) → p.cpu ≡ (cond b (later who p) p).cpu
 cpu-kept who true p = refl
 cpu-kept who false p = refl
 
-policies-noted : (layout : Layout) (w : Words) (homes : Homes) (views : List View) (seat : ℕ) (v : View) (r : Rec) → slice_get views seat ≡ Some v
+policies-noted : (layout : Layout) (w : Words) (homes : Homes) (views : List View) (seat : ℕ) (v : View) (who : Who) → slice_get views seat ≡ Some v
     → FrameRule layout w homes views
-    → PoliciesListed layout.threads w.policies (map (λ (v : View). (v.parts, v.settings)) (set views seat (noted r v))) (map (λ (v : View). v.sights) views)
-policies-noted layout w homes views seat v r me h = record {
+    → PoliciesListed layout.threads w.policies (map (λ (v : View). (v.parts, v.settings)) (set views seat (noted who v))) (map (λ (v : View). v.sights) views)
+policies-noted layout w homes views seat v who me h = record {
   agrees = λ thread d word there is.
-      change (λ (v : View). (v.parts, v.settings)) (EachMember (λ (x : List Part × List Setting). IsOf d.cpu x.0 → PolicyAgrees thread word (map (λ (v : View). v.sights) views) (settings_of thread x.1))) views seat (noted r v)
-      (each-set (λ (x : List Part × List Setting). IsOf d.cpu x.0 → PolicyAgrees thread word (map (λ (v : View). v.sights) views) (settings_of thread x.1)) (map (λ (v : View). (v.parts, v.settings)) views) seat ((noted r v).parts, v.settings)
+      change (λ (v : View). (v.parts, v.settings)) (EachMember (λ (x : List Part × List Setting). IsOf d.cpu x.0 → PolicyAgrees thread word (map (λ (v : View). v.sights) views) (settings_of thread x.1))) views seat (noted who v)
+      (each-set (λ (x : List Part × List Setting). IsOf d.cpu x.0 → PolicyAgrees thread word (map (λ (v : View). v.sights) views) (settings_of thread x.1)) (map (λ (v : View). (v.parts, v.settings)) views) seat ((noted who v).parts, v.settings)
       (λ of. h.policies.agrees thread d word there is seat (v.parts, v.settings) (at_map (λ (v : View). (v.parts, v.settings)) views seat v me) (before d.cpu of))
       (h.policies.agrees thread d word there is));
 }
   where
-    before : (cpu : Cpu) → IsOf cpu (noted r v).parts → IsOf cpu v.parts
+    before : (cpu : Cpu) → IsOf cpu (noted who v).parts → IsOf cpu v.parts
     before cpu of = each-was v.parts of.0 of.1 of.2 of.3
       where
-        each-was : (l : List Part) (i : ℕ) (x : Part) → slice_get (map (λ (p : Part). cond (is_part r.who p) (later r.who p) p) l) i ≡ Some x → x.cpu ≡ cpu → IsOf cpu l
-        each-was l i x there same = let was = map-was (λ (p : Part). cond (is_part r.who p) (later r.who p) p) l i x there in (i, was.0, was.1, cpu-kept r.who (is_part r.who was.0) was.0 ∙ ap (λ (p : Part). p.cpu) was.2 ∙ same)
+        each-was : (l : List Part) (i : ℕ) (x : Part) → slice_get (map (λ (p : Part). cond (is_part who p) (later who p) p) l) i ≡ Some x → x.cpu ≡ cpu → IsOf cpu l
+        each-was l i x there same = let was = map-was (λ (p : Part). cond (is_part who p) (later who p) p) l i x there in (i, was.0, was.1, cpu-kept who (is_part who was.0) was.0 ∙ ap (λ (p : Part). p.cpu) was.2 ∙ same)
 
-processors-noted : (layout : Layout) (views : List View) (seat : ℕ) (v : View) (r : Rec) → slice_get views seat ≡ Some v
-    → ProcessorsApart layout (map (λ (v : View). v.parts) views) → ProcessorsApart layout (map (λ (v : View). v.parts) (set views seat (noted r v)))
-processors-noted layout views seat v r me h = change (λ (v : View). v.parts) (ProcessorsApart layout) views seat (noted r v) (record {
+processors-noted : (layout : Layout) (views : List View) (seat : ℕ) (v : View) (who : Who) → slice_get views seat ≡ Some v
+    → ProcessorsApart layout (map (λ (v : View). v.parts) views) → ProcessorsApart layout (map (λ (v : View). v.parts) (set views seat (noted who v)))
+processors-noted layout views seat v who me h = change (λ (v : View). v.parts) (ProcessorsApart layout) views seat (noted who v) (record {
   one = λ c less.
       let count : Part → ℕ = λ (p : Part). from_bool (p.cpu.0 == c) in
-      let same : sum_by count (noted r v).parts ≡ sum_by count v.parts = sum-changed count (is_part r.who) (later r.who) v.parts (λ p. refl) in
-      let all : sum_by (sum_by count) (set (map (λ (v : View). v.parts) views) seat (noted r v).parts) + sum_by count v.parts ≡ sum_by (sum_by count) (map (λ (v : View). v.parts) views) + sum_by count (noted r v).parts =
-      sum-set (sum_by count) (map (λ (v : View). v.parts) views) seat v.parts (noted r v).parts (at_map (λ (v : View). v.parts) views seat v me) in
+      let same : sum_by count (noted who v).parts ≡ sum_by count v.parts = sum-changed count (is_part who) (later who) v.parts (λ p. refl) in
+      let all : sum_by (sum_by count) (set (map (λ (v : View). v.parts) views) seat (noted who v).parts) + sum_by count v.parts ≡ sum_by (sum_by count) (map (λ (v : View). v.parts) views) + sum_by count (noted who v).parts =
+      sum-set (sum_by count) (map (λ (v : View). v.parts) views) seat v.parts (noted who v).parts (at_map (λ (v : View). v.parts) views seat v me) in
       let before : sum_by (sum_by count) (map (λ (v : View). v.parts) views) ≡ 1 = h.one c less in
       omega arith;
-  declared = each-set (EachMember (λ (p : Part). p.cpu.0 < layout.cpus)) (map (λ (v : View). v.parts) views) seat (noted r v).parts
-      (each-changed (λ (p : Part). p.cpu.0 < layout.cpus) (is_part r.who) (later r.who) v.parts (λ p is below. below) (h.declared seat v.parts (at_map (λ (v : View). v.parts) views seat v me)))
+  declared = each-set (EachMember (λ (p : Part). p.cpu.0 < layout.cpus)) (map (λ (v : View). v.parts) views) seat (noted who v).parts
+      (each-changed (λ (p : Part). p.cpu.0 < layout.cpus) (is_part who) (later who) v.parts (λ p is below. below) (h.declared seat v.parts (at_map (λ (v : View). v.parts) views seat v me)))
       h.declared;
 })
 
 -- the step is noted
-pub keeps-noted : (layout : Layout) (w : Words) (homes : Homes) (views : List View) (seat : ℕ) (v : View) (r : Rec) → slice_get views seat ≡ Some v
-    → FrameRule layout w homes views → FrameRule layout w homes (set views seat (noted r v))
-keeps-noted layout w homes views seat v r me h = record {
-  counts = Kept.kept-counts views seat v (noted r v) me w.frames w.trans w.caches refl h.counts;
-  places = Kept.kept-places views seat v (noted r v) me layout.kernel w.frames w.frees refl h.places;
-  frame_locks = Kept.kept-frame-locks views seat v (noted r v) me w.frames refl refl h.frame_locks;
-  page_locks = Kept.kept-page-locks views seat v (noted r v) me w.pages refl refl h.page_locks;
+pub keeps-noted : (layout : Layout) (w : Words) (homes : Homes) (views : List View) (seat : ℕ) (v : View) (who : Who) → slice_get views seat ≡ Some v
+    → FrameRule layout w homes views → FrameRule layout w homes (set views seat (noted who v))
+keeps-noted layout w homes views seat v who me h = record {
+  counts = Kept.kept-counts views seat v (noted who v) me w.frames w.trans w.caches refl h.counts;
+  places = Kept.kept-places views seat v (noted who v) me layout.kernel w.frames w.frees refl h.places;
+  frame_locks = Kept.kept-frame-locks views seat v (noted who v) me w.frames refl refl h.frame_locks;
+  page_locks = Kept.kept-page-locks views seat v (noted who v) me w.pages refl refl h.page_locks;
   translations = h.translations;
-  caches = Kept.kept-caches views seat v (noted r v) me w.frames w.caches refl refl h.caches;
-  bodies = Kept.kept-bodies views seat v (noted r v) me layout w.frames w.caches w.pages homes refl h.bodies;
+  caches = Kept.kept-caches views seat v (noted who v) me w.frames w.caches refl refl h.caches;
+  bodies = Kept.kept-bodies views seat v (noted who v) me layout w.frames w.caches w.pages homes refl h.bodies;
   handled = h.handled;
-  counter = Kept.kept-counter views seat v (noted r v) me w.frames w.counter refl refl refl h.counter;
-  free = Kept.kept-free views seat v (noted r v) me layout.frames w.frees w.available refl h.free;
-  damage = Kept.kept-damage views seat v (noted r v) me w.bads w.weaks refl refl h.damage;
-  entries = Kept.kept-entries views seat v (noted r v) me homes refl refl refl refl h.entries;
-  endings = Kept.kept-endings views seat v (noted r v) me layout w.processes homes refl refl h.endings;
-  marks = Kept.kept-marks views seat v (noted r v) me w.frames refl refl h.marks;
-  holdings = change holdings_of (HoldingsBounded layout) views seat (noted r v) (record {
-    bounded = each-set (IsBounded layout) (map holdings_of views) seat (holdings_of (noted r v)) bounded-noted h.holdings.bounded;
+  counter = Kept.kept-counter views seat v (noted who v) me w.frames w.counter refl refl refl h.counter;
+  free = Kept.kept-free views seat v (noted who v) me layout.frames w.frees w.available refl h.free;
+  damage = Kept.kept-damage views seat v (noted who v) me w.bads w.weaks refl refl h.damage;
+  entries = Kept.kept-entries views seat v (noted who v) me homes refl refl refl refl h.entries;
+  endings = Kept.kept-endings views seat v (noted who v) me layout w.processes homes refl refl h.endings;
+  marks = Kept.kept-marks views seat v (noted who v) me w.frames refl refl h.marks;
+  holdings = change holdings_of (HoldingsBounded layout) views seat (noted who v) (record {
+    bounded = each-set (IsBounded layout) (map holdings_of views) seat (holdings_of (noted who v)) bounded-noted h.holdings.bounded;
   });
-  losses = Kept.kept-losses views seat v (noted r v) me layout w.losses homes refl refl h.losses;
-  policies = keep (λ (v : View). v.sights) (λ l. PoliciesListed layout.threads w.policies (map (λ (v : View). (v.parts, v.settings)) (set views seat (noted r v))) l) views seat v (noted r v) me refl
-      (policies-noted layout w homes views seat v r me h);
-  exhaustion = Kept.kept-exhaustion views seat v (noted r v) me layout refl refl h.exhaustion;
-  stops = Kept.kept-stops views seat v (noted r v) me w.processes w.stop refl refl refl h.stops;
-  fits = Kept.kept-fits views seat v (noted r v) me layout w.trans w.caches homes refl refl h.fits;
-  processors = processors-noted layout views seat v r me h.processors;
-  commands = Kept.kept-commands views seat v (noted r v) me (own-noted r v (h.commands.own seat v me)) h.commands;
-  unpoisoned = Kept.kept-unpoisoned views seat v (noted r v) me w.frames homes refl refl h.unpoisoned;
+  losses = Kept.kept-losses views seat v (noted who v) me layout w.losses homes refl refl h.losses;
+  policies = keep (λ (v : View). v.sights) (λ l. PoliciesListed layout.threads w.policies (map (λ (v : View). (v.parts, v.settings)) (set views seat (noted who v))) l) views seat v (noted who v) me refl
+      (policies-noted layout w homes views seat v who me h);
+  exhaustion = Kept.kept-exhaustion views seat v (noted who v) me layout refl refl h.exhaustion;
+  stops = Kept.kept-stops views seat v (noted who v) me w.processes w.stop refl refl refl h.stops;
+  fits = Kept.kept-fits views seat v (noted who v) me layout w.trans w.caches homes refl refl h.fits;
+  processors = processors-noted layout views seat v who me h.processors;
+  commands = Kept.kept-commands views seat v (noted who v) me (own-noted who v (h.commands.own seat v me)) h.commands;
+  unpoisoned = Kept.kept-unpoisoned views seat v (noted who v) me w.frames homes refl refl h.unpoisoned;
 }
   where
     bounded : IsBounded layout (holdings_of v)
     bounded = h.holdings.bounded seat (holdings_of v) (at_map holdings_of views seat v me)
 
-    bounded-noted : IsBounded layout (holdings_of (noted r v))
+    bounded-noted : IsBounded layout (holdings_of (noted who v))
     bounded-noted = record {
       few = bounded.few;
-      none = λ empty. bounded.none (sym (length-changed (is_part r.who) (later r.who) v.parts) ∙ empty);
+      none = λ empty. bounded.none (sym (length-changed (is_part who) (later who) v.parts) ∙ empty);
       shares = bounded.shares;
     }

@@ -28,9 +28,9 @@ use Rattle.hwp_rule.specs.declared.view.PageLock.{PageLock}
 use Rattle.hwp_rule.specs.declared.view.InHand.{InHand}
 use Rattle.hwp_rule.specs.declared.view.Sight.{Sight}
 use Rattle.hwp_rule.specs.Lists.{EachMember, SomeMember}
-use Rattle.hwp_rule.specs.Logs.{state_of, has_ending, file_of}
+use Rattle.hwp_rule.specs.Logs.{log_of, state_of, has_ending, file_of}
 use Rattle.hwp_rule.specs.Steps.{place_of, IsLoaded}
-use Rattle.hwp_rule.specs.Views.{frame_in, refs_on, locks_on, page_locks_on, body_of, more_of, listed, view_by}
+use Rattle.hwp_rule.specs.Views.{frame_in, refs_on, locks_on, page_locks_on, body_of, more_of, listed, lost_by}
 use Rattle.hwp_rule.specs.Words.{IsPlace}
 use Rattle.hwp_rule.specs.parts.Bodies.{content_name}
 use Rattle.hwp_rule.specs.parts.Entries.{HasSeen}
@@ -42,9 +42,8 @@ use Rattle.hwp_rule.specs.parts.Policies.{settings_of}
 use Rattle.hwp_rule.specs.parts.Unpoisoned.{is_failure}
 use Rattle.hwp_rule.specs.Rule.{holdings_of, losing_of}
 
--- the seat has the right of the processor, which has come to no later command
+-- the processor is a part of the view, and has come to no later command
 pub record IsTurnOf (v : View) (who : Who) : Type 0 where
-  pub right : SomeMember (λ (c : Cpu). c ≡ who.cpu) v.rights
   pub part : SomeMember (λ (p : Part). (p.cpu ≡ who.cpu) × (p.latest ≤ who.seq)) v.parts
 
 -- the frame is in hand
@@ -202,8 +201,9 @@ pub record CanSetCache (layout : Layout) (v : View) (page : Page) (frame : Optio
   pub page_held : HasPage v page
   pub frames : CanChange layout v page (frame_in page_held.cache) frame
 
--- a process can be ended: the body in hand, with its page's lock, has an ending signal of the process
-pub record CanKill (layout : Layout) (who : Who) (v : View) (process : Proc) (log : Log) : Type 0 where
+-- a process can be ended: the body in hand, of this page and with its lock, has an ending signal of the process
+pub record CanKill (layout : Layout) (who : Who) (v : View) (process : Proc) (page : Page) (log : Log) : Type 0 where
+  pub page_is : log.page ≡ page
   pub page_held : HasPage v log.page
   pub extends : Extends layout who v.sights page_held.body log
   pub ending : has_ending layout process log.entries ≡ true
@@ -215,7 +215,7 @@ pub record CanLose (layout : Layout) (who : Who) (v : View) (file : FileNo) (log
   pub extends : Extends layout who v.sights page_held.body log
   pub behind : file_of layout log.page ≡ Some file
   pub owed : SomeMember (λ (n : FileNo). n ≡ file) (listed layout who log v).owed.losses
-  pub poisoned : IsPoisonLoss (losing_of (view_by layout who (steps.Lose file log) 0 None v))
+  pub poisoned : IsPoisonLoss (losing_of (lost_by layout who file log v))
 
 -- the policy of a thread of the processor can be set, after all its earlier settings
 pub record CanSetPolicy (layout : Layout) (who : Who) (v : View) (thread : Thread) (settings : ℕ) : Type 0 where
@@ -261,9 +261,9 @@ AsksOf layout who steps.Uncount content v = 0 < v.owed.uncounts
 AsksOf layout who (steps.Spoil frame line damage) content v = Unit {0}
 AsksOf layout who (steps.Stop cpu) content v = cpu ≡ who.cpu
 AsksOf layout who steps.GiveUp content v = Unit {0}
-AsksOf layout who (steps.Kill process log) content v = CanKill layout who v process log
+AsksOf layout who (steps.Kill process page body) content v = CanKill layout who v process page (log_of body.value)
 AsksOf layout who (steps.SetPolicy thread policy settings) content v = CanSetPolicy layout who v thread settings
-AsksOf layout who (steps.Lose file log) content v = CanLose layout who v file log
+AsksOf layout who (steps.Lose file body) content v = CanLose layout who v file (log_of body.value)
 AsksOf layout who (steps.ReportLost file) content v = Unit {0}
 
 -- the step's condition: the seat's turn, names of the layout, and what its kind asks

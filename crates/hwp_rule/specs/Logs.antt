@@ -19,11 +19,15 @@ use Rattle.hwp_page.specs.declared.PageState.{PageState}
 use Rattle.hwp_page.specs.declared.Situation.TheVariants as situations
 use Rattle.hwp_page.specs.declared.What.{What}
 use Rattle.hwp_page.specs.declared.What.TheVariants as entries
-use Rattle.hwp_page.specs.History.{state_after}
+use Rattle.hwp_page.specs.History.{BodyValue, state_after}
 use Rattle.hwp_page.specs.Step.{opening_of}
 use Rattle.hwp_words.specs.declared.Pte.TheVariants as ptes
 use Rattle.hwp_words.specs.Translations.{pte_word}
 use Rattle.hwp_rule.specs.declared.log.Log.{Log}
+
+-- the history of a body
+abbrev pub log_of : BodyValue → Log
+log_of body = record { page = body.page; entries = body.log }
 
 -- the state at opening of a page that is declared so
 abbrev pub opening_at : Option PageKind → PageState

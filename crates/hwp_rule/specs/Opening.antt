@@ -62,10 +62,6 @@ opening_homes layout = replicate layout.frames (Some None) ++ map (λ (q : ℕ).
 abbrev pub opening_view : ℕ → View
 opening_view c = record {
   parts = record { cpu = record { 0 = c }; latest = 0 } ∷ [];
-  rights = record { 0 = c } ∷ [];
-  fresh = record { 0 = c } ∷ [];
-  whole = false;
-  seen = [];
   refs = [];
   locks = [];
   pages = [];

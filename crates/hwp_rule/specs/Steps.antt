@@ -54,9 +54,9 @@ place_of steps.Uncount = places.Counter
 place_of (steps.Spoil frame line damage) = damage_place frame damage
 place_of (steps.Stop cpu) = places.Stop
 place_of steps.GiveUp = places.Stop
-place_of (steps.Kill process log) = places.Process process
+place_of (steps.Kill process page body) = places.Process process
 place_of (steps.SetPolicy thread policy settings) = places.Policy thread
-place_of (steps.Lose file log) = places.Loss file
+place_of (steps.Lose file body) = places.Loss file
 place_of (steps.ReportLost file) = places.Loss file
 
 -- the place can be loaded
@@ -106,9 +106,9 @@ kind_of steps.Uncount = Some kinds.Uncount
 kind_of (steps.Spoil frame line damage) = Some kinds.Spoil
 kind_of (steps.Stop cpu) = Some kinds.Stop
 kind_of steps.GiveUp = Some kinds.GiveUp
-kind_of (steps.Kill process log) = Some kinds.Kill
+kind_of (steps.Kill process page body) = Some kinds.Kill
 kind_of (steps.SetPolicy thread policy settings) = Some kinds.SetPolicy
-kind_of (steps.Lose file log) = Some kinds.Lose
+kind_of (steps.Lose file body) = Some kinds.Lose
 kind_of (steps.ReportLost file) = Some kinds.ReportLost
 
 -- what an exchange, a compare-and-exchange, makes of the word that it found
@@ -131,7 +131,7 @@ word_after (steps.TakeBit frame) found = bit_and found (bit_not w64 (free_mask f
 word_after (steps.GiveBit frame) found = bit_or found (free_mask frame)
 word_after steps.Unreserve found = (found + 1) % 2 ^ 64
 word_after (steps.Adopt frame) found = (found + 17) % 2 ^ 64
-word_after (steps.GetRef frame seen count) found = exchanged seen (seen + count * 16) found
+word_after (steps.GetRef frame seen count) found = exchanged seen ((seen + count * 16) % 2 ^ 64) found
 word_after (steps.PutRef frame count) found = (found + (2 ^ 64 - count * 16)) % 2 ^ 64
 word_after (steps.LockFrame frame) found = bit_or found 1
 word_after (steps.UnlockFrame frame) found = bit_and found (bit_not w64 1)
@@ -148,9 +148,9 @@ word_after steps.Uncount found = (found + (2 ^ 64 - 1)) % 2 ^ 64
 word_after (steps.Spoil frame line damage) found = bit_or found (1 * 2 ^ line % 2 ^ 64)
 word_after (steps.Stop cpu) found = exchanged 0 (cpu.0 + 1) found
 word_after steps.GiveUp found = bit_or found (2 ^ 63)
-word_after (steps.Kill process log) found = exchanged 0 (log.page.0 + 1) found
+word_after (steps.Kill process page body) found = exchanged 0 (page.0 + 1) found
 word_after (steps.SetPolicy thread policy settings) found = policy_at (settings + 1) policy
-word_after (steps.Lose file log) found = (found + 1) % 2 ^ 64
+word_after (steps.Lose file body) found = (found + 1) % 2 ^ 64
 word_after (steps.ReportLost file) found = 0
 
 -- the step went through, at the word that it found: an exchange met the word that it expects, a lock was free, a bit was
@@ -164,7 +164,7 @@ goes (steps.Revive frame seen) found = found == seen
 goes (steps.LockPage page) found = not (is_locked found)
 goes (steps.Poison frame hardware) found = found / 2 % 2 == 0
 goes (steps.Stop cpu) found = found == 0
-goes (steps.Kill process log) found = found == 0
+goes (steps.Kill process page body) found = found == 0
 goes step found = true
 
 -- with this step the last reference is given back

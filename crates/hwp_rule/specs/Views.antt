@@ -31,7 +31,7 @@ use Rattle.hwp_rule.specs.declared.view.Made.{Made}
 use Rattle.hwp_rule.specs.declared.view.MarkKind.{MarkKind}
 use Rattle.hwp_rule.specs.declared.view.MarkKind.TheVariants as mark_kinds
 use Rattle.hwp_rule.specs.Steps.{place_of, goes, is_last}
-use Rattle.hwp_rule.specs.Logs.{state_of, is_loss, file_of, fitting}
+use Rattle.hwp_rule.specs.Logs.{log_of, state_of, is_loss, file_of, fitting}
 
 -- the list without the first member that the test finds
 abbrev pub without : {A : Type 0} → (A → Bool) → List A → List A
@@ -204,6 +204,11 @@ abbrev pub killed_by : Proc → Page → View → View
 killed_by process page v =
     record v { bodies = changed (is_body_of page) (λ (b : InHand). record b { killed = b.killed ++ process ∷ [] }) v.bodies }
 
+-- a loss of the file is no longer owed
+abbrev pub lost_by : Layout → Who → FileNo → Log → View → View
+lost_by layout who file log v =
+    record (listed layout who log v) { owed = record (listed layout who log v).owed { losses = without (λ (n : FileNo). n.0 == file.0) (listed layout who log v).owed.losses } }
+
 -- what its own kind of step makes of a seat's view, when the step is noted: `found` is the word that it met, and `content` what was in
 -- the slot that it took, or what it put there
 abbrev pub view_by : Layout → Who → Step → ℕ → Option Log → View → View
@@ -255,29 +260,21 @@ view_by layout who (steps.Spoil frame line damage) found content v =
     record v { spoiled = v.spoiled ++ (record { stamp = stamp_of who v; frame = frame; line = line; damage = damage }) ∷ [] }
 view_by layout who (steps.Stop cpu) found content v = cond (found == 0) (record v { stops = v.stops ++ who ∷ [] }) (sighted who places.Stop found v)
 view_by layout who steps.GiveUp found content v = v
-view_by layout who (steps.Kill process log) found content v =
-    cond (found == 0) (killed_by process log.page (listed layout who log v)) (sighted who (places.Process process) found (killed_by process log.page (listed layout who log v)))
+view_by layout who (steps.Kill process page body) found content v =
+    cond (found == 0) (killed_by process page (listed layout who (log_of body.value) v)) (sighted who (places.Process process) found (killed_by process page (listed layout who (log_of body.value) v)))
 view_by layout who (steps.SetPolicy thread policy settings) found content v =
     record v { settings = v.settings ++ (record { stamp = stamp_of who v; thread = thread; policy = policy }) ∷ [] }
-view_by layout who (steps.Lose file log) found content v =
-    record (listed layout who log v) { owed = record (listed layout who log v).owed { losses = without (λ (n : FileNo). n.0 == file.0) (listed layout who log v).owed.losses } }
+view_by layout who (steps.Lose file body) found content v = lost_by layout who file (log_of body.value) v
 view_by layout who (steps.ReportLost file) found content v =
     record (sighted who (places.Loss file) found v) { reported = v.reported ++ (record { stamp = stamp_of who v; file = file; count = found }) ∷ [] }
 
-abbrev pub is_cpu : Cpu → Cpu → Bool
-is_cpu cpu other = other.0 == cpu.0
-
--- what every step notes: the command, and the step itself where all steps are known
-abbrev pub noted : Rec → View → View
-noted r v = record v {
-  parts = changed (λ (p : Part). p.cpu.0 == r.who.cpu.0) (λ (p : Part). record p { latest = max p.latest r.who.seq }) v.parts;
-  fresh = without (is_cpu r.who.cpu) v.fresh;
-  seen = cond v.whole (v.seen ++ r ∷ []) v.seen;
-}
+-- what every step notes: the command
+abbrev pub noted : Who → View → View
+noted who v = record v { parts = changed (λ (p : Part). p.cpu.0 == who.cpu.0) (λ (p : Part). record p { latest = max p.latest who.seq }) v.parts }
 
 -- a seat's view after its step
-abbrev pub view_after : Layout → Rec → Option Log → View → View
-view_after layout r content v = view_by layout r.who r.step r.found content (noted r v)
+abbrev pub view_after : Layout → Rec → View → View
+view_after layout r v = view_by layout r.who r.step r.found r.content (noted r.who v)
 
 -- the slot of a frame, and the shelf of a page
 abbrev pub frame_slot : Frame → ℕ

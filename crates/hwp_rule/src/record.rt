@@ -3,12 +3,14 @@ use crate::step::Step;
 use crate::view::View;
 use hwp_geom::{List, Who};
 
-/// A step that was made: by which command, which step, and the word that it found.
+/// A step that was made: by which command, which step, the word that it found, and the content of the slot that it took,
+/// or what it put there.
 #[derive(Drop)]
 pub struct Rec {
     pub who: Who,
     pub step: Step,
     pub found: u64,
+    pub content: Option<Log>,
 }
 
 /// A board as plain data: all words, the contents of all slots, and the views of all seats. The slots are those of the

@@ -1,8 +1,9 @@
-use crate::log::Log;
 use crate::place::Place;
 use hwp_geom::{Cpu, Damage, FileNo, Frame, Line, Page, Proc, Thread, VSlot};
 use hwp_kill::Policy;
+use hwp_page::Body;
 use hwp_words::Pte;
+use std::snapshot::Snapshot;
 
 /// An atomic step with its arguments: one access to one shared word (this project's rule). `Load` stands for the ten
 /// kinds of load, one for each place that can be loaded.
@@ -105,10 +106,11 @@ pub enum Step {
     },
     /// A processor gives up for want of memory.
     GiveUp,
-    /// A process has an ending signal in this body, if it has had none.
+    /// A process has an ending signal in this body, of this page, if it has had none.
     Kill {
         process: Proc,
-        log: Log,
+        page: Page,
+        body: Snapshot<Body>,
     },
     /// A thread's policy becomes this one, after so many earlier settings.
     SetPolicy {
@@ -119,7 +121,7 @@ pub enum Step {
     /// A loss of a file is counted that this body has.
     Lose {
         file: FileNo,
-        log: Log,
+        body: Snapshot<Body>,
     },
     /// The losses of a file are read and set to 0.
     ReportLost {

@@ -1,6 +1,5 @@
 use crate::log::Log;
 use crate::place::Place;
-use crate::record::Rec;
 use hwp_geom::{Cpu, Damage, FileNo, Frame, Line, List, Page, Proc, Thread, Who};
 use hwp_kill::Policy;
 use hwp_page::Entry;
@@ -141,13 +140,6 @@ pub struct Reported {
 pub struct View {
     /// The processors that are its part.
     pub parts: List<Part>,
-    /// The processors whose right to make a step it has.
-    pub rights: List<Cpu>,
-    /// Those of them that have made no step.
-    pub fresh: List<Cpu>,
-    /// Whether it knows all steps so far, and then which.
-    pub whole: bool,
-    pub seen: List<Rec>,
     pub refs: List<Ref>,
     pub locks: List<FrameLock>,
     pub pages: List<PageLock>,

@@ -1,5 +1,5 @@
 -- References taken keep the frame rule.
-use Rattle.std.proofs.Common.{◌≡◌, ℕ, ◌+◌, ◌*◌, ◌%◌, ◌^◌, ◌<◌, ◌≤◌, ◌==◌, min, Bool, true, false, cond, List, Some, map, set, length, slice_get, slice_index, slice_set, inl, inr, refl, sym, subst, arith}
+use Rattle.std.proofs.Common.{◌≡◌, ℕ, ◌+◌, ◌*◌, ◌%◌, ◌^◌, ◌<◌, ◌≤◌, ◌==◌, min, Bool, true, false, cond, List, Some, map, set, length, slice_get, slice_index, slice_set, inl, inr, refl, sym, ap, subst, arith}
 use Rattle.std.proofs.lemmas.Bool.{eqb-true}
 use prog.Atomic.{either}
 use Rattle.hwp_geom.specs.declared.Frame.{Frame}
@@ -70,7 +70,7 @@ keeps-get_ref frame seen count layout w homes views seat v who content given = w
     }
 
     which : (b : Bool) → (slice_index w.frames frame.0 == seen) ≡ b
-        → FrameRule layout (record w { frames = slice_set w.frames frame.0 (either b (seen + count * 16) (slice_index w.frames frame.0)) }) homes
+        → FrameRule layout (record w { frames = slice_set w.frames frame.0 (either b ((seen + count * 16) % 2 ^ 64) (slice_index w.frames frame.0)) }) homes
         (set views seat (cond b (record v { refs = with_refs frame count v.refs }) (sighted who (places.Frame frame) (slice_index w.frames frame.0) v)))
     which false e = keeps-shown layout w homes views seat v who (places.Frame frame) given.me given.past (explained-frame layout w homes views (stamp_of who v) frame (slice_index w.frames frame.0) there) given.rule
     which true e = subst (λ (n : ℕ). FrameRule layout (record w { frames = slice_set w.frames frame.0 n }) homes (set views seat (record v { refs = with_refs frame count v.refs }))) now-is
@@ -88,8 +88,8 @@ keeps-get_ref frame seen count layout w homes views seat v who content given = w
         are : FieldsAre now (lock_of found) (poison_of found) (handled_of found) (kernel_of found) (count_of found + count) (owner_of found) (cycle_of found)
         are = fields-get_ref found (count * 16) count refl fits room
 
-        now-is : now ≡ seen + count * 16
-        now-is = omega (arith, same, room, given.fits)
+        now-is : now ≡ (seen + count * 16) % 2 ^ 64
+        now-is = ap (λ (n : ℕ). (n + count * 16) % 2 ^ 64) same
 
         like : IsLike found now
         like = like-fields found now (lock_of found) (count_of found + count) are
