@@ -2,6 +2,7 @@ pub mod Words
 pub mod Lists
 pub mod Steps
 pub mod Logs
+pub mod Slots
 pub mod Views
 pub mod parts
 pub mod Rule

@@ -6,14 +6,19 @@
 mod log;
 mod place;
 mod record;
+mod slot_move;
 mod step;
+mod table;
 mod view;
+mod words;
 
 pub use log::Log;
 pub use place::Place;
 pub use record::{Rec, State};
+pub use slot_move::SlotMove;
 pub use step::Step;
 pub use view::{
     Debts, FrameLock, InHand, Length, Made, Mark, MarkKind, PageLock, Part, Ref, Reported, Setting,
     Sight, Spoiled, Stamp, View,
 };
+pub use words::{frame_in, index};
