@@ -8,10 +8,10 @@ use Rattle.hwp_rule.specs.declared.step.Step.{Step}
 use Rattle.hwp_rule.specs.declared.view.View.{View}
 use Rattle.hwp_rule.specs.Asks.{AsksOf, IsTurnOf}
 use Rattle.hwp_rule.specs.Lists.{Homes}
-use Rattle.hwp_rule.specs.Moves.{Meets}
 use Rattle.hwp_rule.specs.Rule.{FrameRule}
+use Rattle.hwp_rule.specs.Slots.{homes_after, Meets}
 use Rattle.hwp_rule.specs.Steps.{place_of, word_after}
-use Rattle.hwp_rule.specs.Views.{view_by, homes_after}
+use Rattle.hwp_rule.specs.Views.{view_by}
 use Rattle.hwp_rule.specs.Words.{Words, read, put, IsPlace, free_words}
 use Rattle.hwp_rule.specs.parts.Holdings.{IsPast}
 

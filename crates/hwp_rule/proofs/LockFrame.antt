@@ -21,7 +21,7 @@ use Rattle.hwp_rule.specs.declared.view.View.{View}
 use Rattle.hwp_rule.specs.Asks.{CanLockFrame}
 use Rattle.hwp_rule.specs.Lists.{Homes, EachMember}
 use Rattle.hwp_rule.specs.Logs.{state_of, fitting}
-use Rattle.hwp_rule.specs.Moves.{IsIn}
+use Rattle.hwp_rule.specs.Slots.{IsIn, MeetsSlot, homes_moved, moved_out}
 use Rattle.hwp_rule.specs.Rule.{FrameRule, holder_of}
 use Rattle.hwp_rule.specs.Views.{locks_on, page_locks_on, lock_found, taken, knowing, changed, is_page_lock_of, stamp_of}
 use Rattle.hwp_rule.specs.Words.{Words}
@@ -241,7 +241,7 @@ keeps-lock_frame frame layout w homes views seat v who content given = which (no
         (let unset : lock_of (slice_index w.frames frame.0) ≢ 1 = eqb-false (lock_of (slice_index w.frames frame.0)) 1 e in omega arith) given.rule log inside
 
     which : (b : Bool) → not (is_locked (slice_index w.frames frame.0)) ≡ b
-        → FrameRule layout (record w { frames = slice_set w.frames frame.0 (bit_or (slice_index w.frames frame.0) 1) }) (cond b (slice_set homes frame.0 None) homes)
+        → FrameRule layout (record w { frames = slice_set w.frames frame.0 (bit_or (slice_index w.frames frame.0) 1) }) (homes_moved (moved_out b frame.0) content homes)
         (set views seat (cond b (taken layout who (Some frame) content (record v { locks = v.locks ++ lock_found frame (slice_index w.frames frame.0) ∷ [] })) v))
     which false e = busy (let set_it : lock_of (slice_index w.frames frame.0) ≡ 1 = eqb-true (lock_of (slice_index w.frames frame.0)) 1 (not-is (is_locked (slice_index w.frames frame.0)) false e) in omega arith)
-    which true e = free-at (not-is (is_locked (slice_index w.frames frame.0)) true e) content (given.meets e)
+    which true e = free-at (not-is (is_locked (slice_index w.frames frame.0)) true e) content (subst (λ (b : Bool). MeetsSlot (moved_out b frame.0) homes content) e given.meets)

@@ -1,18 +1,20 @@
 -- A move keeps the frame rule, where its kind of step does.
-use Rattle.std.proofs.Common.{◌≡◌, ℕ, ◌+◌, ◌-◌, min, ◌^◌, ◌<◌, ◌≤◌, Bool, true, false, cond, List, Option, Some, None, set, length, drop, refl, sym, ◌∙◌, subst, arith}
+use Rattle.std.proofs.Common.{◌≡◌, ℕ, ◌+◌, ◌-◌, min, ◌^◌, ◌<◌, ◌≤◌, List, Option, Some, None, set, length, drop, refl, sym, ◌∙◌, subst, arith}
 use Rattle.std.proofs.lemmas.List.{length-set, length-take, length-drop}
 use Rattle.hwp_geom.specs.declared.Layout.{Layout}
 use Rattle.hwp_rule.specs.declared.log.Log.{Log}
 use Rattle.hwp_rule.specs.declared.record.Rec.{Rec}
 use Rattle.hwp_rule.specs.declared.record.State.{State}
+use Rattle.hwp_rule.specs.declared.slot_move.SlotMove.{SlotMove}
+use Rattle.hwp_rule.specs.declared.slot_move.SlotMove.TheVariants as moves
 use Rattle.hwp_rule.specs.declared.step.Step.{Step}
-use Rattle.hwp_rule.specs.declared.step.Step.TheVariants as steps
 use Rattle.hwp_rule.specs.declared.view.View.{View}
 use Rattle.hwp_rule.specs.Lists.{Homes}
-use Rattle.hwp_rule.specs.Moves.{Move, Meets, moved}
+use Rattle.hwp_rule.specs.Moves.{Move, moved}
 use Rattle.hwp_rule.specs.Rule.{FrameRule, Holds}
-use Rattle.hwp_rule.specs.Steps.{place_of, word_after, goes}
-use Rattle.hwp_rule.specs.Views.{noted, view_by, homes_after, frame_slot, shelf_slot}
+use Rattle.hwp_rule.specs.Slots.{slot_move, homes_moved, homes_after, Meets}
+use Rattle.hwp_rule.specs.Steps.{place_of, word_after}
+use Rattle.hwp_rule.specs.Views.{noted, view_by}
 use Rattle.hwp_rule.specs.Words.{Words, words_of, read, put, index, size, segment, free_words, trans_from, caches_from, pages_from, frees_from, bads_from, weaks_from, processes_from, policies_from, losses_from}
 use Rattle.hwp_rule.proofs.AsksNoted.{asks-noted}
 use Rattle.hwp_rule.proofs.Given.{Given, IsShaped, Keeps}
@@ -44,39 +46,14 @@ shaped layout s h =
       slots = h.slots;
     }
 
-length-cond : (b : Bool) (l m : Homes) (n : ℕ) → length l ≡ n → length m ≡ n → length (cond b l m) ≡ n
-length-cond true l m n p q = p
-length-cond false l m n p q = q
+length-moved : (move : SlotMove) (content : Option Log) (homes : Homes) → length (homes_moved move content homes) ≡ length homes
+length-moved moves.Stays content homes = refl
+length-moved (moves.Out slot) content homes = length-set homes slot None
+length-moved (moves.Home slot) content homes = length-set homes slot (Some content)
 
 -- no step makes or takes away a slot
 pub length-homes : (layout : Layout) (step : Step) (found : ℕ) (content : Option Log) (homes : Homes) → length (homes_after layout step found content homes) ≡ length homes
-length-homes layout (steps.Load place) found content homes = refl
-length-homes layout (steps.Reserve seen) found content homes = refl
-length-homes layout (steps.TakeBit frame) found content homes = refl
-length-homes layout (steps.GiveBit frame) found content homes = refl
-length-homes layout steps.Unreserve found content homes = refl
-length-homes layout (steps.Adopt frame) found content homes = length-set homes (frame_slot frame) None
-length-homes layout (steps.GetRef frame seen count) found content homes = refl
-length-homes layout (steps.PutRef frame count) found content homes = refl
-length-homes layout (steps.LockFrame frame) found content homes = length-cond (goes (steps.LockFrame frame) found) (set homes (frame_slot frame) None) homes (length homes) (length-set homes (frame_slot frame) None) refl
-length-homes layout (steps.UnlockFrame frame) found content homes = length-set homes (frame_slot frame) (Some content)
-length-homes layout (steps.Retire frame) found content homes = length-set homes (frame_slot frame) (Some content)
-length-homes layout (steps.Revive frame seen) found content homes = refl
-length-homes layout (steps.SetOwner frame page owned) found content homes = refl
-length-homes layout (steps.LockPage page) found content homes = length-cond (goes (steps.LockPage page) found) (set homes (shelf_slot layout page) None) homes (length homes) (length-set homes (shelf_slot layout page) None) refl
-length-homes layout (steps.UnlockPage page) found content homes = length-set homes (shelf_slot layout page) (Some content)
-length-homes layout (steps.SetPte slot pte) found content homes = refl
-length-homes layout (steps.SetCache page frame) found content homes = refl
-length-homes layout (steps.Poison frame hardware) found content homes = refl
-length-homes layout (steps.CountPoison hardware) found content homes = refl
-length-homes layout steps.Uncount found content homes = refl
-length-homes layout (steps.Spoil frame line damage) found content homes = refl
-length-homes layout (steps.Stop cpu) found content homes = refl
-length-homes layout steps.GiveUp found content homes = refl
-length-homes layout (steps.Kill process page body) found content homes = refl
-length-homes layout (steps.SetPolicy thread policy settings) found content homes = refl
-length-homes layout (steps.Lose file body) found content homes = refl
-length-homes layout (steps.ReportLost file) found content homes = refl
+length-homes layout step found content homes = length-moved (slot_move layout step found) content homes
 
 rule-moved : (layout : Layout) (seat : ℕ) (r : Rec) (a b : State) → Keeps r.step → Holds layout a → (m : Move layout seat r a b) → FrameRule layout (words_of layout (moved layout seat r m.view a).words) (moved layout seat r m.view a).homes (moved layout seat r m.view a).views
 rule-moved layout seat r a b keeps h m =

@@ -1,29 +1,15 @@
 -- A move: what one step does to a board; and a run of moves.
-use Rattle.std.specs.Prelude.{◌≡◌, ℕ, ◌^◌, ◌<◌, true, List, [], ◌∷◌, Option, Some, slice_get, slice_set, slice_index}
+use Rattle.std.specs.Prelude.{◌≡◌, ℕ, ◌^◌, ◌<◌, List, [], ◌∷◌, Some, slice_get, slice_set, slice_index}
 use Rattle.hwp_geom.specs.declared.Layout.{Layout}
-use Rattle.hwp_rule.specs.declared.log.Log.{Log}
 use Rattle.hwp_rule.specs.declared.record.Rec.{Rec}
 use Rattle.hwp_rule.specs.declared.record.State.{State}
-use Rattle.hwp_rule.specs.declared.step.Step.{Step}
-use Rattle.hwp_rule.specs.declared.step.Step.TheVariants as steps
 use Rattle.hwp_rule.specs.declared.view.View.{View}
 use Rattle.hwp_rule.specs.Asks.{Asks}
-use Rattle.hwp_rule.specs.Lists.{Homes}
 use Rattle.hwp_rule.specs.Rule.{Holds}
-use Rattle.hwp_rule.specs.Steps.{place_of, word_after, goes}
-use Rattle.hwp_rule.specs.Views.{view_after, homes_after, frame_slot, shelf_slot}
+use Rattle.hwp_rule.specs.Steps.{place_of, word_after}
+use Rattle.hwp_rule.specs.Slots.{homes_after, Meets}
+use Rattle.hwp_rule.specs.Views.{view_after}
 use Rattle.hwp_rule.specs.Words.{index}
-
--- the slot is at home with this content
-abbrev pub IsIn : Homes → ℕ → Option Log → Type 0
-IsIn homes slot content = slice_get homes slot ≡ Some (Some content)
-
--- the slot that the step takes, where it goes through, has this content
-abbrev pub Meets : Layout → Homes → Step → ℕ → Option Log → Type 0
-Meets layout homes (steps.Adopt frame) found content = IsIn homes (frame_slot frame) content
-Meets layout homes (steps.LockFrame frame) found content = goes (steps.LockFrame frame) found ≡ true → IsIn homes (frame_slot frame) content
-Meets layout homes (steps.LockPage page) found content = goes (steps.LockPage page) found ≡ true → IsIn homes (shelf_slot layout page) content
-Meets layout homes step found content = Unit {0}
 
 -- the board after a step of a seat with this view
 abbrev pub moved : Layout → ℕ → Rec → View → State → State

@@ -1,5 +1,5 @@
 -- The board at opening.
-use Rattle.std.specs.Prelude.{ℕ, zero, suc, ◌+◌, ◌*◌, Bool, false, not, cond, List, [], ◌∷◌, ◌++◌, Some, None, map, length, replicate, take, drop}
+use Rattle.std.specs.Prelude.{ℕ, zero, suc, ◌+◌, ◌*◌, Bool, not, cond, List, [], ◌∷◌, ◌++◌, Some, None, map, length, replicate, take, drop}
 use Rattle.std.specs.List.{sum_by, concat}
 use Rattle.std.specs.Int.{from_bool}
 use Rattle.hwp_geom.specs.declared.Layout.{Layout}

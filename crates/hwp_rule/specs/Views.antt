@@ -2,7 +2,6 @@
 use Rattle.std.specs.Prelude.{ℕ, suc, ◌+◌, ◌-◌, ◌%◌, ◌^◌, ◌==◌, nat_le, max, Bool, true, cond, List, [], ◌∷◌, ◌++◌, Option, Some, None, is_some, is_none, map, length, drop, option_map, slice_get, slice_set}
 use Rattle.std.specs.List.{sum_by, find}
 use Rattle.std.specs.Int.{from_bool}
-use Rattle.hwp_geom.specs.declared.Cpu.{Cpu}
 use Rattle.hwp_geom.specs.declared.FileNo.{FileNo}
 use Rattle.hwp_geom.specs.declared.Frame.{Frame}
 use Rattle.hwp_geom.specs.declared.Layout.{Layout}
@@ -275,20 +274,3 @@ noted who v = record v { parts = changed (λ (p : Part). p.cpu.0 == who.cpu.0) (
 -- a seat's view after its step
 abbrev pub view_after : Layout → Rec → View → View
 view_after layout r v = view_by layout r.who r.step r.found r.content (noted r.who v)
-
--- the slot of a frame, and the shelf of a page
-abbrev pub frame_slot : Frame → ℕ
-frame_slot frame = frame.0
-
-abbrev pub shelf_slot : Layout → Page → ℕ
-shelf_slot layout page = layout.frames + page.0
-
--- the slots at home after a step: the holder of a lock has the lock's slot
-abbrev pub homes_after : Layout → Step → ℕ → Option Log → List (Option (Option Log)) → List (Option (Option Log))
-homes_after layout (steps.Adopt frame) found content homes = slice_set homes (frame_slot frame) None
-homes_after layout (steps.LockFrame frame) found content homes = cond (goes (steps.LockFrame frame) found) (slice_set homes (frame_slot frame) None) homes
-homes_after layout (steps.UnlockFrame frame) found content homes = slice_set homes (frame_slot frame) (Some content)
-homes_after layout (steps.Retire frame) found content homes = slice_set homes (frame_slot frame) (Some content)
-homes_after layout (steps.LockPage page) found content homes = cond (goes (steps.LockPage page) found) (slice_set homes (shelf_slot layout page) None) homes
-homes_after layout (steps.UnlockPage page) found content homes = slice_set homes (shelf_slot layout page) (Some content)
-homes_after layout step found content homes = homes

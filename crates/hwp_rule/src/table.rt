@@ -48,7 +48,11 @@ impl Step {
             Step::Unreserve | Step::Lose { .. } => found.wrapping_add(1),
             Step::Adopt { .. } => found.wrapping_add(LOCK + REFERENCE),
             Step::GetRef { seen, count, .. } => {
-                exchanged(*seen, seen.wrapping_add(u64::from(*count) * REFERENCE), found)
+                exchanged(
+                    *seen,
+                    seen.wrapping_add(u64::from(*count) * REFERENCE),
+                    found,
+                )
             }
             Step::PutRef { count, .. } => found.wrapping_sub(u64::from(*count) * REFERENCE),
             Step::LockFrame { .. } | Step::LockPage { .. } => found | LOCK,
@@ -65,9 +69,18 @@ impl Step {
             Step::Uncount => found.wrapping_sub(1),
             Step::Spoil { line, .. } => found | (1 << line.get()),
             Step::Stop { cpu } => exchanged(0, u64::from(cpu.0) + 1, found),
-            Step::GiveUp => found | StopWord { cpu: None, no_memory: true }.pack(),
-            Step::Kill { log, .. } => exchanged(0, u64::from(log.page.0) + 1, found),
-            Step::SetPolicy { policy, settings, .. } => PolicyWord {
+            Step::GiveUp => found
+                | StopWord {
+                    cpu: None,
+                    no_memory: true,
+                }
+                .pack(),
+            Step::Kill { page, .. } => exchanged(0, u64::from(page.0) + 1, found),
+            Step::SetPolicy {
+                policy,
+                settings,
+                ..
+            } => PolicyWord {
                 policy: *policy,
                 settings: u64::from(*settings) + 1,
             }

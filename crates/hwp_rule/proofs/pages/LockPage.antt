@@ -21,7 +21,7 @@ use Rattle.hwp_rule.specs.declared.view.Stamp.{Stamp}
 use Rattle.hwp_rule.specs.declared.view.View.{View}
 use Rattle.hwp_rule.specs.Lists.{Homes, EachMember}
 use Rattle.hwp_rule.specs.Logs.{state_of, fitting}
-use Rattle.hwp_rule.specs.Moves.{IsIn}
+use Rattle.hwp_rule.specs.Slots.{IsIn, MeetsSlot, homes_moved, moved_out}
 use Rattle.hwp_rule.specs.Rule.{FrameRule, holder_of}
 use Rattle.hwp_rule.specs.Views.{page_locks_on, lock_of_page, body_of, taken, knowing, changed, is_body_of, is_page_lock_of, stamp_of}
 use Rattle.hwp_rule.specs.Words.{Words}
@@ -243,8 +243,8 @@ keeps-lock_page page layout w homes views seat v who content given = which (not 
         (subst (FrameRule layout w homes) (sym (set_again views seat v given.me)) given.rule)
 
     which : (b : Bool) → not (is_locked (slice_index w.pages page.0)) ≡ b
-        → FrameRule layout (record w { pages = slice_set w.pages page.0 (bit_or (slice_index w.pages page.0) 1) }) (cond b (slice_set homes (layout.frames + page.0) None) homes)
+        → FrameRule layout (record w { pages = slice_set w.pages page.0 (bit_or (slice_index w.pages page.0) 1) }) (homes_moved (moved_out b (layout.frames + page.0)) content homes)
         (set views seat (cond b (taken layout who None content (record v { pages = v.pages ++ lock_of_page layout page content (body_of page v) ∷ [] })) v))
     which false e = busy (let set_it : lock_of (slice_index w.pages page.0) ≡ 1 = eqb-true (lock_of (slice_index w.pages page.0)) 1 (not-is (is_locked (slice_index w.pages page.0)) false e) in omega arith)
     which true e = keeps-lock layout w homes views seat v page (slice_index w.pages page.0) given.shaped given.me given.place (nil_from_length v.pages given.asks) there
-        (let unset : lock_of (slice_index w.pages page.0) ≢ 1 = eqb-false (lock_of (slice_index w.pages page.0)) 1 (not-is (is_locked (slice_index w.pages page.0)) true e) in omega arith) given.rule who given.past content (given.meets e)
+        (let unset : lock_of (slice_index w.pages page.0) ≢ 1 = eqb-false (lock_of (slice_index w.pages page.0)) 1 (not-is (is_locked (slice_index w.pages page.0)) true e) in omega arith) given.rule who given.past content (subst (λ (b : Bool). MeetsSlot (moved_out b (layout.frames + page.0)) homes content) e given.meets)
