@@ -79,21 +79,21 @@ module _ (layout : Layout) (w : Words) (homes : Homes) (views : List View) (seat
   user = which (is_kernel word) refl
     where
       which : (b : Bool) → is_kernel word ≡ b → is_kernel word ≡ false
-      which true is = let none : in_hand frame.0 hands ≡ 0 = (h.places.kernels frame.0 word there is).unhanded in absurd (omega (arith, some))
+      which true is = let none : in_hand frame.0 hands ≡ 0 = (h.frames.places.kernels frame.0 word there is).unhanded in absurd (omega (arith, some))
       which false isnt = isnt
 
   placed : free_bit w.frees frame.0 + in_hand frame.0 hands + min (count_of word) 1 ≡ 1
-  placed = h.places.placed frame.0 word there user
+  placed = h.frames.places.placed frame.0 word there user
 
   bare : IsBare word
-  bare = h.places.idle frame.0 word there (omega (arith, some))
+  bare = h.frames.places.idle frame.0 word there (omega (arith, some))
 
   uncounted : count_of word ≡ 0
   uncounted = omega (arith, some, placed)
 
   unreferenced : refs_on frame.0 v.refs ≡ 0
   unreferenced =
-      let balance : count_of word ≡ named frame.0 w.trans + named frame.0 w.caches + sum_by (refs_on frame.0) refs + handled_of word = h.counts.balance frame.0 word there in
+      let balance : count_of word ≡ named frame.0 w.trans + named frame.0 w.caches + sum_by (refs_on frame.0) refs + handled_of word = h.frames.counts.balance frame.0 word there in
       let part : refs_on frame.0 v.refs ≤ sum_by (refs_on frame.0) refs = term-le (refs_on frame.0) refs seat v.refs my-refs in
       omega (arith, uncounted)
 
@@ -106,17 +106,17 @@ module _ (layout : Layout) (w : Words) (homes : Homes) (views : List View) (seat
 
     counts-adopted : CountsBalance frames w.trans w.caches (set refs seat u.refs)
     counts-adopted = counted-again w.frames frame.0 word new there like w.trans w.caches refs seat v.refs u.refs my-refs
-        (omega (arith, are.count, refs-with frame 1 v.refs)) (λ g other. refs-with-other frame 1 g v.refs other) h.counts
+        (omega (arith, are.count, refs-with frame 1 v.refs)) (λ g other. refs-with-other frame 1 g v.refs other) h.frames.counts
 
     places-adopted : HasOnePlace layout.kernel frames w.frees (set hands seat u.hands)
     places-adopted = record {
       declared = λ g x k a b.
           let was : (y : ℕ) × (slice_get w.frames g ≡ Some y) × IsLike y x = word-was w.frames frame.0 word new there like g x a in
-          ap (λ (n : ℕ). n == 1) was.2.kernel ∙ h.places.declared g was.0 k was.1 b;
+          ap (λ (n : ℕ). n == 1) was.2.kernel ∙ h.frames.places.declared g was.0 k was.1 b;
       placed = λ g x a usable. elim (at_set w.frames frame.0 g new x a) [
         | inl t ↦ subst (λ (p : ℕ × ℕ). free_bit w.frees p.0 + in_hand p.0 (set hands seat u.hands) + min (count_of p.1) 1 ≡ 1) (λ i. (sym t.0 i, t.1 i)) here
         | inr t ↦
-            let was : free_bit w.frees g + in_hand g hands + min (count_of x) 1 ≡ 1 = h.places.placed g x t.1 usable in
+            let was : free_bit w.frees g + in_hand g hands + min (count_of x) 1 ≡ 1 = h.frames.places.placed g x t.1 usable in
             let same : in_hand g (set hands seat u.hands) ≡ in_hand g hands = others g t.0 in
             omega arith
       ];
@@ -124,16 +124,16 @@ module _ (layout : Layout) (w : Words) (homes : Homes) (views : List View) (seat
         | inl t ↦
             let none : free_bit w.frees g + in_hand g (set hands seat u.hands) ≡ 0 = subst (λ (n : ℕ). free_bit w.frees n + in_hand n (set hands seat u.hands) ≡ 0) (sym t.0) nowhere in
             absurd (omega (arith, more))
-        | inr t ↦ h.places.idle g x t.1 (subst (λ (n : ℕ). 0 < free_bit w.frees g + n) (others g t.0) more)
+        | inr t ↦ h.frames.places.idle g x t.1 (subst (λ (n : ℕ). 0 < free_bit w.frees g + n) (others g t.0) more)
       ];
       kernels = λ g x a is. elim (at_set w.frames frame.0 g new x a) [
         | inl t ↦ absurd (not-both (is_kernel word) (ap (λ (n : ℕ). n == 1) (sym like.kernel) ∙ ap is_kernel t.1 ∙ is) user)
         | inr t ↦
-            let apart : IsApart w.frees hands g x = h.places.kernels g x t.1 is in
+            let apart : IsApart w.frees hands g x = h.frames.places.kernels g x t.1 is in
             record { bare = apart.bare; uncounted = apart.uncounted; taken = apart.taken; unhanded = others g t.0 ∙ apart.unhanded }
       ];
       handed = each-set (EachMember (λ (h : Frame). h.0 < length layout.kernel)) hands seat u.hands
-          (each-without (λ (h : Frame). h.0 < length layout.kernel) (is_frame frame) v.hands (h.places.handed seat v.hands my-hands)) h.places.handed;
+          (each-without (λ (h : Frame). h.0 < length layout.kernel) (is_frame frame) v.hands (h.frames.places.handed seat v.hands my-hands)) h.frames.places.handed;
     }
       where
         others : (g : ℕ) → g ≢ frame.0 → in_hand g (set hands seat u.hands) ≡ in_hand g hands
@@ -157,8 +157,8 @@ module _ (layout : Layout) (w : Words) (homes : Homes) (views : List View) (seat
         (λ g other. omega (arith, locks-push g v.locks (lock_found frame word), from_bool-other frame.0 g (λ e. other (sym e))))
         (each-push (IsLocked frames u.refs) v.locks (lock_found frame word) found
         (each-weaken (IsLocked w.frames v.refs) (IsLocked frames u.refs) v.locks (λ l k. like-locked w.frames frame.0 word new there like v.refs u.refs l (more l.frame.0 k.referenced) k)
-        (h.frame_locks.known seat (v.refs, v.locks) held)))
-        h.frame_locks
+        (h.frames.frame_locks.known seat (v.refs, v.locks) held)))
+        h.frames.frame_locks
       where
         held : slice_get {X = List Ref × List FrameLock} (map (λ (v : View). (v.refs, v.locks)) views) seat ≡ Some (v.refs, v.locks)
         held = at_map (λ (v : View). (v.refs, v.locks)) views seat v me
@@ -190,11 +190,11 @@ module _ (layout : Layout) (w : Words) (homes : Homes) (views : List View) (seat
     }
       where
         still : CacheWordsOwned frames w.caches (map (λ (v : View). (v.locks, v.pages)) views)
-        still = like-caches w.frames frame.0 word new there like w.caches (map (λ (v : View). (v.locks, v.pages)) views) h.caches
+        still = like-caches w.frames frame.0 word new there like w.caches (map (λ (v : View). (v.locks, v.pages)) views) h.pages.caches
 
     -- the frame's slot was at home, empty
     slot : IsAtHome homes frame.0 (owner_of word)
-    slot = h.bodies.frame_home frame.0 word there bare.unlocked
+    slot = h.pages.bodies.frame_home frame.0 word there bare.unlocked
 
     empty : is_bodiless (Some slot.content) ≡ true
     empty = bodiless-name slot.content (slot.named ∙ bare.unowned)
@@ -203,20 +203,20 @@ module _ (layout : Layout) (w : Words) (homes : Homes) (views : List View) (seat
     bodies-adopted = record {
       frame_home = λ g x a free. elim (at_set w.frames frame.0 g new x a) [
         | inl t ↦ let locked : lock_of x ≡ 1 = ap lock_of (sym t.1) ∙ are.lock in absurd (omega (arith, free))
-        | inr t ↦ at-home g (owner_of x) t.0 (h.bodies.frame_home g x t.1 free)
+        | inr t ↦ at-home g (owner_of x) t.0 (h.pages.bodies.frame_home g x t.1 free)
       ];
       frame_out = λ g x a locked. elim (at_set w.frames frame.0 g new x a) [
         | inl t ↦ ap (slice_get out) t.0 ∙ set_here homes frame.0 None (Some slot.content) slot.there
-        | inr t ↦ set_else homes frame.0 g None t.0 ∙ h.bodies.frame_out g x t.1 locked
+        | inr t ↦ set_else homes frame.0 g None t.0 ∙ h.pages.bodies.frame_out g x t.1 locked
       ];
-      shelf_home = λ q x c a b free. at-home (layout.frames + q) (cond (c == 0) (q + 1) 0) (λ e. absurd (omega (arith, inside))) (h.bodies.shelf_home q x c a b free);
-      shelf_out = λ q x a locked. set_else homes frame.0 (layout.frames + q) None (λ e. absurd (omega (arith, inside))) ∙ h.bodies.shelf_out q x a locked;
+      shelf_home = λ q x c a b free. at-home (layout.frames + q) (cond (c == 0) (q + 1) 0) (λ e. absurd (omega (arith, inside))) (h.pages.bodies.shelf_home q x c a b free);
+      shelf_out = λ q x a locked. set_else homes frame.0 (layout.frames + q) None (λ e. absurd (omega (arith, inside))) ∙ h.pages.bodies.shelf_out q x a locked;
       one = λ q less. keep (λ (o : Holder). o.bodies) (λ l. sum_bodies (λ (log : Log). from_bool (log.page.0 == q)) out l ≡ 1) (map holder_of views) seat (holder_of v) (holder_of u) holder refl
-          (bodies-sum homes frame.0 (Some slot.content) None slot.there empty refl (λ (log : Log). from_bool (log.page.0 == q)) (map (λ (o : Holder). o.bodies) (map holder_of views)) ∙ h.bodies.one q less);
+          (bodies-sum homes frame.0 (Some slot.content) None slot.there empty refl (λ (log : Log). from_bool (log.page.0 == q)) (map (λ (o : Holder). o.bodies) (map holder_of views)) ∙ h.pages.bodies.one q less);
       in_hand = each-set (λ (o : Holder). EachMember (λ (b : InHand). IsHolding b o) o.bodies) (map holder_of views) seat (holder_of u)
           (each-weaken (λ (b : InHand). IsHolding b (holder_of v)) (λ (b : InHand). IsHolding b (holder_of u)) v.bodies
-          (λ b holding. holding-push b v.locks v.pages v.bodies (lock_found frame word) holding) (h.bodies.in_hand seat (holder_of v) holder))
-          h.bodies.in_hand;
+          (λ b holding. holding-push b v.locks v.pages v.bodies (lock_found frame word) holding) (h.pages.bodies.in_hand seat (holder_of v) holder))
+          h.pages.bodies.in_hand;
     }
       where
         holder : slice_get (map holder_of views) seat ≡ Some (holder_of v)
@@ -227,7 +227,7 @@ module _ (layout : Layout) (w : Words) (homes : Homes) (views : List View) (seat
 
     bounded-adopted : IsBounded layout (holdings_of u)
     bounded-adopted =
-        let was : IsBounded layout (holdings_of v) = h.holdings.bounded seat (holdings_of v) (at_map holdings_of views seat v me) in
+        let was : IsBounded layout (holdings_of v) = h.frames.holdings.bounded seat (holdings_of v) (at_map holdings_of views seat v me) in
         let fewer : length u.hands + 1 ≡ length v.hands = length-without (is_frame frame) v.hands has.0 frame mine (same-number frame.0 frame.0 refl) in
         let more : length u.refs ≤ length v.refs + 1 = length-with frame 1 v.refs in
         record {
@@ -241,44 +241,49 @@ module _ (layout : Layout) (w : Words) (homes : Homes) (views : List View) (seat
 
     adopted : length v.locks < 2 → FrameRule layout (record w { frames = frames }) out (set views seat u)
     adopted room = record {
-      counts = change (λ (v : View). v.refs) (CountsBalance frames w.trans w.caches) views seat u counts-adopted;
-      places = change (λ (v : View). v.hands) (HasOnePlace layout.kernel frames w.frees) views seat u places-adopted;
-      frame_locks = change (λ (v : View). (v.refs, v.locks)) (FrameLocksHeld frames) views seat u locks-adopted;
-      page_locks = keep (λ (v : View). v.pages) (λ l. PageLocksHeld w.pages l (map (λ (v : View). v.locks) (set views seat u))) views seat v u me refl
-          (change (λ (v : View). v.locks) (λ l. PageLocksHeld w.pages (map (λ (v : View). v.pages) views) l) views seat u (record {
-            one = h.page_locks.one;
-            page_once = h.page_locks.page_once;
-            frames_twice = each-set (λ (l : List FrameLock). length l ≤ 2) (map (λ (v : View). v.locks) views) seat u.locks (omega (arith, room, length-append v.locks (lock_found frame word ∷ []))) h.page_locks.frames_twice;
-          }));
-      translations = like-translations w.frames frame.0 word new there like layout.trans w.trans h.translations;
-      caches = change (λ (v : View). (v.locks, v.pages)) (CacheWordsOwned frames w.caches) views seat u caches-adopted;
-      bodies = change holder_of (BodiesAtHome layout frames w.caches w.pages out) views seat u bodies-adopted;
-      handled = like-handled w.frames frame.0 word new there like h.handled;
-      counter = Kept.kept-counter views seat v u me frames w.counter refl refl refl (like-counter w.frames frame.0 word new there like w.counter (map (λ (v : View). (v.owed, v.marks)) views) (map (λ (v : View). v.sights) views) h.counter);
-      free = Kept.kept-free views seat v u me layout.frames w.frees w.available refl h.free;
-      damage = Kept.kept-damage views seat v u me w.bads w.weaks refl refl h.damage;
-      entries = Kept.kept-entries views seat v u me out refl refl refl refl
-          (slot-entries homes frame.0 (Some slot.content) None slot.there empty refl (map (λ (v : View). v.bodies) views) (map (λ (v : View). (v.made, v.sights)) views) (map (λ (v : View). v.lengths) views) h.entries);
-      endings = Kept.kept-endings views seat v u me layout w.processes out refl refl
-          (slot-endings homes frame.0 (Some slot.content) None slot.there empty refl layout w.processes (map (λ (v : View). v.bodies) views) (map (λ (v : View). v.sights) views) h.endings);
-      marks = Kept.kept-marks views seat v u me frames refl refl (like-marks w.frames frame.0 word new there like (map (λ (v : View). v.marks) views) (map (λ (v : View). v.sights) views) h.marks);
-      holdings = change holdings_of (HoldingsBounded layout) views seat u (record { bounded = each-set (IsBounded layout) (map holdings_of views) seat (holdings_of u) bounded-adopted h.holdings.bounded });
-      losses = Kept.kept-losses views seat v u me layout w.losses out refl refl
-          (slot-losses homes frame.0 (Some slot.content) None slot.there empty refl layout w.losses (map (λ (v : View). v.bodies) views) (map losing_of views) h.losses);
-      policies = Kept.kept-policies views seat v u me layout.threads w.policies refl refl refl h.policies;
-      exhaustion = Kept.kept-exhaustion views seat v u me layout refl refl h.exhaustion;
-      stops = Kept.kept-stops views seat v u me w.processes w.stop refl refl refl h.stops;
-      fits = Kept.kept-fits views seat v u me layout w.trans w.caches out refl refl
-          (slot-fits homes frame.0 (Some slot.content) None slot.there empty refl layout w.trans w.caches (map (λ (v : View). (v.pages, v.bodies)) views) h.fits);
-      processors = Kept.kept-processors views seat v u me layout refl h.processors;
-      commands = Kept.kept-commands views seat v u me (record { made = own.made; marks = own.marks; sights = own.sights; lengths = own.lengths; settings = own.settings; stops = own.stops }) h.commands;
-      unpoisoned = Kept.kept-unpoisoned views seat v u me frames out refl refl
-          (slot-unpoisoned homes frame.0 (Some slot.content) None slot.there empty refl frames (map (λ (v : View). v.spoiled) views) (map (λ (v : View). v.bodies) views)
-          (like-unpoisoned w.frames frame.0 word new there like (map (λ (v : View). v.spoiled) views) homes (map (λ (v : View). v.bodies) views) h.unpoisoned));
+      frames = record {
+        counts = change (λ (v : View). v.refs) (CountsBalance frames w.trans w.caches) views seat u counts-adopted;
+        places = change (λ (v : View). v.hands) (HasOnePlace layout.kernel frames w.frees) views seat u places-adopted;
+        frame_locks = change (λ (v : View). (v.refs, v.locks)) (FrameLocksHeld frames) views seat u locks-adopted;
+        free = Kept.kept-free views seat v u me refl h.frames.free;
+        holdings = change holdings_of (HoldingsBounded layout) views seat u (record { bounded = each-set (IsBounded layout) (map holdings_of views) seat (holdings_of u) bounded-adopted h.frames.holdings.bounded });
+      };
+      pages = record {
+        page_locks = keep (λ (v : View). v.pages) (λ l. PageLocksHeld w.pages l (map (λ (v : View). v.locks) (set views seat u))) views seat v u me refl
+            (change (λ (v : View). v.locks) (λ l. PageLocksHeld w.pages (map (λ (v : View). v.pages) views) l) views seat u (record {
+              one = h.pages.page_locks.one;
+              page_once = h.pages.page_locks.page_once;
+              frames_twice = each-set (λ (l : List FrameLock). length l ≤ 2) (map (λ (v : View). v.locks) views) seat u.locks (omega (arith, room, length-append v.locks (lock_found frame word ∷ []))) h.pages.page_locks.frames_twice;
+            }));
+        translations = like-translations w.frames frame.0 word new there like layout.trans w.trans h.pages.translations;
+        caches = change (λ (v : View). (v.locks, v.pages)) (CacheWordsOwned frames w.caches) views seat u caches-adopted;
+        bodies = change holder_of (BodiesAtHome layout frames w.caches w.pages out) views seat u bodies-adopted;
+        fits = Kept.kept-fits views seat v u me refl refl
+            (slot-fits homes frame.0 (Some slot.content) None slot.there empty refl layout w.trans w.caches (map (λ (v : View). (v.pages, v.bodies)) views) h.pages.fits);
+      };
+      histories = record {
+        entries = Kept.kept-entries views seat v u me refl refl refl refl
+            (slot-entries homes frame.0 (Some slot.content) None slot.there empty refl (map (λ (v : View). v.bodies) views) (map (λ (v : View). (v.made, v.sights)) views) (map (λ (v : View). v.lengths) views) h.histories.entries);
+        endings = Kept.kept-endings views seat v u me refl refl
+            (slot-endings homes frame.0 (Some slot.content) None slot.there empty refl layout w.processes (map (λ (v : View). v.bodies) views) (map (λ (v : View). v.sights) views) h.histories.endings);
+        losses = Kept.kept-losses views seat v u me refl refl
+            (slot-losses homes frame.0 (Some slot.content) None slot.there empty refl layout w.losses (map (λ (v : View). v.bodies) views) (map losing_of views) h.histories.losses);
+      };
+      failures = record {
+        handled = like-handled w.frames frame.0 word new there like h.failures.handled;
+        counter = Kept.kept-counter views seat v u me refl refl refl (like-counter w.frames frame.0 word new there like w.counter (map (λ (v : View). (v.owed, v.marks)) views) (map (λ (v : View). v.sights) views) h.failures.counter);
+        damage = Kept.kept-damage views seat v u me refl refl h.failures.damage;
+        marks = Kept.kept-marks views seat v u me refl refl (like-marks w.frames frame.0 word new there like (map (λ (v : View). v.marks) views) (map (λ (v : View). v.sights) views) h.failures.marks);
+        exhaustion = Kept.kept-exhaustion views seat v u me refl refl h.failures.exhaustion;
+        unpoisoned = Kept.kept-unpoisoned views seat v u me refl refl
+            (slot-unpoisoned homes frame.0 (Some slot.content) None slot.there empty refl frames (map (λ (v : View). v.spoiled) views) (map (λ (v : View). v.bodies) views)
+            (like-unpoisoned w.frames frame.0 word new there like (map (λ (v : View). v.spoiled) views) homes (map (λ (v : View). v.bodies) views) h.failures.unpoisoned));
+      };
+      processors = Kept.same-processors views seat v u me refl h.processors;
     }
       where
         own : AreOwn v
-        own = h.commands.own seat v me
+        own = h.processors.commands.own seat v me
 
 pub keeps-adopt : (frame : Frame) → Keeps (steps.Adopt frame)
 keeps-adopt frame layout w homes views seat v who content given =

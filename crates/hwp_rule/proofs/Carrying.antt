@@ -69,7 +69,7 @@ module _ (layout : Layout) (w : Words) (homes : Homes) (views : List View) (seat
   my_fit = at_map (λ (v : View). (v.pages, v.bodies)) views seat v me
 
   pub one-body : (q : ℕ) → q < length layout.pages → sum_bodies (λ (x : Log). from_bool (x.page.0 == q)) homes (all_bodies views) ≡ 1
-  one-body q within = subst (λ (l : List (List InHand)). sum_bodies (λ (x : Log). from_bool (x.page.0 == q)) homes l ≡ 1) (held-bodies views) (h.bodies.one q within)
+  one-body q within = subst (λ (l : List (List InHand)). sum_bodies (λ (x : Log). from_bool (x.page.0 == q)) homes l ≡ 1) (held-bodies views) (h.pages.bodies.one q within)
 
   -- ---- the parts, after the step
 
@@ -88,10 +88,10 @@ module _ (layout : Layout) (w : Words) (homes : Homes) (views : List View) (seat
 
     entries-changed : EntriesListed after (set (all_bodies views) seat bodies) (map (λ (v : View). (v.made, v.sights)) views) (set (map (λ (v : View). v.lengths) views) seat lengths)
     entries-changed = record {
-      balance = λ g. x.sums (weigh g) ∙ h.entries.balance g;
-      shown = h.entries.shown;
+      balance = λ g. x.sums (weigh g) ∙ h.histories.entries.balance g;
+      shown = h.histories.entries.shown;
       lengths_reached = each-set (EachMember Reached) (map (λ (v : View). v.lengths) views) seat lengths (again lengths x.reached)
-          (each-weaken (EachMember Was) (EachMember Reached) (map (λ (v : View). v.lengths) views) (λ list each. again list each) h.entries.lengths_reached);
+          (each-weaken (EachMember Was) (EachMember Reached) (map (λ (v : View). v.lengths) views) (λ list each. again list each) h.histories.entries.lengths_reached);
     }
       where
         Was : Length → Type 0
@@ -110,16 +110,16 @@ module _ (layout : Layout) (w : Words) (homes : Homes) (views : List View) (seat
 
     endings-changed : EndingsAgree layout w.processes after (set (all_bodies views) seat bodies) (map (λ (v : View). v.sights) views)
     endings-changed = record {
-      caused = λ process p at. x.eachs (λ (log : Log). p ≡ log.page.0 + 1 → has_ending layout process log.entries ≡ true) (h.endings.caused process p at);
+      caused = λ process p at. x.eachs (λ (log : Log). p ≡ log.page.0 + 1 → has_ending layout process log.entries ≡ true) (h.histories.endings.caused process p at);
       ended = λ i log at. elim (at_set homes slot i y (Some (Some log)) at) [
         | inl t ↦ (x.home log t.1).0
-        | inr t ↦ h.endings.ended i log t.1
+        | inr t ↦ h.histories.endings.ended i log t.1
       ];
-      ended_before = each-set (EachMember (λ (b : InHand). AreEnded layout w.processes (take b.since b.log.entries))) (all_bodies views) seat bodies x.before h.endings.ended_before;
-      taken = each-set (EachMember (λ (b : InHand). b.since ≤ length b.log.entries)) (all_bodies views) seat bodies x.taken h.endings.taken;
+      ended_before = each-set (EachMember (λ (b : InHand). AreEnded layout w.processes (take b.since b.log.entries))) (all_bodies views) seat bodies x.before h.histories.endings.ended_before;
+      taken = each-set (EachMember (λ (b : InHand). b.since ≤ length b.log.entries)) (all_bodies views) seat bodies x.taken h.histories.endings.taken;
       shown = λ i list at j s is process place.
           x.eachs (λ (log : Log). s.word ≡ log.page.0 + 1 → SomeMember (λ (e : Entry). (is_ending layout process e.what ≡ true) × IsNotLater e.who s.stamp.who) log.entries)
-          (h.endings.shown i list at j s is process place);
+          (h.histories.endings.shown i list at j s is process place);
     }
 
     pub endings-carried : EndingsAgree layout w.processes after (map (λ (v : View). v.bodies) (set views seat u)) (map (λ (v : View). v.sights) (set views seat u))
@@ -129,17 +129,17 @@ module _ (layout : Layout) (w : Words) (homes : Homes) (views : List View) (seat
     pub losses-carried : LossesBalance layout w.losses after (map (λ (v : View). v.bodies) (set views seat u)) (map losing_of (set views seat u))
     losses-carried = keep losing_of (λ l. LossesBalance layout w.losses after (map (λ (v : View). v.bodies) (set views seat u)) l) views seat v u me refl
         (change (λ (v : View). v.bodies) (λ l. LossesBalance layout w.losses after l (map losing_of views)) views seat u (record {
-          balance = λ file p at. h.losses.balance file p at ∙ sym (x.sums (losses_of layout file));
-          poisoned = h.losses.poisoned;
+          balance = λ file p at. h.histories.losses.balance file p at ∙ sym (x.sums (losses_of layout file));
+          poisoned = h.histories.losses.poisoned;
         }))
 
     stops-changed : EndingsAndStopsStay w.processes w.stop (set (all_bodies views) seat bodies) (map (λ (v : View). v.sights) views) (map (λ (v : View). v.stops) views)
     stops-changed = record {
-      killed = each-set (EachMember (λ (b : InHand). EachMember (λ (p : Proc). (x : ℕ) → slice_get w.processes p.0 ≡ Some x → x ≢ 0) b.killed)) (all_bodies views) seat bodies x.killed h.stops.killed;
-      ended_stays = h.stops.ended_stays;
-      stop_stays = h.stops.stop_stays;
-      one = h.stops.one;
-      named = h.stops.named;
+      killed = each-set (EachMember (λ (b : InHand). EachMember (λ (p : Proc). (x : ℕ) → slice_get w.processes p.0 ≡ Some x → x ≢ 0) b.killed)) (all_bodies views) seat bodies x.killed h.processors.stops.killed;
+      ended_stays = h.processors.stops.ended_stays;
+      stop_stays = h.processors.stops.stop_stays;
+      one = h.processors.stops.one;
+      named = h.processors.stops.named;
     }
 
     pub stops-carried : EndingsAndStopsStay w.processes w.stop (map (λ (v : View). v.bodies) (set views seat u)) (map (λ (v : View). v.sights) (set views seat u)) (map (λ (v : View). v.stops) (set views seat u))
@@ -151,26 +151,26 @@ module _ (layout : Layout) (w : Words) (homes : Homes) (views : List View) (seat
     fits-carried = change (λ (v : View). (v.pages, v.bodies)) (PageFits layout w.trans w.caches after) views seat u (record {
       at_home = λ i log at. elim (at_set homes slot i y (Some (Some log)) at) [
         | inl t ↦ (x.home log t.1).1
-        | inr t ↦ h.fits.at_home i log t.1
+        | inr t ↦ h.pages.fits.at_home i log t.1
       ];
-      in_hand = each-set (λ (o : List PageLock × List InHand). EachMember (λ (b : InHand). page_locks_on b.log.page.0 o.0 ≡ 0 → Fits layout w.trans w.caches b.log) o.1) (map (λ (v : View). (v.pages, v.bodies)) views) seat (pages, bodies) x.fits h.fits.in_hand;
-      known = each-set (λ (o : List PageLock × List InHand). EachMember (KnowsWords layout w.trans w.caches) o.0) (map (λ (v : View). (v.pages, v.bodies)) views) seat (pages, bodies) x.knows h.fits.known;
-      own = each-set (λ (o : List PageLock × List InHand). EachMember (λ (b : InHand). 0 < page_locks_on b.log.page.0 o.0 → KnowsOwn o.0 b) o.1) (map (λ (v : View). (v.pages, v.bodies)) views) seat (pages, bodies) x.own h.fits.own;
+      in_hand = each-set (λ (o : List PageLock × List InHand). EachMember (λ (b : InHand). page_locks_on b.log.page.0 o.0 ≡ 0 → Fits layout w.trans w.caches b.log) o.1) (map (λ (v : View). (v.pages, v.bodies)) views) seat (pages, bodies) x.fits h.pages.fits.in_hand;
+      known = each-set (λ (o : List PageLock × List InHand). EachMember (KnowsWords layout w.trans w.caches) o.0) (map (λ (v : View). (v.pages, v.bodies)) views) seat (pages, bodies) x.knows h.pages.fits.known;
+      own = each-set (λ (o : List PageLock × List InHand). EachMember (λ (b : InHand). 0 < page_locks_on b.log.page.0 o.0 → KnowsOwn o.0 b) o.1) (map (λ (v : View). (v.pages, v.bodies)) views) seat (pages, bodies) x.own h.pages.fits.own;
     })
 
     pub unpoisoned-carried : NothingPoisonedYet w.frames (map (λ (v : View). v.spoiled) (set views seat u)) after (map (λ (v : View). v.bodies) (set views seat u))
     unpoisoned-carried = change (λ (v : View). v.bodies) (λ l. NothingPoisonedYet w.frames (map (λ (v : View). v.spoiled) (set views seat u)) after l) views seat u
         (keep (λ (v : View). v.spoiled) (λ l. NothingPoisonedYet w.frames l after (set (all_bodies views) seat bodies)) views seat v u me refl (record {
-          sound = h.unpoisoned.sound;
-          unspoiled = h.unpoisoned.unspoiled;
-          no_failure = x.eachs (λ (log : Log). list_any (λ (e : Entry). is_failure e.what) log.entries ≡ false) h.unpoisoned.no_failure;
+          sound = h.failures.unpoisoned.sound;
+          unspoiled = h.failures.unpoisoned.unspoiled;
+          no_failure = x.eachs (λ (log : Log). list_any (λ (e : Entry). is_failure e.what) log.entries ≡ false) h.failures.unpoisoned.no_failure;
         }))
 
     pub commands-carried : CommandsOwn (set views seat u)
-    commands-carried = Kept.kept-commands views seat v u me (record { made = own.made; marks = own.marks; sights = own.sights; lengths = x.past; settings = own.settings; stops = own.stops }) h.commands
+    commands-carried = Kept.kept-commands views seat v u me (record { made = own.made; marks = own.marks; sights = own.sights; lengths = x.past; settings = own.settings; stops = own.stops }) h.processors.commands
       where
         own : AreOwn v
-        own = h.commands.own seat v me
+        own = h.processors.commands.own seat v me
 
   -- ---- a slot without a body, before and after
 
@@ -183,14 +183,14 @@ module _ (layout : Layout) (w : Words) (homes : Homes) (views : List View) (seat
     sums = λ g. subst (λ (l : List (List InHand)). sum_bodies g (set homes slot y) l ≡ sum_bodies g homes (all_bodies views)) (sym same) (bodies-sum homes slot was y there empty still g (all_bodies views));
     eachs = λ P each. subst (λ (l : List (List InHand)). EachBody P (set homes slot y) l) (sym same) (bodies-each homes slot was y there empty still P (all_bodies views) each);
     home = λ log e. absurd (none-body log (ap is_bodiless (sym e) ∙ still));
-    reached = h.entries.lengths_reached seat v.lengths (at_map (λ (v : View). v.lengths) views seat v me);
-    before = h.endings.ended_before seat v.bodies my_bodies;
-    taken = h.endings.taken seat v.bodies my_bodies;
-    killed = h.stops.killed seat v.bodies my_bodies;
+    reached = h.histories.entries.lengths_reached seat v.lengths (at_map (λ (v : View). v.lengths) views seat v me);
+    before = h.histories.endings.ended_before seat v.bodies my_bodies;
+    taken = h.histories.endings.taken seat v.bodies my_bodies;
+    killed = h.processors.stops.killed seat v.bodies my_bodies;
     fits = fits;
     knows = knows;
     own = own;
-    past = (h.commands.own seat v me).lengths;
+    past = (h.processors.commands.own seat v me).lengths;
   }
     where
       same : set (all_bodies views) seat v.bodies ≡ all_bodies views
@@ -234,15 +234,15 @@ module _ (layout : Layout) (w : Words) (homes : Homes) (views : List View) (seat
       eachs = each-taken homes (all_bodies views) slot seat log v.bodies body inside my_bodies refl;
       home = λ x e. absurd (none-some (Some x) e);
       reached = each-push (λ (l : Length). EachBody (λ (x : Log). x.page ≡ l.page → l.entries ≤ length x.entries) homes (all_bodies views)) v.lengths seen reached-now
-          (h.entries.lengths_reached seat v.lengths (at_map (λ (v : View). v.lengths) views seat v me));
+          (h.histories.entries.lengths_reached seat v.lengths (at_map (λ (v : View). v.lengths) views seat v me));
       before = each-push (λ (b : InHand). AreEnded layout w.processes (take b.since b.log.entries)) v.bodies body
-          (subst (AreEnded layout w.processes) (sym (take-length log.entries)) (h.endings.ended slot log inside)) (h.endings.ended_before seat v.bodies my_bodies);
-      taken = each-push (λ (b : InHand). b.since ≤ length b.log.entries) v.bodies body (omega arith) (h.endings.taken seat v.bodies my_bodies);
-      killed = each-push (λ (b : InHand). EachMember (λ (p : Proc). (x : ℕ) → slice_get w.processes p.0 ≡ Some x → x ≢ 0) b.killed) v.bodies body (λ i p e. absurd (none-some p e)) (h.stops.killed seat v.bodies my_bodies);
-      fits = each-push (λ (b : InHand). page_locks_on b.log.page.0 pages ≡ 0 → Fits layout w.trans w.caches b.log) v.bodies body (λ none. h.fits.at_home slot log inside) fits;
+          (subst (AreEnded layout w.processes) (sym (take-length log.entries)) (h.histories.endings.ended slot log inside)) (h.histories.endings.ended_before seat v.bodies my_bodies);
+      taken = each-push (λ (b : InHand). b.since ≤ length b.log.entries) v.bodies body (omega arith) (h.histories.endings.taken seat v.bodies my_bodies);
+      killed = each-push (λ (b : InHand). EachMember (λ (p : Proc). (x : ℕ) → slice_get w.processes p.0 ≡ Some x → x ≢ 0) b.killed) v.bodies body (λ i p e. absurd (none-some p e)) (h.processors.stops.killed seat v.bodies my_bodies);
+      fits = each-push (λ (b : InHand). page_locks_on b.log.page.0 pages ≡ 0 → Fits layout w.trans w.caches b.log) v.bodies body (λ none. h.pages.fits.at_home slot log inside) fits;
       knows = knows;
       own = each-push (λ (b : InHand). 0 < page_locks_on b.log.page.0 pages → KnowsOwn pages b) v.bodies body own-new own;
-      past = each-push (λ (l : Length). IsPast v.parts l.stamp.who) v.lengths seen past (h.commands.own seat v me).lengths;
+      past = each-push (λ (l : Length). IsPast v.parts l.stamp.who) v.lengths seen past (h.processors.commands.own seat v me).lengths;
     }
 
   -- ---- a body that goes home
@@ -286,12 +286,12 @@ module _ (layout : Layout) (w : Words) (homes : Homes) (views : List View) (seat
         in_hand = each-set (EachMember (λ (b : InHand). P b.log)) (all_bodies views) seat left (each-without (λ (b : InHand). P b.log) (is_body_of log.page) v.bodies (each.in_hand seat v.bodies my_bodies)) each.in_hand;
       };
       home = λ x e. let same : log ≡ x = same_Some log x (same_Some (Some log) (Some x) e) in (subst (λ (y : Log). AreEnded layout w.processes y.entries) same ended, subst (Fits layout w.trans w.caches) same fit);
-      reached = h.entries.lengths_reached seat v.lengths (at_map (λ (v : View). v.lengths) views seat v me);
-      before = each-without (λ (b : InHand). AreEnded layout w.processes (take b.since b.log.entries)) (is_body_of log.page) v.bodies (h.endings.ended_before seat v.bodies my_bodies);
-      taken = each-without (λ (b : InHand). b.since ≤ length b.log.entries) (is_body_of log.page) v.bodies (h.endings.taken seat v.bodies my_bodies);
-      killed = each-without (λ (b : InHand). EachMember (λ (p : Proc). (x : ℕ) → slice_get w.processes p.0 ≡ Some x → x ≢ 0) b.killed) (is_body_of log.page) v.bodies (h.stops.killed seat v.bodies my_bodies);
+      reached = h.histories.entries.lengths_reached seat v.lengths (at_map (λ (v : View). v.lengths) views seat v me);
+      before = each-without (λ (b : InHand). AreEnded layout w.processes (take b.since b.log.entries)) (is_body_of log.page) v.bodies (h.histories.endings.ended_before seat v.bodies my_bodies);
+      taken = each-without (λ (b : InHand). b.since ≤ length b.log.entries) (is_body_of log.page) v.bodies (h.histories.endings.taken seat v.bodies my_bodies);
+      killed = each-without (λ (b : InHand). EachMember (λ (p : Proc). (x : ℕ) → slice_get w.processes p.0 ≡ Some x → x ≢ 0) b.killed) (is_body_of log.page) v.bodies (h.processors.stops.killed seat v.bodies my_bodies);
       fits = fits;
       knows = knows;
       own = own;
-      past = (h.commands.own seat v me).lengths;
+      past = (h.processors.commands.own seat v me).lengths;
     }

@@ -52,10 +52,10 @@ module _ (layout : Layout) (w : Words) (homes : Homes) (views : List View) (seat
   -- each process that the history ended has a word: from before, or by a `kill`
   pub ended : AreEnded layout w.processes log.entries
   ended process x at is = elim (or-parts (has_ending layout process (take can.body.since log.entries)) (has_ending layout process (drop can.body.since log.entries)) split) [
-    | inl before ↦ rule.endings.ended_before seat renewed.bodies (at_map (λ (v : View). v.bodies) (set views seat renewed) seat renewed me-renewed) found-body.0 (record can.body { log = log }) body-renewed process x at before
+    | inl before ↦ rule.histories.endings.ended_before seat renewed.bodies (at_map (λ (v : View). v.bodies) (set views seat renewed) seat renewed me-renewed) found-body.0 (record can.body { log = log }) body-renewed process x at before
     | inr late ↦
         let killed : SomeMember (λ (p : Proc). p ≡ process) can.body.killed = can.killed process late in
-        h.stops.killed seat v.bodies (at_map (λ (v : View). v.bodies) views seat v me) found-body.0 can.body found-body.1 killed.0 killed.1 killed.2 x (ap (λ (p : Proc). slice_get w.processes p.0) killed.3 ∙ at)
+        h.processors.stops.killed seat v.bodies (at_map (λ (v : View). v.bodies) views seat v me) found-body.0 can.body found-body.1 killed.0 killed.1 killed.2 x (ap (λ (p : Proc). slice_get w.processes p.0) killed.3 ∙ at)
   ]
     where
       split : (has_ending layout process (take can.body.since log.entries) || has_ending layout process (drop can.body.since log.entries)) ≡ true
@@ -64,7 +64,7 @@ module _ (layout : Layout) (w : Words) (homes : Homes) (views : List View) (seat
 
   pub fit : Fits layout w.trans w.caches log
   fit = elim (same-or (page_locks_on log.page.0 v.pages) 0) [
-    | inl none ↦ rule.fits.in_hand seat (renewed.pages, renewed.bodies) (at_map (λ (v : View). (v.pages, v.bodies)) (set views seat renewed) seat renewed me-renewed) found-body.0 (record can.body { log = log }) body-renewed none
+    | inl none ↦ rule.pages.fits.in_hand seat (renewed.pages, renewed.bodies) (at_map (λ (v : View). (v.pages, v.bodies)) (set views seat renewed) seat renewed me-renewed) found-body.0 (record can.body { log = log }) body-renewed none
     | inr some ↦ fit-locked (omega (arith, some))
   ]
     where
@@ -75,11 +75,11 @@ module _ (layout : Layout) (w : Words) (homes : Homes) (views : List View) (seat
       }
         where
           own : KnowsOwn v.pages can.body
-          own = h.fits.own seat (v.pages, v.bodies) (at_map (λ (v : View). (v.pages, v.bodies)) views seat v me) found-body.0 can.body found-body.1
+          own = h.pages.fits.own seat (v.pages, v.bodies) (at_map (λ (v : View). (v.pages, v.bodies)) views seat v me) found-body.0 can.body found-body.1
               (subst (λ (n : ℕ). 0 < page_locks_on n v.pages) (sym (eqb-true can.body.log.page.0 log.page.0 found-body.2)) some)
 
           first : (l : PageLock) × (slice_get v.pages 0 ≡ Some l) × (l.page.0 ≡ log.page.0)
-          first = first-lock log.page.0 v.pages (h.page_locks.page_once seat v.pages (at_map (λ (v : View). v.pages) views seat v me)) some
+          first = first-lock log.page.0 v.pages (h.pages.page_locks.page_once seat v.pages (at_map (λ (v : View). v.pages) views seat v me)) some
 
           number : own.lock.page.0 ≡ log.page.0
           number = ap (λ (l : PageLock). l.page.0) (same_Some own.lock first.0 (sym own.there ∙ first.1)) ∙ first.2
@@ -88,7 +88,7 @@ module _ (layout : Layout) (w : Words) (homes : Homes) (views : List View) (seat
           lock-page = same-page own.lock.page log.page number
 
           knows : KnowsWords layout w.trans w.caches own.lock
-          knows = h.fits.known seat (v.pages, v.bodies) (at_map (λ (v : View). (v.pages, v.bodies)) views seat v me) 0 own.lock own.there
+          knows = h.pages.fits.known seat (v.pages, v.bodies) (at_map (λ (v : View). (v.pages, v.bodies)) views seat v me) 0 own.lock own.there
 
           stands-cache : slice_get w.caches log.page.0 ≡ Some own.cache
           stands-cache = ap (slice_get w.caches) (sym number) ∙ knows.cache own.cache own.cache_is

@@ -76,7 +76,7 @@ module _ (layout : Layout) (w : Words) (homes : Homes) (views : List View) (seat
   })
       (each-weaken (IsLocked w.frames v.refs) (IsLocked (set w.frames frame.0 now) v.refs) v.locks
       (λ l k. like-locked w.frames frame.0 found now there like v.refs v.refs l k.referenced k)
-      (h.frame_locks.known seat (v.refs, v.locks) (at_map (λ (v : View). (v.refs, v.locks)) views seat v me)))
+      (h.frames.frame_locks.known seat (v.refs, v.locks) (at_map (λ (v : View). (v.refs, v.locks)) views seat v me)))
 
   twice : length locks ≤ 2
   twice = omega (arith, can.second, length-append v.locks (lock ∷ []))
@@ -101,13 +101,13 @@ module _ (layout : Layout) (w : Words) (homes : Homes) (views : List View) (seat
   my_fit = at_map (λ (v : View). (v.pages, v.bodies)) views seat v me
 
   old-in_hand : EachMember (λ (b : InHand). IsHolding b (holder_of v)) v.bodies
-  old-in_hand = h.bodies.in_hand seat (holder_of v) (at_map holder_of views seat v me)
+  old-in_hand = h.pages.bodies.in_hand seat (holder_of v) (at_map holder_of views seat v me)
 
   pub keeps-lock-empty : IsIn homes frame.0 None → FrameRule layout (record w { frames = set w.frames frame.0 now }) (set homes frame.0 None) (set views seat (record v { locks = locks }))
   keeps-lock-empty empty = keeps-locking layout w homes views seat v frame.0 found now None locks v.pages v.bodies v.lengths me h there can.referenced (record {
     like = like;
     count = (fields-lock found).count;
-    carries = carry-none layout w homes views seat v me h frame.0 (Some None) None v.pages empty refl refl (h.fits.in_hand seat (v.pages, v.bodies) my_fit) (h.fits.known seat (v.pages, v.bodies) my_fit) (h.fits.own seat (v.pages, v.bodies) my_fit);
+    carries = carry-none layout w homes views seat v me h frame.0 (Some None) None v.pages empty refl refl (h.pages.fits.in_hand seat (v.pages, v.bodies) my_fit) (h.pages.fits.known seat (v.pages, v.bodies) my_fit) (h.pages.fits.own seat (v.pages, v.bodies) my_fit);
     here = here;
     others = others;
     known = known;
@@ -136,17 +136,17 @@ module _ (layout : Layout) (w : Words) (homes : Homes) (views : List View) (seat
 
     owner : owner_of found ≡ log.page.0 + 1
     owner =
-        let home : IsAtHome homes frame.0 (owner_of found) = h.bodies.frame_home frame.0 found there free in
+        let home : IsAtHome homes frame.0 (owner_of found) = h.pages.bodies.frame_home frame.0 found there free in
         let same : home.content ≡ Some log = same_Some home.content (Some log) (same_Some (Some home.content) (Some (Some log)) (sym home.there ∙ inside)) in
         sym home.named ∙ ap content_name same
 
     cached : slice_get w.caches log.page.0 ≡ Some (frame.0 + 1)
-    cached = elim (h.caches.named frame.0 found log.page.0 there owner) [
+    cached = elim (h.pages.caches.named frame.0 found log.page.0 there owner) [
       | inl named ↦ named
       | inr both ↦
           let was : (x : View) × (slice_get views both.0 ≡ Some x) × ((x.locks, x.pages) ≡ both.1) = map-was (λ (v : View). (v.locks, v.pages)) views both.0 both.1 both.2 in
           let holds : HoldsBoth frame.0 log.page.0 (was.0.locks, was.0.pages) = subst (HoldsBoth frame.0 log.page.0) (sym was.2) both.3 in
-          let one : sum_by (λ (o : List Ref × List FrameLock). locks_on frame.0 o.1) (map (λ (v : View). (v.refs, v.locks)) views) ≡ lock_of found = h.frame_locks.one frame.0 found there in
+          let one : sum_by (λ (o : List Ref × List FrameLock). locks_on frame.0 o.1) (map (λ (v : View). (v.refs, v.locks)) views) ≡ lock_of found = h.frames.frame_locks.one frame.0 found there in
           let term : locks_on frame.0 was.0.locks ≤ sum_by (λ (o : List Ref × List FrameLock). locks_on frame.0 o.1) (map (λ (v : View). (v.refs, v.locks)) views) =
           term-le (λ (o : List Ref × List FrameLock). locks_on frame.0 o.1) (map (λ (v : View). (v.refs, v.locks)) views) both.0 (was.0.refs, was.0.locks) (at_map (λ (v : View). (v.refs, v.locks)) views both.0 was.0 was.1) in
           absurd (omega (arith, holds.frame, free))
@@ -159,7 +159,7 @@ module _ (layout : Layout) (w : Words) (homes : Homes) (views : List View) (seat
     page_locks q = sum-changed (λ (l : PageLock). from_bool (l.page.0 == q)) (is_page_lock_of log.page) (knowing layout log (Some frame)) v.pages (λ l. refl)
 
     fits-home : Fits layout w.trans w.caches log
-    fits-home = h.fits.at_home frame.0 log inside
+    fits-home = h.pages.fits.at_home frame.0 log inside
 
     knows-new : (l : PageLock) → is_page_lock_of log.page l ≡ true → KnowsWords layout w.trans w.caches l → KnowsWords layout w.trans w.caches (knowing layout log (Some frame) l)
     knows-new l is knows = knows-knowing layout w.trans w.caches log (Some frame) l shaped.trans number cached fits-home (knows.resident (frame.0 + 1) (ap (slice_get w.caches) number ∙ cached))
@@ -187,7 +187,7 @@ module _ (layout : Layout) (w : Words) (homes : Homes) (views : List View) (seat
     own-new some = record { lock = knowing layout log (Some frame) first.0; there = at; cache = frame.0 + 1; cache_is = refl; trans = fitting layout log.page (state_of layout log) (frame.0 + 1); trans_is = refl }
       where
         first : (l : PageLock) × (slice_get v.pages 0 ≡ Some l) × (l.page.0 ≡ log.page.0)
-        first = first-lock log.page.0 v.pages (h.page_locks.page_once seat v.pages (at_map (λ (v : View). v.pages) views seat v me)) (subst (λ (n : ℕ). 0 < n) (page_locks log.page.0) some)
+        first = first-lock log.page.0 v.pages (h.pages.page_locks.page_once seat v.pages (at_map (λ (v : View). v.pages) views seat v me)) (subst (λ (n : ℕ). 0 < n) (page_locks log.page.0) some)
 
         at : slice_get pages 0 ≡ Some (knowing layout log (Some frame) first.0)
         at = at_map (λ (l : PageLock). cond (is_page_lock_of log.page l) (knowing layout log (Some frame) l) l) v.pages 0 first.0 first.1
@@ -199,10 +199,10 @@ module _ (layout : Layout) (w : Words) (homes : Homes) (views : List View) (seat
       count = (fields-lock found).count;
       carries = carry-out layout w homes views seat v me h log frame.0 inside within (Some frame) (stamp_of who (record v { locks = locks })) past pages
           (each-weaken (λ (b : InHand). page_locks_on b.log.page.0 v.pages ≡ 0 → Fits layout w.trans w.caches b.log) (λ (b : InHand). page_locks_on b.log.page.0 pages ≡ 0 → Fits layout w.trans w.caches b.log) v.bodies
-          (λ b fits none. fits (sym (page_locks b.log.page.0) ∙ none)) (h.fits.in_hand seat (v.pages, v.bodies) my_fit))
-          (each-changed (KnowsWords layout w.trans w.caches) (is_page_lock_of log.page) (knowing layout log (Some frame)) v.pages knows-new (h.fits.known seat (v.pages, v.bodies) my_fit))
+          (λ b fits none. fits (sym (page_locks b.log.page.0) ∙ none)) (h.pages.fits.in_hand seat (v.pages, v.bodies) my_fit))
+          (each-changed (KnowsWords layout w.trans w.caches) (is_page_lock_of log.page) (knowing layout log (Some frame)) v.pages knows-new (h.pages.fits.known seat (v.pages, v.bodies) my_fit))
           (each-weaken (λ (b : InHand). 0 < page_locks_on b.log.page.0 v.pages → KnowsOwn v.pages b) (λ (b : InHand). 0 < page_locks_on b.log.page.0 pages → KnowsOwn pages b) v.bodies
-          (λ b own some. own-changed b (own (subst (λ (n : ℕ). 0 < n) (page_locks b.log.page.0) some))) (h.fits.own seat (v.pages, v.bodies) my_fit))
+          (λ b own some. own-changed b (own (subst (λ (n : ℕ). 0 < n) (page_locks b.log.page.0) some))) (h.pages.fits.own seat (v.pages, v.bodies) my_fit))
           own-new;
       here = here;
       others = others;

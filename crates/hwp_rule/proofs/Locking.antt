@@ -56,7 +56,7 @@ module _ (layout : Layout) (w : Words) (homes : Homes) (views : List View) (seat
     -- the frame is counted, so it is in none of the other places
     counted : 0 < count_of word
     counted =
-        let balance : count_of word ≡ named f w.trans + named f w.caches + sum_by (refs_on f) (map (λ (v : View). v.refs) views) + handled_of word = h.counts.balance f word there in
+        let balance : count_of word ≡ named f w.trans + named f w.caches + sum_by (refs_on f) (map (λ (v : View). v.refs) views) + handled_of word = h.frames.counts.balance f word there in
         let mine : refs_on f v.refs ≤ sum_by (refs_on f) (map (λ (v : View). v.refs) views) = term-le (refs_on f) (map (λ (v : View). v.refs) views) seat v.refs (at_map (λ (v : View). v.refs) views seat v me) in
         omega (arith, some)
 
@@ -64,41 +64,41 @@ module _ (layout : Layout) (w : Words) (homes : Homes) (views : List View) (seat
     not-idle idle = which (is_kernel word) refl
       where
         which : (b : Bool) → is_kernel word ≡ b → ⊥
-        which true e = omega (arith, counted, (h.places.kernels f word there e).uncounted)
-        which false e = omega (arith, counted, idle, h.places.placed f word there e)
+        which true e = omega (arith, counted, (h.frames.places.kernels f word there e).uncounted)
+        which false e = omega (arith, counted, idle, h.frames.places.placed f word there e)
 
     counts-locking : CountsBalance frames w.trans w.caches (map (λ (v : View). v.refs) views)
     counts-locking = subst (CountsBalance frames w.trans w.caches) (set_again (map (λ (v : View). v.refs) views) seat v.refs my_refs)
-        (counted-again w.frames f word now there x.like w.trans w.caches (map (λ (v : View). v.refs) views) seat v.refs v.refs my_refs (ap (λ (n : ℕ). n + refs_on f v.refs) x.count) (λ g differs. refl) h.counts)
+        (counted-again w.frames f word now there x.like w.trans w.caches (map (λ (v : View). v.refs) views) seat v.refs v.refs my_refs (ap (λ (n : ℕ). n + refs_on f v.refs) x.count) (λ g differs. refl) h.frames.counts)
       where
         my_refs : slice_get (map (λ (v : View). v.refs) views) seat ≡ Some v.refs
         my_refs = at_map (λ (v : View). v.refs) views seat v me
 
     places-locking : HasOnePlace layout.kernel frames w.frees (map (λ (v : View). v.hands) views)
     places-locking = placed-again w.frames f word now there x.like layout.kernel w.frees (map (λ (v : View). v.hands) views) (map (λ (v : View). v.hands) views) counted (λ g differs. refl)
-        (λ usable. subst (λ (n : ℕ). free_bit w.frees f + in_hand f (map (λ (v : View). v.hands) views) + min n 1 ≡ 1) (sym x.count) (h.places.placed f word there usable))
-        (λ idle. absurd (not-idle idle)) h.places.handed h.places
+        (λ usable. subst (λ (n : ℕ). free_bit w.frees f + in_hand f (map (λ (v : View). v.hands) views) + min n 1 ≡ 1) (sym x.count) (h.frames.places.placed f word there usable))
+        (λ idle. absurd (not-idle idle)) h.frames.places.handed h.frames.places
 
     page-locks-locking : PageLocksHeld w.pages (set (map (λ (v : View). v.pages) views) seat pages) (set (map (λ (v : View). v.locks) views) seat locks)
     page-locks-locking = record {
       one = λ q p there'.
-          let was : sum_by (page_locks_on q) (map (λ (v : View). v.pages) views) ≡ lock_of p = h.page_locks.one q p there' in
+          let was : sum_by (page_locks_on q) (map (λ (v : View). v.pages) views) ≡ lock_of p = h.pages.page_locks.one q p there' in
           let moved : sum_by (page_locks_on q) (set (map (λ (v : View). v.pages) views) seat pages) + page_locks_on q v.pages ≡ sum_by (page_locks_on q) (map (λ (v : View). v.pages) views) + page_locks_on q pages =
           sum-set (page_locks_on q) (map (λ (v : View). v.pages) views) seat v.pages pages (at_map (λ (v : View). v.pages) views seat v me) in
           let same : page_locks_on q pages ≡ page_locks_on q v.pages = x.page_locks q in
           omega arith;
       page_once = each-set (λ (l : List PageLock). length l ≤ 1) (map (λ (v : View). v.pages) views) seat pages
-          (subst (λ (n : ℕ). n ≤ 1) (sym x.page_once) (h.page_locks.page_once seat v.pages (at_map (λ (v : View). v.pages) views seat v me))) h.page_locks.page_once;
-      frames_twice = each-set (λ (l : List FrameLock). length l ≤ 2) (map (λ (v : View). v.locks) views) seat locks x.twice h.page_locks.frames_twice;
+          (subst (λ (n : ℕ). n ≤ 1) (sym x.page_once) (h.pages.page_locks.page_once seat v.pages (at_map (λ (v : View). v.pages) views seat v me))) h.pages.page_locks.page_once;
+      frames_twice = each-set (λ (l : List FrameLock). length l ≤ 2) (map (λ (v : View). v.locks) views) seat locks x.twice h.pages.page_locks.frames_twice;
     }
 
     caches-locking : CacheWordsOwned frames w.caches (set (map (λ (v : View). (v.locks, v.pages)) views) seat (locks, pages))
     caches-locking = record {
-      owned = (like-caches w.frames f word now there x.like w.caches (map (λ (v : View). (v.locks, v.pages)) views) h.caches).owned;
+      owned = (like-caches w.frames f word now there x.like w.caches (map (λ (v : View). (v.locks, v.pages)) views) h.pages.caches).owned;
       named = λ g z q at owner.
           let was : (a : ℕ) × (slice_get w.frames g ≡ Some a) × IsLike a z = word-was w.frames f word now there x.like g z at in
           let owned : owner_of was.0 ≡ q + 1 = sym was.2.owner ∙ owner in
-          elim (h.caches.named g was.0 q was.1 owned) [
+          elim (h.pages.caches.named g was.0 q was.1 owned) [
             | inl cached ↦ inl cached
             | inr both ↦ elim (same-or both.0 seat) [
               | inl same ↦
@@ -125,47 +125,57 @@ module _ (layout : Layout) (w : Words) (homes : Homes) (views : List View) (seat
       frame_home = λ g z at free. elim (at_set w.frames f g now z at) [
         | inl t ↦ subst (λ (p : ℕ × ℕ). IsAtHome (set homes f y) p.0 (owner_of p.1)) (λ i. (sym t.0 i, t.1 i)) (x.free_home (ap lock_of t.1 ∙ free))
         | inr t ↦
-            let was : IsAtHome homes g (owner_of z) = h.bodies.frame_home g z t.1 free in
+            let was : IsAtHome homes g (owner_of z) = h.pages.bodies.frame_home g z t.1 free in
             record { content = was.content; there = set_else homes f g y t.0 ∙ was.there; named = was.named }
       ];
       frame_out = λ g z at locked. elim (at_set w.frames f g now z at) [
         | inl t ↦ ap (slice_get (set homes f y)) t.0 ∙ x.out (ap lock_of t.1 ∙ locked)
-        | inr t ↦ set_else homes f g y t.0 ∙ h.bodies.frame_out g z t.1 locked
+        | inr t ↦ set_else homes f g y t.0 ∙ h.pages.bodies.frame_out g z t.1 locked
       ];
       shelf_home = λ q p c at cache free.
-          let was : IsAtHome homes (layout.frames + q) (cond (c == 0) (q + 1) 0) = h.bodies.shelf_home q p c at cache free in
+          let was : IsAtHome homes (layout.frames + q) (cond (c == 0) (q + 1) 0) = h.pages.bodies.shelf_home q p c at cache free in
           record { content = was.content; there = set_else homes f (layout.frames + q) y (λ e. absurd (omega (arith, less, e))) ∙ was.there; named = was.named };
-      shelf_out = λ q p at locked. set_else homes f (layout.frames + q) y (λ e. absurd (omega (arith, less, e))) ∙ h.bodies.shelf_out q p at locked;
+      shelf_out = λ q p at locked. set_else homes f (layout.frames + q) y (λ e. absurd (omega (arith, less, e))) ∙ h.pages.bodies.shelf_out q p at locked;
       one = Carrying.one-carried layout w homes views seat v me h f y locks pages bodies lengths x.carries;
-      in_hand = each-set (λ (o : Holder). EachMember (λ (b : InHand). IsHolding b o) o.bodies) (map holder_of views) seat (holder_of u) x.in_hand h.bodies.in_hand;
+      in_hand = each-set (λ (o : Holder). EachMember (λ (b : InHand). IsHolding b o) o.bodies) (map holder_of views) seat (holder_of u) x.in_hand h.pages.bodies.in_hand;
     }
 
     pub keeps-locking : f < layout.frames → FrameRule layout (record w { frames = set w.frames f now }) (set homes f y) (set views seat u)
     keeps-locking less = record {
-      counts = Kept.kept-counts views seat v u me frames w.trans w.caches refl counts-locking;
-      places = Kept.kept-places views seat v u me layout.kernel frames w.frees refl places-locking;
-      frame_locks = change (λ (v : View). (v.refs, v.locks)) (FrameLocksHeld frames) views seat u
-          (locked-again w.frames f word now there x.like (map (λ (v : View). (v.refs, v.locks)) views) seat (v.refs, v.locks) (v.refs, locks) (at_map (λ (v : View). (v.refs, v.locks)) views seat v me) x.here x.others x.known h.frame_locks);
-      page_locks = change (λ (v : View). v.locks) (PageLocksHeld w.pages (map (λ (v : View). v.pages) (set views seat u))) views seat u
-          (change (λ (v : View). v.pages) (λ l. PageLocksHeld w.pages l (set (map (λ (v : View). v.locks) views) seat locks)) views seat u page-locks-locking);
-      translations = like-translations w.frames f word now there x.like layout.trans w.trans h.translations;
-      caches = change (λ (v : View). (v.locks, v.pages)) (CacheWordsOwned frames w.caches) views seat u caches-locking;
-      bodies = change holder_of (BodiesAtHome layout frames w.caches w.pages (set homes f y)) views seat u (bodies-locking less);
-      handled = like-handled w.frames f word now there x.like h.handled;
-      counter = Kept.kept-counter views seat v u me frames w.counter refl refl refl (like-counter w.frames f word now there x.like w.counter (map (λ (v : View). (v.owed, v.marks)) views) (map (λ (v : View). v.sights) views) h.counter);
-      free = Kept.kept-free views seat v u me layout.frames w.frees w.available refl h.free;
-      damage = Kept.kept-damage views seat v u me w.bads w.weaks refl refl h.damage;
-      entries = Carrying.entries-carried layout w homes views seat v me h f y locks pages bodies lengths x.carries;
-      endings = Carrying.endings-carried layout w homes views seat v me h f y locks pages bodies lengths x.carries;
-      marks = Kept.kept-marks views seat v u me frames refl refl (like-marks w.frames f word now there x.like (map (λ (v : View). v.marks) views) (map (λ (v : View). v.sights) views) h.marks);
-      holdings = Kept.kept-holdings views seat v u me layout refl h.holdings;
-      losses = Carrying.losses-carried layout w homes views seat v me h f y locks pages bodies lengths x.carries;
-      policies = Kept.kept-policies views seat v u me layout.threads w.policies refl refl refl h.policies;
-      exhaustion = Kept.kept-exhaustion views seat v u me layout refl refl h.exhaustion;
-      stops = Carrying.stops-carried layout w homes views seat v me h f y locks pages bodies lengths x.carries;
-      fits = Carrying.fits-carried layout w homes views seat v me h f y locks pages bodies lengths x.carries;
-      processors = Kept.kept-processors views seat v u me layout refl h.processors;
-      commands = Carrying.commands-carried layout w homes views seat v me h f y locks pages bodies lengths x.carries;
-      unpoisoned = like-unpoisoned w.frames f word now there x.like (map (λ (v : View). v.spoiled) (set views seat u)) (set homes f y) (map (λ (v : View). v.bodies) (set views seat u))
-          (Carrying.unpoisoned-carried layout w homes views seat v me h f y locks pages bodies lengths x.carries);
+      frames = record {
+        counts = Kept.kept-counts views seat v u me refl counts-locking;
+        places = Kept.kept-places views seat v u me refl places-locking;
+        frame_locks = change (λ (v : View). (v.refs, v.locks)) (FrameLocksHeld frames) views seat u
+            (locked-again w.frames f word now there x.like (map (λ (v : View). (v.refs, v.locks)) views) seat (v.refs, v.locks) (v.refs, locks) (at_map (λ (v : View). (v.refs, v.locks)) views seat v me) x.here x.others x.known h.frames.frame_locks);
+        free = Kept.kept-free views seat v u me refl h.frames.free;
+        holdings = Kept.kept-holdings views seat v u me refl h.frames.holdings;
+      };
+      pages = record {
+        page_locks = change (λ (v : View). v.locks) (PageLocksHeld w.pages (map (λ (v : View). v.pages) (set views seat u))) views seat u
+            (change (λ (v : View). v.pages) (λ l. PageLocksHeld w.pages l (set (map (λ (v : View). v.locks) views) seat locks)) views seat u page-locks-locking);
+        translations = like-translations w.frames f word now there x.like layout.trans w.trans h.pages.translations;
+        caches = change (λ (v : View). (v.locks, v.pages)) (CacheWordsOwned frames w.caches) views seat u caches-locking;
+        bodies = change holder_of (BodiesAtHome layout frames w.caches w.pages (set homes f y)) views seat u (bodies-locking less);
+        fits = Carrying.fits-carried layout w homes views seat v me h f y locks pages bodies lengths x.carries;
+      };
+      histories = record {
+        entries = Carrying.entries-carried layout w homes views seat v me h f y locks pages bodies lengths x.carries;
+        endings = Carrying.endings-carried layout w homes views seat v me h f y locks pages bodies lengths x.carries;
+        losses = Carrying.losses-carried layout w homes views seat v me h f y locks pages bodies lengths x.carries;
+      };
+      failures = record {
+        handled = like-handled w.frames f word now there x.like h.failures.handled;
+        counter = Kept.kept-counter views seat v u me refl refl refl (like-counter w.frames f word now there x.like w.counter (map (λ (v : View). (v.owed, v.marks)) views) (map (λ (v : View). v.sights) views) h.failures.counter);
+        damage = Kept.kept-damage views seat v u me refl refl h.failures.damage;
+        marks = Kept.kept-marks views seat v u me refl refl (like-marks w.frames f word now there x.like (map (λ (v : View). v.marks) views) (map (λ (v : View). v.sights) views) h.failures.marks);
+        exhaustion = Kept.kept-exhaustion views seat v u me refl refl h.failures.exhaustion;
+        unpoisoned = like-unpoisoned w.frames f word now there x.like (map (λ (v : View). v.spoiled) (set views seat u)) (set homes f y) (map (λ (v : View). v.bodies) (set views seat u))
+            (Carrying.unpoisoned-carried layout w homes views seat v me h f y locks pages bodies lengths x.carries);
+      };
+      processors = record {
+        policies = Kept.kept-policies views seat v u me refl refl refl h.processors.policies;
+        stops = Carrying.stops-carried layout w homes views seat v me h f y locks pages bodies lengths x.carries;
+        processors = Kept.kept-processors views seat v u me refl h.processors.processors;
+        commands = Carrying.commands-carried layout w homes views seat v me h f y locks pages bodies lengths x.carries;
+      };
     }

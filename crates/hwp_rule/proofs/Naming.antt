@@ -109,7 +109,7 @@ module _ (layout : Layout) (w : Words) (homes : Homes) (views : List View) (seat
 
   not-home : (i : ℕ) (log : Log) → slice_get homes i ≡ Some (Some (Some log)) → log.page.0 ≢ page.0
   not-home i log at same =
-      let one : sum_bodies of_page homes bodies ≡ 1 = h.bodies.one page.0 within in
+      let one : sum_bodies of_page homes bodies ≡ 1 = h.pages.bodies.one page.0 within in
       let this : of_page log ≡ 1 = ap from_bool (same-number log.page.0 page.0 same) in
       let home : of_page log ≤ sum_by (of_home of_page) homes = term-le (of_home of_page) homes i (Some (Some log)) at in
       let hand : sum_by (λ (b : InHand). of_page b.log) v.bodies ≤ sum_all (λ (b : InHand). of_page b.log) bodies = term-le (sum_by (λ (b : InHand). of_page b.log)) bodies seat v.bodies (bodies-at seat v me) in
@@ -117,7 +117,7 @@ module _ (layout : Layout) (w : Words) (homes : Homes) (views : List View) (seat
 
   not-in-hand : (i : ℕ) (x : View) → i ≢ seat → slice_get views i ≡ Some x → EachMember (λ (b : InHand). b.log.page.0 ≢ page.0) x.bodies
   not-in-hand i x differs at j b listed same =
-      let one : sum_bodies of_page homes bodies ≡ 1 = h.bodies.one page.0 within in
+      let one : sum_bodies of_page homes bodies ≡ 1 = h.pages.bodies.one page.0 within in
       let this : of_page b.log ≡ 1 = ap from_bool (same-number b.log.page.0 page.0 same) in
       let theirs : of_page b.log ≤ sum_by (λ (b : InHand). of_page b.log) x.bodies = term-le (λ (b : InHand). of_page b.log) x.bodies j b listed in
       let both : sum_by (λ (b : InHand). of_page b.log) x.bodies + sum_by (λ (b : InHand). of_page b.log) v.bodies ≤ sum_all (λ (b : InHand). of_page b.log) bodies =
@@ -127,7 +127,7 @@ module _ (layout : Layout) (w : Words) (homes : Homes) (views : List View) (seat
   -- the page's word is locked
   pub page-locked : (word : ℕ) → slice_get w.pages page.0 ≡ Some word → lock_of word ≡ 1
   page-locked word there =
-      let all : sum_by (page_locks_on page.0) (map (λ (v : View). v.pages) views) ≡ lock_of word = h.page_locks.one page.0 word there in
+      let all : sum_by (page_locks_on page.0) (map (λ (v : View). v.pages) views) ≡ lock_of word = h.pages.page_locks.one page.0 word there in
       let mine : page_locks_on page.0 v.pages ≤ sum_by (page_locks_on page.0) (map (λ (v : View). v.pages) views) = term-le (page_locks_on page.0) (map (λ (v : View). v.pages) views) seat v.pages (at_map (λ (v : View). v.pages) views seat v me) in
       let bit : lock_of word < 2 = omega arith in
       omega (arith, page-listed v page has.lock)
@@ -135,7 +135,7 @@ module _ (layout : Layout) (w : Words) (homes : Homes) (views : List View) (seat
   not-locked : (i : ℕ) (x : View) → i ≢ seat → slice_get views i ≡ Some x → EachMember (λ (l : PageLock). l.page.0 ≢ page.0) x.pages
   not-locked i x differs at j l listed same =
       let there : slice_get w.pages page.0 ≡ Some (slice_index w.pages page.0) = slice_get-get_or w.pages page.0 0 (subst (λ (n : ℕ). page.0 < n) (sym shaped.pages) within) in
-      let all : sum_by (page_locks_on page.0) (map (λ (v : View). v.pages) views) ≡ lock_of (slice_index w.pages page.0) = h.page_locks.one page.0 (slice_index w.pages page.0) there in
+      let all : sum_by (page_locks_on page.0) (map (λ (v : View). v.pages) views) ≡ lock_of (slice_index w.pages page.0) = h.pages.page_locks.one page.0 (slice_index w.pages page.0) there in
       let locked : lock_of (slice_index w.pages page.0) ≡ 1 = page-locked (slice_index w.pages page.0) there in
       let this : from_bool (l.page.0 == page.0) ≡ 1 = ap from_bool (same-number l.page.0 page.0 same) in
       let theirs : from_bool (l.page.0 == page.0) ≤ page_locks_on page.0 x.pages = term-le (λ (l : PageLock). from_bool (l.page.0 == page.0)) x.pages j l listed in
@@ -148,13 +148,13 @@ module _ (layout : Layout) (w : Words) (homes : Homes) (views : List View) (seat
 
   -- what the page's lock lists
   pub page-knows : KnowsWords layout w.trans w.caches has.lock.lock
-  page-knows = h.fits.known seat (v.pages, v.bodies) my_fit 0 has.lock.lock has.lock.listed
+  page-knows = h.pages.fits.known seat (v.pages, v.bodies) my_fit 0 has.lock.lock has.lock.listed
 
   pub frames-few : length w.frames ≤ 2 ^ 16
   frames-few = let limit : layout.frames ≤ 256 = sound.frames in subst (λ (n : ℕ). n ≤ 2 ^ 16) (sym shaped.frames) (omega arith)
 
   pub my-locks : EachMember (IsLocked w.frames v.refs) v.locks
-  my-locks = h.frame_locks.known seat (v.refs, v.locks) (at_map (λ (v : View). (v.refs, v.locks)) views seat v me)
+  my-locks = h.frames.frame_locks.known seat (v.refs, v.locks) (at_map (λ (v : View). (v.refs, v.locks)) views seat v me)
 
   -- a frame that a word begins to name is the page's
   pub names-own : (frame : Frame) → CanName v page frame → NamesOwn w.frames page.0 (frame.0 + 1)
@@ -191,7 +191,7 @@ module _ (layout : Layout) (w : Words) (homes : Homes) (views : List View) (seat
       pub fits-naming : KnowsWords layout trans caches (to has.lock.lock) → (cache : ℕ) → (to has.lock.lock).cache ≡ Some cache → (ws : List ℕ) → (to has.lock.lock).trans ≡ Some ws
           → PageFits layout trans caches homes (set fitting seat (pages, v.bodies))
       fits-naming knows cache cache_is ws ws_is = record {
-        at_home = λ i log at. fits-else log (not-home i log at) (h.fits.at_home i log at);
+        at_home = λ i log at. fits-else log (not-home i log at) (h.pages.fits.at_home i log at);
         in_hand = in-each (λ (x : List PageLock × List InHand). EachMember (λ (b : InHand). page_locks_on b.log.page.0 x.0 ≡ 0 → Fits layout trans caches b.log) x.1)
             (λ j b at none. elim (same-or b.log.page.0 page.0) [
               | inl this ↦
@@ -199,18 +199,18 @@ module _ (layout : Layout) (w : Words) (homes : Homes) (views : List View) (seat
                   let kept : page_locks_on page.0 pages ≡ page_locks_on page.0 v.pages = same-locks test to same v.pages page.0 in
                   let empty : page_locks_on page.0 pages ≡ 0 = subst (λ (n : ℕ). page_locks_on n pages ≡ 0) this none in
                   absurd (omega arith)
-              | inr differs ↦ fits-else b.log differs (h.fits.in_hand seat (v.pages, v.bodies) my_fit j b at (sym (same-locks test to same v.pages b.log.page.0) ∙ none))
+              | inr differs ↦ fits-else b.log differs (h.pages.fits.in_hand seat (v.pages, v.bodies) my_fit j b at (sym (same-locks test to same v.pages b.log.page.0) ∙ none))
             ])
-            (λ i x differs at j b listed none. fits-else b.log (not-in-hand i x differs at j b listed) (h.fits.in_hand i (x.pages, x.bodies) (at_map (λ (v : View). (v.pages, v.bodies)) views i x at) j b listed none));
+            (λ i x differs at j b listed none. fits-else b.log (not-in-hand i x differs at j b listed) (h.pages.fits.in_hand i (x.pages, x.bodies) (at_map (λ (v : View). (v.pages, v.bodies)) views i x at) j b listed none));
         known = in-each (λ (x : List PageLock × List InHand). EachMember (KnowsWords layout trans caches) x.0)
             (only-member (KnowsWords layout trans caches) pages (to has.lock.lock) (subst (λ (n : ℕ). n ≤ 1) (sym (length-changed test to v.pages)) once) listed knows)
-            (λ i x differs at j l listed. knows-else l (not-locked i x differs at j l listed) (h.fits.known i (x.pages, x.bodies) (at_map (λ (v : View). (v.pages, v.bodies)) views i x at) j l listed));
+            (λ i x differs at j l listed. knows-else l (not-locked i x differs at j l listed) (h.pages.fits.known i (x.pages, x.bodies) (at_map (λ (v : View). (v.pages, v.bodies)) views i x at) j l listed));
         own = each-set (λ (x : List PageLock × List InHand). EachMember (λ (b : InHand). 0 < page_locks_on b.log.page.0 x.0 → KnowsOwn x.0 b) x.1) fitting seat (pages, v.bodies)
-            (λ j b at some. record { lock = to has.lock.lock; there = listed; cache = cache; cache_is = cache_is; trans = ws; trans_is = ws_is }) h.fits.own;
+            (λ j b at some. record { lock = to has.lock.lock; there = listed; cache = cache; cache_is = cache_is; trans = ws; trans_is = ws_is }) h.pages.fits.own;
       }
         where
           once : length v.pages ≤ 1
-          once = h.page_locks.page_once seat v.pages (at_map (λ (v : View). v.pages) views seat v me)
+          once = h.pages.page_locks.page_once seat v.pages (at_map (λ (v : View). v.pages) views seat v me)
 
           -- this view, and the others
           in-each : (P : List PageLock × List InHand → Type 0) → P (pages, v.bodies) → ((i : ℕ) (x : View) → i ≢ seat → slice_get views i ≡ Some x → P (x.pages, x.bodies)) → EachMember P (set fitting seat (pages, v.bodies))
@@ -240,7 +240,7 @@ module _ (layout : Layout) (w : Words) (homes : Homes) (views : List View) (seat
         balance = λ f x at.
             let less : f < length w.frames = slice_get_within w.frames f x at in
             let few : length w.frames ≤ 2 ^ 16 = frames-few in
-            let was : count_of x ≡ named f w.trans + named f w.caches + sum_by (refs_on f) refs + handled_of x = h.counts.balance f x at in
+            let was : count_of x ≡ named f w.trans + named f w.caches + sum_by (refs_on f) refs + handled_of x = h.frames.counts.balance f x at in
             let word : named f trans + named f caches + hits f old ≡ named f w.trans + named f w.caches + hits f new = words f (omega arith) in
             let mine : refs_on f u.refs + hits f new ≡ refs_on f v.refs + hits f old = refs-renamed old new v.refs spare f in
             let all : sum_by (refs_on f) (set refs seat u.refs) + refs_on f v.refs ≡ sum_by (refs_on f) refs + refs_on f u.refs = sum-set (refs_on f) refs seat v.refs u.refs (at_map (λ (v : View). v.refs) views seat v me) in
@@ -250,14 +250,14 @@ module _ (layout : Layout) (w : Words) (homes : Homes) (views : List View) (seat
       locks-naming : FrameLocksHeld w.frames (set held seat (u.refs, v.locks))
       locks-naming = record {
         one = λ f x at.
-            let was : sum_by (λ (o : List Ref × List FrameLock). locks_on f o.1) held ≡ lock_of x = h.frame_locks.one f x at in
+            let was : sum_by (λ (o : List Ref × List FrameLock). locks_on f o.1) held ≡ lock_of x = h.frames.frame_locks.one f x at in
             let all : sum_by (λ (o : List Ref × List FrameLock). locks_on f o.1) (set held seat (u.refs, v.locks)) + locks_on f v.locks ≡ sum_by (λ (o : List Ref × List FrameLock). locks_on f o.1) held + locks_on f v.locks =
             sum-set (λ (o : List Ref × List FrameLock). locks_on f o.1) held seat (v.refs, v.locks) (u.refs, v.locks) (at_map (λ (v : View). (v.refs, v.locks)) views seat v me) in
             omega arith;
         known = each-set (λ (o : List Ref × List FrameLock). EachMember (IsLocked w.frames o.0) o.1) held seat (u.refs, v.locks)
             (each-weaken (IsLocked w.frames v.refs) (IsLocked w.frames u.refs) v.locks
             (λ l k. record { word = k.word; there = k.there; owner = k.owner; handled = k.handled; poisoned = k.poisoned; referenced = some-renamed old new v.refs spare l.frame.0 k.referenced }) my-locks)
-            h.frame_locks.known;
+            h.frames.frame_locks.known;
       }
 
       bounded-naming : (who : Who) → IsPast v.parts who → IsBounded layout (holdings_of u)
@@ -271,7 +271,7 @@ module _ (layout : Layout) (w : Words) (homes : Homes) (views : List View) (seat
       }
         where
           bounded : IsBounded layout (holdings_of v)
-          bounded = h.holdings.bounded seat (holdings_of v) (at_map holdings_of views seat v me)
+          bounded = h.frames.holdings.bounded seat (holdings_of v) (at_map holdings_of views seat v me)
 
       pub keeps-naming : (who : Who) → IsPast v.parts who
           → ((f : ℕ) → f < 2 ^ 16 → named f trans + named f caches + hits f old ≡ named f w.trans + named f w.caches + hits f new)
@@ -281,31 +281,25 @@ module _ (layout : Layout) (w : Words) (homes : Homes) (views : List View) (seat
           → PageFits layout trans caches homes (set fitting seat (pages, v.bodies))
           → FrameRule layout (record w { trans = trans; caches = caches }) homes (set views seat u)
       keeps-naming who past words translations owned at_home fits = record {
-        counts = change (λ (v : View). v.refs) (CountsBalance w.frames trans caches) views seat u (counts-naming words);
-        places = Kept.kept-places views seat v u me layout.kernel w.frames w.frees refl h.places;
-        frame_locks = change (λ (v : View). (v.refs, v.locks)) (FrameLocksHeld w.frames) views seat u locks-naming;
-        page_locks = keep (λ (v : View). v.locks) (λ l. PageLocksHeld w.pages (map (λ (v : View). v.pages) (set views seat u)) l) views seat v u me refl
-            (change (λ (v : View). v.pages) (λ l. PageLocksHeld w.pages l (map (λ (v : View). v.locks) views)) views seat u (locks-listed layout w homes views seat v me h test to same));
-        translations = translations;
-        caches = change (λ (v : View). (v.locks, v.pages)) (CacheWordsOwned w.frames caches) views seat u owned;
-        bodies = change holder_of (BodiesAtHome layout w.frames caches w.pages homes) views seat u at_home;
-        handled = h.handled;
-        counter = Kept.kept-counter views seat v u me w.frames w.counter refl refl refl h.counter;
-        free = Kept.kept-free views seat v u me layout.frames w.frees w.available refl h.free;
-        damage = Kept.kept-damage views seat v u me w.bads w.weaks refl refl h.damage;
-        entries = Kept.kept-entries views seat v u me homes refl refl refl refl h.entries;
-        endings = Kept.kept-endings views seat v u me layout w.processes homes refl refl h.endings;
-        marks = Kept.kept-marks views seat v u me w.frames refl refl h.marks;
-        holdings = change holdings_of (HoldingsBounded layout) views seat u (record { bounded = each-set (IsBounded layout) (map holdings_of views) seat (holdings_of u) (bounded-naming who past) h.holdings.bounded });
-        losses = Kept.kept-losses views seat v u me layout w.losses homes refl refl h.losses;
-        policies = Kept.kept-policies views seat v u me layout.threads w.policies refl refl refl h.policies;
-        exhaustion = Kept.kept-exhaustion views seat v u me layout refl refl h.exhaustion;
-        stops = Kept.kept-stops views seat v u me w.processes w.stop refl refl refl h.stops;
-        fits = change (λ (v : View). (v.pages, v.bodies)) (PageFits layout trans caches homes) views seat u fits;
-        processors = Kept.kept-processors views seat v u me layout refl h.processors;
-        commands = Kept.kept-commands views seat v u me (record { made = mine.made; marks = mine.marks; sights = mine.sights; lengths = mine.lengths; settings = mine.settings; stops = mine.stops }) h.commands;
-        unpoisoned = Kept.kept-unpoisoned views seat v u me w.frames homes refl refl h.unpoisoned;
+        frames = record {
+          counts = change (λ (v : View). v.refs) (CountsBalance w.frames trans caches) views seat u (counts-naming words);
+          places = Kept.kept-places views seat v u me refl h.frames.places;
+          frame_locks = change (λ (v : View). (v.refs, v.locks)) (FrameLocksHeld w.frames) views seat u locks-naming;
+          free = Kept.kept-free views seat v u me refl h.frames.free;
+          holdings = change holdings_of (HoldingsBounded layout) views seat u (record { bounded = each-set (IsBounded layout) (map holdings_of views) seat (holdings_of u) (bounded-naming who past) h.frames.holdings.bounded });
+        };
+        pages = record {
+          page_locks = keep (λ (v : View). v.locks) (λ l. PageLocksHeld w.pages (map (λ (v : View). v.pages) (set views seat u)) l) views seat v u me refl
+              (change (λ (v : View). v.pages) (λ l. PageLocksHeld w.pages l (map (λ (v : View). v.locks) views)) views seat u (locks-listed layout w homes views seat v me h test to same));
+          translations = translations;
+          caches = change (λ (v : View). (v.locks, v.pages)) (CacheWordsOwned w.frames caches) views seat u owned;
+          bodies = change holder_of (BodiesAtHome layout w.frames caches w.pages homes) views seat u at_home;
+          fits = change (λ (v : View). (v.pages, v.bodies)) (PageFits layout trans caches homes) views seat u fits;
+        };
+        histories = Kept.same-histories views seat v u me refl h.histories;
+        failures = Kept.same-failures views seat v u me refl h.failures;
+        processors = Kept.same-processors views seat v u me refl h.processors;
       }
         where
           mine : AreOwn v
-          mine = h.commands.own seat v me
+          mine = h.processors.commands.own seat v me

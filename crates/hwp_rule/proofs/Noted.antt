@@ -81,8 +81,8 @@ policies-noted layout w homes views seat v who me h = record {
   agrees = λ thread d word there is.
       change (λ (v : View). (v.parts, v.settings)) (EachMember (λ (x : List Part × List Setting). IsOf d.cpu x.0 → PolicyAgrees thread word (map (λ (v : View). v.sights) views) (settings_of thread x.1))) views seat (noted who v)
       (each-set (λ (x : List Part × List Setting). IsOf d.cpu x.0 → PolicyAgrees thread word (map (λ (v : View). v.sights) views) (settings_of thread x.1)) (map (λ (v : View). (v.parts, v.settings)) views) seat ((noted who v).parts, v.settings)
-      (λ of. h.policies.agrees thread d word there is seat (v.parts, v.settings) (at_map (λ (v : View). (v.parts, v.settings)) views seat v me) (before d.cpu of))
-      (h.policies.agrees thread d word there is));
+      (λ of. h.processors.policies.agrees thread d word there is seat (v.parts, v.settings) (at_map (λ (v : View). (v.parts, v.settings)) views seat v me) (before d.cpu of))
+      (h.processors.policies.agrees thread d word there is));
 }
   where
     before : (cpu : Cpu) → IsOf cpu (noted who v).parts → IsOf cpu v.parts
@@ -110,36 +110,29 @@ processors-noted layout views seat v who me h = change (λ (v : View). v.parts) 
 pub keeps-noted : (layout : Layout) (w : Words) (homes : Homes) (views : List View) (seat : ℕ) (v : View) (who : Who) → slice_get views seat ≡ Some v
     → FrameRule layout w homes views → FrameRule layout w homes (set views seat (noted who v))
 keeps-noted layout w homes views seat v who me h = record {
-  counts = Kept.kept-counts views seat v (noted who v) me w.frames w.trans w.caches refl h.counts;
-  places = Kept.kept-places views seat v (noted who v) me layout.kernel w.frames w.frees refl h.places;
-  frame_locks = Kept.kept-frame-locks views seat v (noted who v) me w.frames refl refl h.frame_locks;
-  page_locks = Kept.kept-page-locks views seat v (noted who v) me w.pages refl refl h.page_locks;
-  translations = h.translations;
-  caches = Kept.kept-caches views seat v (noted who v) me w.frames w.caches refl refl h.caches;
-  bodies = Kept.kept-bodies views seat v (noted who v) me layout w.frames w.caches w.pages homes refl h.bodies;
-  handled = h.handled;
-  counter = Kept.kept-counter views seat v (noted who v) me w.frames w.counter refl refl refl h.counter;
-  free = Kept.kept-free views seat v (noted who v) me layout.frames w.frees w.available refl h.free;
-  damage = Kept.kept-damage views seat v (noted who v) me w.bads w.weaks refl refl h.damage;
-  entries = Kept.kept-entries views seat v (noted who v) me homes refl refl refl refl h.entries;
-  endings = Kept.kept-endings views seat v (noted who v) me layout w.processes homes refl refl h.endings;
-  marks = Kept.kept-marks views seat v (noted who v) me w.frames refl refl h.marks;
-  holdings = change holdings_of (HoldingsBounded layout) views seat (noted who v) (record {
-    bounded = each-set (IsBounded layout) (map holdings_of views) seat (holdings_of (noted who v)) bounded-noted h.holdings.bounded;
-  });
-  losses = Kept.kept-losses views seat v (noted who v) me layout w.losses homes refl refl h.losses;
-  policies = keep (λ (v : View). v.sights) (λ l. PoliciesListed layout.threads w.policies (map (λ (v : View). (v.parts, v.settings)) (set views seat (noted who v))) l) views seat v (noted who v) me refl
-      (policies-noted layout w homes views seat v who me h);
-  exhaustion = Kept.kept-exhaustion views seat v (noted who v) me layout refl refl h.exhaustion;
-  stops = Kept.kept-stops views seat v (noted who v) me w.processes w.stop refl refl refl h.stops;
-  fits = Kept.kept-fits views seat v (noted who v) me layout w.trans w.caches homes refl refl h.fits;
-  processors = processors-noted layout views seat v who me h.processors;
-  commands = Kept.kept-commands views seat v (noted who v) me (own-noted who v (h.commands.own seat v me)) h.commands;
-  unpoisoned = Kept.kept-unpoisoned views seat v (noted who v) me w.frames homes refl refl h.unpoisoned;
+  frames = record {
+    counts = Kept.kept-counts views seat v (noted who v) me refl h.frames.counts;
+    places = Kept.kept-places views seat v (noted who v) me refl h.frames.places;
+    frame_locks = Kept.kept-frame-locks views seat v (noted who v) me refl refl h.frames.frame_locks;
+    free = Kept.kept-free views seat v (noted who v) me refl h.frames.free;
+    holdings = change holdings_of (HoldingsBounded layout) views seat (noted who v) (record {
+      bounded = each-set (IsBounded layout) (map holdings_of views) seat (holdings_of (noted who v)) bounded-noted h.frames.holdings.bounded;
+    });
+  };
+  pages = Kept.same-pages views seat v (noted who v) me refl h.pages;
+  histories = Kept.same-histories views seat v (noted who v) me refl h.histories;
+  failures = Kept.same-failures views seat v (noted who v) me refl h.failures;
+  processors = record {
+    policies = keep (λ (v : View). v.sights) (λ l. PoliciesListed layout.threads w.policies (map (λ (v : View). (v.parts, v.settings)) (set views seat (noted who v))) l) views seat v (noted who v) me refl
+        (policies-noted layout w homes views seat v who me h);
+    stops = Kept.kept-stops views seat v (noted who v) me refl refl refl h.processors.stops;
+    processors = processors-noted layout views seat v who me h.processors.processors;
+    commands = Kept.kept-commands views seat v (noted who v) me (own-noted who v (h.processors.commands.own seat v me)) h.processors.commands;
+  };
 }
   where
     bounded : IsBounded layout (holdings_of v)
-    bounded = h.holdings.bounded seat (holdings_of v) (at_map holdings_of views seat v me)
+    bounded = h.frames.holdings.bounded seat (holdings_of v) (at_map holdings_of views seat v me)
 
     bounded-noted : IsBounded layout (holdings_of (noted who v))
     bounded-noted = record {

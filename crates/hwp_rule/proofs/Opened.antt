@@ -401,87 +401,97 @@ module _ (layout : Layout) (sound : IsSound layout) (w : Words) (o : AreOpening 
 
   rule-opened : FrameRule layout w (opening_homes layout) (opening_views layout)
   rule-opened = record {
-    counts = record {
-      balance = λ f x there.
-          let no_count : count_of x ≡ 0 = (frame f x there).2.count in
-          let no_trans : named f w.trans ≡ 0 = ap (named f) o.trans ∙ named-zeros f (length layout.trans) in
-          let no_cache : named f w.caches ≡ 0 = ap (named f) o.caches ∙ named-zeros f (length layout.pages) in
-          let no_refs : sum_by (refs_on f) (map (λ (v : View). v.refs) (opening_views layout)) ≡ 0 = no-sum (λ (v : View). v.refs) (refs_on f) (λ c. refl) in
-          let no_handled : handled_of x ≡ 0 = (frame f x there).2.handled in
-          omega arith;
+    frames = record {
+      counts = record {
+        balance = λ f x there.
+            let no_count : count_of x ≡ 0 = (frame f x there).2.count in
+            let no_trans : named f w.trans ≡ 0 = ap (named f) o.trans ∙ named-zeros f (length layout.trans) in
+            let no_cache : named f w.caches ≡ 0 = ap (named f) o.caches ∙ named-zeros f (length layout.pages) in
+            let no_refs : sum_by (refs_on f) (map (λ (v : View). v.refs) (opening_views layout)) ≡ 0 = no-sum (λ (v : View). v.refs) (refs_on f) (λ c. refl) in
+            let no_handled : handled_of x ≡ 0 = (frame f x there).2.handled in
+            omega arith;
+      };
+      places = record {
+        declared = λ f x k there is. (frame f x there).2.is_kernel ∙ same_Some (frame f x there).0 k (sym (frame f x there).1 ∙ is);
+        placed = λ f x there is.
+            let k : (frame f x there).0 ≡ false = sym (frame f x there).2.is_kernel ∙ is in
+            let bit : free_bit w.frees f ≡ 1 = ap (λ (l : List ℕ). free_bit l f) o.frees ∙ Opening.free-bit-opened layout f false (inside f x there) ((frame f x there).1 ∙ ap (λ (b : Bool). Some b) k) in
+            let no_hand : in_hand f (map (λ (v : View). v.hands) (opening_views layout)) ≡ 0 = no-sum (λ (v : View). v.hands) (sum_by (λ (h : Frame). from_bool (h.0 == f))) (λ c. refl) in
+            let no_count : count_of x ≡ 0 = (frame f x there).2.count in
+            omega arith;
+        idle = λ f x there some. bare f x there;
+        kernels = λ f x there is.
+            let k : (frame f x there).0 ≡ true = sym (frame f x there).2.is_kernel ∙ is in
+            record {
+              bare = bare f x there;
+              uncounted = (frame f x there).2.count;
+              taken = ap (λ (l : List ℕ). free_bit l f) o.frees ∙ Opening.free-bit-opened layout f true (inside f x there) ((frame f x there).1 ∙ ap (λ (b : Bool). Some b) k);
+              unhanded = no-sum (λ (v : View). v.hands) (sum_by (λ (h : Frame). from_bool (h.0 == f))) (λ c. refl);
+            };
+        handed = unlisted (λ (v : View). v.hands) (λ (h : Frame). h.0 < length layout.kernel) (λ c. refl);
+      };
+      frame_locks = record {
+        one = λ f x there. no-sum (λ (v : View). (v.refs, v.locks)) (λ (h : List Ref × List FrameLock). locks_on f h.1) (λ c. refl) ∙ sym (frame f x there).2.lock;
+        known = Opening.each-view (λ (v : View). (v.refs, v.locks)) (λ (h : List Ref × List FrameLock). EachMember (IsLocked w.frames h.0) h.1) layout.cpus (λ c less. each-none (IsLocked w.frames []));
+      };
+      free = record {
+        number =
+            let bits : sum_below (free_bit w.frees) layout.frames ≡ opening_available layout = ap (λ (l : List ℕ). sum_below (free_bit l) layout.frames) o.frees ∙ Opening.free-number layout sound in
+            let none : sum_by (λ (n : ℕ). n) (map (λ (v : View). v.reserved) (opening_views layout)) ≡ 0 = no-sum (λ (v : View). v.reserved) (λ (n : ℕ). n) (λ c. refl) in
+            let is : w.available ≡ opening_available layout = o.available in
+            omega arith;
+        within = λ f past. ap (λ (l : List ℕ). free_bit l f) o.frees ∙ Opening.free-bit-past layout sound f past;
+      };
+      holdings = record { bounded = Opening.each-view holdings_of (IsBounded layout) layout.cpus (λ c less. record { few = omega arith; none = λ empty. refl; shares = λ f. omega arith }) };
     };
-    places = record {
-      declared = λ f x k there is. (frame f x there).2.is_kernel ∙ same_Some (frame f x there).0 k (sym (frame f x there).1 ∙ is);
-      placed = λ f x there is.
-          let k : (frame f x there).0 ≡ false = sym (frame f x there).2.is_kernel ∙ is in
-          let bit : free_bit w.frees f ≡ 1 = ap (λ (l : List ℕ). free_bit l f) o.frees ∙ Opening.free-bit-opened layout f false (inside f x there) ((frame f x there).1 ∙ ap (λ (b : Bool). Some b) k) in
-          let no_hand : in_hand f (map (λ (v : View). v.hands) (opening_views layout)) ≡ 0 = no-sum (λ (v : View). v.hands) (sum_by (λ (h : Frame). from_bool (h.0 == f))) (λ c. refl) in
-          let no_count : count_of x ≡ 0 = (frame f x there).2.count in
-          omega arith;
-      idle = λ f x there some. bare f x there;
-      kernels = λ f x there is.
-          let k : (frame f x there).0 ≡ true = sym (frame f x there).2.is_kernel ∙ is in
-          record {
-            bare = bare f x there;
-            uncounted = (frame f x there).2.count;
-            taken = ap (λ (l : List ℕ). free_bit l f) o.frees ∙ Opening.free-bit-opened layout f true (inside f x there) ((frame f x there).1 ∙ ap (λ (b : Bool). Some b) k);
-            unhanded = no-sum (λ (v : View). v.hands) (sum_by (λ (h : Frame). from_bool (h.0 == f))) (λ c. refl);
-          };
-      handed = unlisted (λ (v : View). v.hands) (λ (h : Frame). h.0 < length layout.kernel) (λ c. refl);
+    pages = record {
+      page_locks = record {
+        one = λ q x there. no-sum (λ (v : View). v.pages) (page_locks_on q) (λ c. refl) ∙ ap lock_of (sym (is-zero w.pages (length layout.pages) q x o.pages there));
+        page_once = Opening.each-view (λ (v : View). v.pages) (λ (h : List PageLock). length h ≤ 1) layout.cpus (λ c less. omega arith);
+        frames_twice = Opening.each-view (λ (v : View). v.locks) (λ (h : List FrameLock). length h ≤ 2) layout.cpus (λ c less. omega arith);
+      };
+      translations = record { owned = λ v x t there is. inl (is-zero w.trans (length layout.trans) v x o.trans there) };
+      caches = record {
+        owned = λ q x there. inl (is-zero w.caches (length layout.pages) q x o.caches there);
+        named = λ f x q there owner. let none : owner_of x ≡ 0 = (frame f x there).2.owner in absurd (omega arith);
+      };
+      bodies = record {
+        frame_home = λ f x there unlocked. record { content = None; there = frame-home layout f (inside f x there); named = sym (frame f x there).2.owner };
+        frame_out = λ f x there held. let none : lock_of x ≡ 0 = (frame f x there).2.lock in absurd (omega arith);
+        shelf_home = λ q x c there is unlocked.
+            let less : q < length layout.pages = page-inside q x there in
+            record { content = Some (opening_log q); there = shelf-home layout q less; named = ap (λ (n : ℕ). cond (n == 0) (q + 1) 0) (sym (is-zero w.caches (length layout.pages) q c o.caches is)) };
+        shelf_out = λ q x there held. let none : lock_of x ≡ 0 = ap lock_of (is-zero w.pages (length layout.pages) q x o.pages there) in absurd (omega arith);
+        one = λ q less.
+            let shelf : sum_by (of_home (λ (log : Log). from_bool (log.page.0 == q))) (opening_homes layout) ≡ 1 = homes-sum layout (λ (log : Log). from_bool (log.page.0 == q)) ∙ one-below (length layout.pages) q less in
+            let no_hand : sum_all (λ (b : InHand). from_bool (b.log.page.0 == q)) (map (λ (h : Holder). h.bodies) (map holder_of (opening_views layout))) ≡ 0 =
+            sum-zero (sum_by (λ (b : InHand). from_bool (b.log.page.0 == q))) (map (λ (h : Holder). h.bodies) (map holder_of (opening_views layout)))
+            (each-map (λ (h : Holder). h.bodies) (λ (l : List InHand). sum_by (λ (b : InHand). from_bool (b.log.page.0 == q)) l ≡ 0) (map holder_of (opening_views layout))
+            (Opening.each-view holder_of (λ (h : Holder). sum_by (λ (b : InHand). from_bool (b.log.page.0 == q)) h.bodies ≡ 0) layout.cpus (λ c less. refl))) in
+            omega arith;
+        in_hand = Opening.each-view holder_of (λ (h : Holder). EachMember (λ (b : InHand). IsHolding b h) h.bodies) layout.cpus (λ c less. each-none (λ (b : InHand). IsHolding b (holder_of (opening_view c))));
+      };
+      fits = fits-opened;
     };
-    frame_locks = record {
-      one = λ f x there. no-sum (λ (v : View). (v.refs, v.locks)) (λ (h : List Ref × List FrameLock). locks_on f h.1) (λ c. refl) ∙ sym (frame f x there).2.lock;
-      known = Opening.each-view (λ (v : View). (v.refs, v.locks)) (λ (h : List Ref × List FrameLock). EachMember (IsLocked w.frames h.0) h.1) layout.cpus (λ c less. each-none (IsLocked w.frames []));
+    histories = record {
+      entries = entries-opened;
+      endings = endings-opened;
+      losses = losses-opened;
     };
-    page_locks = record {
-      one = λ q x there. no-sum (λ (v : View). v.pages) (page_locks_on q) (λ c. refl) ∙ ap lock_of (sym (is-zero w.pages (length layout.pages) q x o.pages there));
-      page_once = Opening.each-view (λ (v : View). v.pages) (λ (h : List PageLock). length h ≤ 1) layout.cpus (λ c less. omega arith);
-      frames_twice = Opening.each-view (λ (v : View). v.locks) (λ (h : List FrameLock). length h ≤ 2) layout.cpus (λ c less. omega arith);
+    failures = record {
+      handled = record { out = λ f x there is. let none : handled_of x ≡ 0 = (frame f x there).2.handled in absurd (omega arith) };
+      counter = counter-opened;
+      damage = damage-opened;
+      marks = marks-opened;
+      exhaustion = record { explained = unlisted (λ (v : View). v.sights) (λ (s : Sight). s.place ≡ places.Available → s.word ≡ 0 → sum_below (usable layout) layout.frames ≤ sum_below (is_marked layout (map (λ (v : View). v.marks) (opening_views layout))) layout.frames + length layout.pages + 2 * layout.cpus) (λ c. refl) };
+      unpoisoned = unpoisoned-opened;
     };
-    translations = record { owned = λ v x t there is. inl (is-zero w.trans (length layout.trans) v x o.trans there) };
-    caches = record {
-      owned = λ q x there. inl (is-zero w.caches (length layout.pages) q x o.caches there);
-      named = λ f x q there owner. let none : owner_of x ≡ 0 = (frame f x there).2.owner in absurd (omega arith);
+    processors = record {
+      policies = policies-opened;
+      stops = stops-opened;
+      processors = processors-opened;
+      commands = record { own = commands-opened };
     };
-    bodies = record {
-      frame_home = λ f x there unlocked. record { content = None; there = frame-home layout f (inside f x there); named = sym (frame f x there).2.owner };
-      frame_out = λ f x there held. let none : lock_of x ≡ 0 = (frame f x there).2.lock in absurd (omega arith);
-      shelf_home = λ q x c there is unlocked.
-          let less : q < length layout.pages = page-inside q x there in
-          record { content = Some (opening_log q); there = shelf-home layout q less; named = ap (λ (n : ℕ). cond (n == 0) (q + 1) 0) (sym (is-zero w.caches (length layout.pages) q c o.caches is)) };
-      shelf_out = λ q x there held. let none : lock_of x ≡ 0 = ap lock_of (is-zero w.pages (length layout.pages) q x o.pages there) in absurd (omega arith);
-      one = λ q less.
-          let shelf : sum_by (of_home (λ (log : Log). from_bool (log.page.0 == q))) (opening_homes layout) ≡ 1 = homes-sum layout (λ (log : Log). from_bool (log.page.0 == q)) ∙ one-below (length layout.pages) q less in
-          let no_hand : sum_all (λ (b : InHand). from_bool (b.log.page.0 == q)) (map (λ (h : Holder). h.bodies) (map holder_of (opening_views layout))) ≡ 0 =
-          sum-zero (sum_by (λ (b : InHand). from_bool (b.log.page.0 == q))) (map (λ (h : Holder). h.bodies) (map holder_of (opening_views layout)))
-          (each-map (λ (h : Holder). h.bodies) (λ (l : List InHand). sum_by (λ (b : InHand). from_bool (b.log.page.0 == q)) l ≡ 0) (map holder_of (opening_views layout))
-          (Opening.each-view holder_of (λ (h : Holder). sum_by (λ (b : InHand). from_bool (b.log.page.0 == q)) h.bodies ≡ 0) layout.cpus (λ c less. refl))) in
-          omega arith;
-      in_hand = Opening.each-view holder_of (λ (h : Holder). EachMember (λ (b : InHand). IsHolding b h) h.bodies) layout.cpus (λ c less. each-none (λ (b : InHand). IsHolding b (holder_of (opening_view c))));
-    };
-    handled = record { out = λ f x there is. let none : handled_of x ≡ 0 = (frame f x there).2.handled in absurd (omega arith) };
-    counter = counter-opened;
-    free = record {
-      number =
-          let bits : sum_below (free_bit w.frees) layout.frames ≡ opening_available layout = ap (λ (l : List ℕ). sum_below (free_bit l) layout.frames) o.frees ∙ Opening.free-number layout sound in
-          let none : sum_by (λ (n : ℕ). n) (map (λ (v : View). v.reserved) (opening_views layout)) ≡ 0 = no-sum (λ (v : View). v.reserved) (λ (n : ℕ). n) (λ c. refl) in
-          let is : w.available ≡ opening_available layout = o.available in
-          omega arith;
-      within = λ f past. ap (λ (l : List ℕ). free_bit l f) o.frees ∙ Opening.free-bit-past layout sound f past;
-    };
-    damage = damage-opened;
-    entries = entries-opened;
-    endings = endings-opened;
-    marks = marks-opened;
-    holdings = record { bounded = Opening.each-view holdings_of (IsBounded layout) layout.cpus (λ c less. record { few = omega arith; none = λ empty. refl; shares = λ f. omega arith }) };
-    losses = losses-opened;
-    policies = policies-opened;
-    exhaustion = record { explained = unlisted (λ (v : View). v.sights) (λ (s : Sight). s.place ≡ places.Available → s.word ≡ 0 → sum_below (usable layout) layout.frames ≤ sum_below (is_marked layout (map (λ (v : View). v.marks) (opening_views layout))) layout.frames + length layout.pages + 2 * layout.cpus) (λ c. refl) };
-    stops = stops-opened;
-    fits = fits-opened;
-    processors = processors-opened;
-    commands = record { own = commands-opened };
-    unpoisoned = unpoisoned-opened;
   }
 
 -- a board of a sound layout holds at opening

@@ -123,9 +123,9 @@ named-at_most f (w ∷ ws) =
 pub count-fits : (layout : Layout) (w : Words) (homes : Homes) (views : List View) → IsSound layout → IsShaped layout w homes → FrameRule layout w homes views
     → (f word n : ℕ) → slice_get w.frames f ≡ Some word → n ≤ length layout.trans + 2 → count_of word + n < 2 ^ 20
 count-fits layout w homes views sound shaped h f word n there few =
-    let balance : count_of word ≡ named f w.trans + named f w.caches + sum_by (refs_on f) (map (λ (v : View). v.refs) views) + handled_of word = h.counts.balance f word there in
-    let parts : sum_by (λ (l : List Part). length l) (map (λ (v : View). v.parts) views) ≡ layout.cpus = parts-number layout (map (λ (v : View). v.parts) views) h.processors in
-    let refs : sum_by (refs_on f) (map (λ (v : View). v.refs) views) ≤ sum_by (λ (l : List Part). length l) (map (λ (v : View). v.parts) views) * (length layout.trans + 2) = all-refs-at_most layout f views h.holdings.bounded in
+    let balance : count_of word ≡ named f w.trans + named f w.caches + sum_by (refs_on f) (map (λ (v : View). v.refs) views) + handled_of word = h.frames.counts.balance f word there in
+    let parts : sum_by (λ (l : List Part). length l) (map (λ (v : View). v.parts) views) ≡ layout.cpus = parts-number layout (map (λ (v : View). v.parts) views) h.processors.processors in
+    let refs : sum_by (refs_on f) (map (λ (v : View). v.refs) views) ≤ sum_by (λ (l : List Part). length l) (map (λ (v : View). v.parts) views) * (length layout.trans + 2) = all-refs-at_most layout f views h.frames.holdings.bounded in
     let cpus : layout.cpus ≤ 8 = sound.cpus in
     let trans : length layout.trans ≤ 512 = sound.trans in
     let pages : length layout.pages ≤ 256 = sound.pages in

@@ -37,37 +37,38 @@ module _ (layout : Layout) (w : Words) (homes : Homes) (views : List View) (seat
       → IsBounded layout (holdings_of u)
       → FrameRule layout (record w { frames = set w.frames f now }) homes (set views seat u)
   keeps-refs me h there like lock counts placed referenced bounded = record {
-    counts = change (λ (v : View). v.refs) (CountsBalance frames w.trans w.caches) views seat u counts;
-    places = change (λ (v : View). v.hands) (HasOnePlace layout.kernel frames w.frees) views seat u placed;
-    frame_locks = change (λ (v : View). (v.refs, v.locks)) (FrameLocksHeld frames) views seat u
-        (locked-again w.frames f word now there like (map (λ (v : View). (v.refs, v.locks)) views) seat (v.refs, v.locks) (refs, v.locks) (at_map (λ (v : View). (v.refs, v.locks)) views seat v me)
-        (ap (λ (n : ℕ). n + locks_on f v.locks) lock) (λ g differs. refl)
-        (λ i l e. like-locked w.frames f word now there like v.refs refs l (referenced i l e) (h.frame_locks.known seat (v.refs, v.locks) (at_map (λ (v : View). (v.refs, v.locks)) views seat v me) i l e))
-        h.frame_locks);
-    page_locks = Kept.kept-page-locks views seat v u me w.pages refl refl h.page_locks;
-    translations = like-translations w.frames f word now there like layout.trans w.trans h.translations;
-    caches = Kept.kept-caches views seat v u me frames w.caches refl refl (like-caches w.frames f word now there like w.caches (map (λ (v : View). (v.locks, v.pages)) views) h.caches);
-    bodies = Kept.kept-bodies views seat v u me layout frames w.caches w.pages homes refl (like-bodies w.frames f word now there like lock layout w.caches w.pages homes (map (λ (v : View). holder_of v) views) h.bodies);
-    handled = like-handled w.frames f word now there like h.handled;
-    counter = Kept.kept-counter views seat v u me frames w.counter refl refl refl (like-counter w.frames f word now there like w.counter (map (λ (v : View). (v.owed, v.marks)) views) (map (λ (v : View). v.sights) views) h.counter);
-    free = Kept.kept-free views seat v u me layout.frames w.frees w.available refl h.free;
-    damage = Kept.kept-damage views seat v u me w.bads w.weaks refl refl h.damage;
-    entries = Kept.kept-entries views seat v u me homes refl refl refl refl h.entries;
-    endings = Kept.kept-endings views seat v u me layout w.processes homes refl refl h.endings;
-    marks = Kept.kept-marks views seat v u me frames refl refl (like-marks w.frames f word now there like (map (λ (v : View). v.marks) views) (map (λ (v : View). v.sights) views) h.marks);
-    holdings = change holdings_of (HoldingsBounded layout) views seat u (record { bounded = each-set (IsBounded layout) (map holdings_of views) seat (holdings_of u) bounded h.holdings.bounded });
-    losses = Kept.kept-losses views seat v u me layout w.losses homes refl refl h.losses;
-    policies = Kept.kept-policies views seat v u me layout.threads w.policies refl refl refl h.policies;
-    exhaustion = Kept.kept-exhaustion views seat v u me layout refl refl h.exhaustion;
-    stops = Kept.kept-stops views seat v u me w.processes w.stop refl refl refl h.stops;
-    fits = Kept.kept-fits views seat v u me layout w.trans w.caches homes refl refl h.fits;
-    processors = Kept.kept-processors views seat v u me layout refl h.processors;
-    commands = Kept.kept-commands views seat v u me (record { made = own.made; marks = own.marks; sights = own.sights; lengths = own.lengths; settings = own.settings; stops = own.stops }) h.commands;
-    unpoisoned = Kept.kept-unpoisoned views seat v u me frames homes refl refl (like-unpoisoned w.frames f word now there like (map (λ (v : View). v.spoiled) views) homes (map (λ (v : View). v.bodies) views) h.unpoisoned);
+    frames = record {
+      counts = change (λ (v : View). v.refs) (CountsBalance frames w.trans w.caches) views seat u counts;
+      places = change (λ (v : View). v.hands) (HasOnePlace layout.kernel frames w.frees) views seat u placed;
+      frame_locks = change (λ (v : View). (v.refs, v.locks)) (FrameLocksHeld frames) views seat u
+          (locked-again w.frames f word now there like (map (λ (v : View). (v.refs, v.locks)) views) seat (v.refs, v.locks) (refs, v.locks) (at_map (λ (v : View). (v.refs, v.locks)) views seat v me)
+          (ap (λ (n : ℕ). n + locks_on f v.locks) lock) (λ g differs. refl)
+          (λ i l e. like-locked w.frames f word now there like v.refs refs l (referenced i l e) (h.frames.frame_locks.known seat (v.refs, v.locks) (at_map (λ (v : View). (v.refs, v.locks)) views seat v me) i l e))
+          h.frames.frame_locks);
+      free = Kept.kept-free views seat v u me refl h.frames.free;
+      holdings = change holdings_of (HoldingsBounded layout) views seat u (record { bounded = each-set (IsBounded layout) (map holdings_of views) seat (holdings_of u) bounded h.frames.holdings.bounded });
+    };
+    pages = record {
+      page_locks = Kept.kept-page-locks views seat v u me refl refl h.pages.page_locks;
+      translations = like-translations w.frames f word now there like layout.trans w.trans h.pages.translations;
+      caches = Kept.kept-caches views seat v u me refl refl (like-caches w.frames f word now there like w.caches (map (λ (v : View). (v.locks, v.pages)) views) h.pages.caches);
+      bodies = Kept.kept-bodies views seat v u me refl (like-bodies w.frames f word now there like lock layout w.caches w.pages homes (map (λ (v : View). holder_of v) views) h.pages.bodies);
+      fits = Kept.kept-fits views seat v u me refl refl h.pages.fits;
+    };
+    histories = Kept.same-histories views seat v u me refl h.histories;
+    failures = record {
+      handled = like-handled w.frames f word now there like h.failures.handled;
+      counter = Kept.kept-counter views seat v u me refl refl refl (like-counter w.frames f word now there like w.counter (map (λ (v : View). (v.owed, v.marks)) views) (map (λ (v : View). v.sights) views) h.failures.counter);
+      damage = Kept.kept-damage views seat v u me refl refl h.failures.damage;
+      marks = Kept.kept-marks views seat v u me refl refl (like-marks w.frames f word now there like (map (λ (v : View). v.marks) views) (map (λ (v : View). v.sights) views) h.failures.marks);
+      exhaustion = Kept.kept-exhaustion views seat v u me refl refl h.failures.exhaustion;
+      unpoisoned = Kept.kept-unpoisoned views seat v u me refl refl (like-unpoisoned w.frames f word now there like (map (λ (v : View). v.spoiled) views) homes (map (λ (v : View). v.bodies) views) h.failures.unpoisoned);
+    };
+    processors = Kept.same-processors views seat v u me refl h.processors;
   }
     where
       frames : List ℕ
       frames = set w.frames f now
 
       own : AreOwn v
-      own = h.commands.own seat v me
+      own = h.processors.commands.own seat v me

@@ -100,13 +100,13 @@ module _ (layout : Layout) (w : Words) (homes : Homes) (views : List View) (seat
           sum-set at made seat (v.made, v.sights) (v.made, u.sights) there in
           let equal : at (v.made, v.sights) ≡ at (v.made, u.sights) = refl in
           let gone : sum_by at (set made seat (v.made, u.sights)) ≡ sum_by at made = omega arith in
-          h.entries.balance f ∙ sym gone;
+          h.histories.entries.balance f ∙ sym gone;
       shown = each-set (λ (x : List Made × List Sight). EachMember (λ (m : Made). HasSeen x.1 m.entry.who m.frame m.entry.what) x.0) made seat (v.made, u.sights)
           (each-weaken (λ (m : Made). HasSeen v.sights m.entry.who m.frame m.entry.what) (λ (m : Made). HasSeen u.sights m.entry.who m.frame m.entry.what) v.made
           (λ m has. seen-more v.sights s m.entry.who m.frame m.entry.what has)
-          (h.entries.shown seat (v.made, v.sights) there))
-          h.entries.shown;
-      lengths_reached = h.entries.lengths_reached;
+          (h.histories.entries.shown seat (v.made, v.sights) there))
+          h.histories.entries.shown;
+      lengths_reached = h.histories.entries.lengths_reached;
     }
       where
         there : slice_get made seat ≡ Some (v.made, v.sights)
@@ -123,12 +123,12 @@ module _ (layout : Layout) (w : Words) (homes : Homes) (views : List View) (seat
     }
       where
         own : AreOwn v
-        own = h.commands.own seat v me
+        own = h.processors.commands.own seat v me
 
     policies-sighted : IsExplained layout w homes views s → PoliciesListed layout.threads w.policies settings (set sights seat u.sights)
     policies-sighted x = record {
       agrees = λ thread d word declared there i y is of.
-          let was : PolicyAgrees thread word sights (settings_of thread y.1) = h.policies.agrees thread d word declared there i y is of in record {
+          let was : PolicyAgrees thread word sights (settings_of thread y.1) = h.processors.policies.agrees thread d word declared there i y is of in record {
             now = was.now;
             few = was.few;
             shown = each-sight (λ (s : Sight). s.place ≡ places.Policy thread → (n : ℕ) × (n ≤ length (settings_of thread y.1)) × (s.word ≡ policy_after (take n (settings_of thread y.1)))) me
@@ -138,70 +138,68 @@ module _ (layout : Layout) (w : Words) (homes : Homes) (views : List View) (seat
 
     kept-sight : IsPast v.parts s.stamp.who → IsExplained layout w homes views s → FrameRule layout w homes (set views seat u)
     kept-sight past x = record {
-      counts = Kept.kept-counts views seat v u me w.frames w.trans w.caches refl h.counts;
-      places = Kept.kept-places views seat v u me layout.kernel w.frames w.frees refl h.places;
-      frame_locks = Kept.kept-frame-locks views seat v u me w.frames refl refl h.frame_locks;
-      page_locks = Kept.kept-page-locks views seat v u me w.pages refl refl h.page_locks;
-      translations = h.translations;
-      caches = Kept.kept-caches views seat v u me w.frames w.caches refl refl h.caches;
-      bodies = Kept.kept-bodies views seat v u me layout w.frames w.caches w.pages homes refl h.bodies;
-      handled = h.handled;
-      counter = keep (λ (v : View). (v.owed, v.marks)) (λ l. CounterAgrees w.frames w.counter l (map (λ (v : View). v.sights) (set views seat u))) views seat v u me refl
-          (change (λ (v : View). v.sights) (CounterAgrees w.frames w.counter (map (λ (v : View). (v.owed, v.marks)) views)) views seat u (record {
-            poisoned = h.counter.poisoned;
-            hardware = h.counter.hardware;
-            covered = h.counter.covered;
-            shown = each-sight (λ (s : Sight). s.place ≡ places.Counter → 0 < hardware_of s.word → SomeHardware (map (λ (v : View). (v.owed, v.marks)) views) s) me x.counter h.counter.shown;
-          }));
-      free = Kept.kept-free views seat v u me layout.frames w.frees w.available refl h.free;
-      damage = keep (λ (v : View). v.spoiled) (λ l. DamageListed w.bads w.weaks l (map (λ (v : View). v.sights) (set views seat u))) views seat v u me refl
-          (change (λ (v : View). v.sights) (DamageListed w.bads w.weaks (map (λ (v : View). v.spoiled) views)) views seat u (record {
-            bad = h.damage.bad;
-            weak = h.damage.weak;
-            bad_stays = λ frame word there. each-sight (λ (s : Sight). s.place ≡ places.Bad frame → (line : ℕ) → bit_at s.word line ≤ bit_at word line) me (x.bad frame word there) (h.damage.bad_stays frame word there);
-            weak_stays = λ frame word there. each-sight (λ (s : Sight). s.place ≡ places.Weak frame → (line : ℕ) → bit_at s.word line ≤ bit_at word line) me (x.weak frame word there) (h.damage.weak_stays frame word there);
-          }));
-      entries = keep (λ (v : View). v.lengths) (λ l. EntriesListed homes (map (λ (v : View). v.bodies) (set views seat u)) (map (λ (v : View). (v.made, v.sights)) (set views seat u)) l) views seat v u me refl
-          (keep (λ (v : View). v.bodies) (λ l. EntriesListed homes l (map (λ (v : View). (v.made, v.sights)) (set views seat u)) (map (λ (v : View). v.lengths) views)) views seat v u me refl
-          (change (λ (v : View). (v.made, v.sights)) (λ l. EntriesListed homes (map (λ (v : View). v.bodies) views) l (map (λ (v : View). v.lengths) views)) views seat u entries-sighted));
-      endings = keep (λ (v : View). v.bodies) (λ l. EndingsAgree layout w.processes homes l (map (λ (v : View). v.sights) (set views seat u))) views seat v u me refl
-          (change (λ (v : View). v.sights) (EndingsAgree layout w.processes homes (map (λ (v : View). v.bodies) views)) views seat u (record {
-            caused = h.endings.caused;
-            ended = h.endings.ended;
-            ended_before = h.endings.ended_before;
-            taken = h.endings.taken;
-            shown = each-sight (ShowsEnding layout homes (map (λ (v : View). v.bodies) views)) me x.ending h.endings.shown;
-          }));
-      marks = keep (λ (v : View). v.marks) (λ l. MarksAlternate w.frames l (map (λ (v : View). v.sights) (set views seat u))) views seat v u me refl
-          (change (λ (v : View). v.sights) (MarksAlternate w.frames (map (λ (v : View). v.marks) views)) views seat u (record {
-            poisoned = h.marks.poisoned;
-            revived = h.marks.revived;
-            framed = h.marks.framed;
-            few = h.marks.few;
-            shown = λ frame word there. each-sight (λ (s : Sight). s.place ≡ places.Frame frame → IsBefore word s) me (x.mark frame word there) (h.marks.shown frame word there);
-          }));
-      holdings = Kept.kept-holdings views seat v u me layout refl h.holdings;
-      losses = Kept.kept-losses views seat v u me layout w.losses homes refl refl h.losses;
-      policies = keep (λ (v : View). (v.parts, v.settings)) (λ l. PoliciesListed layout.threads w.policies l (map (λ (v : View). v.sights) (set views seat u))) views seat v u me refl
-          (change (λ (v : View). v.sights) (PoliciesListed layout.threads w.policies settings) views seat u (policies-sighted x));
-      exhaustion = keep (λ (v : View). v.marks) (λ l. ExhaustionExplained layout l (map (λ (v : View). v.sights) (set views seat u))) views seat v u me refl
-          (change (λ (v : View). v.sights) (ExhaustionExplained layout (map (λ (v : View). v.marks) views)) views seat u (record {
-            explained = each-sight (λ (s : Sight). s.place ≡ places.Available → s.word ≡ 0
-                → sum_below (usable layout) layout.frames ≤ sum_below (is_marked layout (map (λ (v : View). v.marks) views)) layout.frames + length layout.pages + 2 * layout.cpus) me x.exhaustion h.exhaustion.explained;
-          }));
-      stops = keep (λ (v : View). v.stops) (λ l. EndingsAndStopsStay w.processes w.stop (map (λ (v : View). v.bodies) (set views seat u)) (map (λ (v : View). v.sights) (set views seat u)) l) views seat v u me refl
-          (keep (λ (v : View). v.bodies) (λ l. EndingsAndStopsStay w.processes w.stop l (map (λ (v : View). v.sights) (set views seat u)) (map (λ (v : View). v.stops) views)) views seat v u me refl
-          (change (λ (v : View). v.sights) (λ l. EndingsAndStopsStay w.processes w.stop (map (λ (v : View). v.bodies) views) l (map (λ (v : View). v.stops) views)) views seat u (record {
-            killed = h.stops.killed;
-            ended_stays = λ process word there. each-sight (λ (s : Sight). s.place ≡ places.Process process → s.word ≢ 0 → word ≡ s.word) me (x.ended process word there) (h.stops.ended_stays process word there);
-            stop_stays = each-sight (λ (s : Sight). s.place ≡ places.Stop → stopper_of s.word ≢ 0 → stopper_of w.stop ≡ stopper_of s.word) me x.stop h.stops.stop_stays;
-            one = h.stops.one;
-            named = h.stops.named;
-          })));
-      fits = Kept.kept-fits views seat v u me layout w.trans w.caches homes refl refl h.fits;
-      processors = Kept.kept-processors views seat v u me layout refl h.processors;
-      commands = Kept.kept-commands views seat v u me (own-sighted past) h.commands;
-      unpoisoned = Kept.kept-unpoisoned views seat v u me w.frames homes refl refl h.unpoisoned;
+      frames = Kept.same-frames views seat v u me refl h.frames;
+      pages = Kept.same-pages views seat v u me refl h.pages;
+      histories = record {
+        entries = keep (λ (v : View). v.lengths) (λ l. EntriesListed homes (map (λ (v : View). v.bodies) (set views seat u)) (map (λ (v : View). (v.made, v.sights)) (set views seat u)) l) views seat v u me refl
+            (keep (λ (v : View). v.bodies) (λ l. EntriesListed homes l (map (λ (v : View). (v.made, v.sights)) (set views seat u)) (map (λ (v : View). v.lengths) views)) views seat v u me refl
+            (change (λ (v : View). (v.made, v.sights)) (λ l. EntriesListed homes (map (λ (v : View). v.bodies) views) l (map (λ (v : View). v.lengths) views)) views seat u entries-sighted));
+        endings = keep (λ (v : View). v.bodies) (λ l. EndingsAgree layout w.processes homes l (map (λ (v : View). v.sights) (set views seat u))) views seat v u me refl
+            (change (λ (v : View). v.sights) (EndingsAgree layout w.processes homes (map (λ (v : View). v.bodies) views)) views seat u (record {
+              caused = h.histories.endings.caused;
+              ended = h.histories.endings.ended;
+              ended_before = h.histories.endings.ended_before;
+              taken = h.histories.endings.taken;
+              shown = each-sight (ShowsEnding layout homes (map (λ (v : View). v.bodies) views)) me x.ending h.histories.endings.shown;
+            }));
+        losses = Kept.kept-losses views seat v u me refl refl h.histories.losses;
+      };
+      failures = record {
+        handled = h.failures.handled;
+        counter = keep (λ (v : View). (v.owed, v.marks)) (λ l. CounterAgrees w.frames w.counter l (map (λ (v : View). v.sights) (set views seat u))) views seat v u me refl
+            (change (λ (v : View). v.sights) (CounterAgrees w.frames w.counter (map (λ (v : View). (v.owed, v.marks)) views)) views seat u (record {
+              poisoned = h.failures.counter.poisoned;
+              hardware = h.failures.counter.hardware;
+              covered = h.failures.counter.covered;
+              shown = each-sight (λ (s : Sight). s.place ≡ places.Counter → 0 < hardware_of s.word → SomeHardware (map (λ (v : View). (v.owed, v.marks)) views) s) me x.counter h.failures.counter.shown;
+            }));
+        damage = keep (λ (v : View). v.spoiled) (λ l. DamageListed w.bads w.weaks l (map (λ (v : View). v.sights) (set views seat u))) views seat v u me refl
+            (change (λ (v : View). v.sights) (DamageListed w.bads w.weaks (map (λ (v : View). v.spoiled) views)) views seat u (record {
+              bad = h.failures.damage.bad;
+              weak = h.failures.damage.weak;
+              bad_stays = λ frame word there. each-sight (λ (s : Sight). s.place ≡ places.Bad frame → (line : ℕ) → bit_at s.word line ≤ bit_at word line) me (x.bad frame word there) (h.failures.damage.bad_stays frame word there);
+              weak_stays = λ frame word there. each-sight (λ (s : Sight). s.place ≡ places.Weak frame → (line : ℕ) → bit_at s.word line ≤ bit_at word line) me (x.weak frame word there) (h.failures.damage.weak_stays frame word there);
+            }));
+        marks = keep (λ (v : View). v.marks) (λ l. MarksAlternate w.frames l (map (λ (v : View). v.sights) (set views seat u))) views seat v u me refl
+            (change (λ (v : View). v.sights) (MarksAlternate w.frames (map (λ (v : View). v.marks) views)) views seat u (record {
+              poisoned = h.failures.marks.poisoned;
+              revived = h.failures.marks.revived;
+              framed = h.failures.marks.framed;
+              few = h.failures.marks.few;
+              shown = λ frame word there. each-sight (λ (s : Sight). s.place ≡ places.Frame frame → IsBefore word s) me (x.mark frame word there) (h.failures.marks.shown frame word there);
+            }));
+        exhaustion = keep (λ (v : View). v.marks) (λ l. ExhaustionExplained layout l (map (λ (v : View). v.sights) (set views seat u))) views seat v u me refl
+            (change (λ (v : View). v.sights) (ExhaustionExplained layout (map (λ (v : View). v.marks) views)) views seat u (record {
+              explained = each-sight (λ (s : Sight). s.place ≡ places.Available → s.word ≡ 0
+                  → sum_below (usable layout) layout.frames ≤ sum_below (is_marked layout (map (λ (v : View). v.marks) views)) layout.frames + length layout.pages + 2 * layout.cpus) me x.exhaustion h.failures.exhaustion.explained;
+            }));
+        unpoisoned = Kept.kept-unpoisoned views seat v u me refl refl h.failures.unpoisoned;
+      };
+      processors = record {
+        policies = keep (λ (v : View). (v.parts, v.settings)) (λ l. PoliciesListed layout.threads w.policies l (map (λ (v : View). v.sights) (set views seat u))) views seat v u me refl
+            (change (λ (v : View). v.sights) (PoliciesListed layout.threads w.policies settings) views seat u (policies-sighted x));
+        stops = keep (λ (v : View). v.stops) (λ l. EndingsAndStopsStay w.processes w.stop (map (λ (v : View). v.bodies) (set views seat u)) (map (λ (v : View). v.sights) (set views seat u)) l) views seat v u me refl
+            (keep (λ (v : View). v.bodies) (λ l. EndingsAndStopsStay w.processes w.stop l (map (λ (v : View). v.sights) (set views seat u)) (map (λ (v : View). v.stops) views)) views seat v u me refl
+            (change (λ (v : View). v.sights) (λ l. EndingsAndStopsStay w.processes w.stop (map (λ (v : View). v.bodies) views) l (map (λ (v : View). v.stops) views)) views seat u (record {
+              killed = h.processors.stops.killed;
+              ended_stays = λ process word there. each-sight (λ (s : Sight). s.place ≡ places.Process process → s.word ≢ 0 → word ≡ s.word) me (x.ended process word there) (h.processors.stops.ended_stays process word there);
+              stop_stays = each-sight (λ (s : Sight). s.place ≡ places.Stop → stopper_of s.word ≢ 0 → stopper_of w.stop ≡ stopper_of s.word) me x.stop h.processors.stops.stop_stays;
+              one = h.processors.stops.one;
+              named = h.processors.stops.named;
+            })));
+        processors = Kept.kept-processors views seat v u me refl h.processors.processors;
+        commands = Kept.kept-commands views seat v u me (own-sighted past) h.processors.commands;
+      };
     }
 
 -- a step's sight of a place

@@ -63,39 +63,27 @@ module _ (layout : Layout) (w : Words) (homes : Homes) (views : List View) (seat
       → reserved' + length hands' ≡ v.reserved + length v.hands
       → FrameRule layout (record w { frees = frees }) homes (set views seat (record v { reserved = reserved'; hands = hands' }))
   rule-moved frees reserved' hands' places free few = record {
-    counts = Kept.kept-counts views seat v u me w.frames w.trans w.caches refl h.counts;
-    places = change (λ (v : View). v.hands) (HasOnePlace layout.kernel w.frames frees) views seat u places;
-    frame_locks = Kept.kept-frame-locks views seat v u me w.frames refl refl h.frame_locks;
-    page_locks = Kept.kept-page-locks views seat v u me w.pages refl refl h.page_locks;
-    translations = h.translations;
-    caches = Kept.kept-caches views seat v u me w.frames w.caches refl refl h.caches;
-    bodies = Kept.kept-bodies views seat v u me layout w.frames w.caches w.pages homes refl h.bodies;
-    handled = h.handled;
-    counter = Kept.kept-counter views seat v u me w.frames w.counter refl refl refl h.counter;
-    free = change (λ (v : View). v.reserved) (FreeBitsAgree layout.frames frees w.available) views seat u free;
-    damage = Kept.kept-damage views seat v u me w.bads w.weaks refl refl h.damage;
-    entries = Kept.kept-entries views seat v u me homes refl refl refl refl h.entries;
-    endings = Kept.kept-endings views seat v u me layout w.processes homes refl refl h.endings;
-    marks = Kept.kept-marks views seat v u me w.frames refl refl h.marks;
-    holdings = change holdings_of (HoldingsBounded layout) views seat u (record { bounded = each-set (IsBounded layout) (map holdings_of views) seat (holdings_of u) bounded-still h.holdings.bounded });
-    losses = Kept.kept-losses views seat v u me layout w.losses homes refl refl h.losses;
-    policies = Kept.kept-policies views seat v u me layout.threads w.policies refl refl refl h.policies;
-    exhaustion = Kept.kept-exhaustion views seat v u me layout refl refl h.exhaustion;
-    stops = Kept.kept-stops views seat v u me w.processes w.stop refl refl refl h.stops;
-    fits = Kept.kept-fits views seat v u me layout w.trans w.caches homes refl refl h.fits;
-    processors = Kept.kept-processors views seat v u me layout refl h.processors;
-    commands = Kept.kept-commands views seat v u me (record { made = own.made; marks = own.marks; sights = own.sights; lengths = own.lengths; settings = own.settings; stops = own.stops }) h.commands;
-    unpoisoned = Kept.kept-unpoisoned views seat v u me w.frames homes refl refl h.unpoisoned;
+    frames = record {
+      counts = Kept.kept-counts views seat v u me refl h.frames.counts;
+      places = change (λ (v : View). v.hands) (HasOnePlace layout.kernel w.frames frees) views seat u places;
+      frame_locks = Kept.kept-frame-locks views seat v u me refl refl h.frames.frame_locks;
+      free = change (λ (v : View). v.reserved) (FreeBitsAgree layout.frames frees w.available) views seat u free;
+      holdings = change holdings_of (HoldingsBounded layout) views seat u (record { bounded = each-set (IsBounded layout) (map holdings_of views) seat (holdings_of u) bounded-still h.frames.holdings.bounded });
+    };
+    pages = Kept.same-pages views seat v u me refl h.pages;
+    histories = Kept.same-histories views seat v u me refl h.histories;
+    failures = Kept.same-failures views seat v u me refl h.failures;
+    processors = Kept.same-processors views seat v u me refl h.processors;
   }
     where
       u : View
       u = record v { reserved = reserved'; hands = hands' }
 
       own : AreOwn v
-      own = h.commands.own seat v me
+      own = h.processors.commands.own seat v me
 
       bounded : IsBounded layout (holdings_of v)
-      bounded = h.holdings.bounded seat (holdings_of v) (at_map holdings_of views seat v me)
+      bounded = h.frames.holdings.bounded seat (holdings_of v) (at_map holdings_of views seat v me)
 
       bounded-still : IsBounded layout (holdings_of u)
       bounded-still = record { few = omega (arith, bounded.few); none = λ empty. omega (arith, bounded.none empty); shares = bounded.shares }
@@ -126,7 +114,7 @@ module _ (layout : Layout) (w : Words) (homes : Homes) (views : List View) (seat
       where
         inside : frame.0 < layout.frames
         inside = elim (same-or (layout.frames - frame.0) 0) [
-          | inl past ↦ let none : free_bit w.frees frame.0 ≡ 0 = h.free.within frame.0 (omega arith) in absurd (omega (arith, bit))
+          | inl past ↦ let none : free_bit w.frees frame.0 ≡ 0 = h.frames.free.within frame.0 (omega arith) in absurd (omega (arith, bit))
           | inr before ↦ omega arith
         ]
 
@@ -148,19 +136,19 @@ module _ (layout : Layout) (w : Words) (homes : Homes) (views : List View) (seat
         places : HasOnePlace layout.kernel w.frames cleared (set hands seat (v.hands ++ frame ∷ []))
         places = places-moved layout.kernel w.frames w.frees cleared hands (set hands seat (v.hands ++ frame ∷ [])) both
             (each-set (EachMember (λ (h : Frame). h.0 < length layout.kernel)) hands seat (v.hands ++ frame ∷ [])
-            (each-push (λ (h : Frame). h.0 < length layout.kernel) v.hands frame (omega (arith, inside, kernel)) (h.places.handed seat v.hands my-hands)) h.places.handed)
-            h.places
+            (each-push (λ (h : Frame). h.0 < length layout.kernel) v.hands frame (omega (arith, inside, kernel)) (h.frames.places.handed seat v.hands my-hands)) h.frames.places.handed)
+            h.frames.places
 
         free : FreeBitsAgree layout.frames cleared w.available (set reserved seat (v.reserved - 1))
         free = record {
           number =
               let total : sum_by (λ (n : ℕ). n) (set reserved seat (v.reserved - 1)) + v.reserved ≡ sum_by (λ (n : ℕ). n) reserved + (v.reserved - 1) = sum-set (λ (n : ℕ). n) reserved seat v.reserved (v.reserved - 1) my-reserved in
-              let number : sum_below (free_bit w.frees) layout.frames ≡ w.available + sum_by (λ (n : ℕ). n) reserved = h.free.number in
+              let number : sum_below (free_bit w.frees) layout.frames ≡ w.available + sum_by (λ (n : ℕ). n) reserved = h.frames.free.number in
               let now : free_bit cleared frame.0 ≡ 0 = free_bit-cleared w.frees frame.0 within in
               let differs : sum_below (free_bit cleared) layout.frames + free_bit w.frees frame.0 ≡ sum_below (free_bit w.frees) layout.frames + free_bit cleared frame.0 =
               sum-below-change (free_bit cleared) (free_bit w.frees) frame.0 layout.frames inside (λ f other. free_bit-cleared_other w.frees frame.0 within f other) in
               omega (arith, bit, some);
-          within = λ f past. free_bit-cleared_other w.frees frame.0 within f (λ e. absurd (omega (arith, inside))) ∙ h.free.within f past;
+          within = λ f past. free_bit-cleared_other w.frees frame.0 within f (λ e. absurd (omega (arith, inside))) ∙ h.frames.free.within f past;
         }
 
     -- the frame was in hand
@@ -172,7 +160,7 @@ module _ (layout : Layout) (w : Words) (homes : Homes) (views : List View) (seat
         mine = has.2 ∙ ap (λ (h : Frame). Some h) has.3
 
         inside : frame.0 < layout.frames
-        inside = omega (arith, h.places.handed seat v.hands my-hands has.0 frame mine, kernel)
+        inside = omega (arith, h.frames.places.handed seat v.hands my-hands has.0 frame mine, kernel)
 
         word : ℕ
         word = get_or w.frames frame.0 0
@@ -184,10 +172,10 @@ module _ (layout : Layout) (w : Words) (homes : Homes) (views : List View) (seat
         was = which (is_kernel word) refl
           where
             which : (b : Bool) → is_kernel word ≡ b → free_bit w.frees frame.0 ≡ 0
-            which true is = (h.places.kernels frame.0 word there is).taken
+            which true is = (h.frames.places.kernels frame.0 word there is).taken
             which false isnt =
                 let some : 1 ≤ in_hand frame.0 hands = in_hand-mine hands seat v.hands frame my-hands has.0 mine in
-                let one : free_bit w.frees frame.0 + in_hand frame.0 hands + min (count_of word) 1 ≡ 1 = h.places.placed frame.0 word there isnt in
+                let one : free_bit w.frees frame.0 + in_hand frame.0 hands + min (count_of word) 1 ≡ 1 = h.frames.places.placed frame.0 word there isnt in
                 omega arith
 
         both : (f : ℕ) → free_bit raised f + in_hand f (set hands seat (without (is_frame frame) v.hands)) ≡ free_bit w.frees f + in_hand f hands
@@ -208,19 +196,19 @@ module _ (layout : Layout) (w : Words) (homes : Homes) (views : List View) (seat
         places : HasOnePlace layout.kernel w.frames raised (set hands seat (without (is_frame frame) v.hands))
         places = places-moved layout.kernel w.frames w.frees raised hands (set hands seat (without (is_frame frame) v.hands)) both
             (each-set (EachMember (λ (h : Frame). h.0 < length layout.kernel)) hands seat (without (is_frame frame) v.hands)
-            (each-without (λ (h : Frame). h.0 < length layout.kernel) (is_frame frame) v.hands (h.places.handed seat v.hands my-hands)) h.places.handed)
-            h.places
+            (each-without (λ (h : Frame). h.0 < length layout.kernel) (is_frame frame) v.hands (h.frames.places.handed seat v.hands my-hands)) h.frames.places.handed)
+            h.frames.places
 
         free : FreeBitsAgree layout.frames raised w.available (set reserved seat (v.reserved + 1))
         free = record {
           number =
               let total : sum_by (λ (n : ℕ). n) (set reserved seat (v.reserved + 1)) + v.reserved ≡ sum_by (λ (n : ℕ). n) reserved + (v.reserved + 1) = sum-set (λ (n : ℕ). n) reserved seat v.reserved (v.reserved + 1) my-reserved in
-              let number : sum_below (free_bit w.frees) layout.frames ≡ w.available + sum_by (λ (n : ℕ). n) reserved = h.free.number in
+              let number : sum_below (free_bit w.frees) layout.frames ≡ w.available + sum_by (λ (n : ℕ). n) reserved = h.frames.free.number in
               let now : free_bit raised frame.0 ≡ 1 = free_bit-raised w.frees frame.0 within in
               let differs : sum_below (free_bit raised) layout.frames + free_bit w.frees frame.0 ≡ sum_below (free_bit w.frees) layout.frames + free_bit raised frame.0 =
               sum-below-change (free_bit raised) (free_bit w.frees) frame.0 layout.frames inside (λ f other. free_bit-raised_other w.frees frame.0 within f other) in
               omega (arith, was);
-          within = λ f past. free_bit-raised_other w.frees frame.0 within f (λ e. absurd (omega (arith, inside))) ∙ h.free.within f past;
+          within = λ f past. free_bit-raised_other w.frees frame.0 within f (λ e. absurd (omega (arith, inside))) ∙ h.frames.free.within f past;
         }
 
 pub keeps-take_bit : (frame : Frame) → Keeps (steps.TakeBit frame)

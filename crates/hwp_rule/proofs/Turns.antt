@@ -80,7 +80,7 @@ module _ (layout : Layout) (w : Words) (homes : Homes) (views : List View) (seat
   -- what a view has come to is of no later command
   pub not-later : (i : ℕ) (x : View) (other : Who) → slice_get views i ≡ Some x → IsPast x.parts other → IsNotLater other who
   not-later i x other there past same =
-      let one : past.1 ≡ turn.part.1 = one-part layout (map (λ (v : View). v.parts) views) h.processors i seat past.0 turn.part.0 x.parts v.parts past.1 turn.part.1
+      let one : past.1 ≡ turn.part.1 = one-part layout (map (λ (v : View). v.parts) views) h.processors.processors i seat past.0 turn.part.0 x.parts v.parts past.1 turn.part.1
       (at_map (λ (v : View). v.parts) views i x there) (at_map (λ (v : View). v.parts) views seat v me) past.2 turn.part.2 (past.3.0 ∙ same ∙ sym turn.part.3.0) in
       let come : other.seq ≤ past.1.latest = past.3.1 in
       let latest : past.1.latest ≡ turn.part.1.latest = ap (λ (p : Part). p.latest) one in
@@ -116,12 +116,12 @@ module _ (layout : Layout) (w : Words) (homes : Homes) (views : List View) (seat
   none-made : sum_by (λ (x : List Made × List Sight). sum_by (λ (m : Made). is_later m.entry) x.0) (map (λ (v : View). (v.made, v.sights)) views) ≡ 0
   none-made = sum-zero (λ (x : List Made × List Sight). sum_by (λ (m : Made). is_later m.entry) x.0) (map (λ (v : View). (v.made, v.sights)) views) (λ i y is.
       let was : (x : View) × (slice_get views i ≡ Some x) × ((x.made, x.sights) ≡ y) = map-was (λ (v : View). (v.made, v.sights)) views i y is in
-      let own : AreOwn was.0 = h.commands.own i was.0 was.1 in
+      let own : AreOwn was.0 = h.processors.commands.own i was.0 was.1 in
       subst (λ (z : List Made × List Sight). sum_by (λ (m : Made). is_later m.entry) z.0 ≡ 0) was.2
       (sum-zero (λ (m : Made). is_later m.entry) was.0.made (λ j m listed. was-not-later m.entry (not-later i was.0 m.entry.who was.1 (own.made j m listed)))))
 
   none-later : sum_bodies (weigh (λ (page : Page) (place : ℕ) (e : Entry). is_later e)) homes (map (λ (v : View). v.bodies) views) ≡ 0
-  none-later = h.entries.balance (λ (page : Page) (place : ℕ) (e : Entry). is_later e) ∙ none-made
+  none-later = h.histories.entries.balance (λ (page : Page) (place : ℕ) (e : Entry). is_later e) ∙ none-made
 
   in-log : (page : Page) (place : ℕ) (es : List Entry) → weigh_from (λ (page : Page) (place : ℕ) (e : Entry). is_later e) page place es ≡ 0 → EachMember (λ (e : Entry). IsNotLater e.who who) es
   in-log page place [] none i e is = absurd (none-some e is)

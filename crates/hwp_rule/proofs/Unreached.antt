@@ -33,13 +33,13 @@ keeps-retire frame layout w homes views seat v who content given = absurd (omega
     listed = can.has.listed.2 ∙ ap (λ (l : FrameLock). Some l) can.has.listed.3
 
     known : IsLocked w.frames v.refs lock
-    known = given.rule.frame_locks.known seat (v.refs, v.locks) (at_map (λ (v : View). (v.refs, v.locks)) views seat v given.me) can.has.listed.0 lock listed
+    known = given.rule.frames.frame_locks.known seat (v.refs, v.locks) (at_map (λ (v : View). (v.refs, v.locks)) views seat v given.me) can.has.listed.0 lock listed
 
     poisoned : poison_of known.word ≡ 1
     poisoned = eqb-true (poison_of known.word) 1 (known.poisoned can.poisoned)
 
     sound : poison_of known.word ≡ 0
-    sound = given.rule.unpoisoned.sound lock.frame.0 known.word known.there
+    sound = given.rule.failures.unpoisoned.sound lock.frame.0 known.word known.there
 
 -- a frame that was handled would be poisoned; else the word is shown
 pub keeps-revive : (frame : Frame) (seen : ℕ) → Keeps (steps.Revive frame seen)
@@ -57,9 +57,9 @@ keeps-revive frame seen layout w homes views seat v who content given = which (w
     which : (b : Bool) → (word == seen) ≡ b
         → FrameRule layout (record w { frames = set w.frames frame.0 (either b (revived seen) word) }) homes
         (set views seat (cond b (revived_by who frame word v) (sighted who (places.Frame frame) word v)))
-    which true is = absurd (omega (arith, out.poisoned, given.rule.unpoisoned.sound frame.0 word there))
+    which true is = absurd (omega (arith, out.poisoned, given.rule.failures.unpoisoned.sound frame.0 word there))
       where
         out : IsOutOfUse word
-        out = given.rule.handled.out frame.0 word there (ap handled_of (eqb-true word seen is) ∙ can.handled)
+        out = given.rule.failures.handled.out frame.0 word there (ap handled_of (eqb-true word seen is) ∙ can.handled)
     which false isnt =
         keeps-shown layout w homes views seat v who (places.Frame frame) given.me given.past (explained-frame layout w homes views (stamp_of who v) frame word there) given.rule

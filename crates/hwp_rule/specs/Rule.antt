@@ -1,5 +1,5 @@
 -- The frame rule: what holds between any two steps.
-use Rattle.std.specs.Prelude.{◌≡◌, ◌+◌, List, map, length}
+use Rattle.std.specs.Prelude.{◌≡◌, ℕ, ◌+◌, List, map, length}
 use Rattle.hwp_geom.specs.declared.Layout.{Layout}
 use Rattle.hwp_geom.specs.Layout.{IsSound}
 use Rattle.hwp_rule.specs.declared.record.State.{State}
@@ -36,31 +36,51 @@ holdings_of v = record { parts = v.parts; reserved = v.reserved; hands = v.hands
 abbrev pub losing_of : View → Losing
 losing_of v = record { owed = v.owed.losses; reported = v.reported; made = v.made; marks = v.marks }
 
--- the frame rule of the words, of the slots at home and of all views
-pub record FrameRule (layout : Layout) (w : Words) (homes : Homes) (views : List View) : Type 0 where
-  pub counts : CountsBalance w.frames w.trans w.caches (map (λ (v : View). v.refs) views)
-  pub places : HasOnePlace layout.kernel w.frames w.frees (map (λ (v : View). v.hands) views)
-  pub frame_locks : FrameLocksHeld w.frames (map (λ (v : View). (v.refs, v.locks)) views)
-  pub page_locks : PageLocksHeld w.pages (map (λ (v : View). v.pages) views) (map (λ (v : View). v.locks) views)
-  pub translations : TranslationsOwned layout.trans w.frames w.trans
-  pub caches : CacheWordsOwned w.frames w.caches (map (λ (v : View). (v.locks, v.pages)) views)
-  pub bodies : BodiesAtHome layout w.frames w.caches w.pages homes (map holder_of views)
-  pub handled : HandledIsPoisoned w.frames
-  pub counter : CounterAgrees w.frames w.counter (map (λ (v : View). (v.owed, v.marks)) views) (map (λ (v : View). v.sights) views)
-  pub free : FreeBitsAgree layout.frames w.frees w.available (map (λ (v : View). v.reserved) views)
-  pub damage : DamageListed w.bads w.weaks (map (λ (v : View). v.spoiled) views) (map (λ (v : View). v.sights) views)
-  pub entries : EntriesListed homes (map (λ (v : View). v.bodies) views) (map (λ (v : View). (v.made, v.sights)) views) (map (λ (v : View). v.lengths) views)
-  pub endings : EndingsAgree layout w.processes homes (map (λ (v : View). v.bodies) views) (map (λ (v : View). v.sights) views)
-  pub marks : MarksAlternate w.frames (map (λ (v : View). v.marks) views) (map (λ (v : View). v.sights) views)
+-- where frames are: their counts, their places, their locks, and how many are free
+pub record FrameParts (layout : Layout) (frames trans caches frees : List ℕ) (available : ℕ) (views : List View) : Type 0 where
+  pub counts : CountsBalance frames trans caches (map (λ (v : View). v.refs) views)
+  pub places : HasOnePlace layout.kernel frames frees (map (λ (v : View). v.hands) views)
+  pub frame_locks : FrameLocksHeld frames (map (λ (v : View). (v.refs, v.locks)) views)
+  pub free : FreeBitsAgree layout.frames frees available (map (λ (v : View). v.reserved) views)
   pub holdings : HoldingsBounded layout (map holdings_of views)
-  pub losses : LossesBalance layout w.losses homes (map (λ (v : View). v.bodies) views) (map losing_of views)
-  pub policies : PoliciesListed layout.threads w.policies (map (λ (v : View). (v.parts, v.settings)) views) (map (λ (v : View). v.sights) views)
+
+-- the words and the body of a page: its lock, its translations, its cache word, where its body is, and that they fit
+pub record PageParts (layout : Layout) (frames trans cache_words pages : List ℕ) (homes : Homes) (views : List View) : Type 0 where
+  pub page_locks : PageLocksHeld pages (map (λ (v : View). v.pages) views) (map (λ (v : View). v.locks) views)
+  pub translations : TranslationsOwned layout.trans frames trans
+  pub caches : CacheWordsOwned frames cache_words (map (λ (v : View). (v.locks, v.pages)) views)
+  pub bodies : BodiesAtHome layout frames cache_words pages homes (map holder_of views)
+  pub fits : PageFits layout trans cache_words homes (map (λ (v : View). (v.pages, v.bodies)) views)
+
+-- what the histories say: their entries, the processes that they ended, the losses of files
+pub record HistoryParts (layout : Layout) (processes loss_words : List ℕ) (homes : Homes) (views : List View) : Type 0 where
+  pub entries : EntriesListed homes (map (λ (v : View). v.bodies) views) (map (λ (v : View). (v.made, v.sights)) views) (map (λ (v : View). v.lengths) views)
+  pub endings : EndingsAgree layout processes homes (map (λ (v : View). v.bodies) views) (map (λ (v : View). v.sights) views)
+  pub losses : LossesBalance layout loss_words homes (map (λ (v : View). v.bodies) views) (map losing_of views)
+
+-- failures: handled frames, the counter, bad and weak lines, marks, and why no frame is free
+pub record FailureParts (layout : Layout) (frames : List ℕ) (counter_word : ℕ) (bads weaks : List ℕ) (homes : Homes) (views : List View) : Type 0 where
+  pub handled : HandledIsPoisoned frames
+  pub counter : CounterAgrees frames counter_word (map (λ (v : View). (v.owed, v.marks)) views) (map (λ (v : View). v.sights) views)
+  pub damage : DamageListed bads weaks (map (λ (v : View). v.spoiled) views) (map (λ (v : View). v.sights) views)
+  pub marks : MarksAlternate frames (map (λ (v : View). v.marks) views) (map (λ (v : View). v.sights) views)
   pub exhaustion : ExhaustionExplained layout (map (λ (v : View). v.marks) views) (map (λ (v : View). v.sights) views)
-  pub stops : EndingsAndStopsStay w.processes w.stop (map (λ (v : View). v.bodies) views) (map (λ (v : View). v.sights) views) (map (λ (v : View). v.stops) views)
-  pub fits : PageFits layout w.trans w.caches homes (map (λ (v : View). (v.pages, v.bodies)) views)
+  pub unpoisoned : NothingPoisonedYet frames (map (λ (v : View). v.spoiled) views) homes (map (λ (v : View). v.bodies) views)
+
+-- the processors and what they said: policies, the stop, whose each view is, and whose each thing that it lists
+pub record ProcessorParts (layout : Layout) (processes policy_words : List ℕ) (stop : ℕ) (views : List View) : Type 0 where
+  pub policies : PoliciesListed layout.threads policy_words (map (λ (v : View). (v.parts, v.settings)) views) (map (λ (v : View). v.sights) views)
+  pub stops : EndingsAndStopsStay processes stop (map (λ (v : View). v.bodies) views) (map (λ (v : View). v.sights) views) (map (λ (v : View). v.stops) views)
   pub processors : ProcessorsApart layout (map (λ (v : View). v.parts) views)
   pub commands : CommandsOwn views
-  pub unpoisoned : NothingPoisonedYet w.frames (map (λ (v : View). v.spoiled) views) homes (map (λ (v : View). v.bodies) views)
+
+-- the frame rule of the words, of the slots at home and of all views: its parts, in groups by what they read
+pub record FrameRule (layout : Layout) (w : Words) (homes : Homes) (views : List View) : Type 0 where
+  pub frames : FrameParts layout w.frames w.trans w.caches w.frees w.available views
+  pub pages : PageParts layout w.frames w.trans w.caches w.pages homes views
+  pub histories : HistoryParts layout w.processes w.losses homes views
+  pub failures : FailureParts layout w.frames w.counter w.bads w.weaks homes views
+  pub processors : ProcessorParts layout w.processes w.policies w.stop views
 
 -- a board of a sound layout, with all its words and slots, that keeps the frame rule
 pub record Holds (layout : Layout) (s : State) : Type 0 where

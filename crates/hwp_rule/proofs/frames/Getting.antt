@@ -47,7 +47,7 @@ keeps-get_ref frame seen count layout w homes views seat v who content given = w
     room = count-fits layout w homes views given.sound given.shaped given.rule frame.0 (slice_index w.frames frame.0) count there (omega (arith, given.asks.2.shares))
 
     bounded : IsBounded layout (holdings_of v)
-    bounded = h.holdings.bounded seat (holdings_of v) (at_map holdings_of views seat v given.me)
+    bounded = h.frames.holdings.bounded seat (holdings_of v) (at_map holdings_of views seat v given.me)
 
     bounded-more : IsBounded layout (record (holdings_of v) { refs = with_refs frame count v.refs })
     bounded-more = record {
@@ -102,7 +102,7 @@ keeps-get_ref frame seen count layout w homes views seat v who content given = w
             (let more : refs_on frame.0 (with_refs frame count v.refs) ≡ refs_on frame.0 v.refs + count = Refs.refs-with frame count v.refs in
             let count_is : count_of now ≡ count_of found + count = are.count in
             omega arith)
-            (λ g differs. Refs.refs-with-other frame count g v.refs differs) h.counts
+            (λ g differs. Refs.refs-with-other frame count g v.refs differs) h.frames.counts
 
         hands : List (List Frame)
         hands = map (λ (v : View). v.hands) views
@@ -114,15 +114,15 @@ keeps-get_ref frame seen count layout w homes views seat v who content given = w
         placed = subst (HasOnePlace layout.kernel (set w.frames frame.0 now) w.frees) (sym hands-same)
             (placed-again w.frames frame.0 found now there like layout.kernel w.frees hands hands counted (λ g differs. refl)
             (λ usable.
-            let was : free_bit w.frees frame.0 + in_hand frame.0 hands + min (count_of found) 1 ≡ 1 = h.places.placed frame.0 found there usable in
+            let was : free_bit w.frees frame.0 + in_hand frame.0 hands + min (count_of found) 1 ≡ 1 = h.frames.places.placed frame.0 found there usable in
             let count_is : count_of now ≡ count_of found + count = are.count in
             omega (arith, counted))
-            (λ some. bare-like found now like are.lock (h.places.idle frame.0 found there some))
-            h.places.handed h.places)
+            (λ some. bare-like found now like are.lock (h.frames.places.idle frame.0 found there some))
+            h.frames.places.handed h.frames.places)
 
         referenced : EachMember (λ (l : FrameLock). 0 < refs_on l.frame.0 (with_refs frame count v.refs)) v.locks
         referenced i l e' =
-            let was : 0 < refs_on l.frame.0 v.refs = (h.frame_locks.known seat (v.refs, v.locks) (at_map (λ (v : View). (v.refs, v.locks)) views seat v given.me) i l e').referenced in
+            let was : 0 < refs_on l.frame.0 v.refs = (h.frames.frame_locks.known seat (v.refs, v.locks) (at_map (λ (v : View). (v.refs, v.locks)) views seat v given.me) i l e').referenced in
             elim (same-or l.frame.0 frame.0) [
               | inl is ↦ subst (λ (n : ℕ). 0 < refs_on n (with_refs frame count v.refs)) (sym is)
                   (let more : refs_on frame.0 (with_refs frame count v.refs) ≡ refs_on frame.0 v.refs + count = Refs.refs-with frame count v.refs in

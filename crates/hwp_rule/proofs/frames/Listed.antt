@@ -104,10 +104,10 @@ module _ (layout : Layout) (w : Words) (homes : Homes) (views : List View) (seat
 
   bodies-listed : BodiesAtHome layout w.frames w.caches w.pages homes (set (map holder_of views) seat (holder_of u))
   bodies-listed = record {
-    frame_home = h.bodies.frame_home;
-    frame_out = h.bodies.frame_out;
-    shelf_home = h.bodies.shelf_home;
-    shelf_out = h.bodies.shelf_out;
+    frame_home = h.pages.bodies.frame_home;
+    frame_out = h.pages.bodies.frame_out;
+    shelf_home = h.pages.bodies.shelf_home;
+    shelf_out = h.pages.bodies.shelf_out;
     one = λ q inside.
         let lists : map (λ (o : Holder). o.bodies) (set (map holder_of views) seat (holder_of u)) ≡ set (all_bodies views) seat bodies =
         map-set (λ (o : Holder). o.bodies) (map holder_of views) seat (holder_of u) ∙ ap (λ (l : List (List InHand)). set l seat bodies) (held-bodies views) in
@@ -117,17 +117,17 @@ module _ (layout : Layout) (w : Words) (homes : Homes) (views : List View) (seat
     in_hand = each-set (λ (o : Holder). EachMember (λ (b : InHand). IsHolding b o) o.bodies) (map holder_of views) seat (holder_of u)
         (each-changed-one (is_body_of log.page) (λ (b : InHand). IsHolding b (holder_of u)) renewed v.bodies place body once there test
         (subst (λ (p : Page). IsHolding (record body { log = record log { page = p } }) (holder_of u)) (sym extends.page_is) (mine place body there)) mine)
-        h.bodies.in_hand;
+        h.pages.bodies.in_hand;
   }
     where
       mine : EachMember (λ (b : InHand). IsHolding b (holder_of u)) v.bodies
-      mine i b at = elim (h.bodies.in_hand seat (holder_of v) (at_map holder_of views seat v me) i b at) [ inl page ↦ inl page | inr some ↦ inr some ]
+      mine i b at = elim (h.pages.bodies.in_hand seat (holder_of v) (at_map holder_of views seat v me) i b at) [ inl page ↦ inl page | inr some ↦ inr some ]
 
   entries-listed : EntriesListed homes (set (all_bodies views) seat bodies) (set (map (λ (v : View). (v.made, v.sights)) views) seat (made, v.sights)) (map (λ (v : View). v.lengths) views)
   entries-listed = record {
     balance = λ g.
         let at : List Made × List Sight → ℕ = λ (x : List Made × List Sight). sum_by (λ (m : Made). g m.page m.place m.entry) x.0 in
-        let was : sum_bodies (weigh g) homes (all_bodies views) ≡ sum_by at (map (λ (v : View). (v.made, v.sights)) views) = h.entries.balance g in
+        let was : sum_bodies (weigh g) homes (all_bodies views) ≡ sum_by at (map (λ (v : View). (v.made, v.sights)) views) = h.histories.entries.balance g in
         let moved : sum_by at (set (map (λ (v : View). (v.made, v.sights)) views) seat (made, v.sights)) + at (v.made, v.sights) ≡ sum_by at (map (λ (v : View). (v.made, v.sights)) views) + at (made, v.sights) =
         sum-set at (map (λ (v : View). (v.made, v.sights)) views) seat (v.made, v.sights) (made, v.sights) my_made in
         let pushed : at (made, v.sights) ≡ at (v.made, v.sights) + sum_by (λ (m : Made). g m.page m.place m.entry) (made_from (stamp_of who v) log.page body.frame (length body.log.entries) more) =
@@ -142,13 +142,13 @@ module _ (layout : Layout) (w : Words) (homes : Homes) (views : List View) (seat
         omega (arith, sums (weigh g));
     shown = each-set (λ (x : List Made × List Sight). EachMember (λ (m : Made). HasSeen x.1 m.entry.who m.frame m.entry.what) x.0) (map (λ (v : View). (v.made, v.sights)) views) seat (made, v.sights)
         (each-append (λ (m : Made). HasSeen v.sights m.entry.who m.frame m.entry.what) v.made (made_from (stamp_of who v) log.page body.frame (length body.log.entries) more)
-        (h.entries.shown seat (v.made, v.sights) my_made)
+        (h.histories.entries.shown seat (v.made, v.sights) my_made)
         (made-each (λ (m : Made). HasSeen v.sights m.entry.who m.frame m.entry.what) (stamp_of who v) log.page body.frame (length body.log.entries) more
         (λ i e at n. subst (λ (z : Who). HasSeen v.sights z body.frame e.what) (sym (extends.own i e at)) (seen-drop body.from v.sights who body.frame e.what (extends.seen i e at)))))
-        h.entries.shown;
+        h.histories.entries.shown;
     lengths_reached = each-weaken (EachMember Was) (EachMember Reached) (map (λ (v : View). v.lengths) views)
         (λ list each. each-weaken Was Reached list (λ l was. eachs (λ (x : Log). x.page ≡ l.page → l.entries ≤ length x.entries) (λ old page. let enough : l.entries ≤ length body.log.entries = old (sym extends.page_is ∙ page) in omega (arith, reaches)) was) each)
-        h.entries.lengths_reached;
+        h.histories.entries.lengths_reached;
   }
     where
       my_made : slice_get {X = List Made × List Sight} (map (λ (v : View). (v.made, v.sights)) views) seat ≡ Some (v.made, v.sights)
@@ -161,26 +161,26 @@ module _ (layout : Layout) (w : Words) (homes : Homes) (views : List View) (seat
       Reached l = EachBody (λ (x : Log). x.page ≡ l.page → l.entries ≤ length x.entries) homes (set (all_bodies views) seat bodies)
 
   since : body.since ≤ length body.log.entries
-  since = h.endings.taken seat v.bodies my_bodies place body there
+  since = h.histories.endings.taken seat v.bodies my_bodies place body there
 
   endings-listed : EndingsAgree layout w.processes homes (set (all_bodies views) seat bodies) (map (λ (v : View). v.sights) views)
   endings-listed = record {
-    caused = λ process x at. eachs (λ (y : Log). x ≡ y.page.0 + 1 → has_ending layout process y.entries ≡ true) (λ old is. has-more process (old (is ∙ ap (λ (p : Page). p.0 + 1) extends.page_is))) (h.endings.caused process x at);
-    ended = h.endings.ended;
+    caused = λ process x at. eachs (λ (y : Log). x ≡ y.page.0 + 1 → has_ending layout process y.entries ≡ true) (λ old is. has-more process (old (is ∙ ap (λ (p : Page). p.0 + 1) extends.page_is))) (h.histories.endings.caused process x at);
+    ended = h.histories.endings.ended;
     ended_before = each-set (EachMember (λ (b : InHand). AreEnded layout w.processes (take b.since b.log.entries))) (all_bodies views) seat bodies
         (each-changed-one (is_body_of log.page) (λ (b : InHand). AreEnded layout w.processes (take b.since b.log.entries)) renewed v.bodies place body once there test
-        (subst (AreEnded layout w.processes) (sym (ap (take body.since) extends.longer ∙ take-append-le body.since body.log.entries more since)) (h.endings.ended_before seat v.bodies my_bodies place body there))
-        (h.endings.ended_before seat v.bodies my_bodies))
-        h.endings.ended_before;
+        (subst (AreEnded layout w.processes) (sym (ap (take body.since) extends.longer ∙ take-append-le body.since body.log.entries more since)) (h.histories.endings.ended_before seat v.bodies my_bodies place body there))
+        (h.histories.endings.ended_before seat v.bodies my_bodies))
+        h.histories.endings.ended_before;
     taken = each-set (EachMember (λ (b : InHand). b.since ≤ length b.log.entries)) (all_bodies views) seat bodies
-        (each-changed-one (is_body_of log.page) (λ (b : InHand). b.since ≤ length b.log.entries) renewed v.bodies place body once there test (omega (arith, since, reaches)) (h.endings.taken seat v.bodies my_bodies))
-        h.endings.taken;
+        (each-changed-one (is_body_of log.page) (λ (b : InHand). b.since ≤ length b.log.entries) renewed v.bodies place body once there test (omega (arith, since, reaches)) (h.histories.endings.taken seat v.bodies my_bodies))
+        h.histories.endings.taken;
     shown = λ i list at j s is process place'.
         eachs (λ (y : Log). s.word ≡ y.page.0 + 1 → SomeMember (λ (e : Entry). (is_ending layout process e.what ≡ true) × IsNotLater e.who s.stamp.who) y.entries)
         (λ old names.
         let some : SomeMember (λ (e : Entry). (is_ending layout process e.what ≡ true) × IsNotLater e.who s.stamp.who) body.log.entries = old (names ∙ ap (λ (p : Page). p.0 + 1) extends.page_is) in
         (some.0, some.1, ap (λ (l : List Entry). slice_get l some.0) extends.longer ∙ at_longer body.log.entries more some.0 some.1 some.2, some.3))
-        (h.endings.shown i list at j s is process place');
+        (h.histories.endings.shown i list at j s is process place');
   }
 
   no-loss : losses_in more ≡ 0
@@ -191,7 +191,7 @@ module _ (layout : Layout) (w : Words) (homes : Homes) (views : List View) (seat
     balance = λ file x at.
         let reported : Losing → ℕ = λ (v : Losing). sum_by (λ (r : Reported). cond (r.file.0 == file.0) r.count 0) v.reported in
         let owed : Losing → ℕ = λ (v : Losing). sum_by (λ (n : FileNo). from_bool (n.0 == file.0)) v.owed in
-        let was : x + sum_by reported (map losing_of views) + sum_by owed (map losing_of views) ≡ sum_bodies (losses_of layout file) homes (all_bodies views) = h.losses.balance file x at in
+        let was : x + sum_by reported (map losing_of views) + sum_by owed (map losing_of views) ≡ sum_bodies (losses_of layout file) homes (all_bodies views) = h.histories.losses.balance file x at in
         let reports : sum_by reported (set (map losing_of views) seat (losing_of u)) + reported (losing_of v) ≡ sum_by reported (map losing_of views) + reported (losing_of u) = sum-set reported (map losing_of views) seat (losing_of v) (losing_of u) my_losing in
         let owes : sum_by owed (set (map losing_of views) seat (losing_of u)) + owed (losing_of v) ≡ sum_by owed (map losing_of views) + owed (losing_of u) = sum-set owed (map losing_of views) seat (losing_of v) (losing_of u) my_losing in
         let same_reports : reported (losing_of u) ≡ reported (losing_of v) = refl in
@@ -200,7 +200,7 @@ module _ (layout : Layout) (w : Words) (homes : Homes) (views : List View) (seat
         let same : losses_in log.entries ≡ losses_in body.log.entries = omega (arith, no-loss) in
         let of_log : losses_of layout file log ≡ losses_of layout file body.log = λ i. cond (is_file file (file_of layout (extends.page_is i))) (same i) 0 in
         omega (arith, sums (losses_of layout file));
-    poisoned = each-set IsPoisonLoss (map losing_of views) seat (losing_of u) poison-loss h.losses.poisoned;
+    poisoned = each-set IsPoisonLoss (map losing_of views) seat (losing_of u) poison-loss h.histories.losses.poisoned;
   }
     where
       my_losing : slice_get (map losing_of views) seat ≡ Some (losing_of v)
@@ -208,7 +208,7 @@ module _ (layout : Layout) (w : Words) (homes : Homes) (views : List View) (seat
 
       poison-loss : IsPoisonLoss (losing_of u)
       poison-loss =
-          let was : sum_by (λ (m : Made). from_bool (is_loss m.entry.what)) v.made ≤ length v.owed.losses + sum_by (λ (m : Mark). from_bool (is_poisoning m.kind)) v.marks = h.losses.poisoned seat (losing_of v) my_losing in
+          let was : sum_by (λ (m : Made). from_bool (is_loss m.entry.what)) v.made ≤ length v.owed.losses + sum_by (λ (m : Mark). from_bool (is_poisoning m.kind)) v.marks = h.histories.losses.poisoned seat (losing_of v) my_losing in
           let all : sum_by (λ (m : Made). from_bool (is_loss m.entry.what)) made ≡ sum_by (λ (m : Made). from_bool (is_loss m.entry.what)) v.made + sum_by (λ (m : Made). from_bool (is_loss m.entry.what)) (made_from (stamp_of who v) log.page body.frame (length body.log.entries) more) =
           sum_by-append (λ (m : Made). from_bool (is_loss m.entry.what)) v.made (made_from (stamp_of who v) log.page body.frame (length body.log.entries) more) in
           let none : sum_by (λ (m : Made). from_bool (is_loss m.entry.what)) (made_from (stamp_of who v) log.page body.frame (length body.log.entries) more) ≡ losses_in more = losses-of-made (stamp_of who v) log.page body.frame (length body.log.entries) more in
@@ -217,30 +217,30 @@ module _ (layout : Layout) (w : Words) (homes : Homes) (views : List View) (seat
   stops-listed : EndingsAndStopsStay w.processes w.stop (set (all_bodies views) seat bodies) (map (λ (v : View). v.sights) views) (map (λ (v : View). v.stops) views)
   stops-listed = record {
     killed = each-set (EachMember (λ (b : InHand). EachMember (λ (p : Proc). (x : ℕ) → slice_get w.processes p.0 ≡ Some x → x ≢ 0) b.killed)) (all_bodies views) seat bodies
-        (each-changed (λ (b : InHand). EachMember (λ (p : Proc). (x : ℕ) → slice_get w.processes p.0 ≡ Some x → x ≢ 0) b.killed) (is_body_of log.page) renewed v.bodies (λ b is killed. killed) (h.stops.killed seat v.bodies my_bodies)) h.stops.killed;
-    ended_stays = h.stops.ended_stays;
-    stop_stays = h.stops.stop_stays;
-    one = h.stops.one;
-    named = h.stops.named;
+        (each-changed (λ (b : InHand). EachMember (λ (p : Proc). (x : ℕ) → slice_get w.processes p.0 ≡ Some x → x ≢ 0) b.killed) (is_body_of log.page) renewed v.bodies (λ b is killed. killed) (h.processors.stops.killed seat v.bodies my_bodies)) h.processors.stops.killed;
+    ended_stays = h.processors.stops.ended_stays;
+    stop_stays = h.processors.stops.stop_stays;
+    one = h.processors.stops.one;
+    named = h.processors.stops.named;
   }
 
   fits-listed : PageFits layout w.trans w.caches homes (set (map (λ (v : View). (v.pages, v.bodies)) views) seat (v.pages, bodies))
   fits-listed = record {
-    at_home = h.fits.at_home;
+    at_home = h.pages.fits.at_home;
     in_hand = each-set (λ (o : List PageLock × List InHand). EachMember (λ (b : InHand). page_locks_on b.log.page.0 o.0 ≡ 0 → Fits layout w.trans w.caches b.log) o.1) (map (λ (v : View). (v.pages, v.bodies)) views) seat (v.pages, bodies)
         (each-changed-one (is_body_of log.page) (λ (b : InHand). page_locks_on b.log.page.0 v.pages ≡ 0 → Fits layout w.trans w.caches b.log) renewed v.bodies place body once there test
         (λ none. fits-same layout w.trans w.caches log body.log extends.page_is (same_words none)
-        (h.fits.in_hand seat (v.pages, v.bodies) my_fit place body there (ap (λ (p : Page). page_locks_on p.0 v.pages) (sym extends.page_is) ∙ none)))
-        (h.fits.in_hand seat (v.pages, v.bodies) my_fit))
-        h.fits.in_hand;
-    known = each-set (λ (o : List PageLock × List InHand). EachMember (KnowsWords layout w.trans w.caches) o.0) (map (λ (v : View). (v.pages, v.bodies)) views) seat (v.pages, bodies) (h.fits.known seat (v.pages, v.bodies) my_fit) h.fits.known;
+        (h.pages.fits.in_hand seat (v.pages, v.bodies) my_fit place body there (ap (λ (p : Page). page_locks_on p.0 v.pages) (sym extends.page_is) ∙ none)))
+        (h.pages.fits.in_hand seat (v.pages, v.bodies) my_fit))
+        h.pages.fits.in_hand;
+    known = each-set (λ (o : List PageLock × List InHand). EachMember (KnowsWords layout w.trans w.caches) o.0) (map (λ (v : View). (v.pages, v.bodies)) views) seat (v.pages, bodies) (h.pages.fits.known seat (v.pages, v.bodies) my_fit) h.pages.fits.known;
     own = each-set (λ (o : List PageLock × List InHand). EachMember (λ (b : InHand). 0 < page_locks_on b.log.page.0 o.0 → KnowsOwn o.0 b) o.1) (map (λ (v : View). (v.pages, v.bodies)) views) seat (v.pages, bodies)
         (each-changed-one (is_body_of log.page) (λ (b : InHand). 0 < page_locks_on b.log.page.0 v.pages → KnowsOwn v.pages b) renewed v.bodies place body once there test
         (λ some.
-        let own : KnowsOwn v.pages body = h.fits.own seat (v.pages, v.bodies) my_fit place body there (subst (λ (p : Page). 0 < page_locks_on p.0 v.pages) extends.page_is some) in
+        let own : KnowsOwn v.pages body = h.pages.fits.own seat (v.pages, v.bodies) my_fit place body there (subst (λ (p : Page). 0 < page_locks_on p.0 v.pages) extends.page_is some) in
         record { lock = own.lock; there = own.there; cache = own.cache; cache_is = own.cache_is; trans = own.trans; trans_is = own.trans_is })
-        (h.fits.own seat (v.pages, v.bodies) my_fit))
-        h.fits.own;
+        (h.pages.fits.own seat (v.pages, v.bodies) my_fit))
+        h.pages.fits.own;
   }
     where
       my_fit : slice_get {X = List PageLock × List InHand} (map (λ (v : View). (v.pages, v.bodies)) views) seat ≡ Some (v.pages, v.bodies)
@@ -248,11 +248,11 @@ module _ (layout : Layout) (w : Words) (homes : Homes) (views : List View) (seat
 
   unpoisoned-listed : NothingPoisonedYet w.frames (map (λ (v : View). v.spoiled) views) homes (set (all_bodies views) seat bodies)
   unpoisoned-listed = record {
-    sound = h.unpoisoned.sound;
-    unspoiled = h.unpoisoned.unspoiled;
+    sound = h.failures.unpoisoned.sound;
+    unspoiled = h.failures.unpoisoned.unspoiled;
     no_failure = eachs (λ (x : Log). list_any (λ (e : Entry). is_failure e.what) x.entries ≡ false)
         (λ none. ap (list_any (λ (e : Entry). is_failure e.what)) extends.longer ∙ list_any-append (λ (e : Entry). is_failure e.what) body.log.entries more
-        ∙ (λ i. none i || failures-none more extends.sound i)) h.unpoisoned.no_failure;
+        ∙ (λ i. none i || failures-none more extends.sound i)) h.failures.unpoisoned.no_failure;
   }
 
   own-listed : AreOwn u
@@ -267,40 +267,44 @@ module _ (layout : Layout) (w : Words) (homes : Homes) (views : List View) (seat
   }
     where
       own : AreOwn v
-      own = h.commands.own seat v me
+      own = h.processors.commands.own seat v me
 
   pub keeps-renewed : FrameRule layout w homes (set views seat u)
   keeps-renewed = record {
-    counts = Kept.kept-counts views seat v u me w.frames w.trans w.caches refl h.counts;
-    places = Kept.kept-places views seat v u me layout.kernel w.frames w.frees refl h.places;
-    frame_locks = Kept.kept-frame-locks views seat v u me w.frames refl refl h.frame_locks;
-    page_locks = Kept.kept-page-locks views seat v u me w.pages refl refl h.page_locks;
-    translations = h.translations;
-    caches = Kept.kept-caches views seat v u me w.frames w.caches refl refl h.caches;
-    bodies = change holder_of (BodiesAtHome layout w.frames w.caches w.pages homes) views seat u bodies-listed;
-    handled = h.handled;
-    counter = Kept.kept-counter views seat v u me w.frames w.counter refl refl refl h.counter;
-    free = Kept.kept-free views seat v u me layout.frames w.frees w.available refl h.free;
-    damage = Kept.kept-damage views seat v u me w.bads w.weaks refl refl h.damage;
-    entries = keep (λ (v : View). v.lengths) (λ l. EntriesListed homes (map (λ (v : View). v.bodies) (set views seat u)) (map (λ (v : View). (v.made, v.sights)) (set views seat u)) l) views seat v u me refl
-        (change (λ (v : View). (v.made, v.sights)) (λ l. EntriesListed homes (map (λ (v : View). v.bodies) (set views seat u)) l (map (λ (v : View). v.lengths) views)) views seat u
-        (change (λ (v : View). v.bodies) (λ l. EntriesListed homes l (set (map (λ (v : View). (v.made, v.sights)) views) seat (made, v.sights)) (map (λ (v : View). v.lengths) views)) views seat u entries-listed));
-    endings = keep (λ (v : View). v.sights) (λ l. EndingsAgree layout w.processes homes (map (λ (v : View). v.bodies) (set views seat u)) l) views seat v u me refl
-        (change (λ (v : View). v.bodies) (λ l. EndingsAgree layout w.processes homes l (map (λ (v : View). v.sights) views)) views seat u endings-listed);
-    marks = Kept.kept-marks views seat v u me w.frames refl refl h.marks;
-    holdings = Kept.kept-holdings views seat v u me layout refl h.holdings;
-    losses = change losing_of (λ l. LossesBalance layout w.losses homes (map (λ (v : View). v.bodies) (set views seat u)) l) views seat u
-        (change (λ (v : View). v.bodies) (λ l. LossesBalance layout w.losses homes l (set (map losing_of views) seat (losing_of u))) views seat u losses-listed);
-    policies = Kept.kept-policies views seat v u me layout.threads w.policies refl refl refl h.policies;
-    exhaustion = Kept.kept-exhaustion views seat v u me layout refl refl h.exhaustion;
-    stops = keep (λ (v : View). v.stops) (λ l. EndingsAndStopsStay w.processes w.stop (map (λ (v : View). v.bodies) (set views seat u)) (map (λ (v : View). v.sights) (set views seat u)) l) views seat v u me refl
-        (keep (λ (v : View). v.sights) (λ l. EndingsAndStopsStay w.processes w.stop (map (λ (v : View). v.bodies) (set views seat u)) l (map (λ (v : View). v.stops) views)) views seat v u me refl
-        (change (λ (v : View). v.bodies) (λ l. EndingsAndStopsStay w.processes w.stop l (map (λ (v : View). v.sights) views) (map (λ (v : View). v.stops) views)) views seat u stops-listed));
-    fits = change (λ (v : View). (v.pages, v.bodies)) (PageFits layout w.trans w.caches homes) views seat u fits-listed;
-    processors = Kept.kept-processors views seat v u me layout refl h.processors;
-    commands = Kept.kept-commands views seat v u me own-listed h.commands;
-    unpoisoned = change (λ (v : View). v.bodies) (λ l. NothingPoisonedYet w.frames (map (λ (v : View). v.spoiled) (set views seat u)) homes l) views seat u
-        (keep (λ (v : View). v.spoiled) (λ l. NothingPoisonedYet w.frames l homes (set (all_bodies views) seat bodies)) views seat v u me refl unpoisoned-listed);
+    frames = Kept.same-frames views seat v u me refl h.frames;
+    pages = record {
+      page_locks = Kept.kept-page-locks views seat v u me refl refl h.pages.page_locks;
+      translations = h.pages.translations;
+      caches = Kept.kept-caches views seat v u me refl refl h.pages.caches;
+      bodies = change holder_of (BodiesAtHome layout w.frames w.caches w.pages homes) views seat u bodies-listed;
+      fits = change (λ (v : View). (v.pages, v.bodies)) (PageFits layout w.trans w.caches homes) views seat u fits-listed;
+    };
+    histories = record {
+      entries = keep (λ (v : View). v.lengths) (λ l. EntriesListed homes (map (λ (v : View). v.bodies) (set views seat u)) (map (λ (v : View). (v.made, v.sights)) (set views seat u)) l) views seat v u me refl
+          (change (λ (v : View). (v.made, v.sights)) (λ l. EntriesListed homes (map (λ (v : View). v.bodies) (set views seat u)) l (map (λ (v : View). v.lengths) views)) views seat u
+          (change (λ (v : View). v.bodies) (λ l. EntriesListed homes l (set (map (λ (v : View). (v.made, v.sights)) views) seat (made, v.sights)) (map (λ (v : View). v.lengths) views)) views seat u entries-listed));
+      endings = keep (λ (v : View). v.sights) (λ l. EndingsAgree layout w.processes homes (map (λ (v : View). v.bodies) (set views seat u)) l) views seat v u me refl
+          (change (λ (v : View). v.bodies) (λ l. EndingsAgree layout w.processes homes l (map (λ (v : View). v.sights) views)) views seat u endings-listed);
+      losses = change losing_of (λ l. LossesBalance layout w.losses homes (map (λ (v : View). v.bodies) (set views seat u)) l) views seat u
+          (change (λ (v : View). v.bodies) (λ l. LossesBalance layout w.losses homes l (set (map losing_of views) seat (losing_of u))) views seat u losses-listed);
+    };
+    failures = record {
+      handled = h.failures.handled;
+      counter = Kept.kept-counter views seat v u me refl refl refl h.failures.counter;
+      damage = Kept.kept-damage views seat v u me refl refl h.failures.damage;
+      marks = Kept.kept-marks views seat v u me refl refl h.failures.marks;
+      exhaustion = Kept.kept-exhaustion views seat v u me refl refl h.failures.exhaustion;
+      unpoisoned = change (λ (v : View). v.bodies) (λ l. NothingPoisonedYet w.frames (map (λ (v : View). v.spoiled) (set views seat u)) homes l) views seat u
+          (keep (λ (v : View). v.spoiled) (λ l. NothingPoisonedYet w.frames l homes (set (all_bodies views) seat bodies)) views seat v u me refl unpoisoned-listed);
+    };
+    processors = record {
+      policies = Kept.kept-policies views seat v u me refl refl refl h.processors.policies;
+      stops = keep (λ (v : View). v.stops) (λ l. EndingsAndStopsStay w.processes w.stop (map (λ (v : View). v.bodies) (set views seat u)) (map (λ (v : View). v.sights) (set views seat u)) l) views seat v u me refl
+          (keep (λ (v : View). v.sights) (λ l. EndingsAndStopsStay w.processes w.stop (map (λ (v : View). v.bodies) (set views seat u)) l (map (λ (v : View). v.stops) views)) views seat v u me refl
+          (change (λ (v : View). v.bodies) (λ l. EndingsAndStopsStay w.processes w.stop l (map (λ (v : View). v.sights) views) (map (λ (v : View). v.stops) views)) views seat u stops-listed));
+      processors = Kept.kept-processors views seat v u me refl h.processors.processors;
+      commands = Kept.kept-commands views seat v u me own-listed h.processors.commands;
+    };
   }
 
   -- without losses nothing more is owed

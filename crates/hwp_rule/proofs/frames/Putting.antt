@@ -64,7 +64,7 @@ keeps-put_ref frame count layout w homes views seat v who content given =
     my_refs = at_map (λ (v : View). v.refs) views seat v given.me
 
     balance : count_of (slice_index w.frames frame.0) ≡ named frame.0 w.trans + named frame.0 w.caches + sum_by (refs_on frame.0) (map (λ (v : View). v.refs) views) + handled_of (slice_index w.frames frame.0)
-    balance = h.counts.balance frame.0 (slice_index w.frames frame.0) there
+    balance = h.frames.counts.balance frame.0 (slice_index w.frames frame.0) there
 
     mine : refs_on frame.0 v.refs ≤ sum_by (refs_on frame.0) (map (λ (v : View). v.refs) views)
     mine = term-le (refs_on frame.0) (map (λ (v : View). v.refs) views) seat v.refs my_refs
@@ -86,10 +86,10 @@ keeps-put_ref frame count layout w homes views seat v who content given =
     counts = counted-again w.frames frame.0 found now there like w.trans w.caches (map (λ (v : View). v.refs) views) seat v.refs less my_refs
         (let count_is : count_of ((slice_index w.frames frame.0 + (2 ^ 64 - count * 16)) % 2 ^ 64) ≡ count_of (slice_index w.frames frame.0) - count = are.count in
         omega (arith, enough, has, left, count_is))
-        (λ g differs. Refs.refs-less-other frame count g v.refs differs) h.counts
+        (λ g differs. Refs.refs-less-other frame count g v.refs differs) h.frames.counts
 
     known : EachMember (IsLocked w.frames v.refs) v.locks
-    known = h.frame_locks.known seat (v.refs, v.locks) (at_map (λ (v : View). (v.refs, v.locks)) views seat v given.me)
+    known = h.frames.frame_locks.known seat (v.refs, v.locks) (at_map (λ (v : View). (v.refs, v.locks)) views seat v given.me)
 
     -- a lock keeps a reference back
     referenced : EachMember (λ (l : FrameLock). 0 < refs_on l.frame.0 (less_refs frame count v.refs)) v.locks
@@ -104,7 +104,7 @@ keeps-put_ref frame count layout w homes views seat v who content given =
         ]
 
     bounded : IsBounded layout (holdings_of v)
-    bounded = h.holdings.bounded seat (holdings_of v) (at_map holdings_of views seat v given.me)
+    bounded = h.frames.holdings.bounded seat (holdings_of v) (at_map holdings_of views seat v given.me)
 
     -- the last references: all of the view's, and the frame has no others
     all-mine : count_of (slice_index w.frames frame.0) ≡ count → refs_on frame.0 v.refs ≡ count
@@ -144,12 +144,12 @@ keeps-put_ref frame count layout w homes views seat v who content given =
           let two : refs_on frame.0 x.refs + refs_on frame.0 v.refs ≤ sum_by (refs_on frame.0) (map (λ (v : View). v.refs) views) = terms-le (refs_on frame.0) (map (λ (v : View). v.refs) views) i seat x.refs v.refs differs (at_map (λ (v : View). v.refs) views i x is) my_refs in
           let no_refs : refs_on frame.0 x.refs ≡ 0 = omega (arith, has, balance, last, two) in
           sum-zero (λ (l : FrameLock). from_bool (l.frame.0 == frame.0)) x.locks (λ j l e.
-          let some_refs : 0 < refs_on l.frame.0 x.refs = (h.frame_locks.known i (x.refs, x.locks) (at_map (λ (v : View). (v.refs, v.locks)) views i x is) j l e).referenced in
+          let some_refs : 0 < refs_on l.frame.0 x.refs = (h.frames.frame_locks.known i (x.refs, x.locks) (at_map (λ (v : View). (v.refs, v.locks)) views i x is) j l e).referenced in
           ap from_bool (ne_eqb l.frame.0 frame.0 (λ same. absurd (omega (arith, no_refs, subst (λ (n : ℕ). 0 < refs_on n x.refs) same some_refs)))))
     ]
 
     unlocked : count_of (slice_index w.frames frame.0) ≡ count → lock_of (slice_index w.frames frame.0) ≡ 0
-    unlocked last = sym (h.frame_locks.one frame.0 (slice_index w.frames frame.0) there)
+    unlocked last = sym (h.frames.frame_locks.one frame.0 (slice_index w.frames frame.0) there)
         ∙ sum-zero (λ (o : List Ref × List FrameLock). locks_on frame.0 o.1) held (λ i o e.
         let was : (x : View) × (slice_get views i ≡ Some x) × ((x.refs, x.locks) ≡ o) = map-was (λ (v : View). (v.refs, v.locks)) views i o e in
         subst (λ (o : List Ref × List FrameLock). locks_on frame.0 o.1 ≡ 0) was.2 (no-lock last i was.0 was.1))
@@ -159,7 +159,7 @@ keeps-put_ref frame count layout w homes views seat v who content given =
       | inl none ↦ none
       | inr some_owner ↦
           let page : owner_of (slice_index w.frames frame.0) ≡ (owner_of (slice_index w.frames frame.0) - 1) + 1 = omega (arith, some_owner) in
-          elim (h.caches.named frame.0 (slice_index w.frames frame.0) (owner_of (slice_index w.frames frame.0) - 1) there page) [
+          elim (h.pages.caches.named frame.0 (slice_index w.frames frame.0) (owner_of (slice_index w.frames frame.0) - 1) there page) [
             | inl cached ↦
                 let one : from_bool (frame.0 + 1 == frame.0 + 1) ≤ named frame.0 w.caches = term-le (λ (x : ℕ). from_bool (x == frame.0 + 1)) w.caches (owner_of (slice_index w.frames frame.0) - 1) (frame.0 + 1) cached in
                 let is_one : from_bool (frame.0 + 1 == frame.0 + 1) ≡ 1 = ap from_bool (same-number (frame.0 + 1) (frame.0 + 1) refl) in
@@ -187,7 +187,7 @@ keeps-put_ref frame count layout w homes views seat v who content given =
     placed-at true e = placed-again w.frames frame.0 found now there like layout.kernel w.frees hands (set hands seat (v.hands ++ frame ∷ [])) (omega (arith, some, enough))
         (λ g differs. omega (arith, hand-moved g (v.hands ++ frame ∷ []), pushed g, ap from_bool (ne_eqb frame.0 g (λ same. differs (sym same)))))
         (λ usable.
-        let was : free_bit w.frees frame.0 + in_hand frame.0 (map (λ (v : View). v.hands) views) + min (count_of (slice_index w.frames frame.0)) 1 ≡ 1 = h.places.placed frame.0 (slice_index w.frames frame.0) there usable in
+        let was : free_bit w.frees frame.0 + in_hand frame.0 (map (λ (v : View). v.hands) views) + min (count_of (slice_index w.frames frame.0)) 1 ≡ 1 = h.frames.places.placed frame.0 (slice_index w.frames frame.0) there usable in
         let count_is : count_of ((slice_index w.frames frame.0 + (2 ^ 64 - count * 16)) % 2 ^ 64) ≡ count_of (slice_index w.frames frame.0) - count = are.count in
         let last : count_of (slice_index w.frames frame.0) ≡ count = eqb-true (count_of (slice_index w.frames frame.0)) count e in
         let one : from_bool (frame.0 == frame.0) ≡ 1 = ap from_bool (same-number frame.0 frame.0 refl) in
@@ -195,18 +195,18 @@ keeps-put_ref frame count layout w homes views seat v who content given =
         (λ one. bare-like found now like are.lock (bare (eqb-true (count_of (slice_index w.frames frame.0)) count e)))
         (each-set (EachMember (λ (x : Frame). x.0 < length layout.kernel)) hands seat (v.hands ++ frame ∷ [])
         (each-push (λ (x : Frame). x.0 < length layout.kernel) v.hands frame (subst (λ (n : ℕ). frame.0 < n) (sym given.sound.kernel) given.place)
-        (h.places.handed seat v.hands (at_map (λ (v : View). v.hands) views seat v given.me)))
-        h.places.handed)
-        h.places
+        (h.frames.places.handed seat v.hands (at_map (λ (v : View). v.hands) views seat v given.me)))
+        h.frames.places.handed)
+        h.frames.places
     placed-at false e = subst (HasOnePlace layout.kernel (set w.frames frame.0 now) w.frees) (sym (set_again hands seat v.hands (at_map (λ (v : View). v.hands) views seat v given.me)))
         (placed-again w.frames frame.0 found now there like layout.kernel w.frees hands hands (omega (arith, some, enough)) (λ g differs. refl)
         (λ usable.
-        let was : free_bit w.frees frame.0 + in_hand frame.0 (map (λ (v : View). v.hands) views) + min (count_of (slice_index w.frames frame.0)) 1 ≡ 1 = h.places.placed frame.0 (slice_index w.frames frame.0) there usable in
+        let was : free_bit w.frees frame.0 + in_hand frame.0 (map (λ (v : View). v.hands) views) + min (count_of (slice_index w.frames frame.0)) 1 ≡ 1 = h.frames.places.placed frame.0 (slice_index w.frames frame.0) there usable in
         let count_is : count_of ((slice_index w.frames frame.0 + (2 ^ 64 - count * 16)) % 2 ^ 64) ≡ count_of (slice_index w.frames frame.0) - count = are.count in
         let not_last : count_of (slice_index w.frames frame.0) ≢ count = eqb-false (count_of (slice_index w.frames frame.0)) count e in
         omega (arith, some, enough))
-        (λ one. bare-like found now like are.lock (h.places.idle frame.0 found there one))
-        h.places.handed h.places)
+        (λ one. bare-like found now like are.lock (h.frames.places.idle frame.0 found there one))
+        h.frames.places.handed h.frames.places)
 
     placed : HasOnePlace layout.kernel (set w.frames frame.0 now) w.frees (set (map (λ (v : View). v.hands) views) seat (cond (is_last count (slice_index w.frames frame.0)) (v.hands ++ frame ∷ []) v.hands))
     placed = placed-at (is_last count (slice_index w.frames frame.0)) refl

@@ -51,7 +51,7 @@ module _ (layout : Layout) (w : Words) (homes : Homes) (views : List View) (seat
   test = same-number lock.frame.0 frame.0 number
 
   all-known : EachMember (IsLocked w.frames v.refs) v.locks
-  all-known = h.frame_locks.known seat (v.refs, v.locks) (at_map (λ (v : View). (v.refs, v.locks)) views seat v me)
+  all-known = h.frames.frame_locks.known seat (v.refs, v.locks) (at_map (λ (v : View). (v.refs, v.locks)) views seat v me)
 
   -- a listed lock of the frame has its owner
   owner-of : (i : ℕ) (l : FrameLock) → slice_get v.locks i ≡ Some l → l.frame.0 ≡ frame.0 → owner_of found ≡ l.owner
@@ -75,13 +75,13 @@ module _ (layout : Layout) (w : Words) (homes : Homes) (views : List View) (seat
 
   locked : lock_of found ≡ 1
   locked =
-      let all : sum_by (λ (o : List Ref × List FrameLock). locks_on frame.0 o.1) (map (λ (v : View). (v.refs, v.locks)) views) ≡ lock_of found = h.frame_locks.one frame.0 found there in
+      let all : sum_by (λ (o : List Ref × List FrameLock). locks_on frame.0 o.1) (map (λ (v : View). (v.refs, v.locks)) views) ≡ lock_of found = h.frames.frame_locks.one frame.0 found there in
       let mine : locks_on frame.0 v.locks ≤ sum_by (λ (o : List Ref × List FrameLock). locks_on frame.0 o.1) (map (λ (v : View). (v.refs, v.locks)) views) =
       term-le (λ (o : List Ref × List FrameLock). locks_on frame.0 o.1) (map (λ (v : View). (v.refs, v.locks)) views) seat (v.refs, v.locks) (at_map (λ (v : View). (v.refs, v.locks)) views seat v me) in
       omega (arith, fewer frame.0, one)
 
   out : slice_get homes frame.0 ≡ Some None
-  out = h.bodies.frame_out frame.0 found there locked
+  out = h.pages.bodies.frame_out frame.0 found there locked
 
   here : lock_of now + locks_on frame.0 v.locks ≡ lock_of found + locks_on frame.0 locks
   here = omega (arith, fewer frame.0, one, locked, (fields-unlock found).lock)
@@ -95,7 +95,7 @@ module _ (layout : Layout) (w : Words) (homes : Homes) (views : List View) (seat
 
   twice : length locks ≤ 2
   twice =
-      let were : length v.locks ≤ 2 = h.page_locks.frames_twice seat v.locks (at_map (λ (v : View). v.locks) views seat v me) in
+      let were : length v.locks ≤ 2 = h.pages.page_locks.frames_twice seat v.locks (at_map (λ (v : View). v.locks) views seat v me) in
       omega (arith, length-without (is_lock_of frame) v.locks place lock listed test)
 
   unlocked-now : lock_of now ≡ 1 → ⊥
@@ -120,22 +120,22 @@ module _ (layout : Layout) (w : Words) (homes : Homes) (views : List View) (seat
   my_fit = at_map (λ (v : View). (v.pages, v.bodies)) views seat v me
 
   old-in_hand : EachMember (λ (b : InHand). IsHolding b (holder_of v)) v.bodies
-  old-in_hand = h.bodies.in_hand seat (holder_of v) (at_map holder_of views seat v me)
+  old-in_hand = h.pages.bodies.in_hand seat (holder_of v) (at_map holder_of views seat v me)
 
   -- what the page's lock lists of the owner's cache word
   pub both-cached : ((l : PageLock) → slice_get v.pages 0 ≡ Some l → lock.owner ≡ l.page.0 + 1 → l.cache ≡ Some (frame.0 + 1)) → (q : ℕ) → owner_of found ≡ q + 1 → HoldsBoth frame.0 q (v.locks, v.pages) → slice_get w.caches q ≡ Some (frame.0 + 1)
   both-cached cache q is both =
-      let few : length v.pages ≤ 1 = h.page_locks.page_once seat v.pages (at_map (λ (v : View). v.pages) views seat v me) in
+      let few : length v.pages ≤ 1 = h.pages.page_locks.page_once seat v.pages (at_map (λ (v : View). v.pages) views seat v me) in
       let first : (l : PageLock) × (slice_get v.pages 0 ≡ Some l) × (l.page.0 ≡ q) = first-lock q v.pages few both.page in
       let lists : first.0.cache ≡ Some (frame.0 + 1) = cache first.0 first.1 (sym owner ∙ is ∙ ap (λ (n : ℕ). n + 1) (sym first.2)) in
-      ap (slice_get w.caches) (sym first.2) ∙ (h.fits.known seat (v.pages, v.bodies) my_fit 0 first.0 first.1).cache (frame.0 + 1) lists
+      ap (slice_get w.caches) (sym first.2) ∙ (h.pages.fits.known seat (v.pages, v.bodies) my_fit 0 first.0 first.1).cache (frame.0 + 1) lists
 
   -- an empty slot, of a frame without owner
   pub keeps-unlock-empty : lock.owner ≡ 0 → FrameRule layout (record w { frames = set w.frames frame.0 now }) (set homes frame.0 (Some None)) (set views seat (record v { locks = locks }))
   keeps-unlock-empty unowned = keeps-locking layout w homes views seat v frame.0 found now (Some None) locks v.pages v.bodies v.lengths me h there referenced (record {
     like = like;
     count = (fields-unlock found).count;
-    carries = carry-none layout w homes views seat v me h frame.0 None (Some None) v.pages out refl refl (h.fits.in_hand seat (v.pages, v.bodies) my_fit) (h.fits.known seat (v.pages, v.bodies) my_fit) (h.fits.own seat (v.pages, v.bodies) my_fit);
+    carries = carry-none layout w homes views seat v me h frame.0 None (Some None) v.pages out refl refl (h.pages.fits.in_hand seat (v.pages, v.bodies) my_fit) (h.pages.fits.known seat (v.pages, v.bodies) my_fit) (h.pages.fits.own seat (v.pages, v.bodies) my_fit);
     here = here;
     others = others;
     known = known;
@@ -184,7 +184,7 @@ module _ (layout : Layout) (w : Words) (homes : Homes) (views : List View) (seat
         own = knows some-before
 
         first : (l : PageLock) × (slice_get v.pages 0 ≡ Some l) × (l.page.0 ≡ b.log.page.0)
-        first = first-lock b.log.page.0 v.pages (h.page_locks.page_once seat v.pages (at_map (λ (v : View). v.pages) views seat v me)) some-before
+        first = first-lock b.log.page.0 v.pages (h.pages.page_locks.page_once seat v.pages (at_map (λ (v : View). v.pages) views seat v me)) some-before
 
         same : own.lock.page.0 ≡ b.log.page.0
         same = ap (λ (l : PageLock). l.page.0) (same_Some own.lock first.0 (sym own.there ∙ first.1)) ∙ first.2
@@ -202,10 +202,10 @@ module _ (layout : Layout) (w : Words) (homes : Homes) (views : List View) (seat
       carries = carry-home layout w homes views seat v me h log place' body body_there body_test within log_is frame.0 pages out ended fit
           (each-weaken (λ (b : InHand). page_locks_on b.log.page.0 v.pages ≡ 0 → Fits layout w.trans w.caches b.log) (λ (b : InHand). page_locks_on b.log.page.0 pages ≡ 0 → Fits layout w.trans w.caches b.log) bodies
           (λ b fits none. fits (sym (page_locks b.log.page.0) ∙ none))
-          (each-without (λ (b : InHand). page_locks_on b.log.page.0 v.pages ≡ 0 → Fits layout w.trans w.caches b.log) (is_body_of log.page) v.bodies (h.fits.in_hand seat (v.pages, v.bodies) my_fit)))
+          (each-without (λ (b : InHand). page_locks_on b.log.page.0 v.pages ≡ 0 → Fits layout w.trans w.caches b.log) (is_body_of log.page) v.bodies (h.pages.fits.in_hand seat (v.pages, v.bodies) my_fit)))
           (each-changed (KnowsWords layout w.trans w.caches) (is_page_lock_of log.page) forgetting v.pages
-          (λ l is knows. record { resident = knows.resident; cache = knows.cache; words = λ ws e n t decl page. absurd (none-some ws e) }) (h.fits.known seat (v.pages, v.bodies) my_fit))
-          (λ i b at. own-still b (others-left i b at) (each-without (λ (b : InHand). 0 < page_locks_on b.log.page.0 v.pages → KnowsOwn v.pages b) (is_body_of log.page) v.bodies (h.fits.own seat (v.pages, v.bodies) my_fit) i b at));
+          (λ l is knows. record { resident = knows.resident; cache = knows.cache; words = λ ws e n t decl page. absurd (none-some ws e) }) (h.pages.fits.known seat (v.pages, v.bodies) my_fit))
+          (λ i b at. own-still b (others-left i b at) (each-without (λ (b : InHand). 0 < page_locks_on b.log.page.0 v.pages → KnowsOwn v.pages b) (is_body_of log.page) v.bodies (h.pages.fits.own seat (v.pages, v.bodies) my_fit) i b at));
       here = here;
       others = others;
       known = known;

@@ -57,7 +57,7 @@ module _ (layout : Layout) (w : Words) (homes : Homes) (views : List View) (seat
       omega arith
 
   cached : slice_get w.caches log.page.0 ≡ Some (frame.0 + 1)
-  cached = elim (h.caches.named frame.0 (slice_index w.frames frame.0) log.page.0 there owner) [
+  cached = elim (h.pages.caches.named frame.0 (slice_index w.frames frame.0) log.page.0 there owner) [
     | inl named ↦ named
     | inr both ↦
         let was : (x : View) × (slice_get views both.0 ≡ Some x) × ((x.locks, x.pages) ≡ both.1) = map-was (λ (v : View). (v.locks, v.pages)) views both.0 both.1 both.2 in
@@ -69,7 +69,7 @@ module _ (layout : Layout) (w : Words) (homes : Homes) (views : List View) (seat
               asks.cached log.page.0 owner (subst (λ (x : View). HoldsBoth frame.0 log.page.0 (x.locks, x.pages)) mine holds)
           | inr differs ↦
               let held : List (List Ref × List FrameLock) = map (λ (v : View). (v.refs, v.locks)) views in
-              let one : sum_by (λ (o : List Ref × List FrameLock). locks_on frame.0 o.1) (map (λ (v : View). (v.refs, v.locks)) views) ≡ lock_of (slice_index w.frames frame.0) = h.frame_locks.one frame.0 (slice_index w.frames frame.0) there in
+              let one : sum_by (λ (o : List Ref × List FrameLock). locks_on frame.0 o.1) (map (λ (v : View). (v.refs, v.locks)) views) ≡ lock_of (slice_index w.frames frame.0) = h.frames.frame_locks.one frame.0 (slice_index w.frames frame.0) there in
               let two : locks_on frame.0 was.0.locks + locks_on frame.0 v.locks ≤ sum_by (λ (o : List Ref × List FrameLock). locks_on frame.0 o.1) (map (λ (v : View). (v.refs, v.locks)) views) =
               terms-le (λ (o : List Ref × List FrameLock). locks_on frame.0 o.1) (map (λ (v : View). (v.refs, v.locks)) views) both.0 seat (was.0.refs, was.0.locks) (v.refs, v.locks) differs
               (at_map (λ (v : View). (v.refs, v.locks)) views both.0 was.0 was.1) (at_map (λ (v : View). (v.refs, v.locks)) views seat v given.me) in

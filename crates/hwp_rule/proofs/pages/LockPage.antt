@@ -61,14 +61,14 @@ module _ (layout : Layout) (w : Words) (homes : Homes) (views : List View) (seat
   -- no view lists the page's lock
   unheld : (i : ℕ) (x : View) → slice_get views i ≡ Some x → page_locks_on page.0 x.pages ≡ 0
   unheld i x at =
-      let one : sum_by (page_locks_on page.0) (map (λ (v : View). v.pages) views) ≡ lock_of found = h.page_locks.one page.0 found there in
+      let one : sum_by (page_locks_on page.0) (map (λ (v : View). v.pages) views) ≡ lock_of found = h.pages.page_locks.one page.0 found there in
       let term : page_locks_on page.0 x.pages ≤ sum_by (page_locks_on page.0) (map (λ (v : View). v.pages) views) = term-le (page_locks_on page.0) (map (λ (v : View). v.pages) views) i x.pages (at_map (λ (v : View). v.pages) views i x at) in
       omega (arith, free)
 
   -- what is on the shelf tells whether the page is in a frame
   shelf-is : (content : Option Log) → IsIn homes shelf content → (c : ℕ) → slice_get w.caches page.0 ≡ Some c → content_name content ≡ cond (c == 0) (page.0 + 1) 0
   shelf-is content inside c at =
-      let home : IsAtHome homes (layout.frames + page.0) (cond (c == 0) (page.0 + 1) 0) = h.bodies.shelf_home page.0 found c there at free in
+      let home : IsAtHome homes (layout.frames + page.0) (cond (c == 0) (page.0 + 1) 0) = h.pages.bodies.shelf_home page.0 found c there at free in
       let same : home.content ≡ content = same_Some home.content content (same_Some (Some home.content) (Some content) (sym home.there ∙ inside)) in
       ap content_name (sym same) ∙ home.named
 
@@ -92,10 +92,10 @@ module _ (layout : Layout) (w : Words) (homes : Homes) (views : List View) (seat
 
     fits-still : EachMember (λ (b : InHand). page_locks_on b.log.page.0 (new ∷ []) ≡ 0 → Fits layout w.trans w.caches b.log) v.bodies
     fits-still = each-weaken (λ (b : InHand). page_locks_on b.log.page.0 v.pages ≡ 0 → Fits layout w.trans w.caches b.log) (λ (b : InHand). page_locks_on b.log.page.0 (new ∷ []) ≡ 0 → Fits layout w.trans w.caches b.log) v.bodies
-        (λ b fits unlisted. fits (none-on b.log.page.0)) (h.fits.in_hand seat (v.pages, v.bodies) my_fit)
+        (λ b fits unlisted. fits (none-on b.log.page.0)) (h.pages.fits.in_hand seat (v.pages, v.bodies) my_fit)
 
     still-held : (bodies : List InHand) → EachMember (λ (b : InHand). IsHolding b (record { locks = v.locks; pages = new ∷ []; bodies = bodies })) v.bodies
-    still-held bodies i b at = elim (h.bodies.in_hand seat (holder_of v) (at_map holder_of views seat v me) i b at) [
+    still-held bodies i b at = elim (h.pages.bodies.in_hand seat (holder_of v) (at_map holder_of views seat v me) i b at) [
       | inl locked ↦ absurd (omega (arith, locked, none-on b.log.page.0))
       | inr some ↦ inr some
     ]
@@ -150,11 +150,11 @@ module _ (layout : Layout) (w : Words) (homes : Homes) (views : List View) (seat
     -- the body is in hand, from the frame that the cache word names
     module _ (place : ℕ) (body : InHand) (at : slice_get v.bodies place ≡ Some body) (number : body.log.page.0 ≡ page.0) where
       cached : slice_get w.caches body.log.page.0 ≡ Some (frame_name body.frame)
-      cached = elim (h.bodies.in_hand seat (holder_of v) (at_map holder_of views seat v me) place body at) [
+      cached = elim (h.pages.bodies.in_hand seat (holder_of v) (at_map holder_of views seat v me) place body at) [
         | inl locked ↦ absurd (omega (arith, locked, none-on body.log.page.0))
         | inr some ↦
-            let known : IsLocked w.frames v.refs some.1 = h.frame_locks.known seat (v.refs, v.locks) (at_map (λ (v : View). (v.refs, v.locks)) views seat v me) some.0 some.1 some.2 in
-            elim (h.caches.named some.1.frame.0 known.word body.log.page.0 known.there (known.owner ∙ some.3.0)) [
+            let known : IsLocked w.frames v.refs some.1 = h.frames.frame_locks.known seat (v.refs, v.locks) (at_map (λ (v : View). (v.refs, v.locks)) views seat v me) some.0 some.1 some.2 in
+            elim (h.pages.caches.named some.1.frame.0 known.word body.log.page.0 known.there (known.owner ∙ some.3.0)) [
               | inl named ↦ named ∙ ap (λ (f : Option Frame). Some (frame_name f)) (sym some.3.1)
               | inr both ↦
                   let was : (x : View) × (slice_get views both.0 ≡ Some x) × ((x.locks, x.pages) ≡ both.1) = map-was (λ (v : View). (v.locks, v.pages)) views both.0 both.1 both.2 in
@@ -165,7 +165,7 @@ module _ (layout : Layout) (w : Words) (homes : Homes) (views : List View) (seat
 
       knows-body : KnowsWords layout w.trans w.caches (knowing layout body.log body.frame bare)
       knows-body = knows-knowing layout w.trans w.caches body.log body.frame bare shaped.trans (sym number) cached
-          (h.fits.in_hand seat (v.pages, v.bodies) my_fit place body at (none-on body.log.page.0)) (in-frame (frame_name body.frame) (ap (slice_get w.caches) (sym number) ∙ cached))
+          (h.pages.fits.in_hand seat (v.pages, v.bodies) my_fit place body at (none-on body.log.page.0)) (in-frame (frame_name body.frame) (ap (slice_get w.caches) (sym number) ∙ cached))
 
     keeps-empty : (b : Option InHand) → body_of page v ≡ b → FrameRule layout words (set homes shelf None) (set views seat (record v { pages = lock_of_page layout page None b ∷ [] }))
     keeps-empty None e = keeps-lock-empty bare refl
@@ -200,7 +200,7 @@ module _ (layout : Layout) (w : Words) (homes : Homes) (views : List View) (seat
 
     knows : KnowsWords layout w.trans w.caches new
     knows = knows-knowing layout w.trans w.caches log None (record { page = page; resident = false; cache = None; trans = None }) shaped.trans (sym both.1)
-        (ap (slice_get w.caches) both.1 ∙ cache-there ∙ ap (λ (n : ℕ). Some n) both.0) (h.fits.at_home shelf log inside) refl
+        (ap (slice_get w.caches) both.1 ∙ cache-there ∙ ap (λ (n : ℕ). Some n) both.0) (h.pages.fits.at_home shelf log inside) refl
 
     lists : (b : Option InHand) → changed (is_page_lock_of log.page) (knowing layout log None) (v.pages ++ lock_of_page layout page (Some log) b ∷ []) ≡ new ∷ []
     lists b = ap (λ (l : List PageLock). changed (is_page_lock_of log.page) (knowing layout log None) (l ++ lock_of_page layout page (Some log) b ∷ [])) none ∙ by b

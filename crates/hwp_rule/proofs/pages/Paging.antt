@@ -59,23 +59,23 @@ module _ (layout : Layout) (w : Words) (homes : Homes) (views : List View) (seat
           sum-set (page_locks_on q) (map (λ (v : View). v.pages) views) seat v.pages pages (at_map (λ (v : View). v.pages) views seat v me) in
           elim (at_set w.pages p q now z at) [
             | inl t ↦
-                let was : sum_by (page_locks_on q) (map (λ (v : View). v.pages) views) ≡ lock_of word = h.page_locks.one q word (ap (slice_get w.pages) t.0 ∙ there) in
+                let was : sum_by (page_locks_on q) (map (λ (v : View). v.pages) views) ≡ lock_of word = h.pages.page_locks.one q word (ap (slice_get w.pages) t.0 ∙ there) in
                 let both : lock_of now + page_locks_on q v.pages ≡ lock_of word + page_locks_on q pages = subst (λ (n : ℕ). lock_of now + page_locks_on n v.pages ≡ lock_of word + page_locks_on n pages) (sym t.0) x.here in
                 let is : lock_of now ≡ lock_of z = ap lock_of t.1 in
                 omega arith
             | inr t ↦
-                let was : sum_by (page_locks_on q) (map (λ (v : View). v.pages) views) ≡ lock_of z = h.page_locks.one q z t.1 in
+                let was : sum_by (page_locks_on q) (map (λ (v : View). v.pages) views) ≡ lock_of z = h.pages.page_locks.one q z t.1 in
                 let same : page_locks_on q pages ≡ page_locks_on q v.pages = x.others q t.0 in
                 omega arith
           ];
-      page_once = each-set (λ (l : List PageLock). length l ≤ 1) (map (λ (v : View). v.pages) views) seat pages x.once h.page_locks.page_once;
-      frames_twice = h.page_locks.frames_twice;
+      page_once = each-set (λ (l : List PageLock). length l ≤ 1) (map (λ (v : View). v.pages) views) seat pages x.once h.pages.page_locks.page_once;
+      frames_twice = h.pages.page_locks.frames_twice;
     }
 
     caches-paging : CacheWordsOwned w.frames w.caches (set (map (λ (v : View). (v.locks, v.pages)) views) seat (v.locks, pages))
     caches-paging = record {
-      owned = h.caches.owned;
-      named = λ f z q at owner. elim (h.caches.named f z q at owner) [
+      owned = h.pages.caches.owned;
+      named = λ f z q at owner. elim (h.pages.caches.named f z q at owner) [
         | inl cached ↦ inl cached
         | inr both ↦ elim (same-or both.0 seat) [
           | inl same ↦
@@ -100,44 +100,48 @@ module _ (layout : Layout) (w : Words) (homes : Homes) (views : List View) (seat
 
     bodies-paging : BodiesAtHome layout w.frames w.caches words after (set (map holder_of views) seat (holder_of u))
     bodies-paging = record {
-      frame_home = λ f z at free. at-home f (owner_of z) (not-frame f z at) (h.bodies.frame_home f z at free);
-      frame_out = λ f z at locked. set_else homes (layout.frames + p) f y (not-frame f z at) ∙ h.bodies.frame_out f z at locked;
+      frame_home = λ f z at free. at-home f (owner_of z) (not-frame f z at) (h.pages.bodies.frame_home f z at free);
+      frame_out = λ f z at locked. set_else homes (layout.frames + p) f y (not-frame f z at) ∙ h.pages.bodies.frame_out f z at locked;
       shelf_home = λ q z c at cache free. elim (at_set w.pages p q now z at) [
         | inl t ↦ subst (λ (n : ℕ). IsAtHome after (layout.frames + n) (cond (c == 0) (n + 1) 0)) (sym t.0) (x.free_home (ap lock_of t.1 ∙ free) c (ap (slice_get w.caches) (sym t.0) ∙ cache))
-        | inr t ↦ at-home (layout.frames + q) (cond (c == 0) (q + 1) 0) (λ e. t.0 (omega (arith, e))) (h.bodies.shelf_home q z c t.1 cache free)
+        | inr t ↦ at-home (layout.frames + q) (cond (c == 0) (q + 1) 0) (λ e. t.0 (omega (arith, e))) (h.pages.bodies.shelf_home q z c t.1 cache free)
       ];
       shelf_out = λ q z at locked. elim (at_set w.pages p q now z at) [
         | inl t ↦ ap (λ (n : ℕ). slice_get after (layout.frames + n)) t.0 ∙ x.out (ap lock_of t.1 ∙ locked)
-        | inr t ↦ set_else homes (layout.frames + p) (layout.frames + q) y (λ e. t.0 (omega (arith, e))) ∙ h.bodies.shelf_out q z t.1 locked
+        | inr t ↦ set_else homes (layout.frames + p) (layout.frames + q) y (λ e. t.0 (omega (arith, e))) ∙ h.pages.bodies.shelf_out q z t.1 locked
       ];
       one = Carrying.one-carried layout w homes views seat v me h (layout.frames + p) y v.locks pages bodies lengths x.carries;
-      in_hand = each-set (λ (o : Holder). EachMember (λ (b : InHand). IsHolding b o) o.bodies) (map holder_of views) seat (holder_of u) x.in_hand h.bodies.in_hand;
+      in_hand = each-set (λ (o : Holder). EachMember (λ (b : InHand). IsHolding b o) o.bodies) (map holder_of views) seat (holder_of u) x.in_hand h.pages.bodies.in_hand;
     }
 
     pub keeps-paging : FrameRule layout (record w { pages = set w.pages p now }) (set homes (layout.frames + p) y) (set views seat u)
     keeps-paging = record {
-      counts = Kept.kept-counts views seat v u me w.frames w.trans w.caches refl h.counts;
-      places = Kept.kept-places views seat v u me layout.kernel w.frames w.frees refl h.places;
-      frame_locks = Kept.kept-frame-locks views seat v u me w.frames refl refl h.frame_locks;
-      page_locks = keep (λ (v : View). v.locks) (PageLocksHeld words (map (λ (v : View). v.pages) (set views seat u))) views seat v u me refl
-          (change (λ (v : View). v.pages) (λ l. PageLocksHeld words l (map (λ (v : View). v.locks) views)) views seat u page-locks-paging);
-      translations = h.translations;
-      caches = change (λ (v : View). (v.locks, v.pages)) (CacheWordsOwned w.frames w.caches) views seat u caches-paging;
-      bodies = change holder_of (BodiesAtHome layout w.frames w.caches words after) views seat u bodies-paging;
-      handled = h.handled;
-      counter = Kept.kept-counter views seat v u me w.frames w.counter refl refl refl h.counter;
-      free = Kept.kept-free views seat v u me layout.frames w.frees w.available refl h.free;
-      damage = Kept.kept-damage views seat v u me w.bads w.weaks refl refl h.damage;
-      entries = Carrying.entries-carried layout w homes views seat v me h (layout.frames + p) y v.locks pages bodies lengths x.carries;
-      endings = Carrying.endings-carried layout w homes views seat v me h (layout.frames + p) y v.locks pages bodies lengths x.carries;
-      marks = Kept.kept-marks views seat v u me w.frames refl refl h.marks;
-      holdings = Kept.kept-holdings views seat v u me layout refl h.holdings;
-      losses = Carrying.losses-carried layout w homes views seat v me h (layout.frames + p) y v.locks pages bodies lengths x.carries;
-      policies = Kept.kept-policies views seat v u me layout.threads w.policies refl refl refl h.policies;
-      exhaustion = Kept.kept-exhaustion views seat v u me layout refl refl h.exhaustion;
-      stops = Carrying.stops-carried layout w homes views seat v me h (layout.frames + p) y v.locks pages bodies lengths x.carries;
-      fits = Carrying.fits-carried layout w homes views seat v me h (layout.frames + p) y v.locks pages bodies lengths x.carries;
-      processors = Kept.kept-processors views seat v u me layout refl h.processors;
-      commands = Carrying.commands-carried layout w homes views seat v me h (layout.frames + p) y v.locks pages bodies lengths x.carries;
-      unpoisoned = Carrying.unpoisoned-carried layout w homes views seat v me h (layout.frames + p) y v.locks pages bodies lengths x.carries;
+      frames = Kept.same-frames views seat v u me refl h.frames;
+      pages = record {
+        page_locks = keep (λ (v : View). v.locks) (PageLocksHeld words (map (λ (v : View). v.pages) (set views seat u))) views seat v u me refl
+            (change (λ (v : View). v.pages) (λ l. PageLocksHeld words l (map (λ (v : View). v.locks) views)) views seat u page-locks-paging);
+        translations = h.pages.translations;
+        caches = change (λ (v : View). (v.locks, v.pages)) (CacheWordsOwned w.frames w.caches) views seat u caches-paging;
+        bodies = change holder_of (BodiesAtHome layout w.frames w.caches words after) views seat u bodies-paging;
+        fits = Carrying.fits-carried layout w homes views seat v me h (layout.frames + p) y v.locks pages bodies lengths x.carries;
+      };
+      histories = record {
+        entries = Carrying.entries-carried layout w homes views seat v me h (layout.frames + p) y v.locks pages bodies lengths x.carries;
+        endings = Carrying.endings-carried layout w homes views seat v me h (layout.frames + p) y v.locks pages bodies lengths x.carries;
+        losses = Carrying.losses-carried layout w homes views seat v me h (layout.frames + p) y v.locks pages bodies lengths x.carries;
+      };
+      failures = record {
+        handled = h.failures.handled;
+        counter = Kept.kept-counter views seat v u me refl refl refl h.failures.counter;
+        damage = Kept.kept-damage views seat v u me refl refl h.failures.damage;
+        marks = Kept.kept-marks views seat v u me refl refl h.failures.marks;
+        exhaustion = Kept.kept-exhaustion views seat v u me refl refl h.failures.exhaustion;
+        unpoisoned = Carrying.unpoisoned-carried layout w homes views seat v me h (layout.frames + p) y v.locks pages bodies lengths x.carries;
+      };
+      processors = record {
+        policies = Kept.kept-policies views seat v u me refl refl refl h.processors.policies;
+        stops = Carrying.stops-carried layout w homes views seat v me h (layout.frames + p) y v.locks pages bodies lengths x.carries;
+        processors = Kept.kept-processors views seat v u me refl h.processors.processors;
+        commands = Carrying.commands-carried layout w homes views seat v me h (layout.frames + p) y v.locks pages bodies lengths x.carries;
+      };
     }

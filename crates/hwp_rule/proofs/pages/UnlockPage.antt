@@ -56,7 +56,7 @@ module _ (layout : Layout) (w : Words) (homes : Homes) (views : List View) (seat
   test = same-number lock.page.0 page.0 number
 
   few : length v.pages ≤ 1
-  few = h.page_locks.page_once seat v.pages (at_map (λ (v : View). v.pages) views seat v me)
+  few = h.pages.page_locks.page_once seat v.pages (at_map (λ (v : View). v.pages) views seat v me)
 
   -- no page lock is left
   none-left : without (is_page_lock_of page) v.pages ≡ []
@@ -71,12 +71,12 @@ module _ (layout : Layout) (w : Words) (homes : Homes) (views : List View) (seat
 
   locked : lock_of found ≡ 1
   locked =
-      let all : sum_by (page_locks_on page.0) (map (λ (v : View). v.pages) views) ≡ lock_of found = h.page_locks.one page.0 found there in
+      let all : sum_by (page_locks_on page.0) (map (λ (v : View). v.pages) views) ≡ lock_of found = h.pages.page_locks.one page.0 found there in
       let mine : page_locks_on page.0 v.pages ≤ sum_by (page_locks_on page.0) (map (λ (v : View). v.pages) views) = term-le (page_locks_on page.0) (map (λ (v : View). v.pages) views) seat v.pages (at_map (λ (v : View). v.pages) views seat v me) in
       omega (arith, mine-on page.0, from_bool-same page.0 page.0 refl)
 
   out : slice_get homes shelf ≡ Some None
-  out = h.bodies.shelf_out page.0 found there locked
+  out = h.pages.bodies.shelf_out page.0 found there locked
 
   here : lock_of now + page_locks_on page.0 v.pages ≡ lock_of found + 0
   here = omega (arith, mine-on page.0, from_bool-same page.0 page.0 refl, locked, (fields-unlock found).lock)
@@ -88,7 +88,7 @@ module _ (layout : Layout) (w : Words) (homes : Homes) (views : List View) (seat
   not-both : (f x q : ℕ) → slice_get w.frames f ≡ Some x → owner_of x ≡ q + 1 → HoldsBoth f q (v.locks, v.pages) → ⊥
   not-both f x q at owner both =
       let some : SomeMember (λ (l : FrameLock). 0 < from_bool (l.frame.0 == f)) v.locks = some-term (λ (l : FrameLock). from_bool (l.frame.0 == f)) v.locks both.frame in
-      let known : IsLocked w.frames v.refs some.1 = h.frame_locks.known seat (v.refs, v.locks) (at_map (λ (v : View). (v.refs, v.locks)) views seat v me) some.0 some.1 some.2 in
+      let known : IsLocked w.frames v.refs some.1 = h.frames.frame_locks.known seat (v.refs, v.locks) (at_map (λ (v : View). (v.refs, v.locks)) views seat v me) some.0 some.1 some.2 in
       let same : some.1.frame.0 ≡ f = is-frame (some.1.frame.0 == f) refl some.3 in
       let word : known.word ≡ x = same_Some known.word x (sym known.there ∙ ap (slice_get w.frames) same ∙ at) in
       no_frame some.0 some.1 some.2 (sym known.owner ∙ ap owner_of word ∙ owner ∙ ap (λ (n : ℕ). n + 1) (sym this))
@@ -120,7 +120,7 @@ module _ (layout : Layout) (w : Words) (homes : Homes) (views : List View) (seat
   -- the shelf has what the cache word asks
   name-is : (content : Option Log) → content_name content ≡ cond lock.resident 0 (page.0 + 1) → (c : ℕ) → slice_get w.caches page.0 ≡ Some c → content_name content ≡ cond (c == 0) (page.0 + 1) 0
   name-is content named c at =
-      let known : not (c == 0) ≡ lock.resident = (h.fits.known seat (v.pages, v.bodies) my_fit 0 lock listed).resident c (ap (slice_get w.caches) number ∙ at) in
+      let known : not (c == 0) ≡ lock.resident = (h.pages.fits.known seat (v.pages, v.bodies) my_fit 0 lock listed).resident c (ap (slice_get w.caches) number ∙ at) in
       named ∙ ap (λ (b : Bool). cond b 0 (page.0 + 1)) (sym known) ∙ turned (c == 0)
     where
       turned : (b : Bool) → cond (not b) 0 (page.0 + 1) ≡ cond b (page.0 + 1) 0
@@ -132,14 +132,14 @@ module _ (layout : Layout) (w : Words) (homes : Homes) (views : List View) (seat
   keeps-unlock-empty named away = subst (λ (l : List PageLock). FrameRule layout words (set homes shelf (Some None)) (set views seat (record v { pages = l }))) (sym none-left)
       (keeps-paging layout w homes views seat v page.0 found now (Some None) [] v.bodies v.lengths me h shaped there (record {
         carries = carry-none layout w homes views seat v me h shelf None (Some None) [] out refl refl
-            (λ i b at unlisted. fits-still b (other i b at) (h.fits.in_hand seat (v.pages, v.bodies) my_fit i b at)) (λ i l e. absurd (none-some l e)) (λ i b at some. absurd (omega (arith, some)));
+            (λ i b at unlisted. fits-still b (other i b at) (h.pages.fits.in_hand seat (v.pages, v.bodies) my_fit i b at)) (λ i l e. absurd (none-some l e)) (λ i b at some. absurd (omega (arith, some)));
         here = here;
         others = others;
         once = omega arith;
         cached = λ f x q at owner both. absurd (not-both f x q at owner both);
         free_home = λ free c at. record { content = None; there = set_here homes shelf (Some None) None out; named = name-is None named c at };
         out = λ is. absurd (omega (arith, is, (fields-unlock found).lock));
-        in_hand = λ i b at. held-still v.bodies b (other i b at) (h.bodies.in_hand seat (holder_of v) (at_map holder_of views seat v me) i b at);
+        in_hand = λ i b at. held-still v.bodies b (other i b at) (h.pages.bodies.in_hand seat (holder_of v) (at_map holder_of views seat v me) i b at);
       }))
     where
       other : (i : ℕ) (b : InHand) → slice_get v.bodies i ≡ Some b → b.log.page.0 ≢ page.0
@@ -152,7 +152,7 @@ module _ (layout : Layout) (w : Words) (homes : Homes) (views : List View) (seat
       subst (λ (l : List PageLock). FrameRule layout words (set homes shelf (Some (Some log))) (set views seat (record v { pages = l; bodies = left }))) (sym none-left)
       (keeps-paging layout w homes views seat v page.0 found now (Some (Some log)) [] left v.lengths me h shaped there (record {
         carries = carry-home layout w homes views seat v me h log place body at is within log_is shelf [] out ended fit
-            (λ i b there unlisted. fits-still b (other i b there) (each-without (λ (b : InHand). page_locks_on b.log.page.0 v.pages ≡ 0 → Fits layout w.trans w.caches b.log) (is_body_of log.page) v.bodies (h.fits.in_hand seat (v.pages, v.bodies) my_fit) i b there))
+            (λ i b there unlisted. fits-still b (other i b there) (each-without (λ (b : InHand). page_locks_on b.log.page.0 v.pages ≡ 0 → Fits layout w.trans w.caches b.log) (is_body_of log.page) v.bodies (h.pages.fits.in_hand seat (v.pages, v.bodies) my_fit) i b there))
             (λ i l e. absurd (none-some l e)) (λ i b there some. absurd (omega (arith, some)));
         here = here;
         others = others;
@@ -161,7 +161,7 @@ module _ (layout : Layout) (w : Words) (homes : Homes) (views : List View) (seat
         free_home = λ free c cache. record { content = Some log; there = set_here homes shelf (Some (Some log)) None out; named = name-is (Some log) named c cache };
         out = λ is. absurd (omega (arith, is, (fields-unlock found).lock));
         in_hand = λ i b there. held-still left b (other i b there)
-            (each-without (λ (b : InHand). IsHolding b (holder_of v)) (is_body_of log.page) v.bodies (h.bodies.in_hand seat (holder_of v) (at_map holder_of views seat v me)) i b there);
+            (each-without (λ (b : InHand). IsHolding b (holder_of v)) (is_body_of log.page) v.bodies (h.pages.bodies.in_hand seat (holder_of v) (at_map holder_of views seat v me)) i b there);
       }))
     where
       left : List InHand

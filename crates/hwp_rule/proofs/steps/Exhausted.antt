@@ -79,13 +79,13 @@ module _ (layout : Layout) (w : Words) (homes : Homes) (views : List View) (soun
     by-lock v i is above =
         let one : SomeMember (λ (l : FrameLock). 0 < from_bool (l.frame.0 == f)) v.locks = some-term (λ (l : FrameLock). from_bool (l.frame.0 == f)) v.locks above in
         let same : one.1.frame.0 ≡ f = is-equal one.1.frame.0 f (one.1.frame.0 == f) refl one.3 in
-        let locked : IsLocked w.frames v.refs one.1 = h.frame_locks.known i (v.refs, v.locks) (at_map (λ (v : View). (v.refs, v.locks)) views i v is) one.0 one.1 one.2 in
+        let locked : IsLocked w.frames v.refs one.1 = h.frames.frame_locks.known i (v.refs, v.locks) (at_map (λ (v : View). (v.refs, v.locks)) views i v is) one.0 one.1 one.2 in
         let referenced : 0 < refs_on f v.refs = subst (λ (n : ℕ). 0 < refs_on n v.refs) same locked.referenced in
         let more : refs_on f v.refs ≤ sum_by (refs_on f) refs = term-le (refs_on f) refs i v.refs (at_map (λ (v : View). v.refs) views i v is) in
         by-reference (omega arith)
 
     by-owner : (q : ℕ) → owner_of word ≡ q + 1 → 0 < named f w.caches + listed_on f
-    by-owner q owned = elim (h.caches.named f word q there owned) [
+    by-owner q owned = elim (h.pages.caches.named f word q there owned) [
       | inl cached ↦
           let one : from_bool (f + 1 == f + 1) ≡ 1 = from_bool-same (f + 1) (f + 1) refl in
           let more : from_bool (f + 1 == f + 1) ≤ named f w.caches = term-le (λ (x : ℕ). from_bool (x == f + 1)) w.caches q (f + 1) cached in
@@ -103,7 +103,7 @@ module _ (layout : Layout) (w : Words) (homes : Homes) (views : List View) (soun
         let names : one.1 ≡ f + 1 = is-equal one.1 (f + 1) (one.1 == f + 1) refl one.3 in
         let frames : layout.frames ≤ 256 = sound.frames in
         elim (slice_get_cases layout.trans one.0).1 [
-          | inl found ↦ elim (h.translations.owned one.0 one.1 found.0 one.2 found.2) [
+          | inl found ↦ elim (h.pages.translations.owned one.0 one.1 found.0 one.2 found.2) [
             | inl none ↦ let none : one.1 ≡ 0 = none in absurd (omega arith)
             | inr some ↦ elim some [
               | inl poison ↦ let poison : one.1 ≡ 2 ^ 63 = poison in absurd (omega arith)
@@ -124,8 +124,8 @@ module _ (layout : Layout) (w : Words) (homes : Homes) (views : List View) (soun
 
     by-handled : usable layout f ≡ 1 → handled_of word ≡ 1 → 0 < is_marked layout marks f
     by-handled is handled =
-        let poison : poison_of word ≡ 1 = (h.handled.out f word there handled).poisoned in
-        let marked : poisonings f (cycle_of word) marks ≡ cond (nat_lt (cycle_of word) (cycle_of word)) 1 (cond (cycle_of word == cycle_of word) (poison_of word) 0) = h.marks.poisoned f word (cycle_of word) there in
+        let poison : poison_of word ≡ 1 = (h.failures.handled.out f word there handled).poisoned in
+        let marked : poisonings f (cycle_of word) marks ≡ cond (nat_lt (cycle_of word) (cycle_of word)) 1 (cond (cycle_of word == cycle_of word) (poison_of word) 0) = h.failures.marks.poisoned f word (cycle_of word) there in
         let now : cond (nat_lt (cycle_of word) (cycle_of word)) 1 (cond (cycle_of word == cycle_of word) (poison_of word) 0) ≡ poison_of word =
         ap (λ (b : Bool). cond b 1 (cond (cycle_of word == cycle_of word) (poison_of word) 0)) (le-ltb (cycle_of word) (cycle_of word) (omega arith)) ∙ ap (λ (b : Bool). cond b (poison_of word) 0) (eq-eqb (cycle_of word) (cycle_of word) refl) in
         let more : poisonings f (cycle_of word) marks ≤ sum_all (λ (m : Mark). from_bool (m.frame.0 == f)) marks =
@@ -137,7 +137,7 @@ module _ (layout : Layout) (w : Words) (homes : Homes) (views : List View) (soun
     -- a frame with a count is named by a cache word, referenced or marked
     used : f < layout.frames → usable layout f ≡ 1 → 0 < count_of word → 0 < named f w.caches + (is_marked layout marks f + listed_on f)
     used before is above =
-        let balance : count_of word ≡ named f w.trans + named f w.caches + sum_by (refs_on f) refs + handled_of word = h.counts.balance f word there in
+        let balance : count_of word ≡ named f w.trans + named f w.caches + sum_by (refs_on f) refs + handled_of word = h.frames.counts.balance f word there in
         elim (same-or (named f w.trans) 0) [
           | inr some ↦ let owned : 0 < named f w.caches + listed_on f = by-translation before (omega arith) in omega arith
           | inl unnamed ↦ elim (same-or (sum_by (refs_on f) refs) 0) [
@@ -167,7 +167,7 @@ module _ (layout : Layout) (w : Words) (homes : Homes) (views : List View) (soun
       by-kernel false is =
           let usable_is : usable layout f ≡ 1 = ap (λ (b : Bool). from_bool (not b)) is in
           let placed : free_bit w.frees f + in_hand f hands + min (count_of (slice_index w.frames f)) 1 ≡ 1 =
-          h.places.placed f (slice_index w.frames f) there (h.places.declared f (slice_index w.frames f) (slice_index_or layout.kernel f true) there declared ∙ is) in
+          h.frames.places.placed f (slice_index w.frames f) there (h.frames.places.declared f (slice_index w.frames f) (slice_index_or layout.kernel f true) there declared ∙ is) in
           elim (same-or (count_of (slice_index w.frames f)) 0) [
             | inl uncounted ↦ omega arith
             | inr counted ↦
@@ -180,10 +180,10 @@ module _ (layout : Layout) (w : Words) (homes : Homes) (views : List View) (soun
   held-few =
       let parts : List (List Part) = map (λ (v : View). v.parts) views in
       let few : sum_by (λ (v : View). frames_held (holdings_of v)) views ≤ sum_by (λ (v : View). length v.parts + length v.parts) views =
-      sum-le (λ (v : View). frames_held (holdings_of v)) (λ (v : View). length v.parts + length v.parts) views (λ i v is. bounded v (h.holdings.bounded i (holdings_of v) (at_map holdings_of views i v is))) in
+      sum-le (λ (v : View). frames_held (holdings_of v)) (λ (v : View). length v.parts + length v.parts) views (λ i v is. bounded v (h.frames.holdings.bounded i (holdings_of v) (at_map holdings_of views i v is))) in
       let twice : sum_by (λ (v : View). length v.parts + length v.parts) views ≡ sum_by (λ (v : View). length v.parts) views + sum_by (λ (v : View). length v.parts) views = sum-add (λ (v : View). length v.parts) (λ (v : View). length v.parts) views in
       let mapped : sum_by (λ (l : List Part). length l) parts ≡ sum_by (λ (v : View). length v.parts) views = sum-map (λ (l : List Part). length l) (λ (v : View). v.parts) views in
-      let number : sum_by (λ (l : List Part). length l) parts ≡ layout.cpus = parts-number layout parts h.processors in
+      let number : sum_by (λ (l : List Part). length l) parts ≡ layout.cpus = parts-number layout parts h.processors.processors in
       omega arith
     where
       bounded : (v : View) → IsBounded layout (holdings_of v) → frames_held (holdings_of v) ≤ length v.parts + length v.parts
@@ -211,7 +211,7 @@ module _ (layout : Layout) (w : Words) (homes : Homes) (views : List View) (soun
       let three : sum_below (λ f. named f w.caches + (is_marked layout marks f + listed_on f)) layout.frames ≡ sum_below (λ f. named f w.caches) layout.frames + sum_below (λ f. is_marked layout marks f + listed_on f) layout.frames =
       below-add (λ f. named f w.caches) (λ f. is_marked layout marks f + listed_on f) layout.frames in
       let four : sum_below (λ f. is_marked layout marks f + listed_on f) layout.frames ≡ sum_below (is_marked layout marks) layout.frames + sum_below listed_on layout.frames = below-add (is_marked layout marks) listed_on layout.frames in
-      let free : sum_below (free_bit w.frees) layout.frames ≡ w.available + sum_by (λ (n : ℕ). n) (map (λ (v : View). v.reserved) views) = h.free.number in
+      let free : sum_below (free_bit w.frees) layout.frames ≡ w.available + sum_by (λ (n : ℕ). n) (map (λ (v : View). v.reserved) views) = h.frames.free.number in
       let free_held : sum_by (λ (n : ℕ). n) (map (λ (v : View). v.reserved) views) ≡ sum_by (λ (v : View). v.reserved) views = sum-map (λ (n : ℕ). n) (λ (v : View). v.reserved) views in
       let handed : sum_below (λ f. in_hand f hands) layout.frames ≤ sum_by (λ (l : List Frame). length l) hands = hits-all-le (λ (h : Frame). h.0) hands layout.frames in
       let handed_held : sum_by (λ (l : List Frame). length l) hands ≡ sum_by (λ (v : View). length v.hands) views = sum-map (λ (l : List Frame). length l) (λ (v : View). v.hands) views in

@@ -51,18 +51,18 @@ module _ (layout : Layout) (w : Words) (homes : Homes) (views : List View) (seat
         let kept : page_locks_on q listing.pages ≡ page_locks_on q v.pages = same-locks test to same v.pages q in
         let before : sum_by (page_locks_on q) pages ≡ sum_by (page_locks_on q) pages = refl in
         let gone : sum_by (page_locks_on q) (set pages seat listing.pages) ≡ sum_by (page_locks_on q) pages = omega arith in
-        gone ∙ h.page_locks.one q word there;
+        gone ∙ h.pages.page_locks.one q word there;
     page_once = each-set (λ (l : List PageLock). length l ≤ 1) pages seat listing.pages
         (let wide : length listing.pages ≡ length v.pages = length-changed test to v.pages in
-        let once : length v.pages ≤ 1 = h.page_locks.page_once seat v.pages (at_map (λ (v : View). v.pages) views seat v me) in
-        omega arith) h.page_locks.page_once;
-    frames_twice = h.page_locks.frames_twice;
+        let once : length v.pages ≤ 1 = h.pages.page_locks.page_once seat v.pages (at_map (λ (v : View). v.pages) views seat v me) in
+        omega arith) h.pages.page_locks.page_once;
+    frames_twice = h.pages.page_locks.frames_twice;
   }
 
   pub caches-listed : CacheWordsOwned w.frames w.caches (set both seat (v.locks, listing.pages))
   caches-listed = record {
-    owned = h.caches.owned;
-    named = λ f word q there owner. elim (h.caches.named f word q there owner) [
+    owned = h.pages.caches.owned;
+    named = λ f word q there owner. elim (h.pages.caches.named f word q there owner) [
       | inl cached ↦ inl cached
       | inr some ↦ inr (some-set (HoldsBoth f q) both seat (v.locks, v.pages) (v.locks, listing.pages) (at_map (λ (v : View). (v.locks, v.pages)) views seat v me)
           (λ holds. record { frame = holds.frame; page = subst (λ (n : ℕ). 0 < n) (sym (same-locks test to same v.pages q)) holds.page }) some)
@@ -75,15 +75,15 @@ module _ (layout : Layout) (w : Words) (homes : Homes) (views : List View) (seat
 
   pub bodies-listed : BodiesAtHome layout w.frames w.caches w.pages homes (set holders seat (holder_of listing))
   bodies-listed = record {
-    frame_home = h.bodies.frame_home;
-    frame_out = h.bodies.frame_out;
-    shelf_home = h.bodies.shelf_home;
-    shelf_out = h.bodies.shelf_out;
+    frame_home = h.pages.bodies.frame_home;
+    frame_out = h.pages.bodies.frame_out;
+    shelf_home = h.pages.bodies.shelf_home;
+    shelf_out = h.pages.bodies.shelf_out;
     one = λ q declared.
-        keep (λ (x : Holder). x.bodies) (λ l. OneBody q l) holders seat (holder_of v) (holder_of listing) there refl (h.bodies.one q declared);
+        keep (λ (x : Holder). x.bodies) (λ l. OneBody q l) holders seat (holder_of v) (holder_of listing) there refl (h.pages.bodies.one q declared);
     in_hand = each-set (λ (x : Holder). EachMember (λ (b : InHand). IsHolding b x) x.bodies) holders seat (holder_of listing)
         (each-weaken (λ (b : InHand). IsHolding b (holder_of v)) (λ (b : InHand). IsHolding b (holder_of listing)) v.bodies (λ b holding. still-holding b holding)
-        (h.bodies.in_hand seat (holder_of v) there)) h.bodies.in_hand;
+        (h.pages.bodies.in_hand seat (holder_of v) there)) h.pages.bodies.in_hand;
   }
     where
       OneBody : ℕ → List (List InHand) → Type 0
@@ -94,14 +94,14 @@ module _ (layout : Layout) (w : Words) (homes : Homes) (views : List View) (seat
 
   fits-listed : EachMember (KnowsWords layout w.trans w.caches) listing.pages → ((b : InHand) → KnowsOwn v.pages b → KnowsOwn listing.pages b) → PageFits layout w.trans w.caches homes (set fitting seat (listing.pages, v.bodies))
   fits-listed knows own = record {
-    at_home = h.fits.at_home;
+    at_home = h.pages.fits.at_home;
     in_hand = each-set (λ (x : List PageLock × List InHand). EachMember (λ (b : InHand). page_locks_on b.log.page.0 x.0 ≡ 0 → Fits layout w.trans w.caches b.log) x.1) fitting seat (listing.pages, v.bodies)
         (each-weaken (λ (b : InHand). page_locks_on b.log.page.0 v.pages ≡ 0 → Fits layout w.trans w.caches b.log) (λ (b : InHand). page_locks_on b.log.page.0 listing.pages ≡ 0 → Fits layout w.trans w.caches b.log) v.bodies
-        (λ b fits none. fits (sym (same-locks test to same v.pages b.log.page.0) ∙ none)) (h.fits.in_hand seat (v.pages, v.bodies) there)) h.fits.in_hand;
-    known = each-set (λ (x : List PageLock × List InHand). EachMember (KnowsWords layout w.trans w.caches) x.0) fitting seat (listing.pages, v.bodies) knows h.fits.known;
+        (λ b fits none. fits (sym (same-locks test to same v.pages b.log.page.0) ∙ none)) (h.pages.fits.in_hand seat (v.pages, v.bodies) there)) h.pages.fits.in_hand;
+    known = each-set (λ (x : List PageLock × List InHand). EachMember (KnowsWords layout w.trans w.caches) x.0) fitting seat (listing.pages, v.bodies) knows h.pages.fits.known;
     own = each-set (λ (x : List PageLock × List InHand). EachMember (λ (b : InHand). 0 < page_locks_on b.log.page.0 x.0 → KnowsOwn x.0 b) x.1) fitting seat (listing.pages, v.bodies)
         (each-weaken (λ (b : InHand). 0 < page_locks_on b.log.page.0 v.pages → KnowsOwn v.pages b) (λ (b : InHand). 0 < page_locks_on b.log.page.0 listing.pages → KnowsOwn listing.pages b) v.bodies
-        (λ b knows some. own b (knows (subst (λ (n : ℕ). 0 < n) (same-locks test to same v.pages b.log.page.0) some))) (h.fits.own seat (v.pages, v.bodies) there)) h.fits.own;
+        (λ b knows some. own b (knows (subst (λ (n : ℕ). 0 < n) (same-locks test to same v.pages b.log.page.0) some))) (h.pages.fits.own seat (v.pages, v.bodies) there)) h.pages.fits.own;
   }
     where
       there : slice_get fitting seat ≡ Some (v.pages, v.bodies)
@@ -110,34 +110,22 @@ module _ (layout : Layout) (w : Words) (homes : Homes) (views : List View) (seat
   -- the view may list so of its page's lock
   pub keeps-listing : EachMember (KnowsWords layout w.trans w.caches) listing.pages → ((b : InHand) → KnowsOwn v.pages b → KnowsOwn listing.pages b) → FrameRule layout w homes (set views seat listing)
   keeps-listing knows own = record {
-    counts = Kept.kept-counts views seat v u me w.frames w.trans w.caches refl h.counts;
-    places = Kept.kept-places views seat v u me layout.kernel w.frames w.frees refl h.places;
-    frame_locks = Kept.kept-frame-locks views seat v u me w.frames refl refl h.frame_locks;
-    page_locks = keep (λ (v : View). v.locks) (λ l. PageLocksHeld w.pages (map (λ (v : View). v.pages) (set views seat u)) l) views seat v u me refl
-        (change (λ (v : View). v.pages) (λ l. PageLocksHeld w.pages l (map (λ (v : View). v.locks) views)) views seat u locks-listed);
-    translations = h.translations;
-    caches = change (λ (v : View). (v.locks, v.pages)) (CacheWordsOwned w.frames w.caches) views seat u caches-listed;
-    bodies = change holder_of (BodiesAtHome layout w.frames w.caches w.pages homes) views seat u bodies-listed;
-    handled = h.handled;
-    counter = Kept.kept-counter views seat v u me w.frames w.counter refl refl refl h.counter;
-    free = Kept.kept-free views seat v u me layout.frames w.frees w.available refl h.free;
-    damage = Kept.kept-damage views seat v u me w.bads w.weaks refl refl h.damage;
-    entries = Kept.kept-entries views seat v u me homes refl refl refl refl h.entries;
-    endings = Kept.kept-endings views seat v u me layout w.processes homes refl refl h.endings;
-    marks = Kept.kept-marks views seat v u me w.frames refl refl h.marks;
-    holdings = Kept.kept-holdings views seat v u me layout refl h.holdings;
-    losses = Kept.kept-losses views seat v u me layout w.losses homes refl refl h.losses;
-    policies = Kept.kept-policies views seat v u me layout.threads w.policies refl refl refl h.policies;
-    exhaustion = Kept.kept-exhaustion views seat v u me layout refl refl h.exhaustion;
-    stops = Kept.kept-stops views seat v u me w.processes w.stop refl refl refl h.stops;
-    fits = change (λ (v : View). (v.pages, v.bodies)) (PageFits layout w.trans w.caches homes) views seat u (fits-listed knows own);
-    processors = Kept.kept-processors views seat v u me layout refl h.processors;
-    commands = Kept.kept-commands views seat v u me (record { made = mine.made; marks = mine.marks; sights = mine.sights; lengths = mine.lengths; settings = mine.settings; stops = mine.stops }) h.commands;
-    unpoisoned = Kept.kept-unpoisoned views seat v u me w.frames homes refl refl h.unpoisoned;
+    frames = Kept.same-frames views seat v u me refl h.frames;
+    pages = record {
+      page_locks = keep (λ (v : View). v.locks) (λ l. PageLocksHeld w.pages (map (λ (v : View). v.pages) (set views seat u)) l) views seat v u me refl
+          (change (λ (v : View). v.pages) (λ l. PageLocksHeld w.pages l (map (λ (v : View). v.locks) views)) views seat u locks-listed);
+      translations = h.pages.translations;
+      caches = change (λ (v : View). (v.locks, v.pages)) (CacheWordsOwned w.frames w.caches) views seat u caches-listed;
+      bodies = change holder_of (BodiesAtHome layout w.frames w.caches w.pages homes) views seat u bodies-listed;
+      fits = change (λ (v : View). (v.pages, v.bodies)) (PageFits layout w.trans w.caches homes) views seat u (fits-listed knows own);
+    };
+    histories = Kept.same-histories views seat v u me refl h.histories;
+    failures = Kept.same-failures views seat v u me refl h.failures;
+    processors = Kept.same-processors views seat v u me refl h.processors;
   }
     where
       u : View
       u = listing
 
       mine : AreOwn v
-      mine = h.commands.own seat v me
+      mine = h.processors.commands.own seat v me

@@ -111,7 +111,7 @@ keeps-load-cache page layout w homes views seat v who content given =
               one ∙ e;
           words = k.words;
         })
-        (given.rule.fits.known seat (v.pages, v.bodies) (at_map (λ (v : View). (v.pages, v.bodies)) views seat v given.me))
+        (given.rule.pages.fits.known seat (v.pages, v.bodies) (at_map (λ (v : View). (v.pages, v.bodies)) views seat v given.me))
 
     own : (b : InHand) → KnowsOwn v.pages b → KnowsOwn u.pages b
     own b k = which (test k.lock) refl

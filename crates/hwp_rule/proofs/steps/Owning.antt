@@ -53,7 +53,7 @@ module _ (layout : Layout) (w : Words) (homes : Homes) (views : List View) (seat
       (are : FieldsAre now (lock_of word) (poison_of word) (handled_of word) (kernel_of word) (count_of word) b (cycle_of word)) (mine : 0 < locks_on frame.0 v.locks) (unhandled : handled_of word ≡ 0) where
     locked : lock_of word ≡ 1
     locked =
-        let one : sum_by (λ (x : List Ref × List FrameLock). locks_on frame.0 x.1) held ≡ lock_of word = h.frame_locks.one frame.0 word there in
+        let one : sum_by (λ (x : List Ref × List FrameLock). locks_on frame.0 x.1) held ≡ lock_of word = h.frames.frame_locks.one frame.0 word there in
         let more : locks_on frame.0 v.locks ≤ sum_by (λ (x : List Ref × List FrameLock). locks_on frame.0 x.1) held = term-le (λ (x : List Ref × List FrameLock). locks_on frame.0 x.1) held seat (v.refs, v.locks) (at_map (λ (v : View). (v.refs, v.locks)) views seat v me) in
         let bit : lock_of word < 2 = omega arith in
         omega (arith, mine, one, more, bit)
@@ -68,8 +68,8 @@ module _ (layout : Layout) (w : Words) (homes : Homes) (views : List View) (seat
     counts-owning : CountsBalance frames w.trans w.caches (map (λ (v : View). v.refs) views)
     counts-owning = record {
       balance = at-frame (λ g x. count_of x ≡ named g w.trans + named g w.caches + sum_by (refs_on g) (map (λ (v : View). v.refs) views) + handled_of x)
-          (are.count ∙ h.counts.balance frame.0 word there ∙ ap (λ (n : ℕ). named frame.0 w.trans + named frame.0 w.caches + sum_by (refs_on frame.0) (map (λ (v : View). v.refs) views) + n) (sym are.handled))
-          (λ g x differs at. h.counts.balance g x at);
+          (are.count ∙ h.frames.counts.balance frame.0 word there ∙ ap (λ (n : ℕ). named frame.0 w.trans + named frame.0 w.caches + sum_by (refs_on frame.0) (map (λ (v : View). v.refs) views) + n) (sym are.handled))
+          (λ g x differs at. h.frames.counts.balance g x at);
     }
 
     kernel-same : is_kernel now ≡ is_kernel word
@@ -77,17 +77,17 @@ module _ (layout : Layout) (w : Words) (homes : Homes) (views : List View) (seat
 
     places-owning : HasOnePlace layout.kernel frames w.frees (map (λ (v : View). v.hands) views)
     places-owning = record {
-      declared = λ g x k at is. at-frame (λ g x. slice_get layout.kernel g ≡ Some k → is_kernel x ≡ k) (λ is. kernel-same ∙ h.places.declared frame.0 word k there is) (λ g x differs at is. h.places.declared g x k at is) g x at is;
+      declared = λ g x k at is. at-frame (λ g x. slice_get layout.kernel g ≡ Some k → is_kernel x ≡ k) (λ is. kernel-same ∙ h.frames.places.declared frame.0 word k there is) (λ g x differs at is. h.frames.places.declared g x k at is) g x at is;
       placed = at-frame (λ g x. is_kernel x ≡ false → free_bit w.frees g + in_hand g (map (λ (v : View). v.hands) views) + min (count_of x) 1 ≡ 1)
-          (λ usable. ap (λ (n : ℕ). free_bit w.frees frame.0 + in_hand frame.0 (map (λ (v : View). v.hands) views) + min n 1) are.count ∙ h.places.placed frame.0 word there (sym kernel-same ∙ usable))
-          (λ g x differs at usable. h.places.placed g x at usable);
+          (λ usable. ap (λ (n : ℕ). free_bit w.frees frame.0 + in_hand frame.0 (map (λ (v : View). v.hands) views) + min n 1) are.count ∙ h.frames.places.placed frame.0 word there (sym kernel-same ∙ usable))
+          (λ g x differs at usable. h.frames.places.placed g x at usable);
       idle = at-frame (λ g x. 0 < free_bit w.frees g + in_hand g (map (λ (v : View). v.hands) views) → IsBare x)
-          (λ idle. let free : lock_of word ≡ 0 = (h.places.idle frame.0 word there idle).unlocked in absurd (omega (arith, free, locked)))
-          (λ g x differs at idle. h.places.idle g x at idle);
-      handed = h.places.handed;
+          (λ idle. let free : lock_of word ≡ 0 = (h.frames.places.idle frame.0 word there idle).unlocked in absurd (omega (arith, free, locked)))
+          (λ g x differs at idle. h.frames.places.idle g x at idle);
+      handed = h.frames.places.handed;
       kernels = at-frame (λ g x. is_kernel x ≡ true → IsApart w.frees (map (λ (v : View). v.hands) views) g x)
-          (λ kernel. let free : lock_of word ≡ 0 = (h.places.kernels frame.0 word there (sym kernel-same ∙ kernel)).bare.unlocked in absurd (omega (arith, free, locked)))
-          (λ g x differs at kernel. h.places.kernels g x at kernel);
+          (λ kernel. let free : lock_of word ≡ 0 = (h.frames.places.kernels frame.0 word there (sym kernel-same ∙ kernel)).bare.unlocked in absurd (omega (arith, free, locked)))
+          (λ g x differs at kernel. h.frames.places.kernels g x at kernel);
     }
 
     -- a lock of another frame, and that of this one
@@ -117,10 +117,10 @@ module _ (layout : Layout) (w : Words) (homes : Homes) (views : List View) (seat
     locks-owning : FrameLocksHeld frames (set held seat (v.refs, owning.locks))
     locks-owning = record {
       one = at-frame (λ g x. sum_by (λ (x : List Ref × List FrameLock). locks_on g x.1) (set held seat (v.refs, owning.locks)) ≡ lock_of x)
-          (total frame.0 ∙ h.frame_locks.one frame.0 word there ∙ sym are.lock) (λ g x differs at. total g ∙ h.frame_locks.one g x at);
+          (total frame.0 ∙ h.frames.frame_locks.one frame.0 word there ∙ sym are.lock) (λ g x differs at. total g ∙ h.frames.frame_locks.one g x at);
       known = λ i x is j l at. elim (at_set held seat i (v.refs, owning.locks) x is) [
         | inl t ↦ subst (λ (x : List Ref × List FrameLock). IsLocked frames x.0 l) t.1 (own j l (subst (λ (x : List Ref × List FrameLock). slice_get x.1 j ≡ Some l) (sym t.1) at))
-        | inr t ↦ still-locked x.0 l (λ same. another i x t.0 t.1 j l at same) (h.frame_locks.known i x t.1 j l at)
+        | inr t ↦ still-locked x.0 l (λ same. another i x t.0 t.1 j l at same) (h.frames.frame_locks.known i x t.1 j l at)
       ];
     }
       where
@@ -143,12 +143,12 @@ module _ (layout : Layout) (w : Words) (homes : Homes) (views : List View) (seat
             was = map-was (λ (x : FrameLock). cond (is_lock_of frame x) (to x) x) v.locks j l at
 
             which : (c : Bool) → is_lock_of frame was.0 ≡ c → IsLocked frames v.refs (cond c (to was.0) was.0)
-            which true is = now-locked was.0 (eqb-true was.0.frame.0 frame.0 is) (h.frame_locks.known seat (v.refs, v.locks) here j was.0 was.1)
-            which false is = still-locked v.refs was.0 (eqb-false was.0.frame.0 frame.0 is) (h.frame_locks.known seat (v.refs, v.locks) here j was.0 was.1)
+            which true is = now-locked was.0 (eqb-true was.0.frame.0 frame.0 is) (h.frames.frame_locks.known seat (v.refs, v.locks) here j was.0 was.1)
+            which false is = still-locked v.refs was.0 (eqb-false was.0.frame.0 frame.0 is) (h.frames.frame_locks.known seat (v.refs, v.locks) here j was.0 was.1)
 
         another : (i : ℕ) (x : List Ref × List FrameLock) → i ≢ seat → slice_get held i ≡ Some x → (j : ℕ) (l : FrameLock) → slice_get x.1 j ≡ Some l → l.frame.0 ≡ frame.0 → ⊥
         another i x differs is j l at same =
-            let one : sum_by (on frame.0) held ≡ lock_of word = h.frame_locks.one frame.0 word there in
+            let one : sum_by (on frame.0) held ≡ lock_of word = h.frames.frame_locks.one frame.0 word there in
             let two : locks_on frame.0 x.1 + locks_on frame.0 v.locks ≤ sum_by (on frame.0) held = terms-le (on frame.0) held i seat x (v.refs, v.locks) differs is here in
             let first : from_bool (l.frame.0 == frame.0) ≤ locks_on frame.0 x.1 = term-le (λ (l : FrameLock). from_bool (l.frame.0 == frame.0)) x.1 j l at in
             let it : from_bool (l.frame.0 == frame.0) ≡ 1 = ap from_bool (same-number l.frame.0 frame.0 same) in
@@ -156,12 +156,12 @@ module _ (layout : Layout) (w : Words) (homes : Homes) (views : List View) (seat
 
     bodies-owning : EachMember (λ (b : InHand). IsHolding b (holder_of owning)) v.bodies → BodiesAtHome layout frames w.caches w.pages homes (set (map holder_of views) seat (holder_of owning))
     bodies-owning holding = record {
-      frame_home = at-frame (λ g x. lock_of x ≡ 0 → IsAtHome homes g (owner_of x)) (λ free. absurd (omega (arith, free, locked, are.lock))) (λ g x differs at free. h.bodies.frame_home g x at free);
-      frame_out = at-frame (λ g x. lock_of x ≡ 1 → slice_get homes g ≡ Some None) (λ is. h.bodies.frame_out frame.0 word there locked) (λ g x differs at is. h.bodies.frame_out g x at is);
-      shelf_home = h.bodies.shelf_home;
-      shelf_out = h.bodies.shelf_out;
-      one = λ q declared. keep (λ (x : Holder). x.bodies) (OneBody q) (map holder_of views) seat (holder_of v) (holder_of owning) (at_map holder_of views seat v me) refl (h.bodies.one q declared);
-      in_hand = each-set (λ (x : Holder). EachMember (λ (b : InHand). IsHolding b x) x.bodies) (map holder_of views) seat (holder_of owning) holding h.bodies.in_hand;
+      frame_home = at-frame (λ g x. lock_of x ≡ 0 → IsAtHome homes g (owner_of x)) (λ free. absurd (omega (arith, free, locked, are.lock))) (λ g x differs at free. h.pages.bodies.frame_home g x at free);
+      frame_out = at-frame (λ g x. lock_of x ≡ 1 → slice_get homes g ≡ Some None) (λ is. h.pages.bodies.frame_out frame.0 word there locked) (λ g x differs at is. h.pages.bodies.frame_out g x at is);
+      shelf_home = h.pages.bodies.shelf_home;
+      shelf_out = h.pages.bodies.shelf_out;
+      one = λ q declared. keep (λ (x : Holder). x.bodies) (OneBody q) (map holder_of views) seat (holder_of v) (holder_of owning) (at_map holder_of views seat v me) refl (h.pages.bodies.one q declared);
+      in_hand = each-set (λ (x : Holder). EachMember (λ (b : InHand). IsHolding b x) x.bodies) (map holder_of views) seat (holder_of owning) holding h.pages.bodies.in_hand;
     }
       where
         OneBody : ℕ → List (List InHand) → Type 0
@@ -169,7 +169,7 @@ module _ (layout : Layout) (w : Words) (homes : Homes) (views : List View) (seat
 
     handled-owning : HandledIsPoisoned frames
     handled-owning = record {
-      out = at-frame (λ g x. handled_of x ≡ 1 → IsOutOfUse x) (λ is. absurd (omega (arith, is, unhandled, are.handled))) (λ g x differs at is. h.handled.out g x at is);
+      out = at-frame (λ g x. handled_of x ≡ 1 → IsOutOfUse x) (λ is. absurd (omega (arith, is, unhandled, are.handled))) (λ g x differs at is. h.failures.handled.out g x at is);
     }
 
     counter-owning : CounterAgrees frames w.counter (map (λ (v : View). (v.owed, v.marks)) views) (map (λ (v : View). v.sights) views)
@@ -178,29 +178,29 @@ module _ (layout : Layout) (w : Words) (homes : Homes) (views : List View) (seat
           let moved : sum_by poison_of frames + poison_of word ≡ sum_by poison_of w.frames + poison_of now = sum-set poison_of w.frames frame.0 word now there in
           let poison : poison_of now ≡ poison_of word = are.poison in
           let same : sum_by poison_of frames ≡ sum_by poison_of w.frames = omega arith in
-          h.counter.poisoned ∙ ap (λ (n : ℕ). 2 ^ 31 + n + sum_by (λ (d : Debts × List Mark). d.0.uncounts) (map (λ (v : View). (v.owed, v.marks)) views)) (sym same);
-      hardware = h.counter.hardware;
-      covered = h.counter.covered;
-      shown = h.counter.shown;
+          h.failures.counter.poisoned ∙ ap (λ (n : ℕ). 2 ^ 31 + n + sum_by (λ (d : Debts × List Mark). d.0.uncounts) (map (λ (v : View). (v.owed, v.marks)) views)) (sym same);
+      hardware = h.failures.counter.hardware;
+      covered = h.failures.counter.covered;
+      shown = h.failures.counter.shown;
     }
 
     marks-owning : MarksAlternate frames (map (λ (v : View). v.marks) views) (map (λ (v : View). v.sights) views)
     marks-owning = record {
       poisoned = λ g x cycle at. at-frame (λ g x. poisonings g cycle marks ≡ cond (nat_lt cycle (cycle_of x)) 1 (cond (cycle == cycle_of x) (poison_of x) 0))
-          (h.marks.poisoned frame.0 word cycle there ∙ (λ i. cond (nat_lt cycle (sym are.cycle i)) 1 (cond (cycle == sym are.cycle i) (sym are.poison i) 0)))
-          (λ g x differs at. h.marks.poisoned g x cycle at) g x at;
+          (h.failures.marks.poisoned frame.0 word cycle there ∙ (λ i. cond (nat_lt cycle (sym are.cycle i)) 1 (cond (cycle == sym are.cycle i) (sym are.poison i) 0)))
+          (λ g x differs at. h.failures.marks.poisoned g x cycle at) g x at;
       revived = λ g x cycle at. at-frame (λ g x. revivals g cycle marks ≡ from_bool (nat_lt cycle (cycle_of x)))
-          (h.marks.revived frame.0 word cycle there ∙ ap (λ (c : ℕ). from_bool (nat_lt cycle c)) (sym are.cycle)) (λ g x differs at. h.marks.revived g x cycle at) g x at;
-      framed = subst (λ (n : ℕ). EachListed (λ (m : Mark). m.frame.0 < n) marks) (sym (length-set w.frames frame.0 now)) h.marks.framed;
-      few = h.marks.few;
+          (h.failures.marks.revived frame.0 word cycle there ∙ ap (λ (c : ℕ). from_bool (nat_lt cycle c)) (sym are.cycle)) (λ g x differs at. h.failures.marks.revived g x cycle at) g x at;
+      framed = subst (λ (n : ℕ). EachListed (λ (m : Mark). m.frame.0 < n) marks) (sym (length-set w.frames frame.0 now)) h.failures.marks.framed;
+      few = h.failures.marks.few;
       shown = λ g x at. elim (at_set w.frames frame.0 g.0 now x at) [
         | inl t ↦ λ i list is j s listed place.
-            let before : IsBefore word s = h.marks.shown g word (ap (slice_get w.frames) t.0 ∙ there) i list is j s listed place in
+            let before : IsBefore word s = h.failures.marks.shown g word (ap (slice_get w.frames) t.0 ∙ there) i list is j s listed place in
             subst (λ (n : ℕ). IsBefore n s) t.1 (record {
               cycle = subst (λ (c : ℕ). cycle_of s.word ≤ c) (sym are.cycle) before.cycle;
               poison = λ e. subst (λ (p : ℕ). poison_of s.word ≤ p) (sym are.poison) (before.poison (e ∙ are.cycle));
             })
-        | inr t ↦ h.marks.shown g x t.1
+        | inr t ↦ h.failures.marks.shown g x t.1
       ];
     }
       where
@@ -209,19 +209,19 @@ module _ (layout : Layout) (w : Words) (homes : Homes) (views : List View) (seat
 
     unpoisoned-owning : NothingPoisonedYet frames (map (λ (v : View). v.spoiled) views) homes (map (λ (v : View). v.bodies) views)
     unpoisoned-owning = record {
-      sound = at-frame (λ g x. poison_of x ≡ 0) (are.poison ∙ h.unpoisoned.sound frame.0 word there) (λ g x differs at. h.unpoisoned.sound g x at);
-      unspoiled = h.unpoisoned.unspoiled;
-      no_failure = h.unpoisoned.no_failure;
+      sound = at-frame (λ g x. poison_of x ≡ 0) (are.poison ∙ h.failures.unpoisoned.sound frame.0 word there) (λ g x differs at. h.failures.unpoisoned.sound g x at);
+      unspoiled = h.failures.unpoisoned.unspoiled;
+      no_failure = h.failures.unpoisoned.no_failure;
     }
 
     page-locks-owning : PageLocksHeld w.pages (map (λ (v : View). v.pages) views) (set (map (λ (v : View). v.locks) views) seat owning.locks)
     page-locks-owning = record {
-      one = h.page_locks.one;
-      page_once = h.page_locks.page_once;
+      one = h.pages.page_locks.one;
+      page_once = h.pages.page_locks.page_once;
       frames_twice = each-set (λ (l : List FrameLock). length l ≤ 2) (map (λ (v : View). v.locks) views) seat owning.locks
           (let wide : length owning.locks ≡ length v.locks = length-changed (is_lock_of frame) to v.locks in
-          let few : length v.locks ≤ 2 = h.page_locks.frames_twice seat v.locks (at_map (λ (v : View). v.locks) views seat v me) in
-          omega arith) h.page_locks.frames_twice;
+          let few : length v.locks ≤ 2 = h.pages.page_locks.frames_twice seat v.locks (at_map (λ (v : View). v.locks) views seat v me) in
+          omega arith) h.pages.page_locks.frames_twice;
     }
 
     -- the rule stays, where the parts on owners do
@@ -230,31 +230,32 @@ module _ (layout : Layout) (w : Words) (homes : Homes) (views : List View) (seat
         → EachMember (λ (b : InHand). IsHolding b (holder_of owning)) v.bodies
         → FrameRule layout (record w { frames = frames }) homes (set views seat owning)
     kept-owning translations caches holding = record {
-      counts = Kept.kept-counts views seat v owning me frames w.trans w.caches refl counts-owning;
-      places = Kept.kept-places views seat v owning me layout.kernel frames w.frees refl places-owning;
-      frame_locks = change (λ (v : View). (v.refs, v.locks)) (FrameLocksHeld frames) views seat owning locks-owning;
-      page_locks = keep (λ (v : View). v.pages) (λ l. PageLocksHeld w.pages l (map (λ (v : View). v.locks) (set views seat owning))) views seat v owning me refl
-          (change (λ (v : View). v.locks) (PageLocksHeld w.pages (map (λ (v : View). v.pages) views)) views seat owning page-locks-owning);
-      translations = translations;
-      caches = change (λ (v : View). (v.locks, v.pages)) (CacheWordsOwned frames w.caches) views seat owning caches;
-      bodies = change holder_of (BodiesAtHome layout frames w.caches w.pages homes) views seat owning (bodies-owning holding);
-      handled = handled-owning;
-      counter = Kept.kept-counter views seat v owning me frames w.counter refl refl refl counter-owning;
-      free = Kept.kept-free views seat v owning me layout.frames w.frees w.available refl h.free;
-      damage = Kept.kept-damage views seat v owning me w.bads w.weaks refl refl h.damage;
-      entries = Kept.kept-entries views seat v owning me homes refl refl refl refl h.entries;
-      endings = Kept.kept-endings views seat v owning me layout w.processes homes refl refl h.endings;
-      marks = Kept.kept-marks views seat v owning me frames refl refl marks-owning;
-      holdings = Kept.kept-holdings views seat v owning me layout refl h.holdings;
-      losses = Kept.kept-losses views seat v owning me layout w.losses homes refl refl h.losses;
-      policies = Kept.kept-policies views seat v owning me layout.threads w.policies refl refl refl h.policies;
-      exhaustion = Kept.kept-exhaustion views seat v owning me layout refl refl h.exhaustion;
-      stops = Kept.kept-stops views seat v owning me w.processes w.stop refl refl refl h.stops;
-      fits = Kept.kept-fits views seat v owning me layout w.trans w.caches homes refl refl h.fits;
-      processors = Kept.kept-processors views seat v owning me layout refl h.processors;
-      commands = Kept.kept-commands views seat v owning me (record { made = mine_own.made; marks = mine_own.marks; sights = mine_own.sights; lengths = mine_own.lengths; settings = mine_own.settings; stops = mine_own.stops }) h.commands;
-      unpoisoned = Kept.kept-unpoisoned views seat v owning me frames homes refl refl unpoisoned-owning;
+      frames = record {
+        counts = Kept.kept-counts views seat v owning me refl counts-owning;
+        places = Kept.kept-places views seat v owning me refl places-owning;
+        frame_locks = change (λ (v : View). (v.refs, v.locks)) (FrameLocksHeld frames) views seat owning locks-owning;
+        free = Kept.kept-free views seat v owning me refl h.frames.free;
+        holdings = Kept.kept-holdings views seat v owning me refl h.frames.holdings;
+      };
+      pages = record {
+        page_locks = keep (λ (v : View). v.pages) (λ l. PageLocksHeld w.pages l (map (λ (v : View). v.locks) (set views seat owning))) views seat v owning me refl
+            (change (λ (v : View). v.locks) (PageLocksHeld w.pages (map (λ (v : View). v.pages) views)) views seat owning page-locks-owning);
+        translations = translations;
+        caches = change (λ (v : View). (v.locks, v.pages)) (CacheWordsOwned frames w.caches) views seat owning caches;
+        bodies = change holder_of (BodiesAtHome layout frames w.caches w.pages homes) views seat owning (bodies-owning holding);
+        fits = Kept.kept-fits views seat v owning me refl refl h.pages.fits;
+      };
+      histories = Kept.same-histories views seat v owning me refl h.histories;
+      failures = record {
+        handled = handled-owning;
+        counter = Kept.kept-counter views seat v owning me refl refl refl counter-owning;
+        damage = Kept.kept-damage views seat v owning me refl refl h.failures.damage;
+        marks = Kept.kept-marks views seat v owning me refl refl marks-owning;
+        exhaustion = Kept.kept-exhaustion views seat v owning me refl refl h.failures.exhaustion;
+        unpoisoned = Kept.kept-unpoisoned views seat v owning me refl refl unpoisoned-owning;
+      };
+      processors = Kept.same-processors views seat v owning me refl h.processors;
     }
       where
         mine_own : AreOwn v
-        mine_own = h.commands.own seat v me
+        mine_own = h.processors.commands.own seat v me

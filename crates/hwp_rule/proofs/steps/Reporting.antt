@@ -31,30 +31,16 @@ owed_of file v = sum_by (λ (n : FileNo). from_bool (n.0 == file.0)) v.owed
 pub keeps-report-lost : (file : FileNo) → Keeps (steps.ReportLost file)
 keeps-report-lost file layout w homes views seat v who content given =
     subst (FrameRule layout (record w { losses = set w.losses file.0 0 }) homes) (set-set views seat seen u) (record {
-      counts = Kept.kept-counts all seat seen u me w.frames w.trans w.caches refl h.counts;
-      places = Kept.kept-places all seat seen u me layout.kernel w.frames w.frees refl h.places;
-      frame_locks = Kept.kept-frame-locks all seat seen u me w.frames refl refl h.frame_locks;
-      page_locks = Kept.kept-page-locks all seat seen u me w.pages refl refl h.page_locks;
-      translations = h.translations;
-      caches = Kept.kept-caches all seat seen u me w.frames w.caches refl refl h.caches;
-      bodies = Kept.kept-bodies all seat seen u me layout w.frames w.caches w.pages homes refl h.bodies;
-      handled = h.handled;
-      counter = Kept.kept-counter all seat seen u me w.frames w.counter refl refl refl h.counter;
-      free = Kept.kept-free all seat seen u me layout.frames w.frees w.available refl h.free;
-      damage = Kept.kept-damage all seat seen u me w.bads w.weaks refl refl h.damage;
-      entries = Kept.kept-entries all seat seen u me homes refl refl refl refl h.entries;
-      endings = Kept.kept-endings all seat seen u me layout w.processes homes refl refl h.endings;
-      marks = Kept.kept-marks all seat seen u me w.frames refl refl h.marks;
-      holdings = Kept.kept-holdings all seat seen u me layout refl h.holdings;
-      losses = keep (λ (v : View). v.bodies) (λ l. LossesBalance layout (set w.losses file.0 0) homes l (map losing_of (set all seat u))) all seat seen u me refl
-          (change losing_of (LossesBalance layout (set w.losses file.0 0) homes bodies) all seat u (record { balance = balance; poisoned = each-set IsPoisonLoss losings seat (losing_of u) (h.losses.poisoned seat (losing_of seen) there) h.losses.poisoned }));
-      policies = Kept.kept-policies all seat seen u me layout.threads w.policies refl refl refl h.policies;
-      exhaustion = Kept.kept-exhaustion all seat seen u me layout refl refl h.exhaustion;
-      stops = Kept.kept-stops all seat seen u me w.processes w.stop refl refl refl h.stops;
-      fits = Kept.kept-fits all seat seen u me layout w.trans w.caches homes refl refl h.fits;
-      processors = Kept.kept-processors all seat seen u me layout refl h.processors;
-      commands = Kept.kept-commands all seat seen u me (record { made = own.made; marks = own.marks; sights = own.sights; lengths = own.lengths; settings = own.settings; stops = own.stops }) h.commands;
-      unpoisoned = Kept.kept-unpoisoned all seat seen u me w.frames homes refl refl h.unpoisoned;
+      frames = Kept.same-frames all seat seen u me refl h.frames;
+      pages = Kept.same-pages all seat seen u me refl h.pages;
+      histories = record {
+        entries = Kept.kept-entries all seat seen u me refl refl refl refl h.histories.entries;
+        endings = Kept.kept-endings all seat seen u me refl refl h.histories.endings;
+        losses = keep (λ (v : View). v.bodies) (λ l. LossesBalance layout (set w.losses file.0 0) homes l (map losing_of (set all seat u))) all seat seen u me refl
+            (change losing_of (LossesBalance layout (set w.losses file.0 0) homes bodies) all seat u (record { balance = balance; poisoned = each-set IsPoisonLoss losings seat (losing_of u) (h.histories.losses.poisoned seat (losing_of seen) there) h.histories.losses.poisoned }));
+      };
+      failures = Kept.same-failures all seat seen u me refl h.failures;
+      processors = Kept.same-processors all seat seen u me refl h.processors;
     })
   where
     found : ℕ
@@ -80,7 +66,7 @@ keeps-report-lost file layout w homes views seat v who content given =
         (explained-quiet layout w homes views (record { stamp = stamp_of who v; place = places.Loss file; word = found }) refl) given.rule
 
     own : AreOwn seen
-    own = h.commands.own seat seen me
+    own = h.processors.commands.own seat seen me
 
     losings : List Losing
     losings = map losing_of all
@@ -104,10 +90,10 @@ keeps-report-lost file layout w homes views seat v who content given =
               let none : 0 ≡ x = this.1 in
               let same : cond (file.0 == f.0) found 0 ≡ found = ap (λ (b : Bool). cond b found 0) (eq-eqb file.0 f.0 (sym this.0)) in
               let standing : slice_get w.losses f.0 ≡ Some found = subst (λ (n : ℕ). slice_get w.losses n ≡ Some found) (sym this.0) (word-there w.losses file.0 layout.files given.shaped.losses given.place) in
-              let was : found + sum_by (reported_of f) losings + sum_by (owed_of f) losings ≡ sum_bodies (losses_of layout f) homes bodies = h.losses.balance f found standing in
+              let was : found + sum_by (reported_of f) losings + sum_by (owed_of f) losings ≡ sum_bodies (losses_of layout f) homes bodies = h.histories.losses.balance f found standing in
               omega arith
           | inr another ↦
               let differs : cond (file.0 == f.0) found 0 ≡ 0 = ap (λ (b : Bool). cond b found 0) (ne_eqb file.0 f.0 (λ e. another.0 (sym e))) in
-              let was : x + sum_by (reported_of f) losings + sum_by (owed_of f) losings ≡ sum_bodies (losses_of layout f) homes bodies = h.losses.balance f x another.1 in
+              let was : x + sum_by (reported_of f) losings + sum_by (owed_of f) losings ≡ sum_bodies (losses_of layout f) homes bodies = h.histories.losses.balance f x another.1 in
               omega arith
         ]

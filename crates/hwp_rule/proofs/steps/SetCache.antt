@@ -32,7 +32,7 @@ resident-name (Some frame) = ap not (ne_eqb (frame.0 + 1) 0 (λ e. omega (arith,
 
 pub keeps-set-cache : (page : Page) (frame : Option Frame) → Keeps (steps.SetCache page frame)
 keeps-set-cache page frame layout w homes views seat v who content given =
-    keeps-naming layout w homes views seat v page has given.sound given.shaped given.place me h test to (λ l. refl) w.trans caches (frame_in found) frame can who given.past words h.translations owned at_home fits
+    keeps-naming layout w homes views seat v page has given.sound given.shaped given.place me h test to (λ l. refl) w.trans caches (frame_in found) frame can who given.past words h.pages.translations owned at_home fits
   where
     found : ℕ
     found = slice_index w.caches page.0
@@ -80,7 +80,7 @@ keeps-set-cache page frame layout w homes views seat v who content given =
     words : (f : ℕ) → f < 2 ^ 16 → named f w.trans + named f caches + hits f (frame_in found) ≡ named f w.trans + named f w.caches + hits f frame
     words f less =
         let moved : named f caches + from_bool (found == f + 1) ≡ named f w.caches + from_bool (frame_name frame == f + 1) = named-set f w.caches page.0 found (frame_name frame) there in
-        let before : from_bool (found == f + 1) ≡ hits f (frame_in found) = names-in w.frames page.0 found few-words (elim (h.caches.owned page.0 found there) [ inl none ↦ inl none | inr names ↦ inr (inr names) ]) f less in
+        let before : from_bool (found == f + 1) ≡ hits f (frame_in found) = names-in w.frames page.0 found few-words (elim (h.pages.caches.owned page.0 found there) [ inl none ↦ inl none | inr names ↦ inr (inr names) ]) f less in
         let after : from_bool (frame_name frame == f + 1) ≡ hits f frame = names-name frame f less in
         omega arith
 
@@ -120,7 +120,7 @@ keeps-set-cache page frame layout w homes views seat v who content given =
     owned = record {
       owned = λ q x at. elim (at_set w.caches page.0 q (frame_name frame) x at) [
         | inl t ↦ subst (λ (p : ℕ × ℕ). (p.1 ≡ 0) ⊎ NamesOwn w.frames p.0 p.1) (λ i. (sym t.0 i, t.1 i)) (now-owned frame can.1)
-        | inr t ↦ h.caches.owned q x t.1
+        | inr t ↦ h.pages.caches.owned q x t.1
       ];
       named = λ f x q at owner. elim ((caches-listed layout w homes views seat v me h test to (λ l. refl)).named f x q at owner) [
         | inl cached ↦ elim (same-or q page.0) [

@@ -53,7 +53,7 @@ module _ (layout : Layout) (w : Words) (homes : Homes) (views : List View) (seat
   -- what the view lists of the frame's lock
   locked : (i : ℕ) (l : FrameLock) → slice_get v.locks i ≡ Some l → l.frame.0 ≡ frame.0 → (owner_of word ≡ l.owner) × (is_handled word ≡ l.handled)
   locked i l at same =
-      let k : IsLocked w.frames v.refs l = h.frame_locks.known seat (v.refs, v.locks) (at_map (λ (v : View). (v.refs, v.locks)) views seat v me) i l at in
+      let k : IsLocked w.frames v.refs l = h.frames.frame_locks.known seat (v.refs, v.locks) (at_map (λ (v : View). (v.refs, v.locks)) views seat v me) i l at in
       let was : word ≡ k.word = same_Some word k.word (sym there ∙ ap (slice_get w.frames) (sym same) ∙ k.there) in
       (ap owner_of was ∙ k.owner, ap is_handled was ∙ k.handled)
 
@@ -80,7 +80,7 @@ module _ (layout : Layout) (w : Words) (homes : Homes) (views : List View) (seat
 
   translations-owning : ((s x : ℕ) (t : TransDecl) → slice_get w.trans s ≡ Some x → slice_get layout.trans s ≡ Some t → owner_of word ≡ t.page.0 + 1 → x ≡ frame.0 + 1 → ⊥) → TranslationsOwned layout.trans frames w.trans
   translations-owning never = record {
-    owned = λ s x t at declared. elim (h.translations.owned s x t at declared) [
+    owned = λ s x t at declared. elim (h.pages.translations.owned s x t at declared) [
       | inl none ↦ inl none
       | inr some ↦ elim some [ inl poison ↦ inr (inl poison) | inr names ↦ inr (inr (names-other t.page.0 x (never s x t at declared) names)) ]
     ];
@@ -89,7 +89,7 @@ module _ (layout : Layout) (w : Words) (homes : Homes) (views : List View) (seat
   caches-owning : ((q x : ℕ) → slice_get w.caches q ≡ Some x → owner_of word ≡ q + 1 → x ≡ frame.0 + 1 → ⊥) → ((q : ℕ) → owner_of now ≡ q + 1 → HoldsBoth frame.0 q (u.locks, v.pages))
       → CacheWordsOwned frames w.caches (set both seat (u.locks, v.pages))
   caches-owning never holds = record {
-    owned = λ q x at. elim (h.caches.owned q x at) [ inl none ↦ inl none | inr names ↦ inr (names-other q x (never q x at) names) ];
+    owned = λ q x at. elim (h.pages.caches.owned q x at) [ inl none ↦ inl none | inr names ↦ inr (names-other q x (never q x at) names) ];
     named = λ g x q at owner. elim (at_set w.frames frame.0 g now x at) [
       | inl t ↦ inr (
         seat,
@@ -97,7 +97,7 @@ module _ (layout : Layout) (w : Words) (homes : Homes) (views : List View) (seat
         set_here both seat (u.locks, v.pages) (v.locks, v.pages) here,
         subst (λ (n : ℕ). HoldsBoth n q (u.locks, v.pages)) (sym t.0) (holds q (ap owner_of t.1 ∙ owner)),
       )
-      | inr t ↦ elim (h.caches.named g x q t.1 owner) [
+      | inr t ↦ elim (h.pages.caches.named g x q t.1 owner) [
         | inl cached ↦ inl cached
         | inr some ↦ inr (some-set (HoldsBoth g q) both seat (v.locks, v.pages) (u.locks, v.pages) here
             (λ x. record { frame = subst (λ (n : ℕ). 0 < n) (sym (same-locks layout w homes views seat v frame word now b g)) x.frame; page = x.page }) some)
@@ -110,7 +110,7 @@ module _ (layout : Layout) (w : Words) (homes : Homes) (views : List View) (seat
 
   -- a body in hand is still held, where it isn't by this frame's lock, or by the page's
   holding-owning : ((q : ℕ) → owner_of word ≡ q + 1 → 0 < page_locks_on q v.pages) → EachMember (λ (b : InHand). IsHolding b (holder_of u)) v.bodies
-  holding-owning by_page = each-weaken (λ (b : InHand). IsHolding b (holder_of v)) (λ (b : InHand). IsHolding b (holder_of u)) v.bodies (λ b is. still b is) (h.bodies.in_hand seat (holder_of v) (at_map holder_of views seat v me))
+  holding-owning by_page = each-weaken (λ (b : InHand). IsHolding b (holder_of v)) (λ (b : InHand). IsHolding b (holder_of u)) v.bodies (λ b is. still b is) (h.pages.bodies.in_hand seat (holder_of v) (at_map holder_of views seat v me))
     where
       still : (b : InHand) → IsHolding b (holder_of v) → IsHolding b (holder_of u)
       still held (inl page_lock) = inl page_lock
@@ -211,7 +211,7 @@ keeps-disowned frame page layout w homes views seat v who content given =
 
     unhandled : handled_of word ≡ 0
     unhandled = elim (same-or (handled_of word) 1) [
-      | inl one ↦ let none : owner_of word ≡ 0 = (h.handled.out frame.0 word there one).unowned in absurd (omega (arith, none, owned))
+      | inl one ↦ let none : owner_of word ≡ 0 = (h.failures.handled.out frame.0 word there one).unowned in absurd (omega (arith, none, owned))
       | inr other ↦ omega arith
     ]
 
@@ -222,7 +222,7 @@ keeps-disowned frame page layout w homes views seat v who content given =
     lock = can.page_held.lock.lock
 
     knows : KnowsWords layout w.trans w.caches lock
-    knows = h.fits.known seat (v.pages, v.bodies) (at_map (λ (v : View). (v.pages, v.bodies)) views seat v me) 0 lock can.page_held.lock.listed
+    knows = h.pages.fits.known seat (v.pages, v.bodies) (at_map (λ (v : View). (v.pages, v.bodies)) views seat v me) 0 lock can.page_held.lock.listed
 
     unmapped : (s x : ℕ) (t : TransDecl) → slice_get w.trans s ≡ Some x → slice_get layout.trans s ≡ Some t → owner_of word ≡ t.page.0 + 1 → x ≡ frame.0 + 1 → ⊥
     unmapped s x t at declared owner names =

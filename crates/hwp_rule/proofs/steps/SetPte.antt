@@ -110,7 +110,7 @@ keeps-set-pte slot pte layout w homes views seat v who content given =
     words : (f : ℕ) → f < 2 ^ 16 → named f trans + named f w.caches + hits f (frame_in found) ≡ named f w.trans + named f w.caches + hits f (frame_in (pte_word pte))
     words f less =
         let moved : named f trans + from_bool (found == f + 1) ≡ named f w.trans + from_bool (pte_word pte == f + 1) = named-set f w.trans slot.0 found (pte_word pte) there in
-        let before : from_bool (found == f + 1) ≡ hits f (frame_in found) = names-in w.frames page.0 found few-words (h.translations.owned slot.0 found decl there declared) f less in
+        let before : from_bool (found == f + 1) ≡ hits f (frame_in found) = names-in w.frames page.0 found few-words (h.pages.translations.owned slot.0 found decl there declared) f less in
         let after : from_bool (pte_word pte == f + 1) ≡ hits f (frame_in (pte_word pte)) = names-pte pte f less ∙ ap (hits f) (sym named-now) in
         omega arith
 
@@ -125,7 +125,7 @@ keeps-set-pte slot pte layout w homes views seat v who content given =
         | inl this ↦
             let same : decl ≡ t = same_Some decl t (sym declared ∙ ap (slice_get layout.trans) (sym this.0) ∙ is) in
             subst (λ (p : TransDecl × ℕ). (p.1 ≡ 0) ⊎ ((p.1 ≡ pte_word ptes.Poison) ⊎ NamesOwn w.frames p.0.page.0 p.1)) (λ i. (same i, this.1 i)) (now-owned pte given.asks.frames.1)
-        | inr other ↦ h.translations.owned s x t other.1 is
+        | inr other ↦ h.pages.translations.owned s x t other.1 is
       ];
     }
 

@@ -62,30 +62,17 @@ agrees-more thread word sights list s few was = record {
 
 pub keeps-set-policy : (thread : Thread) (policy : Policy) (settings : ℕ) → Keeps (steps.SetPolicy thread policy settings)
 keeps-set-policy thread policy settings layout w homes views seat v who content given = record {
-  counts = Kept.kept-counts views seat v u me w.frames w.trans w.caches refl h.counts;
-  places = Kept.kept-places views seat v u me layout.kernel w.frames w.frees refl h.places;
-  frame_locks = Kept.kept-frame-locks views seat v u me w.frames refl refl h.frame_locks;
-  page_locks = Kept.kept-page-locks views seat v u me w.pages refl refl h.page_locks;
-  translations = h.translations;
-  caches = Kept.kept-caches views seat v u me w.frames w.caches refl refl h.caches;
-  bodies = Kept.kept-bodies views seat v u me layout w.frames w.caches w.pages homes refl h.bodies;
-  handled = h.handled;
-  counter = Kept.kept-counter views seat v u me w.frames w.counter refl refl refl h.counter;
-  free = Kept.kept-free views seat v u me layout.frames w.frees w.available refl h.free;
-  damage = Kept.kept-damage views seat v u me w.bads w.weaks refl refl h.damage;
-  entries = Kept.kept-entries views seat v u me homes refl refl refl refl h.entries;
-  endings = Kept.kept-endings views seat v u me layout w.processes homes refl refl h.endings;
-  marks = Kept.kept-marks views seat v u me w.frames refl refl h.marks;
-  holdings = Kept.kept-holdings views seat v u me layout refl h.holdings;
-  losses = Kept.kept-losses views seat v u me layout w.losses homes refl refl h.losses;
-  policies = keep (λ (v : View). v.sights) (λ l. PoliciesListed layout.threads (set w.policies thread.0 word) (map (λ (v : View). (v.parts, v.settings)) (set views seat u)) l) views seat v u me refl
-      (change (λ (v : View). (v.parts, v.settings)) (λ l. PoliciesListed layout.threads (set w.policies thread.0 word) l sights) views seat u (record { agrees = agrees }));
-  exhaustion = Kept.kept-exhaustion views seat v u me layout refl refl h.exhaustion;
-  stops = Kept.kept-stops views seat v u me w.processes w.stop refl refl refl h.stops;
-  fits = Kept.kept-fits views seat v u me layout w.trans w.caches homes refl refl h.fits;
-  processors = Kept.kept-processors views seat v u me layout refl h.processors;
-  commands = Kept.kept-commands views seat v u me (record { made = own.made; marks = own.marks; sights = own.sights; lengths = own.lengths; settings = each-push (λ (s : Setting). IsPast v.parts s.stamp.who) v.settings new given.past own.settings; stops = own.stops }) h.commands;
-  unpoisoned = Kept.kept-unpoisoned views seat v u me w.frames homes refl refl h.unpoisoned;
+  frames = Kept.same-frames views seat v u me refl h.frames;
+  pages = Kept.same-pages views seat v u me refl h.pages;
+  histories = Kept.same-histories views seat v u me refl h.histories;
+  failures = Kept.same-failures views seat v u me refl h.failures;
+  processors = record {
+    policies = keep (λ (v : View). v.sights) (λ l. PoliciesListed layout.threads (set w.policies thread.0 word) (map (λ (v : View). (v.parts, v.settings)) (set views seat u)) l) views seat v u me refl
+        (change (λ (v : View). (v.parts, v.settings)) (λ l. PoliciesListed layout.threads (set w.policies thread.0 word) l sights) views seat u (record { agrees = agrees }));
+    stops = Kept.kept-stops views seat v u me refl refl refl h.processors.stops;
+    processors = Kept.kept-processors views seat v u me refl h.processors.processors;
+    commands = Kept.kept-commands views seat v u me (record { made = own.made; marks = own.marks; sights = own.sights; lengths = own.lengths; settings = each-push (λ (s : Setting). IsPast v.parts s.stamp.who) v.settings new given.past own.settings; stops = own.stops }) h.processors.commands;
+  };
 }
   where
     word : ℕ
@@ -104,7 +91,7 @@ keeps-set-policy thread policy settings layout w homes views seat v who content 
     h = given.rule
 
     own : AreOwn v
-    own = h.commands.own seat v me
+    own = h.processors.commands.own seat v me
 
     sights : List (List Sight)
     sights = map (λ (v : View). v.sights) views
@@ -119,7 +106,7 @@ keeps-set-policy thread policy settings layout w homes views seat v who content 
     now : PolicyAgrees thread word sights (settings_of thread u.settings)
     now =
         let was : PolicyAgrees thread (slice_index w.policies thread.0) sights (settings_of thread v.settings) =
-        h.policies.agrees thread given.asks.decl (slice_index w.policies thread.0) given.asks.declared (word-there w.policies thread.0 (length layout.threads) given.shaped.policies given.place) seat (v.parts, v.settings)
+        h.processors.policies.agrees thread given.asks.decl (slice_index w.policies thread.0) given.asks.declared (word-there w.policies thread.0 (length layout.threads) given.shaped.policies given.place) seat (v.parts, v.settings)
         (at_map (λ (v : View). (v.parts, v.settings)) views seat v me) (given.past.0, given.past.1, given.past.2, given.past.3.0 ∙ sym given.asks.own) in
         let number : settings ≡ length (settings_of thread v.settings) = given.asks.number in
         let few : settings < command_limit = given.asks.few in
@@ -133,7 +120,7 @@ keeps-set-policy thread policy settings layout w homes views seat v who content 
         let was : (x : View) × (slice_get views i ≡ Some x) × ((x.parts, x.settings) ≡ y) = map-was (λ (v : View). (v.parts, v.settings)) views i y is in
         let decl : d ≡ given.asks.decl = same_Some d given.asks.decl (sym declared ∙ given.asks.declared) in
         let cpus : of.1.cpu ≡ given.past.1.cpu = of.3 ∙ ap (λ (d : ThreadDecl). d.cpu) decl ∙ given.asks.own ∙ sym given.past.3.0 in
-        one-view layout parts h.processors i seat of.0 given.past.0 y.0 v.parts of.1 given.past.1
+        one-view layout parts h.processors.processors i seat of.0 given.past.0 y.0 v.parts of.1 given.past.1
         (subst (λ (z : List Part × List Setting). slice_get parts i ≡ Some z.0) was.2 (at_map (λ (v : View). v.parts) views i was.0 was.1))
         (at_map (λ (v : View). v.parts) views seat v me) of.2 given.past.2 cpus
 
@@ -149,8 +136,8 @@ keeps-set-policy thread policy settings layout w homes views seat v who content 
       | inr another ↦ elim (at_set lists seat i (v.parts, u.settings) y is) [
         | inl mine ↦ subst (λ (z : List Part × List Setting). PolicyAgrees t x sights (settings_of t z.1)) mine.1
             (subst (λ (l : List Setting). PolicyAgrees t x sights l) (sym (set-other t v.settings new (λ e. another.0 (sym e))))
-            (h.policies.agrees t d x declared another.1 seat (v.parts, v.settings) (at_map (λ (v : View). (v.parts, v.settings)) views seat v me)
+            (h.processors.policies.agrees t d x declared another.1 seat (v.parts, v.settings) (at_map (λ (v : View). (v.parts, v.settings)) views seat v me)
             (subst (λ (z : List Part × List Setting). IsOf d.cpu z.0) (sym mine.1) of)))
-        | inr theirs ↦ h.policies.agrees t d x declared another.1 i y theirs.1 of
+        | inr theirs ↦ h.processors.policies.agrees t d x declared another.1 i y theirs.1 of
       ]
     ]

@@ -93,7 +93,7 @@ module _ (layout : Layout) (w : Words) (homes : Homes) (views : List View) (stam
     ending = λ process e. absurd (elsewhere layout w homes views s (places.Process process) 7 refl (λ n. omega arith) e);
     mark = λ f standing at e. absurd (elsewhere layout w homes views s (places.Frame f) 7 refl (λ n. omega arith) e);
     policy = λ t d standing declared at i y this of e.
-        let now : PolicyAgrees t standing (map (λ (v : View). v.sights) views) (settings_of t y.1) = h.policies.agrees t d standing declared at i y this of in
+        let now : PolicyAgrees t standing (map (λ (v : View). v.sights) views) (settings_of t y.1) = h.processors.policies.agrees t d standing declared at i y this of in
         let same : word ≡ standing = same_Some word standing (sym there ∙ ap (slice_get w.policies) (ap shown_number e) ∙ at) in
         (length (settings_of t y.1), omega arith, same ∙ now.now ∙ ap policy_after (sym (take-length (settings_of t y.1))));
     exhaustion = λ e. absurd (elsewhere layout w homes views s places.Available 7 refl (λ n. omega arith) e);
@@ -145,7 +145,7 @@ module _ (layout : Layout) (w : Words) (homes : Homes) (views : List View) (seat
 
       some-mark : 0 < hardware_of w.counter → SomeHardware debts s
       some-mark above =
-          let balance : hardware_of w.counter + sum_by (λ (d : Debts × List Mark). d.0.hardware) debts ≡ sum_by (λ (d : Debts × List Mark). sum_by hardware d.1) debts = h.counter.hardware in
+          let balance : hardware_of w.counter + sum_by (λ (d : Debts × List Mark). d.0.hardware) debts ≡ sum_by (λ (d : Debts × List Mark). sum_by hardware d.1) debts = h.failures.counter.hardware in
           let some : SomeMember (λ (d : Debts × List Mark). 0 < sum_by hardware d.1) debts = some-term (λ (d : Debts × List Mark). sum_by hardware d.1) debts (omega arith) in
           let mark : SomeMember (λ (m : Mark). 0 < hardware m) some.1.1 = some-term hardware some.1.1 some.3 in
           let was : (x : View) × (slice_get views some.0 ≡ Some x) × ((x.owed, x.marks) ≡ some.1) = map-was (λ (v : View). (v.owed, v.marks)) views some.0 some.1 some.2 in
@@ -159,7 +159,7 @@ module _ (layout : Layout) (w : Words) (homes : Homes) (views : List View) (seat
               mark.2,
               (
                 is-so (is_by_hardware mark.1.kind) mark.3,
-                not-later layout w homes views seat v stamp.who me turn h some.0 was.0 mark.1.stamp.who was.1 ((h.commands.own some.0 was.0 was.1).marks mark.0 mark.1 listed),
+                not-later layout w homes views seat v stamp.who me turn h some.0 was.0 mark.1.stamp.who was.1 ((h.processors.commands.own some.0 was.0 was.1).marks mark.0 mark.1 listed),
               ),
             ),
           )
@@ -170,8 +170,8 @@ module _ (layout : Layout) (w : Words) (homes : Homes) (views : List View) (seat
     bad = λ f standing at e. absurd (elsewhere layout w homes views s (places.Bad f) 6 refl (λ n. omega arith) e);
     weak = λ f standing at e. absurd (elsewhere layout w homes views s (places.Weak f) 6 refl (λ n. omega arith) e);
     ending = λ p e. record {
-      at_home = λ i log is. some-entry p log e ((h.endings.caused p word (same p e)).at_home i log is) (all.at_home i log is);
-      in_hand = λ i bodies is j b listed. some-entry p b.log e ((h.endings.caused p word (same p e)).in_hand i bodies is j b listed) (all.in_hand i bodies is j b listed);
+      at_home = λ i log is. some-entry p log e ((h.histories.endings.caused p word (same p e)).at_home i log is) (all.at_home i log is);
+      in_hand = λ i bodies is j b listed. some-entry p b.log e ((h.histories.endings.caused p word (same p e)).in_hand i bodies is j b listed) (all.in_hand i bodies is j b listed);
     };
     mark = λ f standing at e. absurd (elsewhere layout w homes views s (places.Frame f) 6 refl (λ n. omega arith) e);
     policy = λ thread d standing declared at i y this of e. absurd (elsewhere layout w homes views s (places.Policy thread) 6 refl (λ n. omega arith) e);

@@ -36,7 +36,7 @@ keeps-stop cpu layout w homes views seat v who content given = arm (w.stop == 0)
     h = given.rule
 
     own : AreOwn v
-    own = h.commands.own seat v me
+    own = h.processors.commands.own seat v me
 
     stops : List (List Who)
     stops = map (λ (v : View). v.stops) views
@@ -52,7 +52,7 @@ keeps-stop cpu layout w homes views seat v who content given = arm (w.stop == 0)
 
     names : stopper_of (cpu.0 + 1) ≡ who.cpu.0 + 1
     names =
-        let declared : given.past.1.cpu.0 < layout.cpus = h.processors.declared seat v.parts (at_map (λ (v : View). v.parts) views seat v me) given.past.0 given.past.1 given.past.2 in
+        let declared : given.past.1.cpu.0 < layout.cpus = h.processors.processors.declared seat v.parts (at_map (λ (v : View). v.parts) views seat v me) given.past.0 given.past.1 given.past.2 in
         let mine : given.past.1.cpu.0 ≡ who.cpu.0 = ap (λ (c : Cpu). c.0) given.past.3.0 in
         let few : layout.cpus ≤ 8 = given.sound.cpus in
         let asked : cpu.0 ≡ who.cpu.0 = ap (λ (c : Cpu). c.0) given.asks in
@@ -61,13 +61,13 @@ keeps-stop cpu layout w homes views seat v who content given = arm (w.stop == 0)
 
     stopped : w.stop ≡ 0 → EndingsAndStopsStay w.processes (cpu.0 + 1) bodies sights (set stops seat u.stops)
     stopped before = record {
-      killed = h.stops.killed;
-      ended_stays = h.stops.ended_stays;
-      stop_stays = λ i list is j s listed at named. absurd (named (sym (h.stops.stop_stays i list is j s listed at named) ∙ ap stopper_of before));
+      killed = h.processors.stops.killed;
+      ended_stays = h.processors.stops.ended_stays;
+      stop_stays = λ i list is j s listed at named. absurd (named (sym (h.processors.stops.stop_stays i list is j s listed at named) ∙ ap stopper_of before));
       one =
           let total : sum_by (λ (l : List Who). length l) (set stops seat u.stops) + length v.stops ≡ sum_by (λ (l : List Who). length l) stops + length u.stops = sum-set (λ (l : List Who). length l) stops seat v.stops u.stops there in
           let longer : length u.stops ≡ length v.stops + 1 = length-append v.stops (who ∷ []) in
-          let none : sum_by (λ (l : List Who). length l) stops ≡ min (stopper_of w.stop) 1 = h.stops.one in
+          let none : sum_by (λ (l : List Who). length l) stops ≡ min (stopper_of w.stop) 1 = h.processors.stops.one in
           let zero_was : stopper_of w.stop ≡ 0 = ap stopper_of before in
           omega (arith, names);
       named = each-set (EachMember (λ (x : Who). stopper_of (cpu.0 + 1) ≡ x.cpu.0 + 1)) stops seat u.stops
@@ -76,73 +76,47 @@ keeps-stop cpu layout w homes views seat v who content given = arm (w.stop == 0)
       where
         nobody : EachListed (λ (x : Who). stopper_of (cpu.0 + 1) ≡ x.cpu.0 + 1) stops
         nobody i list is j x listed =
-            let named : stopper_of w.stop ≡ x.cpu.0 + 1 = h.stops.named i list is j x listed in
+            let named : stopper_of w.stop ≡ x.cpu.0 + 1 = h.processors.stops.named i list is j x listed in
             let zero_was : stopper_of w.stop ≡ 0 = ap stopper_of before in
             absurd (omega arith)
 
     arm : (b : Bool) → (w.stop == 0) ≡ b
         → FrameRule layout (record w { stop = either b (cpu.0 + 1) w.stop }) homes (set views seat (cond b u (sighted who places.Stop w.stop v)))
     arm true met = record {
-      counts = Kept.kept-counts views seat v u me w.frames w.trans w.caches refl h.counts;
-      places = Kept.kept-places views seat v u me layout.kernel w.frames w.frees refl h.places;
-      frame_locks = Kept.kept-frame-locks views seat v u me w.frames refl refl h.frame_locks;
-      page_locks = Kept.kept-page-locks views seat v u me w.pages refl refl h.page_locks;
-      translations = h.translations;
-      caches = Kept.kept-caches views seat v u me w.frames w.caches refl refl h.caches;
-      bodies = Kept.kept-bodies views seat v u me layout w.frames w.caches w.pages homes refl h.bodies;
-      handled = h.handled;
-      counter = Kept.kept-counter views seat v u me w.frames w.counter refl refl refl h.counter;
-      free = Kept.kept-free views seat v u me layout.frames w.frees w.available refl h.free;
-      damage = Kept.kept-damage views seat v u me w.bads w.weaks refl refl h.damage;
-      entries = Kept.kept-entries views seat v u me homes refl refl refl refl h.entries;
-      endings = Kept.kept-endings views seat v u me layout w.processes homes refl refl h.endings;
-      marks = Kept.kept-marks views seat v u me w.frames refl refl h.marks;
-      holdings = Kept.kept-holdings views seat v u me layout refl h.holdings;
-      losses = Kept.kept-losses views seat v u me layout w.losses homes refl refl h.losses;
-      policies = Kept.kept-policies views seat v u me layout.threads w.policies refl refl refl h.policies;
-      exhaustion = Kept.kept-exhaustion views seat v u me layout refl refl h.exhaustion;
-      stops = keep (λ (v : View). v.bodies) (λ l. EndingsAndStopsStay w.processes (cpu.0 + 1) l (map (λ (v : View). v.sights) (set views seat u)) (map (λ (v : View). v.stops) (set views seat u))) views seat v u me refl
-          (keep (λ (v : View). v.sights) (λ l. EndingsAndStopsStay w.processes (cpu.0 + 1) bodies l (map (λ (v : View). v.stops) (set views seat u))) views seat v u me refl
-          (change (λ (v : View). v.stops) (EndingsAndStopsStay w.processes (cpu.0 + 1) bodies sights) views seat u (stopped (eqb-true w.stop 0 met))));
-      fits = Kept.kept-fits views seat v u me layout w.trans w.caches homes refl refl h.fits;
-      processors = Kept.kept-processors views seat v u me layout refl h.processors;
-      commands = Kept.kept-commands views seat v u me (record { made = own.made; marks = own.marks; sights = own.sights; lengths = own.lengths; settings = own.settings; stops = each-push (IsPast v.parts) v.stops who given.past own.stops }) h.commands;
-      unpoisoned = Kept.kept-unpoisoned views seat v u me w.frames homes refl refl h.unpoisoned;
+      frames = Kept.same-frames views seat v u me refl h.frames;
+      pages = Kept.same-pages views seat v u me refl h.pages;
+      histories = Kept.same-histories views seat v u me refl h.histories;
+      failures = Kept.same-failures views seat v u me refl h.failures;
+      processors = record {
+        policies = Kept.kept-policies views seat v u me refl refl refl h.processors.policies;
+        stops = keep (λ (v : View). v.bodies) (λ l. EndingsAndStopsStay w.processes (cpu.0 + 1) l (map (λ (v : View). v.sights) (set views seat u)) (map (λ (v : View). v.stops) (set views seat u))) views seat v u me refl
+            (keep (λ (v : View). v.sights) (λ l. EndingsAndStopsStay w.processes (cpu.0 + 1) bodies l (map (λ (v : View). v.stops) (set views seat u))) views seat v u me refl
+            (change (λ (v : View). v.stops) (EndingsAndStopsStay w.processes (cpu.0 + 1) bodies sights) views seat u (stopped (eqb-true w.stop 0 met))));
+        processors = Kept.kept-processors views seat v u me refl h.processors.processors;
+        commands = Kept.kept-commands views seat v u me (record { made = own.made; marks = own.marks; sights = own.sights; lengths = own.lengths; settings = own.settings; stops = each-push (IsPast v.parts) v.stops who given.past own.stops }) h.processors.commands;
+      };
     }
     arm false differs = keeps-sight layout w homes views seat v who places.Stop w.stop me given.past (explained-stop layout w homes views (stamp_of who v)) h
 
 pub keeps-give-up : Keeps steps.GiveUp
 keeps-give-up layout w homes views seat v who content given =
     subst (FrameRule layout (record w { stop = bit_or w.stop (2 ^ 63) }) homes) (sym (set_again views seat v given.me)) (record {
-      counts = h.counts;
-      places = h.places;
-      frame_locks = h.frame_locks;
-      page_locks = h.page_locks;
-      translations = h.translations;
-      caches = h.caches;
-      bodies = h.bodies;
-      handled = h.handled;
-      counter = h.counter;
-      free = h.free;
-      damage = h.damage;
-      entries = h.entries;
-      endings = h.endings;
-      marks = h.marks;
-      holdings = h.holdings;
-      losses = h.losses;
-      policies = h.policies;
-      exhaustion = h.exhaustion;
-      stops = record {
-        killed = h.stops.killed;
-        ended_stays = h.stops.ended_stays;
-        stop_stays = λ i list is j s listed at named. same ∙ h.stops.stop_stays i list is j s listed at named;
-        one = h.stops.one ∙ ap (λ (n : ℕ). min n 1) (sym same);
-        named = λ i list is j x listed. same ∙ h.stops.named i list is j x listed;
+      frames = h.frames;
+      pages = h.pages;
+      histories = h.histories;
+      failures = h.failures;
+      processors = record {
+        policies = h.processors.policies;
+        stops = record {
+          killed = h.processors.stops.killed;
+          ended_stays = h.processors.stops.ended_stays;
+          stop_stays = λ i list is j s listed at named. same ∙ h.processors.stops.stop_stays i list is j s listed at named;
+          one = h.processors.stops.one ∙ ap (λ (n : ℕ). min n 1) (sym same);
+          named = λ i list is j x listed. same ∙ h.processors.stops.named i list is j x listed;
+        };
+        processors = h.processors.processors;
+        commands = h.processors.commands;
       };
-      fits = h.fits;
-      processors = h.processors;
-      commands = h.commands;
-      unpoisoned = h.unpoisoned;
     })
   where
     h : FrameRule layout w homes views
