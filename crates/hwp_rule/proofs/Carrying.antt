@@ -130,6 +130,7 @@ module _ (layout : Layout) (w : Words) (homes : Homes) (views : List View) (seat
     losses-carried = keep losing_of (λ l. LossesBalance layout w.losses after (map (λ (v : View). v.bodies) (set views seat u)) l) views seat v u me refl
         (change (λ (v : View). v.bodies) (λ l. LossesBalance layout w.losses after l (map losing_of views)) views seat u (record {
           balance = λ file p at. h.histories.losses.balance file p at ∙ sym (x.sums (losses_of layout file));
+          declared = h.histories.losses.declared;
           poisoned = h.histories.losses.poisoned;
         }))
 

@@ -331,6 +331,7 @@ module _ (layout : Layout) (sound : IsSound layout) (w : Words) (o : AreOpening 
         let home : sum_by (of_home (losses_of layout file)) (opening_homes layout) ≡ 0 = homes-zero layout (losses_of layout file) (λ q. either-zero (is_file file (file_of layout (opening_log q).page))) in
         let hand : sum_all (λ (b : InHand). losses_of layout file b.log) (map (λ (v : View). v.bodies) (opening_views layout)) ≡ 0 = no-sum (λ (v : View). v.bodies) (sum_by (λ (b : InHand). losses_of layout file b.log)) (λ c. refl) in
         omega arith;
+    declared = Opening.each-view losing_of (λ (v : Losing). EachMember (λ (n : FileNo). n.0 < layout.files) v.owed) layout.cpus (λ c less. each-none (λ (n : FileNo). n.0 < layout.files));
     poisoned = Opening.each-view losing_of IsPoisonLoss layout.cpus (λ c less. omega arith);
   }
 

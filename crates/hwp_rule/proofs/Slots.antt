@@ -79,6 +79,7 @@ module _ (homes : Homes) (slot : ℕ) (was now : Option (Option Log)) (there : s
   pub slot-losses : (layout : Layout) (losses : List ℕ) (bodies : List (List InHand)) (views : List Losing) → LossesBalance layout losses homes bodies views → LossesBalance layout losses after bodies views
   slot-losses layout losses bodies views h = record {
     balance = λ file word there. h.balance file word there ∙ sym (bodies-sum (losses_of layout file) bodies);
+    declared = h.declared;
     poisoned = h.poisoned;
   }
 

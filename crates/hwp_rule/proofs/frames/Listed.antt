@@ -200,6 +200,7 @@ module _ (layout : Layout) (w : Words) (homes : Homes) (views : List View) (seat
         let same : losses_in log.entries ≡ losses_in body.log.entries = omega (arith, no-loss) in
         let of_log : losses_of layout file log ≡ losses_of layout file body.log = λ i. cond (is_file file (file_of layout (extends.page_is i))) (same i) 0 in
         omega (arith, sums (losses_of layout file));
+    declared = each-set (λ (o : Losing). EachMember (λ (n : FileNo). n.0 < layout.files) o.owed) (map losing_of views) seat (losing_of u) (h.histories.losses.declared seat (losing_of v) my_losing) h.histories.losses.declared;
     poisoned = each-set IsPoisonLoss (map losing_of views) seat (losing_of u) poison-loss h.histories.losses.poisoned;
   }
     where

@@ -1,5 +1,5 @@
 -- Losses that are reported and set to 0 keep the frame rule.
-use Rattle.std.proofs.Common.{◌≡◌, ℕ, ◌+◌, ◌==◌, eq-eqb, ne_eqb, Bool, cond, List, [], ◌∷◌, ◌++◌, Some, map, set, slice_get, slice_index, inl, inr, refl, sym, ap, subst, arith}
+use Rattle.std.proofs.Common.{◌≡◌, ℕ, ◌+◌, ◌<◌, ◌==◌, eq-eqb, ne_eqb, Bool, cond, List, [], ◌∷◌, ◌++◌, Some, map, set, slice_get, slice_index, inl, inr, refl, sym, ap, subst, arith}
 use Rattle.std.specs.Int.{from_bool}
 use Rattle.std.specs.List.{sum_by}
 use Rattle.std.proofs.lemmas.List.Sums.{sum_by_push}
@@ -9,7 +9,7 @@ use Rattle.hwp_rule.specs.declared.step.Step.TheVariants as steps
 use Rattle.hwp_rule.specs.declared.view.InHand.{InHand}
 use Rattle.hwp_rule.specs.declared.view.Reported.{Reported}
 use Rattle.hwp_rule.specs.declared.view.View.{View}
-use Rattle.hwp_rule.specs.Lists.{sum_bodies}
+use Rattle.hwp_rule.specs.Lists.{EachMember, sum_bodies}
 use Rattle.hwp_rule.specs.Logs.{losses_of}
 use Rattle.hwp_rule.specs.Rule.{FrameRule, losing_of}
 use Rattle.hwp_rule.specs.Views.{sighted, stamp_of}
@@ -37,7 +37,11 @@ keeps-report-lost file layout w homes views seat v who content given =
         entries = Kept.kept-entries all seat seen u me refl refl refl refl h.histories.entries;
         endings = Kept.kept-endings all seat seen u me refl refl h.histories.endings;
         losses = keep (λ (v : View). v.bodies) (λ l. LossesBalance layout (set w.losses file.0 0) homes l (map losing_of (set all seat u))) all seat seen u me refl
-            (change losing_of (LossesBalance layout (set w.losses file.0 0) homes bodies) all seat u (record { balance = balance; poisoned = each-set IsPoisonLoss losings seat (losing_of u) (h.histories.losses.poisoned seat (losing_of seen) there) h.histories.losses.poisoned }));
+            (change losing_of (LossesBalance layout (set w.losses file.0 0) homes bodies) all seat u (record {
+              balance = balance;
+              declared = each-set (λ (o : Losing). EachMember (λ (n : FileNo). n.0 < layout.files) o.owed) losings seat (losing_of u) (h.histories.losses.declared seat (losing_of seen) there) h.histories.losses.declared;
+              poisoned = each-set IsPoisonLoss losings seat (losing_of u) (h.histories.losses.poisoned seat (losing_of seen) there) h.histories.losses.poisoned;
+            }));
       };
       failures = Kept.same-failures all seat seen u me refl h.failures;
       processors = Kept.same-processors all seat seen u me refl h.processors;
