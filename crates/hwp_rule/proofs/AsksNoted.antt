@@ -97,7 +97,7 @@ module _ (layout : Layout) (who : Who) (v : View) where
   asks-noted (steps.Spoil frame line damage) content h = h
   asks-noted (steps.Stop cpu) content h = h
   asks-noted steps.GiveUp content h = h
-  asks-noted (steps.Kill process page body) content h = record { page_is = h.page_is; page_held = page-noted body.value.page h.page_held; extends = h.extends; ending = h.ending }
+  asks-noted (steps.Kill process page body) content h = record { within = h.within; page_is = h.page_is; page_held = page-noted body.value.page h.page_held; extends = h.extends; ending = h.ending }
   asks-noted (steps.SetPolicy thread policy settings) content h = record { decl = h.decl; declared = h.declared; own = h.own; number = h.number; few = h.few }
   asks-noted (steps.Lose file body) content h = record {
     page_held = page-noted body.value.page h.page_held;

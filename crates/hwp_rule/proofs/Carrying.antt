@@ -110,6 +110,7 @@ module _ (layout : Layout) (w : Words) (homes : Homes) (views : List View) (seat
 
     endings-changed : EndingsAgree layout w.processes after (set (all_bodies views) seat bodies) (map (λ (v : View). v.sights) views)
     endings-changed = record {
+      named = h.histories.endings.named;
       caused = λ process p at. x.eachs (λ (log : Log). p ≡ log.page.0 + 1 → has_ending layout process log.entries ≡ true) (h.histories.endings.caused process p at);
       ended = λ i log at. elim (at_set homes slot i y (Some (Some log)) at) [
         | inl t ↦ (x.home log t.1).0

@@ -300,6 +300,7 @@ module _ (layout : Layout) (sound : IsSound layout) (w : Words) (o : AreOpening 
 
   endings-opened : EndingsAgree layout w.processes (opening_homes layout) (map (λ (v : View). v.bodies) (opening_views layout)) (map (λ (v : View). v.sights) (opening_views layout))
   endings-opened = record {
+    named = λ process x there. let none : x ≡ 0 = is-zero w.processes layout.procs process x o.processes there in omega arith;
     caused = λ process x there. each-body (λ (log : Log). x ≡ log.page.0 + 1 → has_ending layout process log.entries ≡ true)
         (λ q less is. let none : x ≡ 0 = is-zero w.processes layout.procs process.0 x o.processes there in absurd (let one : x ≡ q + 1 = is in omega arith));
     ended = no-entry layout (λ (log : Log). AreEnded layout w.processes log.entries) (λ q less process x there is. absurd (true≢false (sym is)));

@@ -146,6 +146,7 @@ module _ (layout : Layout) (w : Words) (homes : Homes) (views : List View) (seat
             (change (λ (v : View). (v.made, v.sights)) (λ l. EntriesListed homes (map (λ (v : View). v.bodies) views) l (map (λ (v : View). v.lengths) views)) views seat u entries-sighted));
         endings = keep (λ (v : View). v.bodies) (λ l. EndingsAgree layout w.processes homes l (map (λ (v : View). v.sights) (set views seat u))) views seat v u me refl
             (change (λ (v : View). v.sights) (EndingsAgree layout w.processes homes (map (λ (v : View). v.bodies) views)) views seat u (record {
+              named = h.histories.endings.named;
               caused = h.histories.endings.caused;
               ended = h.histories.endings.ended;
               ended_before = h.histories.endings.ended_before;

@@ -68,6 +68,7 @@ module _ (homes : Homes) (slot : ℕ) (was now : Option (Option Log)) (there : s
 
   pub slot-endings : (layout : Layout) (processes : List ℕ) (bodies : List (List InHand)) (sights : List (List Sight)) → EndingsAgree layout processes homes bodies sights → EndingsAgree layout processes after bodies sights
   slot-endings layout processes bodies sights h = record {
+    named = h.named;
     caused = λ process word there. bodies-each (λ (log : Log). word ≡ log.page.0 + 1 → has_ending layout process log.entries ≡ true) bodies (h.caused process word there);
     ended = λ i log at. h.ended i log (home-was i log at);
     ended_before = h.ended_before;

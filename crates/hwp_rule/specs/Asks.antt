@@ -201,8 +201,10 @@ pub record CanSetCache (layout : Layout) (v : View) (page : Page) (frame : Optio
   pub page_held : HasPage v page
   pub frames : CanChange layout v page (frame_in page_held.cache) frame
 
--- a process can be ended: the body in hand, of this page and with its lock, has an ending signal of the process
+-- a process can be ended: the page is one of the layout, and its body, in hand with its lock, has an ending signal of the
+-- process
 pub record CanKill (layout : Layout) (who : Who) (v : View) (process : Proc) (page : Page) (log : Log) : Type 0 where
+  pub within : page.0 < length layout.pages
   pub page_is : log.page ≡ page
   pub page_held : HasPage v log.page
   pub extends : Extends layout who v.sights page_held.body log

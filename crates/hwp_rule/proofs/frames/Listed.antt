@@ -165,6 +165,7 @@ module _ (layout : Layout) (w : Words) (homes : Homes) (views : List View) (seat
 
   endings-listed : EndingsAgree layout w.processes homes (set (all_bodies views) seat bodies) (map (λ (v : View). v.sights) views)
   endings-listed = record {
+    named = h.histories.endings.named;
     caused = λ process x at. eachs (λ (y : Log). x ≡ y.page.0 + 1 → has_ending layout process y.entries ≡ true) (λ old is. has-more process (old (is ∙ ap (λ (p : Page). p.0 + 1) extends.page_is))) (h.histories.endings.caused process x at);
     ended = h.histories.endings.ended;
     ended_before = each-set (EachMember (λ (b : InHand). AreEnded layout w.processes (take b.since b.log.entries))) (all_bodies views) seat bodies
