@@ -18,7 +18,7 @@ use Rattle.hwp_rule.specs.Rule.{FrameRule, holdings_of}
 use Rattle.hwp_rule.specs.Views.{noted}
 use Rattle.hwp_rule.specs.Words.{Words}
 use Rattle.hwp_rule.specs.parts.Holdings.{IsBounded, HoldingsBounded, ProcessorsApart, AreOwn, IsPast}
-use Rattle.hwp_rule.specs.parts.Policies.{PoliciesListed, PolicyAgrees, IsOf, settings_of}
+use Rattle.hwp_rule.specs.parts.Policies.{PoliciesListed, PolicyAgrees, IsSetByOwn, IsOf, settings_of}
 use Rattle.hwp_rule.proofs.Lists.{change, keep, at_map, map-was, same-number, each-set, each-weaken, each-changed, some-changed, sum-changed, sum-set, length-changed}
 use Rattle.hwp_rule.proofs.Kept
 
@@ -78,6 +78,9 @@ policies-noted : (layout : Layout) (w : Words) (homes : Homes) (views : List Vie
     → FrameRule layout w homes views
     → PoliciesListed layout.threads w.policies (map (λ (v : View). (v.parts, v.settings)) (set views seat (noted who v))) (map (λ (v : View). v.sights) views)
 policies-noted layout w homes views seat v who me h = record {
+  own = change (λ (v : View). (v.parts, v.settings)) (EachMember (λ (x : List Part × List Setting). EachMember (IsSetByOwn layout.threads) x.1)) views seat (noted who v)
+      (each-set (λ (x : List Part × List Setting). EachMember (IsSetByOwn layout.threads) x.1) (map (λ (v : View). (v.parts, v.settings)) views) seat ((noted who v).parts, v.settings)
+      (h.processors.policies.own seat (v.parts, v.settings) (at_map (λ (v : View). (v.parts, v.settings)) views seat v me)) h.processors.policies.own);
   agrees = λ thread d word there is.
       change (λ (v : View). (v.parts, v.settings)) (EachMember (λ (x : List Part × List Setting). IsOf d.cpu x.0 → PolicyAgrees thread word (map (λ (v : View). v.sights) views) (settings_of thread x.1))) views seat (noted who v)
       (each-set (λ (x : List Part × List Setting). IsOf d.cpu x.0 → PolicyAgrees thread word (map (λ (v : View). v.sights) views) (settings_of thread x.1)) (map (λ (v : View). (v.parts, v.settings)) views) seat ((noted who v).parts, v.settings)

@@ -35,7 +35,7 @@ use Rattle.hwp_rule.specs.parts.Entries.{EntriesListed, HasSeen, weigh}
 use Rattle.hwp_rule.specs.parts.Endings.{EndingsAgree, AreEnded, ShowsEnding}
 use Rattle.hwp_rule.specs.parts.Marks.{MarksAlternate, IsBefore, revivals_by}
 use Rattle.hwp_rule.specs.parts.Losses.{LossesBalance, Losing, IsPoisonLoss}
-use Rattle.hwp_rule.specs.parts.Policies.{PoliciesListed, PolicyAgrees, IsOf, settings_of, policy_after}
+use Rattle.hwp_rule.specs.parts.Policies.{PoliciesListed, PolicyAgrees, IsSetByOwn, IsOf, settings_of, policy_after}
 use Rattle.hwp_rule.specs.parts.Exhaustion.{usable, is_marked}
 use Rattle.hwp_rule.specs.parts.Stops.{EndingsAndStopsStay}
 use Rattle.hwp_rule.specs.parts.Fits.{PageFits, Fits, KnowsWords, KnowsOwn}
@@ -338,6 +338,7 @@ module _ (layout : Layout) (sound : IsSound layout) (w : Words) (o : AreOpening 
 
   policies-opened : PoliciesListed layout.threads w.policies (map (λ (v : View). (v.parts, v.settings)) (opening_views layout)) (map (λ (v : View). v.sights) (opening_views layout))
   policies-opened = record {
+    own = Opening.each-view (λ (v : View). (v.parts, v.settings)) (λ (v : List Part × List Setting). EachMember (IsSetByOwn layout.threads) v.1) layout.cpus (λ c less. each-none (IsSetByOwn layout.threads));
     agrees = λ thread d x there is. Opening.each-view (λ (v : View). (v.parts, v.settings)) (λ (v : List Part × List Setting). IsOf d.cpu v.0 → PolicyAgrees thread x (map (λ (v : View). v.sights) (opening_views layout)) (settings_of thread v.1)) layout.cpus
         (λ c less of. record {
           now = sym (Opening.at-replicate (length layout.threads) opening_policy x thread.0 (ap (λ (l : List ℕ). slice_get l thread.0) (sym o.policies) ∙ is));

@@ -127,6 +127,7 @@ module _ (layout : Layout) (w : Words) (homes : Homes) (views : List View) (seat
 
     policies-sighted : IsExplained layout w homes views s → PoliciesListed layout.threads w.policies settings (set sights seat u.sights)
     policies-sighted x = record {
+      own = h.processors.policies.own;
       agrees = λ thread d word declared there i y is of.
           let was : PolicyAgrees thread word sights (settings_of thread y.1) = h.processors.policies.agrees thread d word declared there i y is of in record {
             now = was.now;

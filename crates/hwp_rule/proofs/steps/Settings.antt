@@ -19,9 +19,9 @@ use Rattle.hwp_rule.specs.Rule.{FrameRule}
 use Rattle.hwp_rule.specs.Steps.{policy_at}
 use Rattle.hwp_rule.specs.Views.{stamp_of}
 use Rattle.hwp_rule.specs.parts.Holdings.{AreOwn, IsPast}
-use Rattle.hwp_rule.specs.parts.Policies.{PoliciesListed, PolicyAgrees, IsOf, settings_of, last_policy, policy_after}
+use Rattle.hwp_rule.specs.parts.Policies.{PoliciesListed, PolicyAgrees, IsSetByOwn, IsOf, settings_of, last_policy, policy_after}
 use Rattle.hwp_rule.proofs.Given.{Keeps}
-use Rattle.hwp_rule.proofs.Lists.{change, keep, at_map, at_set, map-was, each-push, each-weaken}
+use Rattle.hwp_rule.proofs.Lists.{change, keep, at_map, at_set, map-was, each-set, each-push, each-weaken}
 use Rattle.hwp_rule.proofs.Split.{word-there}
 use Rattle.hwp_rule.proofs.Turns.{one-view}
 use Rattle.hwp_rule.proofs.Kept
@@ -68,7 +68,7 @@ keeps-set-policy thread policy settings layout w homes views seat v who content 
   failures = Kept.same-failures views seat v u me refl h.failures;
   processors = record {
     policies = keep (λ (v : View). v.sights) (λ l. PoliciesListed layout.threads (set w.policies thread.0 word) (map (λ (v : View). (v.parts, v.settings)) (set views seat u)) l) views seat v u me refl
-        (change (λ (v : View). (v.parts, v.settings)) (λ l. PoliciesListed layout.threads (set w.policies thread.0 word) l sights) views seat u (record { agrees = agrees }));
+        (change (λ (v : View). (v.parts, v.settings)) (λ l. PoliciesListed layout.threads (set w.policies thread.0 word) l sights) views seat u (record { own = own-set; agrees = agrees }));
     stops = Kept.kept-stops views seat v u me refl refl refl h.processors.stops;
     processors = Kept.kept-processors views seat v u me refl h.processors.processors;
     commands = Kept.kept-commands views seat v u me (record { made = own.made; marks = own.marks; sights = own.sights; lengths = own.lengths; settings = each-push (λ (s : Setting). IsPast v.parts s.stamp.who) v.settings new given.past own.settings; stops = own.stops }) h.processors.commands;
@@ -101,6 +101,11 @@ keeps-set-policy thread policy settings layout w homes views seat v who content 
 
     parts : List (List Part)
     parts = map (λ (v : View). v.parts) views
+
+    own-set : EachMember (λ (y : List Part × List Setting). EachMember (IsSetByOwn layout.threads) y.1) (set lists seat (v.parts, u.settings))
+    own-set = each-set (λ (y : List Part × List Setting). EachMember (IsSetByOwn layout.threads) y.1) lists seat (v.parts, u.settings)
+        (each-push (IsSetByOwn layout.threads) v.settings new (record { decl = given.asks.decl; declared = given.asks.declared; own = given.asks.own })
+        (h.processors.policies.own seat (v.parts, v.settings) (at_map (λ (v : View). (v.parts, v.settings)) views seat v me))) h.processors.policies.own
 
     -- the settings of the thread with the new one
     now : PolicyAgrees thread word sights (settings_of thread u.settings)

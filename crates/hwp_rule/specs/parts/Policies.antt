@@ -37,9 +37,16 @@ pub record PolicyAgrees (thread : Thread) (word : ℕ) (sights : List (List Sigh
   pub few : length list ≤ command_limit
   pub shown : EachListed (λ (s : Sight). s.place ≡ places.Policy thread → (n : ℕ) × (n ≤ length list) × (s.word ≡ policy_after (take n list))) sights
 
+-- the setting is of a thread of the layout, and was made by the thread's processor
+pub record IsSetByOwn (threads : List ThreadDecl) (s : Setting) : Type 0 where
+  pub decl : ThreadDecl
+  pub declared : slice_get threads s.thread.0 ≡ Some decl
+  pub own : decl.cpu ≡ s.stamp.who.cpu
+
 -- A policy word has the number of the settings that its processor's view lists for the thread, and the last of them, or the
--- default; a sight of it is such a place in that list. Broken by: a policy written without its number; a thread set by
--- another processor.
+-- default; a sight of it is such a place in that list. Each setting is by the processor of its thread. Broken by: a policy
+-- written without its number; a thread set by another processor.
 pub record PoliciesListed (threads : List ThreadDecl) (policies : List ℕ) (views : List (List Part × List Setting)) (sights : List (List Sight)) : Type 0 where
+  pub own : EachMember (λ (v : List Part × List Setting). EachMember (IsSetByOwn threads) v.1) views
   pub agrees : (thread : Thread) (d : ThreadDecl) (w : ℕ) → slice_get threads thread.0 ≡ Some d → slice_get policies thread.0 ≡ Some w
       → EachMember (λ (v : List Part × List Setting). IsOf d.cpu v.0 → PolicyAgrees thread w sights (settings_of thread v.1)) views
