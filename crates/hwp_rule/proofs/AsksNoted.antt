@@ -7,7 +7,6 @@ use Rattle.hwp_geom.specs.declared.Page.{Page}
 use Rattle.hwp_geom.specs.declared.Who.{Who}
 use Rattle.hwp_rule.specs.declared.log.Log.{Log}
 use Rattle.hwp_rule.specs.declared.step.Step.{Step}
-use Rattle.hwp_rule.specs.declared.step.Step.TheVariants as steps
 use Rattle.hwp_rule.specs.declared.view.View.{View}
 use Rattle.hwp_rule.specs.Asks.{AsksOf, HasLock, HasPageLock, HasPage, CanPut, CanSetOwner, CanFree, CanName, CanChange, OwesCount}
 use Rattle.hwp_rule.specs.declared.view.InHand.{InHand}
@@ -16,6 +15,7 @@ use Rattle.hwp_rule.specs.Logs.{log_of}
 use Rattle.hwp_rule.specs.Rule.{losing_of}
 use Rattle.hwp_rule.specs.Views.{noted, listed, listed_of, body_of, without, lost_by}
 use Rattle.hwp_rule.specs.parts.Losses.{IsPoisonLoss}
+use Rattle.hwp_rule.specs.declared.step.Step.TheVariants as steps
 
 -- the losses of a view in which a loss of a file is no longer owed
 abbrev lost : Layout → Who → FileNo → Log → Option InHand → View → View

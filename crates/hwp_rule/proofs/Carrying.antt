@@ -30,11 +30,10 @@ use Rattle.hwp_rule.specs.parts.Holdings.{CommandsOwn, AreOwn, IsPast}
 use Rattle.hwp_rule.specs.parts.Losses.{LossesBalance}
 use Rattle.hwp_rule.specs.parts.Stops.{EndingsAndStopsStay}
 use Rattle.hwp_rule.specs.parts.Unpoisoned.{NothingPoisonedYet, is_failure}
-use Rattle.hwp_rule.proofs.Lists.{change, keep, at_map, at_set, same-number, set_again, sum-set, term-le, each-set, each-push, each-weaken}
-use Rattle.hwp_rule.proofs.Hands.{each-without, not-both}
-use Rattle.hwp_rule.proofs.Slots.{is_bodiless, bodies-sum, bodies-each}
+use Rattle.hwp_rule.proofs.Lists.{change, keep, at_map, at_set, same-number, set_again, sum-set, term-le, each-set, each-push, each-weaken, not-both}
+use Rattle.hwp_rule.proofs.Without.{each-without, others-unfound, sum-without-one}
+use Rattle.hwp_rule.proofs.EmptySlots.{is_bodiless, bodies-sum, bodies-each}
 use Rattle.hwp_rule.proofs.TakenBodies.{sum-taken, each-taken, only-at-home}
-use Rattle.hwp_rule.proofs.frames.Without.{others-unfound, sum-without-one}
 use Rattle.hwp_rule.proofs.Kept
 
 abbrev pub all_bodies : List View → List (List InHand)

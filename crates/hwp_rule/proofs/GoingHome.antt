@@ -20,10 +20,10 @@ use Rattle.hwp_rule.specs.Words.{Words}
 use Rattle.hwp_rule.specs.parts.Endings.{AreEnded}
 use Rattle.hwp_rule.specs.parts.Fits.{Fits, FitsWords, KnowsWords, KnowsOwn}
 use Rattle.hwp_rule.specs.parts.Holdings.{IsPast}
-use Rattle.hwp_rule.proofs.frames.Listed
-use Rattle.hwp_rule.proofs.frames.PageLocks.{first-lock, same-page}
-use Rattle.hwp_rule.proofs.frames.Without.{find-is, changed-at}
+use Rattle.hwp_rule.proofs.FittingWords.{first-lock, same-page}
+use Rattle.hwp_rule.proofs.Without.{find-is, changed-at}
 use Rattle.hwp_rule.proofs.Lists.{at_map, same-or, set_here}
+use Rattle.hwp_rule.proofs.ListingEntries
 
 or-parts : (a b : Bool) → (a || b) ≡ true → (a ≡ true) ⊎ (b ≡ true)
 or-parts true b e = inl refl
@@ -41,7 +41,7 @@ module _ (layout : Layout) (w : Words) (homes : Homes) (views : List View) (seat
   }
 
   pub rule : FrameRule layout w homes (set views seat renewed)
-  rule = Listed.keeps-renewed layout w homes views seat v who log found-body.0 can.body me past found-body.1 found-body.2 can.extends within can.fits.unlocked h
+  rule = ListingEntries.keeps-renewed layout w homes views seat v who log found-body.0 can.body me past found-body.1 found-body.2 can.extends within can.fits.unlocked h
 
   pub me-renewed : slice_get (set views seat renewed) seat ≡ Some renewed
   me-renewed = set_here views seat renewed v me
@@ -100,4 +100,4 @@ module _ (layout : Layout) (w : Words) (homes : Homes) (views : List View) (seat
           fits = subst (λ (c : ℕ). FitsWords layout log c own.trans) same-cache (can.fits.locked own.lock own.cache own.trans own.there lock-page own.cache_is own.trans_is)
 
   pub listed-renewed : listed layout who log v ≡ renewed
-  listed-renewed = Listed.listed-is layout w homes views seat v who log found-body.0 can.body me past found-body.1 found-body.2 can.extends within can.fits.unlocked h can.body_is
+  listed-renewed = ListingEntries.listed-is layout w homes views seat v who log found-body.0 can.body me past found-body.1 found-body.2 can.extends within can.fits.unlocked h can.body_is

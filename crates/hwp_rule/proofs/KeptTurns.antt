@@ -6,10 +6,8 @@ use Rattle.hwp_geom.specs.declared.Layout.{Layout}
 use Rattle.hwp_geom.specs.declared.Who.{Who}
 use Rattle.hwp_rule.specs.declared.log.Log.{Log}
 use Rattle.hwp_rule.specs.declared.place.Place.{Place}
-use Rattle.hwp_rule.specs.declared.place.Place.TheVariants as places
 use Rattle.hwp_rule.specs.declared.record.Rec.{Rec}
 use Rattle.hwp_rule.specs.declared.step.Step.{Step}
-use Rattle.hwp_rule.specs.declared.step.Step.TheVariants as steps
 use Rattle.hwp_rule.specs.declared.view.InHand.{InHand}
 use Rattle.hwp_rule.specs.declared.view.Part.{Part}
 use Rattle.hwp_rule.specs.declared.view.View.{View}
@@ -19,6 +17,8 @@ use Rattle.hwp_rule.specs.Logs.{log_of}
 use Rattle.hwp_rule.specs.Steps.{goes}
 use Rattle.hwp_rule.specs.Views.{loaded, taken, listed_of, body_of, put_home, view_by, noted, view_after}
 use Rattle.hwp_rule.proofs.Lists.{each-changed, some-changed}
+use Rattle.hwp_rule.specs.declared.place.Place.TheVariants as places
+use Rattle.hwp_rule.specs.declared.step.Step.TheVariants as steps
 
 either-way : (b : Bool) (x y v : View) → x.parts ≡ v.parts → y.parts ≡ v.parts → (cond b x y).parts ≡ v.parts
 either-way true x y v e g = e

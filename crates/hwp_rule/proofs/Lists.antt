@@ -7,6 +7,8 @@ use Rattle.std.proofs.lemmas.List.Sums.{sum_by-cons, sum_by-set, get_or-le-sum_b
 use Rattle.std.proofs.lemmas.Option.{none-some, same_Some, slice_get-map, slice_get_within, get_or_from_slice_get}
 use Rattle.hwp_rule.specs.Lists.{EachMember, SomeMember}
 use Rattle.hwp_rule.specs.Views.{changed}
+use Rattle.std.specs.Int.{from_bool}
+use Rattle.std.proofs.lemmas.Bool.{eqb-true}
 
 -- two numbers are the same or not
 pub same-or : (n m : ℕ) → (n ≡ m) ⊎ (n ≢ m)
@@ -200,3 +202,18 @@ module _ {A : Type 0} where
   set-set [] i a b = refl
   set-set (x ∷ xs) zero a b = refl
   set-set (x ∷ xs) (suc i) a b = ap (λ (ys : List A). x ∷ ys) (set-set xs i a b)
+
+-- a test that two numbers are the same, by what they are
+pub from_bool-same : (n m : ℕ) → n ≡ m → from_bool (n == m) ≡ 1
+from_bool-same n m e = ap from_bool (same-number n m e)
+
+pub from_bool-other : (n m : ℕ) → n ≢ m → from_bool (n == m) ≡ 0
+from_bool-other n m other = which (n == m) refl
+  where
+    which : (b : Bool) → (n == m) ≡ b → from_bool b ≡ 0
+    which true is = absurd (other (eqb-true n m is))
+    which false is = refl
+
+-- a Boolean is not both
+pub not-both : (b : Bool) → b ≡ true → b ≡ false → ⊥
+not-both b is isnt = let bad : 1 ≡ from_bool false = sym (ap from_bool is) ∙ ap from_bool isnt in absurd (omega arith)

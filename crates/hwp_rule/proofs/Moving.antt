@@ -6,7 +6,6 @@ use Rattle.hwp_rule.specs.declared.log.Log.{Log}
 use Rattle.hwp_rule.specs.declared.record.Rec.{Rec}
 use Rattle.hwp_rule.specs.declared.record.State.{State}
 use Rattle.hwp_rule.specs.declared.slot_move.SlotMove.{SlotMove}
-use Rattle.hwp_rule.specs.declared.slot_move.SlotMove.TheVariants as moves
 use Rattle.hwp_rule.specs.declared.step.Step.{Step}
 use Rattle.hwp_rule.specs.declared.view.View.{View}
 use Rattle.hwp_rule.specs.Lists.{Homes}
@@ -17,10 +16,11 @@ use Rattle.hwp_rule.specs.Steps.{place_of, word_after}
 use Rattle.hwp_rule.specs.Views.{noted, view_by}
 use Rattle.hwp_rule.specs.Words.{Words, words_of, read, put, index, size, segment, free_words, trans_from, caches_from, pages_from, frees_from, bads_from, weaks_from, processes_from, policies_from, losses_from}
 use Rattle.hwp_rule.proofs.AsksNoted.{asks-noted}
-use Rattle.hwp_rule.proofs.Given.{Given, IsShaped, Keeps}
+use Rattle.hwp_rule.proofs.Keeps.{Given, IsShaped, Keeps}
 use Rattle.hwp_rule.proofs.Lists.{set_here, set-set}
 use Rattle.hwp_rule.proofs.Noted.{keeps-noted, past-now, turn-noted}
-use Rattle.hwp_rule.proofs.Split.{words-read, words-put}
+use Rattle.hwp_rule.proofs.WordsByKind.{words-read, words-put}
+use Rattle.hwp_rule.specs.declared.slot_move.SlotMove.TheVariants as moves
 
 length-segment : (from count : ℕ) (ws : List ℕ) → from + count ≤ length ws → length (segment from count ws) ≡ count
 length-segment from count ws fits =

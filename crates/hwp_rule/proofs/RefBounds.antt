@@ -16,7 +16,7 @@ use Rattle.hwp_rule.specs.Words.{Words, sum_below}
 use Rattle.hwp_rule.specs.parts.Counts.{named}
 use Rattle.hwp_rule.specs.parts.Holdings.{Holdings, IsBounded, frames_held, ProcessorsApart}
 use Rattle.hwp_rule.proofs.Counting.{below-zero}
-use Rattle.hwp_rule.proofs.Given.{IsShaped}
+use Rattle.hwp_rule.proofs.Keeps.{IsShaped}
 use Rattle.hwp_rule.proofs.Lists.{same-number, same-or}
 use Rattle.hwp_rule.proofs.Refs.{refs-none}
 

@@ -11,12 +11,10 @@ use Rattle.hwp_geom.specs.declared.ThreadDecl.{ThreadDecl}
 use Rattle.hwp_geom.specs.declared.Who.{Who}
 use Rattle.hwp_page.specs.declared.Met.TheVariants.{Word}
 use Rattle.hwp_page.specs.declared.What.{What}
-use Rattle.hwp_page.specs.declared.What.TheVariants as entries
 use Rattle.hwp_words.specs.Counters.{hardware_of}
 use Rattle.hwp_words.specs.Frames.{poison_of, cycle_of}
 use Rattle.hwp_words.specs.Stops.{stopper_of}
 use Rattle.hwp_rule.specs.declared.place.Place.{Place}
-use Rattle.hwp_rule.specs.declared.place.Place.TheVariants as places
 use Rattle.hwp_rule.specs.declared.view.Made.{Made}
 use Rattle.hwp_rule.specs.declared.view.Part.{Part}
 use Rattle.hwp_rule.specs.declared.view.Setting.{Setting}
@@ -38,7 +36,9 @@ use Rattle.hwp_rule.specs.parts.Marks.{MarksAlternate, IsBefore}
 use Rattle.hwp_rule.specs.parts.Policies.{PoliciesListed, PolicyAgrees, IsOf, settings_of, policy_after}
 use Rattle.hwp_rule.specs.parts.Stops.{EndingsAndStopsStay}
 use Rattle.hwp_rule.proofs.Lists.{change, keep, at_map, each-set, each-push, each-weaken, some-push, sum-set}
-use Rattle.hwp_rule.proofs.Split.{same-put}
+use Rattle.hwp_rule.proofs.WordsByKind.{same-put}
+use Rattle.hwp_page.specs.declared.What.TheVariants as entries
+use Rattle.hwp_rule.specs.declared.place.Place.TheVariants as places
 use Rattle.hwp_rule.proofs.Kept
 
 -- what the parts ask of a sight, on a board that keeps the rule

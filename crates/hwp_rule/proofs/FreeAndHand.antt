@@ -1,0 +1,208 @@
+-- A frame goes between the free bits and a hand: the frame rule stays.
+use Rattle.std.proofs.Common.{◌≡◌, ℕ, ◌+◌, ◌-◌, ◌*◌, ◌/◌, ◌%◌, ◌^◌, ◌<◌, ◌≤◌, ◌==◌, min, Bool, true, false, List, [], ◌∷◌, ◌++◌, Some, map, length, set, get_or, slice_get, bit_and, bit_or, w64, inl, inr, refl, sym, ap, ◌∙◌, arith}
+use Rattle.std.specs.Int.{bit_not, from_bool}
+use Rattle.std.specs.List.{sum_by}
+use Rattle.std.proofs.lemmas.List.{length-append}
+use Rattle.std.proofs.lemmas.Option.{slice_get-get_or}
+use Rattle.hwp_geom.specs.declared.Frame.{Frame}
+use Rattle.hwp_geom.specs.declared.Layout.{Layout}
+use Rattle.hwp_words.specs.Frames.{count_of, is_kernel}
+use Rattle.hwp_rule.specs.declared.view.View.{View}
+use Rattle.hwp_rule.specs.Asks.{HasInHand}
+use Rattle.hwp_rule.specs.Lists.{Homes, EachMember, EachListed}
+use Rattle.hwp_rule.specs.Rule.{FrameRule, holdings_of}
+use Rattle.hwp_rule.specs.Views.{without, is_frame}
+use Rattle.hwp_rule.specs.Words.{Words, free_bit, sum_below}
+use Rattle.hwp_rule.specs.parts.Free.{FreeBitsAgree}
+use Rattle.hwp_rule.specs.parts.Holdings.{AreOwn, IsBounded, HoldingsBounded}
+use Rattle.hwp_rule.specs.parts.Places.{in_hand, HasOnePlace, IsApart}
+use Rattle.hwp_rule.proofs.Lists.{change, at_map, each-set, each-push, sum-set, same-or, same-number, from_bool-same, from_bool-other}
+use Rattle.hwp_rule.proofs.Bits.{sum-below-change, free_bit-cleared, free_bit-cleared_other, free_bit-raised, free_bit-raised_other}
+use Rattle.hwp_rule.proofs.Without.{each-without, length-without}
+use Rattle.hwp_rule.proofs.FramesInHand.{in_hand-push, in_hand-without, in_hand-mine}
+use Rattle.hwp_rule.proofs.Kept
+
+-- frames go between free bits and hands: of each frame both together are as many as before
+places-moved : (kernel : List Bool) (frames frees frees' : List ℕ) (hands hands' : List (List Frame))
+    → ((f : ℕ) → free_bit frees' f + in_hand f hands' ≡ free_bit frees f + in_hand f hands)
+    → EachListed (λ (h : Frame). h.0 < length kernel) hands'
+    → HasOnePlace kernel frames frees hands → HasOnePlace kernel frames frees' hands'
+places-moved kernel frames frees frees' hands hands' same handed h = record {
+  declared = h.declared;
+  placed = λ f w there isnt.
+      let both : free_bit frees' f + in_hand f hands' ≡ free_bit frees f + in_hand f hands = same f in
+      let one : free_bit frees f + in_hand f hands + min (count_of w) 1 ≡ 1 = h.placed f w there isnt in
+      omega arith;
+  idle = λ f w there some.
+      let both : free_bit frees' f + in_hand f hands' ≡ free_bit frees f + in_hand f hands = same f in
+      h.idle f w there (omega arith);
+  kernels = λ f w there is.
+      let both : free_bit frees' f + in_hand f hands' ≡ free_bit frees f + in_hand f hands = same f in
+      let apart : IsApart frees hands f w = h.kernels f w there is in
+      let taken : free_bit frees f ≡ 0 = apart.taken in
+      let unhanded : in_hand f hands ≡ 0 = apart.unhanded in
+      record { bare = apart.bare; uncounted = apart.uncounted; taken = omega arith; unhanded = omega arith };
+  handed = handed;
+}
+
+module _ (layout : Layout) (w : Words) (homes : Homes) (views : List View) (seat : ℕ) (v : View) (me : slice_get views seat ≡ Some v) (h : FrameRule layout w homes views) where
+  abbrev hands : List (List Frame)
+  hands = map (λ (v : View). v.hands) views
+
+  abbrev reserved : List ℕ
+  reserved = map (λ (v : View). v.reserved) views
+
+  -- a frame between the free bits and the hand: the parts that read them are so, and the view holds no more than before
+  rule-moved : (frees : List ℕ) (reserved' : ℕ) (hands' : List Frame)
+      → HasOnePlace layout.kernel w.frames frees (set hands seat hands')
+      → FreeBitsAgree layout.frames frees w.available (set reserved seat reserved')
+      → reserved' + length hands' ≡ v.reserved + length v.hands
+      → FrameRule layout (record w { frees = frees }) homes (set views seat (record v { reserved = reserved'; hands = hands' }))
+  rule-moved frees reserved' hands' places free few = record {
+    frames = record {
+      counts = Kept.kept-counts views seat v u me refl h.frames.counts;
+      places = change (λ (v : View). v.hands) (HasOnePlace layout.kernel w.frames frees) views seat u places;
+      frame_locks = Kept.kept-frame-locks views seat v u me refl refl h.frames.frame_locks;
+      free = change (λ (v : View). v.reserved) (FreeBitsAgree layout.frames frees w.available) views seat u free;
+      holdings = change holdings_of (HoldingsBounded layout) views seat u (record { bounded = each-set (IsBounded layout) (map holdings_of views) seat (holdings_of u) bounded-still h.frames.holdings.bounded });
+    };
+    pages = Kept.same-pages views seat v u me refl h.pages;
+    histories = Kept.same-histories views seat v u me refl h.histories;
+    failures = Kept.same-failures views seat v u me refl h.failures;
+    processors = Kept.same-processors views seat v u me refl h.processors;
+  }
+    where
+      u : View
+      u = record v { reserved = reserved'; hands = hands' }
+
+      own : AreOwn v
+      own = h.processors.commands.own seat v me
+
+      bounded : IsBounded layout (holdings_of v)
+      bounded = h.frames.holdings.bounded seat (holdings_of v) (at_map holdings_of views seat v me)
+
+      bounded-still : IsBounded layout (holdings_of u)
+      bounded-still = record { few = omega (arith, bounded.few); none = λ empty. omega (arith, bounded.none empty); shares = bounded.shares }
+
+  pub my-hands : slice_get hands seat ≡ Some v.hands
+  my-hands = at_map (λ (v : View). v.hands) views seat v me
+
+  my-reserved : slice_get reserved seat ≡ Some v.reserved
+  my-reserved = at_map (λ (v : View). v.reserved) views seat v me
+
+  module _ (frame : Frame) (within : frame.0 / 64 < length w.frees) (kernel : length layout.kernel ≡ layout.frames) (wide : length w.frames ≡ layout.frames) where
+    abbrev found : ℕ
+    found = get_or w.frees (frame.0 / 64) 0
+
+    abbrev mask : ℕ
+    mask = 1 * 2 ^ (frame.0 % 64) % 2 ^ 64
+
+    abbrev cleared : List ℕ
+    cleared = set w.frees (frame.0 / 64) (bit_and found (bit_not w64 mask))
+
+    abbrev raised : List ℕ
+    raised = set w.frees (frame.0 / 64) (bit_or found mask)
+
+    -- the bit was set
+    pub bit-taken : 0 < v.reserved → free_bit w.frees frame.0 ≡ 1
+        → FrameRule layout (record w { frees = cleared }) homes (set views seat (record v { reserved = v.reserved - 1; hands = v.hands ++ frame ∷ [] }))
+    bit-taken some bit = rule-moved cleared (v.reserved - 1) (v.hands ++ frame ∷ []) places free (omega (arith, length-append v.hands (frame ∷ [])))
+      where
+        inside : frame.0 < layout.frames
+        inside = elim (same-or (layout.frames - frame.0) 0) [
+          | inl past ↦ let none : free_bit w.frees frame.0 ≡ 0 = h.frames.free.within frame.0 (omega arith) in absurd (omega (arith, bit))
+          | inr before ↦ omega arith
+        ]
+
+        both : (f : ℕ) → free_bit cleared f + in_hand f (set hands seat (v.hands ++ frame ∷ [])) ≡ free_bit w.frees f + in_hand f hands
+        both f =
+            let more : in_hand f (set hands seat (v.hands ++ frame ∷ [])) ≡ in_hand f hands + from_bool (frame.0 == f) = in_hand-push hands seat v.hands frame my-hands f in
+            elim (same-or f frame.0) [
+              | inl same ↦
+                  let now : free_bit cleared f ≡ 0 = ap (free_bit cleared) same ∙ free_bit-cleared w.frees frame.0 within in
+                  let was : free_bit w.frees f ≡ 1 = ap (free_bit w.frees) same ∙ bit in
+                  let one : from_bool (frame.0 == f) ≡ 1 = from_bool-same frame.0 f (sym same) in
+                  omega arith
+              | inr other ↦
+                  let stays : free_bit cleared f ≡ free_bit w.frees f = free_bit-cleared_other w.frees frame.0 within f other in
+                  let none : from_bool (frame.0 == f) ≡ 0 = from_bool-other frame.0 f (λ e. other (sym e)) in
+                  omega arith
+            ]
+
+        places : HasOnePlace layout.kernel w.frames cleared (set hands seat (v.hands ++ frame ∷ []))
+        places = places-moved layout.kernel w.frames w.frees cleared hands (set hands seat (v.hands ++ frame ∷ [])) both
+            (each-set (EachMember (λ (h : Frame). h.0 < length layout.kernel)) hands seat (v.hands ++ frame ∷ [])
+            (each-push (λ (h : Frame). h.0 < length layout.kernel) v.hands frame (omega (arith, inside, kernel)) (h.frames.places.handed seat v.hands my-hands)) h.frames.places.handed)
+            h.frames.places
+
+        free : FreeBitsAgree layout.frames cleared w.available (set reserved seat (v.reserved - 1))
+        free = record {
+          number =
+              let total : sum_by (λ (n : ℕ). n) (set reserved seat (v.reserved - 1)) + v.reserved ≡ sum_by (λ (n : ℕ). n) reserved + (v.reserved - 1) = sum-set (λ (n : ℕ). n) reserved seat v.reserved (v.reserved - 1) my-reserved in
+              let number : sum_below (free_bit w.frees) layout.frames ≡ w.available + sum_by (λ (n : ℕ). n) reserved = h.frames.free.number in
+              let now : free_bit cleared frame.0 ≡ 0 = free_bit-cleared w.frees frame.0 within in
+              let differs : sum_below (free_bit cleared) layout.frames + free_bit w.frees frame.0 ≡ sum_below (free_bit w.frees) layout.frames + free_bit cleared frame.0 =
+              sum-below-change (free_bit cleared) (free_bit w.frees) frame.0 layout.frames inside (λ f other. free_bit-cleared_other w.frees frame.0 within f other) in
+              omega (arith, bit, some);
+          within = λ f past. free_bit-cleared_other w.frees frame.0 within f (λ e. absurd (omega (arith, inside))) ∙ h.frames.free.within f past;
+        }
+
+    -- the frame was in hand
+    pub bit-given : HasInHand v frame
+        → FrameRule layout (record w { frees = raised }) homes (set views seat (record v { reserved = v.reserved + 1; hands = without (is_frame frame) v.hands }))
+    bit-given has = rule-moved raised (v.reserved + 1) (without (is_frame frame) v.hands) places free (omega (arith, length-without (is_frame frame) v.hands has.0 frame mine (same-number frame.0 frame.0 refl)))
+      where
+        mine : slice_get v.hands has.0 ≡ Some frame
+        mine = has.2 ∙ ap (λ (h : Frame). Some h) has.3
+
+        inside : frame.0 < layout.frames
+        inside = omega (arith, h.frames.places.handed seat v.hands my-hands has.0 frame mine, kernel)
+
+        word : ℕ
+        word = get_or w.frames frame.0 0
+
+        there : slice_get w.frames frame.0 ≡ Some word
+        there = slice_get-get_or w.frames frame.0 0 (omega (arith, inside, wide))
+
+        was : free_bit w.frees frame.0 ≡ 0
+        was = which (is_kernel word) refl
+          where
+            which : (b : Bool) → is_kernel word ≡ b → free_bit w.frees frame.0 ≡ 0
+            which true is = (h.frames.places.kernels frame.0 word there is).taken
+            which false isnt =
+                let some : 1 ≤ in_hand frame.0 hands = in_hand-mine hands seat v.hands frame my-hands has.0 mine in
+                let one : free_bit w.frees frame.0 + in_hand frame.0 hands + min (count_of word) 1 ≡ 1 = h.frames.places.placed frame.0 word there isnt in
+                omega arith
+
+        both : (f : ℕ) → free_bit raised f + in_hand f (set hands seat (without (is_frame frame) v.hands)) ≡ free_bit w.frees f + in_hand f hands
+        both f =
+            let less : in_hand f (set hands seat (without (is_frame frame) v.hands)) + from_bool (frame.0 == f) ≡ in_hand f hands = in_hand-without hands seat v.hands frame my-hands f has.0 mine in
+            elim (same-or f frame.0) [
+              | inl same ↦
+                  let now : free_bit raised f ≡ 1 = ap (free_bit raised) same ∙ free_bit-raised w.frees frame.0 within in
+                  let before : free_bit w.frees f ≡ 0 = ap (free_bit w.frees) same ∙ was in
+                  let one : from_bool (frame.0 == f) ≡ 1 = from_bool-same frame.0 f (sym same) in
+                  omega arith
+              | inr other ↦
+                  let stays : free_bit raised f ≡ free_bit w.frees f = free_bit-raised_other w.frees frame.0 within f other in
+                  let none : from_bool (frame.0 == f) ≡ 0 = from_bool-other frame.0 f (λ e. other (sym e)) in
+                  omega arith
+            ]
+
+        places : HasOnePlace layout.kernel w.frames raised (set hands seat (without (is_frame frame) v.hands))
+        places = places-moved layout.kernel w.frames w.frees raised hands (set hands seat (without (is_frame frame) v.hands)) both
+            (each-set (EachMember (λ (h : Frame). h.0 < length layout.kernel)) hands seat (without (is_frame frame) v.hands)
+            (each-without (λ (h : Frame). h.0 < length layout.kernel) (is_frame frame) v.hands (h.frames.places.handed seat v.hands my-hands)) h.frames.places.handed)
+            h.frames.places
+
+        free : FreeBitsAgree layout.frames raised w.available (set reserved seat (v.reserved + 1))
+        free = record {
+          number =
+              let total : sum_by (λ (n : ℕ). n) (set reserved seat (v.reserved + 1)) + v.reserved ≡ sum_by (λ (n : ℕ). n) reserved + (v.reserved + 1) = sum-set (λ (n : ℕ). n) reserved seat v.reserved (v.reserved + 1) my-reserved in
+              let number : sum_below (free_bit w.frees) layout.frames ≡ w.available + sum_by (λ (n : ℕ). n) reserved = h.frames.free.number in
+              let now : free_bit raised frame.0 ≡ 1 = free_bit-raised w.frees frame.0 within in
+              let differs : sum_below (free_bit raised) layout.frames + free_bit w.frees frame.0 ≡ sum_below (free_bit w.frees) layout.frames + free_bit raised frame.0 =
+              sum-below-change (free_bit raised) (free_bit w.frees) frame.0 layout.frames inside (λ f other. free_bit-raised_other w.frees frame.0 within f other) in
+              omega (arith, was);
+          within = λ f past. free_bit-raised_other w.frees frame.0 within f (λ e. absurd (omega (arith, inside))) ∙ h.frames.free.within f past;
+        }

@@ -1,3 +1,0 @@
-pub mod Paging
-pub mod LockPage
-pub mod UnlockPage
