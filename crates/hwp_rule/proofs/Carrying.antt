@@ -24,7 +24,7 @@ use Rattle.hwp_rule.specs.Views.{page_locks_on, without, is_body_of}
 use Rattle.hwp_rule.specs.Words.{Words}
 use Rattle.hwp_rule.specs.parts.Bodies.{Holder}
 use Rattle.hwp_rule.specs.parts.Endings.{EndingsAgree, AreEnded}
-use Rattle.hwp_rule.specs.parts.Entries.{EntriesListed, weigh}
+use Rattle.hwp_rule.specs.parts.Entries.{EntriesListed, AreInOrder, weigh}
 use Rattle.hwp_rule.specs.parts.Fits.{PageFits, Fits, KnowsWords, KnowsOwn}
 use Rattle.hwp_rule.specs.parts.Holdings.{CommandsOwn, AreOwn, IsPast}
 use Rattle.hwp_rule.specs.parts.Losses.{LossesBalance}
@@ -88,6 +88,7 @@ module _ (layout : Layout) (w : Words) (homes : Homes) (views : List View) (seat
     entries-changed : EntriesListed after (set (all_bodies views) seat bodies) (map (λ (v : View). (v.made, v.sights)) views) (set (map (λ (v : View). v.lengths) views) seat lengths)
     entries-changed = record {
       balance = λ g. x.sums (weigh g) ∙ h.histories.entries.balance g;
+      ordered = x.eachs (λ (log : Log). AreInOrder log.entries) h.histories.entries.ordered;
       shown = h.histories.entries.shown;
       lengths_reached = each-set (EachMember Reached) (map (λ (v : View). v.lengths) views) seat lengths (again lengths x.reached)
           (each-weaken (EachMember Was) (EachMember Reached) (map (λ (v : View). v.lengths) views) (λ list each. again list each) h.histories.entries.lengths_reached);

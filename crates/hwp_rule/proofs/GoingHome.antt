@@ -11,7 +11,7 @@ use Rattle.hwp_rule.specs.declared.log.Log.{Log}
 use Rattle.hwp_rule.specs.declared.view.InHand.{InHand}
 use Rattle.hwp_rule.specs.declared.view.PageLock.{PageLock}
 use Rattle.hwp_rule.specs.declared.view.View.{View}
-use Rattle.hwp_rule.specs.Asks.{CanGoHome}
+use Rattle.hwp_rule.specs.Asks.{CanGoHome, IsTurnOf}
 use Rattle.hwp_rule.specs.Lists.{Homes, SomeMember}
 use Rattle.hwp_rule.specs.Logs.{has_ending, is_ending}
 use Rattle.hwp_rule.specs.Rule.{FrameRule}
@@ -30,7 +30,7 @@ or-parts true b e = inl refl
 or-parts false b e = inr e
 
 module _ (layout : Layout) (w : Words) (homes : Homes) (views : List View) (seat : ℕ) (v : View) (who : Who) (log : Log)
-    (me : slice_get views seat ≡ Some v) (past : IsPast v.parts who) (h : FrameRule layout w homes views) (can : CanGoHome layout who v log) (within : log.page.0 < length layout.pages) where
+    (me : slice_get views seat ≡ Some v) (past : IsPast v.parts who) (turn : IsTurnOf v who) (h : FrameRule layout w homes views) (can : CanGoHome layout who v log) (within : log.page.0 < length layout.pages) where
   pub found-body : (i : ℕ) × (slice_get v.bodies i ≡ Some can.body) × (is_body_of log.page can.body ≡ true)
   found-body = find-is (is_body_of log.page) v.bodies can.body can.body_is
 
@@ -41,7 +41,7 @@ module _ (layout : Layout) (w : Words) (homes : Homes) (views : List View) (seat
   }
 
   pub rule : FrameRule layout w homes (set views seat renewed)
-  rule = ListingEntries.keeps-renewed layout w homes views seat v who log found-body.0 can.body me past found-body.1 found-body.2 can.extends within can.fits.unlocked h
+  rule = ListingEntries.keeps-renewed layout w homes views seat v who log found-body.0 can.body me past turn found-body.1 found-body.2 can.extends within can.fits.unlocked h
 
   pub me-renewed : slice_get (set views seat renewed) seat ≡ Some renewed
   me-renewed = set_here views seat renewed v me
@@ -100,4 +100,4 @@ module _ (layout : Layout) (w : Words) (homes : Homes) (views : List View) (seat
           fits = subst (λ (c : ℕ). FitsWords layout log c own.trans) same-cache (can.fits.locked own.lock own.cache own.trans own.there lock-page own.cache_is own.trans_is)
 
   pub listed-renewed : listed layout who log v ≡ renewed
-  listed-renewed = ListingEntries.listed-is layout w homes views seat v who log found-body.0 can.body me past found-body.1 found-body.2 can.extends within can.fits.unlocked h can.body_is
+  listed-renewed = ListingEntries.listed-is layout w homes views seat v who log found-body.0 can.body me past turn found-body.1 found-body.2 can.extends within can.fits.unlocked h can.body_is

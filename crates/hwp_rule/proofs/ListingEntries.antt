@@ -22,7 +22,7 @@ use Rattle.hwp_rule.specs.declared.view.Reported.{Reported}
 use Rattle.hwp_rule.specs.declared.view.Sight.{Sight}
 use Rattle.hwp_rule.specs.declared.view.Stamp.{Stamp}
 use Rattle.hwp_rule.specs.declared.view.View.{View}
-use Rattle.hwp_rule.specs.Asks.{Extends, HasSameWords}
+use Rattle.hwp_rule.specs.Asks.{Extends, HasSameWords, IsTurnOf}
 use Rattle.hwp_rule.specs.Lists.{Homes, EachBody, EachMember, SomeMember, IsNotLater, sum_all, sum_bodies}
 use Rattle.hwp_rule.specs.Logs.{state_of, has_ending, is_ending, is_loss, losses_in, losses_of, file_of, is_file}
 use Rattle.hwp_rule.specs.Rule.{FrameRule, holder_of, losing_of}
@@ -31,7 +31,7 @@ use Rattle.hwp_rule.specs.Words.{Words}
 use Rattle.hwp_rule.specs.parts.Bodies.{BodiesAtHome, Holder, IsHolding}
 use Rattle.hwp_rule.specs.parts.Counter.{is_poisoning}
 use Rattle.hwp_rule.specs.parts.Endings.{EndingsAgree, AreEnded}
-use Rattle.hwp_rule.specs.parts.Entries.{EntriesListed, weigh, weigh_from, HasSeen}
+use Rattle.hwp_rule.specs.parts.Entries.{EntriesListed, AreInOrder, weigh, weigh_from, HasSeen}
 use Rattle.hwp_rule.specs.parts.Fits.{PageFits, Fits, KnowsWords, KnowsOwn}
 use Rattle.hwp_rule.specs.parts.Holdings.{AreOwn, IsPast}
 use Rattle.hwp_rule.specs.parts.Losses.{Losing, LossesBalance, IsPoisonLoss}
@@ -40,8 +40,9 @@ use Rattle.hwp_rule.specs.parts.Unpoisoned.{NothingPoisonedYet, is_failure}
 use Rattle.hwp_rule.proofs.Lists.{change, keep, at_map, at_longer, sum-set, each-set, each-weaken, each-changed}
 use Rattle.hwp_rule.proofs.Carrying.{all_bodies, held-bodies}
 use Rattle.hwp_rule.proofs.Without.{sum-changed-one, each-changed-one}
-use Rattle.hwp_rule.proofs.MoreEntries.{each-append, seen-drop, weigh-append, made-weigh, made-each, losses-none, losses-in-none, failures-none, or-left, fits-same}
+use Rattle.hwp_rule.proofs.MoreEntries.{each-append, seen-drop, weigh-append, made-weigh, made-each, losses-none, losses-in-none, failures-none, or-left, fits-same, order-append}
 use Rattle.hwp_rule.proofs.Carrying
+use Rattle.hwp_rule.proofs.NotLater.{entries-not-later}
 use Rattle.hwp_rule.proofs.Kept
 
 losses-of-made : (stamp : Stamp) (page : Page) (frame : Option Frame) (place : ℕ) (es : List Entry) → sum_by (λ (m : Made). from_bool (is_loss m.entry.what)) (made_from stamp page frame place es) ≡ losses_in es
@@ -55,7 +56,7 @@ losses-of-made stamp page frame place (e ∷ es) =
 
 -- a history becomes longer in the view that has the body in hand
 module _ (layout : Layout) (w : Words) (homes : Homes) (views : List View) (seat : ℕ) (v : View) (who : Who) (log : Log) (place : ℕ) (body : InHand)
-    (me : slice_get views seat ≡ Some v) (past : IsPast v.parts who) (there : slice_get v.bodies place ≡ Some body) (test : is_body_of log.page body ≡ true)
+    (me : slice_get views seat ≡ Some v) (past : IsPast v.parts who) (turn : IsTurnOf v who) (there : slice_get v.bodies place ≡ Some body) (test : is_body_of log.page body ≡ true)
     (extends : Extends layout who v.sights body log) (within : log.page.0 < length layout.pages)
     (same_words : page_locks_on log.page.0 v.pages ≡ 0 → HasSameWords (state_of layout log) (state_of layout body.log)) (h : FrameRule layout w homes views) where
   abbrev more : List Entry
@@ -140,6 +141,7 @@ module _ (layout : Layout) (w : Words) (homes : Homes) (views : List View) (seat
         let later : weigh_from g log.page (0 + length body.log.entries) more ≡ weigh_from g log.page (length body.log.entries) more = ap (λ (n : ℕ). weigh_from g log.page n more) start in
         let old : weigh_from g log.page 0 body.log.entries ≡ weigh g body.log = ap (λ (p : Page). weigh_from g p 0 body.log.entries) extends.page_is in
         omega (arith, sums (weigh g));
+    ordered = eachs (λ (x : Log). AreInOrder x.entries) (λ old. subst AreInOrder (sym extends.longer) (order-append body.log.entries more who old before extends.own)) h.histories.entries.ordered;
     shown = each-set (λ (x : List Made × List Sight). EachMember (λ (m : Made). HasSeen x.1 m.entry.who m.frame m.entry.what) x.0) (map (λ (v : View). (v.made, v.sights)) views) seat (made, v.sights)
         (each-append (λ (m : Made). HasSeen v.sights m.entry.who m.frame m.entry.what) v.made (made_from (stamp_of who v) log.page body.frame (length body.log.entries) more)
         (h.histories.entries.shown seat (v.made, v.sights) my_made)
@@ -151,6 +153,9 @@ module _ (layout : Layout) (w : Words) (homes : Homes) (views : List View) (seat
         h.histories.entries.lengths_reached;
   }
     where
+      before : EachMember (λ (e : Entry). IsNotLater e.who who) body.log.entries
+      before = (entries-not-later layout w homes views seat v who me turn h).in_hand seat v.bodies my_bodies place body there
+
       my_made : slice_get {X = List Made × List Sight} (map (λ (v : View). (v.made, v.sights)) views) seat ≡ Some (v.made, v.sights)
       my_made = at_map (λ (v : View). (v.made, v.sights)) views seat v me
 

@@ -1,5 +1,5 @@
 -- Entries of a body in hand that are listed keep the frame rule.
-use Rattle.std.proofs.Common.{◌≡◌, ℕ, zero, suc, ◌+◌, ◌||◌, Bool, true, false, true≢false, List, [], ◌∷◌, ◌++◌, Option, Some, None, drop, length, slice_get, refl, sym, ap, ◌∙◌, subst, arith}
+use Rattle.std.proofs.Common.{◌≡◌, ℕ, zero, suc, ◌+◌, ◌<◌, ◌≤◌, ◌||◌, Bool, true, false, true≢false, List, [], ◌∷◌, ◌++◌, Option, Some, None, drop, length, slice_get, refl, sym, ap, ◌∙◌, subst, arith}
 use Rattle.std.proofs.lemmas.List.Sums.{sum_by-cons}
 use Rattle.std.proofs.lemmas.Option.{none-some, same_Some}
 use Rattle.std.specs.Int.{from_bool}
@@ -18,11 +18,11 @@ use Rattle.hwp_rule.specs.declared.view.Made.{Made}
 use Rattle.hwp_rule.specs.declared.view.Sight.{Sight}
 use Rattle.hwp_rule.specs.declared.view.Stamp.{Stamp}
 use Rattle.hwp_rule.specs.Asks.{HasSameWords}
-use Rattle.hwp_rule.specs.Lists.{EachMember, SomeMember}
+use Rattle.hwp_rule.specs.Lists.{EachMember, SomeMember, IsNotLater}
 use Rattle.hwp_rule.specs.Logs.{state_of, is_loss, losses_in, file_of, fitting_word}
 use Rattle.hwp_rule.specs.Steps.{policy_at}
 use Rattle.hwp_rule.specs.Views.{made_from, loss_made, losses_made}
-use Rattle.hwp_rule.specs.parts.Entries.{weigh_from, HasMask, HasPolicy, HasSeen}
+use Rattle.hwp_rule.specs.parts.Entries.{weigh_from, HasMask, HasPolicy, HasSeen, AreInOrder}
 use Rattle.hwp_rule.specs.parts.Fits.{Fits, FitsWords}
 use Rattle.hwp_rule.specs.parts.Unpoisoned.{is_failure}
 use Rattle.hwp_rule.proofs.Lists.{each-weaken}
@@ -59,6 +59,18 @@ seen-drop n sights who frame (entries.Fail situation required seen signals) has 
     each-weaken (HasPolicy (drop n sights) who) (HasPolicy sights who) seen
     (λ p some. some-drop (λ (s : Sight). (s.stamp.who ≡ who) × (s.place ≡ places.Policy p.thread) × (s.word ≡ policy_at p.n p.policy)) n sights some) has
 seen-drop n sights who frame _ has = has
+
+-- entries of a command follow those of commands that are no later
+pub order-append : (xs ys : List Entry) (who : Who) → AreInOrder xs → EachMember (λ (e : Entry). IsNotLater e.who who) xs → EachMember (λ (e : Entry). e.who ≡ who) ys → AreInOrder (xs ++ ys)
+order-append [] ys who ordered before own i j e f less at later same =
+    let seqs : e.who.seq ≡ f.who.seq = ap (λ (z : Who). z.seq) (own i e at ∙ sym (own j f later)) in
+    omega arith
+order-append (x ∷ xs) ys who ordered before own i zero e f less at later same = absurd (omega (arith, less))
+order-append (x ∷ xs) ys who ordered before own zero (suc j) e f less at later same =
+    each-append (λ (f : Entry). IsNotLater e.who f.who) xs ys (λ k g there. ordered 0 (suc k) e g (omega arith) at there)
+    (λ k g there. subst (IsNotLater e.who) (sym (own k g there)) (before 0 e at)) j f later same
+order-append (x ∷ xs) ys who ordered before own (suc i) (suc j) e f less at later same =
+    order-append xs ys who (λ k l g h under there here. ordered (suc k) (suc l) g h (omega (arith, under)) there here) (λ k g there. before (suc k) g there) own i j e f (omega (arith, less)) at later same
 
 pub weigh-append : (g : Page → ℕ → Entry → ℕ) (page : Page) (place : ℕ) (xs ys : List Entry) → weigh_from g page place (xs ++ ys) ≡ weigh_from g page place xs + weigh_from g page (place + length xs) ys
 weigh-append g page place [] ys =

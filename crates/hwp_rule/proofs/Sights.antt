@@ -106,6 +106,7 @@ module _ (layout : Layout) (w : Words) (homes : Homes) (views : List View) (seat
           (λ m has. seen-more v.sights s m.entry.who m.frame m.entry.what has)
           (h.histories.entries.shown seat (v.made, v.sights) there))
           h.histories.entries.shown;
+      ordered = h.histories.entries.ordered;
       lengths_reached = h.histories.entries.lengths_reached;
     }
       where

@@ -1,5 +1,5 @@
 -- The entries of the pages' histories.
-use Rattle.std.specs.Prelude.{◌≡◌, ℕ, suc, ◌+◌, ◌≤◌, List, [], ◌∷◌, Option, Some, None, length}
+use Rattle.std.specs.Prelude.{◌≡◌, ℕ, suc, ◌+◌, ◌<◌, ◌≤◌, List, [], ◌∷◌, Option, Some, None, length, slice_get}
 use Rattle.std.specs.List.{sum_by}
 use Rattle.hwp_geom.specs.declared.Frame.{Frame}
 use Rattle.hwp_geom.specs.declared.Page.{Page}
@@ -16,7 +16,7 @@ use Rattle.hwp_rule.specs.declared.view.InHand.{InHand}
 use Rattle.hwp_rule.specs.declared.view.Length.{Length}
 use Rattle.hwp_rule.specs.declared.view.Made.{Made}
 use Rattle.hwp_rule.specs.declared.view.Sight.{Sight}
-use Rattle.hwp_rule.specs.Lists.{Homes, EachBody, EachListed, EachMember, SomeMember, sum_bodies}
+use Rattle.hwp_rule.specs.Lists.{Homes, EachBody, EachListed, EachMember, SomeMember, IsNotLater, sum_bodies}
 use Rattle.hwp_rule.specs.Steps.{policy_at}
 
 -- what f says of the entries of a page, from a place on
@@ -52,10 +52,15 @@ HasSeen sights who frame entries.Soft = HasMask sights who frame 0
 HasSeen sights who frame (entries.Fail situation required seen signals) = EachMember (HasPolicy sights who) seen
 HasSeen sights who frame _ = Unit {0}
 
+-- the commands of one processor do not fall in the history
+abbrev pub AreInOrder : List Entry → Type 0
+AreInOrder list = (i j : ℕ) (e f : Entry) → i < j → slice_get list i ≡ Some e → slice_get list j ≡ Some f → IsNotLater e.who f.who
+
 -- The entries of the bodies are those that the views list, each at its place: whatever is summed over the ones is the same
--- over the others. A view has the sights that its entries need, and no body is shorter than a view has seen it. Broken by:
--- an entry appended and not listed; an older copy of a body put back; a load listed without the mask that was shown.
+-- over the others. In each history the commands of one processor do not fall. A view has the sights that its entries need,
+-- and no body is shorter than a view has seen it. Broken by: an entry appended and not listed; an entry of an earlier command; an older copy of a body put back; a load listed without the mask that was shown.
 pub record EntriesListed (homes : Homes) (bodies : List (List InHand)) (made : List (List Made × List Sight)) (lengths : List (List Length)) : Type 0 where
   pub balance : (f : Page → ℕ → Entry → ℕ) → sum_bodies (weigh f) homes bodies ≡ sum_by (λ (v : List Made × List Sight). sum_by (λ (m : Made). f m.page m.place m.entry) v.0) made
+  pub ordered : EachBody (λ (log : Log). AreInOrder log.entries) homes bodies
   pub shown : EachMember (λ (v : List Made × List Sight). EachMember (λ (m : Made). HasSeen v.1 m.entry.who m.frame m.entry.what) v.0) made
   pub lengths_reached : EachListed (λ (l : Length). EachBody (λ (log : Log). log.page ≡ l.page → l.entries ≤ length log.entries) homes bodies) lengths
