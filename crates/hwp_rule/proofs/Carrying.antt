@@ -1,5 +1,5 @@
 -- A seat takes a body in hand, or puts one home, or has a slot that is empty: the parts of the frame rule that read slots and bodies.
-use Rattle.std.proofs.Common.{◌≡◌, ◌≢◌, ℕ, ◌+◌, ◌<◌, ◌≤◌, ◌==◌, true, false, List, [], ◌∷◌, ◌++◌, Option, Some, None, map, set, take, length, slice_get, inl, inr, refl, sym, ap, ◌∙◌, subst, arith}
+use Rattle.std.proofs.Common.{◌≡◌, ◌≢◌, ℕ, ◌+◌, ◌<◌, ◌≤◌, ◌==◌, true, false, List, [], ◌∷◌, ◌++◌, Option, Some, None, map, set, take, length, slice_get, append-nil, inl, inr, refl, sym, ap, ◌∙◌, subst, arith}
 use Rattle.std.proofs.Math.Seq.{take-length}
 use Rattle.std.proofs.lemmas.List.{map-set}
 use Rattle.std.proofs.lemmas.Option.{none-some, same_Some}
@@ -17,14 +17,14 @@ use Rattle.hwp_rule.specs.declared.view.Length.{Length}
 use Rattle.hwp_rule.specs.declared.view.PageLock.{PageLock}
 use Rattle.hwp_rule.specs.declared.view.Stamp.{Stamp}
 use Rattle.hwp_rule.specs.declared.view.View.{View}
-use Rattle.hwp_rule.specs.Lists.{Homes, EachBody, EachMember, SomeMember, IsNotLater, of_home, sum_all, sum_bodies}
+use Rattle.hwp_rule.specs.Lists.{Homes, EachBody, EachMember, SomeMember, StartsWith, IsNotLater, of_home, sum_all, sum_bodies}
 use Rattle.hwp_rule.specs.Logs.{has_ending, is_ending, losses_of}
 use Rattle.hwp_rule.specs.Rule.{FrameRule, holder_of, losing_of}
 use Rattle.hwp_rule.specs.Views.{page_locks_on, without, is_body_of}
 use Rattle.hwp_rule.specs.Words.{Words}
 use Rattle.hwp_rule.specs.parts.Bodies.{Holder}
 use Rattle.hwp_rule.specs.parts.Endings.{EndingsAgree, AreEnded}
-use Rattle.hwp_rule.specs.parts.Entries.{EntriesListed, AreInOrder, weigh}
+use Rattle.hwp_rule.specs.parts.Entries.{EntriesListed, AreInOrder, weigh, Reaches}
 use Rattle.hwp_rule.specs.parts.Fits.{PageFits, Fits, KnowsWords, KnowsOwn}
 use Rattle.hwp_rule.specs.parts.Holdings.{CommandsOwn, AreOwn, IsPast}
 use Rattle.hwp_rule.specs.parts.Losses.{LossesBalance}
@@ -51,7 +51,7 @@ pub record Carries (layout : Layout) (w : Words) (homes : Homes) (views : List V
   pub eachs : (P : Log → Type 0) → EachBody P homes (all_bodies views) → EachBody P (set homes slot y) (set (all_bodies views) seat bodies)
   pub home : (log : Log) → y ≡ Some (Some log) → AreEnded layout w.processes log.entries × Fits layout w.trans w.caches log
   -- the bodies in hand
-  pub reached : EachMember (λ (l : Length). EachBody (λ (log : Log). log.page ≡ l.page → l.entries ≤ length log.entries) homes (all_bodies views)) lengths
+  pub reached : EachMember (λ (l : Length). EachBody (Reaches l) homes (all_bodies views)) lengths
   pub before : EachMember (λ (b : InHand). AreEnded layout w.processes (take b.since b.log.entries)) bodies
   pub taken : EachMember (λ (b : InHand). b.since ≤ length b.log.entries) bodies
   pub killed : EachMember (λ (b : InHand). EachMember (λ (p : Proc). (x : ℕ) → slice_get w.processes p.0 ≡ Some x → x ≢ 0) b.killed) bodies
@@ -95,13 +95,13 @@ module _ (layout : Layout) (w : Words) (homes : Homes) (views : List View) (seat
     }
       where
         Was : Length → Type 0
-        Was l = EachBody (λ (log : Log). log.page ≡ l.page → l.entries ≤ length log.entries) homes (all_bodies views)
+        Was l = EachBody (Reaches l) homes (all_bodies views)
 
         Reached : Length → Type 0
-        Reached l = EachBody (λ (log : Log). log.page ≡ l.page → l.entries ≤ length log.entries) after (set (all_bodies views) seat bodies)
+        Reached l = EachBody (Reaches l) after (set (all_bodies views) seat bodies)
 
         again : (list : List Length) → EachMember Was list → EachMember Reached list
-        again list each i l e = x.eachs (λ (log : Log). log.page ≡ l.page → l.entries ≤ length log.entries) (each i l e)
+        again list each i l e = x.eachs (Reaches l) (each i l e)
 
     pub entries-carried : EntriesListed after (map (λ (v : View). v.bodies) (set views seat u)) (map (λ (v : View). (v.made, v.sights)) (set views seat u)) (map (λ (v : View). v.lengths) (set views seat u))
     entries-carried = change (λ (v : View). v.lengths) (λ l. EntriesListed after (map (λ (v : View). v.bodies) (set views seat u)) (map (λ (v : View). (v.made, v.sights)) (set views seat u)) l) views seat u
@@ -208,22 +208,22 @@ module _ (layout : Layout) (w : Words) (homes : Homes) (views : List View) (seat
     body = record { log = log; since = length log.entries; frame = frame; from = length v.sights; killed = [] }
 
     abbrev seen : Length
-    seen = record { stamp = stamp; page = log.page; entries = length log.entries }
+    seen = record { stamp = stamp; log = log }
 
     -- the page has no other body
     alone : EachBody (λ (x : Log). from_bool (x.page.0 == log.page.0) ≡ 1 → x ≡ log) homes (all_bodies views)
     alone = only-at-home (λ (x : Log). from_bool (x.page.0 == log.page.0)) homes (all_bodies views) slot log inside (one-body log.page.0 within) (ap from_bool (same-number log.page.0 log.page.0 refl))
 
-    reached-now : EachBody (λ (x : Log). x.page ≡ log.page → length log.entries ≤ length x.entries) homes (all_bodies views)
+    reached-now : EachBody (Reaches seen) homes (all_bodies views)
     reached-now = record {
       at_home = λ i x e page. longer x (alone.at_home i x e) page;
       in_hand = λ i list at j b e page. longer b.log (alone.in_hand i list at j b e) page;
     }
       where
-        longer : (x : Log) → (from_bool (x.page.0 == log.page.0) ≡ 1 → x ≡ log) → x.page ≡ log.page → length log.entries ≤ length x.entries
+        longer : (x : Log) → (from_bool (x.page.0 == log.page.0) ≡ 1 → x ≡ log) → x.page ≡ log.page → StartsWith log.entries x.entries
         longer x only page =
             let same : x ≡ log = only (ap from_bool (same-number x.page.0 log.page.0 (ap (λ (p : Page). p.0) page))) in
-            subst (λ (y : Log). length log.entries ≤ length y.entries) (sym same) (omega arith)
+            ([], ap (λ (y : Log). y.entries) same ∙ sym (append-nil log.entries))
 
     pub carry-out : (pages : List PageLock)
         → EachMember (λ (b : InHand). page_locks_on b.log.page.0 pages ≡ 0 → Fits layout w.trans w.caches b.log) v.bodies
@@ -235,7 +235,7 @@ module _ (layout : Layout) (w : Words) (homes : Homes) (views : List View) (seat
       sums = sum-taken homes (all_bodies views) slot seat log v.bodies body inside my_bodies refl;
       eachs = each-taken homes (all_bodies views) slot seat log v.bodies body inside my_bodies refl;
       home = λ x e. absurd (none-some (Some x) e);
-      reached = each-push (λ (l : Length). EachBody (λ (x : Log). x.page ≡ l.page → l.entries ≤ length x.entries) homes (all_bodies views)) v.lengths seen reached-now
+      reached = each-push (λ (l : Length). EachBody (Reaches l) homes (all_bodies views)) v.lengths seen reached-now
           (h.histories.entries.lengths_reached seat v.lengths (at_map (λ (v : View). v.lengths) views seat v me));
       before = each-push (λ (b : InHand). AreEnded layout w.processes (take b.since b.log.entries)) v.bodies body
           (subst (AreEnded layout w.processes) (sym (take-length log.entries)) (h.histories.endings.ended slot log inside)) (h.histories.endings.ended_before seat v.bodies my_bodies);

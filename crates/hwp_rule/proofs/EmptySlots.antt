@@ -14,7 +14,7 @@ use Rattle.hwp_rule.specs.Lists.{Homes, EachBody, SomeMember, IsNotLater, of_hom
 use Rattle.hwp_rule.specs.Logs.{has_ending, is_ending, losses_of}
 use Rattle.hwp_rule.specs.parts.Bodies.{content_name}
 use Rattle.hwp_rule.specs.parts.Endings.{EndingsAgree}
-use Rattle.hwp_rule.specs.parts.Entries.{EntriesListed, AreInOrder, weigh}
+use Rattle.hwp_rule.specs.parts.Entries.{EntriesListed, AreInOrder, weigh, Reaches}
 use Rattle.hwp_rule.specs.parts.Fits.{PageFits}
 use Rattle.hwp_rule.specs.parts.Losses.{LossesBalance, Losing}
 use Rattle.hwp_rule.specs.parts.Unpoisoned.{NothingPoisonedYet, is_failure}
@@ -63,7 +63,7 @@ module _ (homes : Homes) (slot : ℕ) (was now : Option (Option Log)) (there : s
     balance = λ f. bodies-sum (weigh f) bodies ∙ h.balance f;
     ordered = bodies-each (λ (log : Log). AreInOrder log.entries) bodies h.ordered;
     shown = h.shown;
-    lengths_reached = λ i list at j l is. bodies-each (λ (log : Log). log.page ≡ l.page → l.entries ≤ length log.entries) bodies (h.lengths_reached i list at j l is);
+    lengths_reached = λ i list at j l is. bodies-each (Reaches l) bodies (h.lengths_reached i list at j l is);
   }
 
   pub slot-endings : (layout : Layout) (processes : List ℕ) (bodies : List (List InHand)) (sights : List (List Sight)) → EndingsAgree layout processes homes bodies sights → EndingsAgree layout processes after bodies sights

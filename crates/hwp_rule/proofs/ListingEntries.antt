@@ -1,5 +1,5 @@
 -- Entries of a body in hand that are listed keep the frame rule.
-use Rattle.std.proofs.Common.{◌≡◌, ◌≢◌, ℕ, suc, ◌+◌, ◌<◌, ◌≤◌, ◌==◌, ◌||◌, true, false, cond, List, [], ◌∷◌, ◌++◌, Option, Some, map, set, take, length, slice_get, length-append, append-nil, inl, inr, refl, sym, ap, ◌∙◌, subst, arith}
+use Rattle.std.proofs.Common.{◌≡◌, ◌≢◌, ℕ, suc, ◌+◌, ◌<◌, ◌≤◌, ◌==◌, ◌||◌, true, false, cond, List, [], ◌∷◌, ◌++◌, Option, Some, map, set, take, length, slice_get, length-append, append-nil, append_assoc, inl, inr, refl, sym, ap, ◌∙◌, subst, arith}
 use Rattle.std.proofs.lemmas.List.{map-set, take-append-le}
 use Rattle.std.proofs.lemmas.List.Folds.{list_any-append}
 use Rattle.std.proofs.lemmas.List.Sums.{sum_by-cons, sum_by-append}
@@ -23,7 +23,7 @@ use Rattle.hwp_rule.specs.declared.view.Sight.{Sight}
 use Rattle.hwp_rule.specs.declared.view.Stamp.{Stamp}
 use Rattle.hwp_rule.specs.declared.view.View.{View}
 use Rattle.hwp_rule.specs.Asks.{Extends, HasSameWords, IsTurnOf}
-use Rattle.hwp_rule.specs.Lists.{Homes, EachBody, EachMember, SomeMember, IsNotLater, sum_all, sum_bodies}
+use Rattle.hwp_rule.specs.Lists.{Homes, EachBody, EachMember, SomeMember, StartsWith, IsNotLater, sum_all, sum_bodies}
 use Rattle.hwp_rule.specs.Logs.{state_of, has_ending, is_ending, is_loss, losses_in, losses_of, file_of, is_file}
 use Rattle.hwp_rule.specs.Rule.{FrameRule, holder_of, losing_of}
 use Rattle.hwp_rule.specs.Views.{stamp_of, more_of, made_from, changed, is_body_of, body_of, listed, listed_of, page_locks_on}
@@ -31,7 +31,7 @@ use Rattle.hwp_rule.specs.Words.{Words}
 use Rattle.hwp_rule.specs.parts.Bodies.{BodiesAtHome, Holder, IsHolding}
 use Rattle.hwp_rule.specs.parts.Counter.{is_poisoning}
 use Rattle.hwp_rule.specs.parts.Endings.{EndingsAgree, AreEnded}
-use Rattle.hwp_rule.specs.parts.Entries.{EntriesListed, AreInOrder, weigh, weigh_from, HasSeen}
+use Rattle.hwp_rule.specs.parts.Entries.{EntriesListed, AreInOrder, weigh, weigh_from, HasSeen, Reaches}
 use Rattle.hwp_rule.specs.parts.Fits.{PageFits, Fits, KnowsWords, KnowsOwn}
 use Rattle.hwp_rule.specs.parts.Holdings.{AreOwn, IsPast}
 use Rattle.hwp_rule.specs.parts.Losses.{Losing, LossesBalance, IsPoisonLoss}
@@ -149,7 +149,7 @@ module _ (layout : Layout) (w : Words) (homes : Homes) (views : List View) (seat
         (λ i e at n. subst (λ (z : Who). HasSeen v.sights z body.frame e.what) (sym (extends.own i e at)) (seen-drop body.from v.sights who body.frame e.what (extends.seen i e at)))))
         h.histories.entries.shown;
     lengths_reached = each-weaken (EachMember Was) (EachMember Reached) (map (λ (v : View). v.lengths) views)
-        (λ list each. each-weaken Was Reached list (λ l was. eachs (λ (x : Log). x.page ≡ l.page → l.entries ≤ length x.entries) (λ old page. let enough : l.entries ≤ length body.log.entries = old (sym extends.page_is ∙ page) in omega (arith, reaches)) was) each)
+        (λ list each. each-weaken Was Reached list (λ l was. eachs (Reaches l) (λ old page. let front : StartsWith l.log.entries body.log.entries = old (sym extends.page_is ∙ page) in (front.0 ++ more, extends.longer ∙ ap (λ (es : List Entry). es ++ more) front.1 ∙ append_assoc l.log.entries front.0 more)) was) each)
         h.histories.entries.lengths_reached;
   }
     where
@@ -160,10 +160,10 @@ module _ (layout : Layout) (w : Words) (homes : Homes) (views : List View) (seat
       my_made = at_map (λ (v : View). (v.made, v.sights)) views seat v me
 
       Was : Length → Type 0
-      Was l = EachBody (λ (x : Log). x.page ≡ l.page → l.entries ≤ length x.entries) homes (all_bodies views)
+      Was l = EachBody (Reaches l) homes (all_bodies views)
 
       Reached : Length → Type 0
-      Reached l = EachBody (λ (x : Log). x.page ≡ l.page → l.entries ≤ length x.entries) homes (set (all_bodies views) seat bodies)
+      Reached l = EachBody (Reaches l) homes (set (all_bodies views) seat bodies)
 
   since : body.since ≤ length body.log.entries
   since = h.histories.endings.taken seat v.bodies my_bodies place body there

@@ -29,7 +29,7 @@ use Rattle.hwp_rule.specs.parts.Places.{in_hand, IsBare}
 use Rattle.hwp_rule.specs.parts.Locks.{IsLocked}
 use Rattle.hwp_rule.specs.parts.Counter.{CounterAgrees, IsCovered, SomeHardware, is_by_hardware, is_poisoning, is_revival}
 use Rattle.hwp_rule.specs.parts.Damage.{DamageListed, is_spoil}
-use Rattle.hwp_rule.specs.parts.Entries.{EntriesListed, HasSeen, AreInOrder, weigh}
+use Rattle.hwp_rule.specs.parts.Entries.{EntriesListed, HasSeen, AreInOrder, weigh, Reaches}
 use Rattle.hwp_rule.specs.parts.Endings.{EndingsAgree, AreEnded, ShowsEnding}
 use Rattle.hwp_rule.specs.parts.Marks.{MarksAlternate, IsBefore, revivals_by}
 use Rattle.hwp_rule.specs.parts.Losses.{LossesBalance, Losing, IsPoisonLoss}
@@ -296,7 +296,7 @@ module _ (layout : Layout) (sound : IsSound layout) (w : Words) (o : AreOpening 
         omega arith;
     ordered = each-body (λ (log : Log). AreInOrder log.entries) (λ q less i j e f below at. absurd (none-some e at));
     shown = OpeningWords.each-view (λ (v : View). (v.made, v.sights)) (λ (v : List Made × List Sight). EachMember (λ (m : Made). HasSeen v.1 m.entry.who m.frame m.entry.what) v.0) layout.cpus (λ c less. each-none (λ (m : Made). HasSeen [] m.entry.who m.frame m.entry.what));
-    lengths_reached = unlisted (λ (v : View). v.lengths) (λ (l : Length). EachBody (λ (log : Log). log.page ≡ l.page → l.entries ≤ length log.entries) (opening_homes layout) (map (λ (v : View). v.bodies) (opening_views layout))) (λ c. refl);
+    lengths_reached = unlisted (λ (v : View). v.lengths) (λ (l : Length). EachBody (Reaches l) (opening_homes layout) (map (λ (v : View). v.bodies) (opening_views layout))) (λ c. refl);
   }
 
   endings-opened : EndingsAgree layout w.processes (opening_homes layout) (map (λ (v : View). v.bodies) (opening_views layout)) (map (λ (v : View). v.sights) (opening_views layout))

@@ -1,5 +1,5 @@
 -- Members of lists that views have, and bodies wherever they are.
-use Rattle.std.specs.Prelude.{◌≡◌, ℕ, ◌+◌, ◌≤◌, List, Option, Some, None, slice_get}
+use Rattle.std.specs.Prelude.{◌≡◌, ℕ, ◌+◌, ◌≤◌, ◌++◌, List, Option, Some, None, slice_get}
 use Rattle.std.specs.List.{sum_by}
 use Rattle.hwp_geom.specs.declared.Who.{Who}
 use Rattle.hwp_rule.specs.declared.log.Log.{Log}
@@ -23,6 +23,10 @@ EachListed P lists = EachMember (EachMember P) lists
 -- a sum over the members of all lists of a list
 abbrev pub sum_all : {A : Type 0} → (A → ℕ) → List (List A) → ℕ
 sum_all f lists = sum_by (sum_by f) lists
+
+-- the list begins with this front
+abbrev pub StartsWith : {A : Type 0} → List A → List A → Type 0
+StartsWith {A} front list = (rest : List A) × (list ≡ front ++ rest)
 
 -- the slots at home: `None` for one that is out with a seat, and `Some None` for an empty one
 abbrev pub Homes : Type 0

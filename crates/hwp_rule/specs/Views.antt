@@ -118,7 +118,7 @@ abbrev pub taken : Layout → Who → Option Frame → Option Log → View → V
 taken layout who frame None v = v
 taken layout who frame (Some log) v = record v {
   bodies = v.bodies ++ (record { log = log; since = length log.entries; frame = frame; from = length v.sights; killed = [] }) ∷ [];
-  lengths = v.lengths ++ (record { stamp = stamp_of who v; page = log.page; entries = length log.entries }) ∷ [];
+  lengths = v.lengths ++ (record { stamp = stamp_of who v; log = log }) ∷ [];
   pages = changed (is_page_lock_of log.page) (knowing layout log frame) v.pages;
 }
 

@@ -102,12 +102,11 @@ pub struct Made {
     pub frame: Option<Frame>,
 }
 
-/// The number of entries that a page's body had.
-#[derive(Clone, Copy, Debug, PartialEq, Eq)]
+/// A page's history, as it was when its body was taken: a length that is answered is that of this history.
+#[derive(Drop)]
 pub struct Length {
     pub stamp: Stamp,
-    pub page: Page,
-    pub entries: u64,
+    pub log: Log,
 }
 
 /// A line that went bad or weak.

@@ -129,7 +129,7 @@ module _ (layout : Layout) (w : Words) (homes : Homes) (views : List View) (seat
     bodies = v.bodies ++ body ∷ []
 
     abbrev seen : Length
-    seen = record { stamp = stamp_of who (record v { locks = locks }); page = log.page; entries = length log.entries }
+    seen = record { stamp = stamp_of who (record v { locks = locks }); log = log }
 
     abbrev pages : List PageLock
     pages = changed (is_page_lock_of log.page) (knowing layout log (Some frame)) v.pages

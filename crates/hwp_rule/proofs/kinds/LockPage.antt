@@ -116,9 +116,9 @@ module _ (layout : Layout) (w : Words) (homes : Homes) (views : List View) (seat
         → FrameRule layout words (set homes shelf None) (set views seat (record v {
           pages = new ∷ [];
           bodies = v.bodies ++ (record { log = log; since = length log.entries; frame = None; from = length v.sights; killed = [] }) ∷ [];
-          lengths = v.lengths ++ (record { stamp = stamp; page = log.page; entries = length log.entries }) ∷ [];
+          lengths = v.lengths ++ (record { stamp = stamp; log = log }) ∷ [];
         }))
-    keeps-lock-body knows own log number inside stamp past = keeps-paging layout w homes views seat v page.0 found now None (new ∷ []) (v.bodies ++ body ∷ []) (v.lengths ++ (record { stamp = stamp; page = log.page; entries = length log.entries }) ∷ []) me h shaped there (record {
+    keeps-lock-body knows own log number inside stamp past = keeps-paging layout w homes views seat v page.0 found now None (new ∷ []) (v.bodies ++ body ∷ []) (v.lengths ++ (record { stamp = stamp; log = log }) ∷ []) me h shaped there (record {
       carries = carry-out layout w homes views seat v me h log shelf inside (subst (λ (n : ℕ). n < length layout.pages) (sym number) within) None stamp past (new ∷ []) fits-still
           (each-push (KnowsWords layout w.trans w.caches) [] new knows (λ i l e. absurd (none-some l e))) (λ i b at some. own b) (λ some. own body);
       here = here;
@@ -212,7 +212,7 @@ module _ (layout : Layout) (w : Words) (homes : Homes) (views : List View) (seat
     keeps-shelf = subst (λ (l : List PageLock). FrameRule layout words (set homes shelf None) (set views seat (record v {
       pages = l;
       bodies = v.bodies ++ (record { log = log; since = length log.entries; frame = None; from = length v.sights; killed = [] }) ∷ [];
-      lengths = v.lengths ++ (record { stamp = stamp; page = log.page; entries = length log.entries }) ∷ [];
+      lengths = v.lengths ++ (record { stamp = stamp; log = log }) ∷ [];
     }))) (sym (lists (body_of page v)))
         (keeps-lock-body new refl knows (λ b. record { lock = new; there = refl; cache = 0; cache_is = refl; trans = fitting layout log.page (state_of layout log) 0; trans_is = refl }) log both.1 inside stamp past)
       where

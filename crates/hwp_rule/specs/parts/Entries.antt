@@ -16,7 +16,7 @@ use Rattle.hwp_rule.specs.declared.view.InHand.{InHand}
 use Rattle.hwp_rule.specs.declared.view.Length.{Length}
 use Rattle.hwp_rule.specs.declared.view.Made.{Made}
 use Rattle.hwp_rule.specs.declared.view.Sight.{Sight}
-use Rattle.hwp_rule.specs.Lists.{Homes, EachBody, EachListed, EachMember, SomeMember, IsNotLater, sum_bodies}
+use Rattle.hwp_rule.specs.Lists.{Homes, EachBody, EachListed, EachMember, SomeMember, StartsWith, IsNotLater, sum_bodies}
 use Rattle.hwp_rule.specs.Steps.{policy_at}
 
 -- what f says of the entries of a page, from a place on
@@ -56,11 +56,15 @@ HasSeen sights who frame _ = Unit {0}
 abbrev pub AreInOrder : List Entry → Type 0
 AreInOrder list = (i j : ℕ) (e f : Entry) → i < j → slice_get list i ≡ Some e → slice_get list j ≡ Some f → IsNotLater e.who f.who
 
+-- the page's history begins with the one that was seen
+abbrev pub Reaches : Length → Log → Type 0
+Reaches l log = log.page ≡ l.log.page → StartsWith l.log.entries log.entries
+
 -- The entries of the bodies are those that the views list, each at its place: whatever is summed over the ones is the same
 -- over the others. In each history the commands of one processor do not fall. A view has the sights that its entries need,
--- and no body is shorter than a view has seen it. Broken by: an entry appended and not listed; an entry of an earlier command; an older copy of a body put back; a load listed without the mask that was shown.
+-- and each history begins with what a view has seen of it. Broken by: an entry appended and not listed; an entry of an earlier command; an older copy of a body put back; a load listed without the mask that was shown.
 pub record EntriesListed (homes : Homes) (bodies : List (List InHand)) (made : List (List Made × List Sight)) (lengths : List (List Length)) : Type 0 where
   pub balance : (f : Page → ℕ → Entry → ℕ) → sum_bodies (weigh f) homes bodies ≡ sum_by (λ (v : List Made × List Sight). sum_by (λ (m : Made). f m.page m.place m.entry) v.0) made
   pub ordered : EachBody (λ (log : Log). AreInOrder log.entries) homes bodies
   pub shown : EachMember (λ (v : List Made × List Sight). EachMember (λ (m : Made). HasSeen v.1 m.entry.who m.frame m.entry.what) v.0) made
-  pub lengths_reached : EachListed (λ (l : Length). EachBody (λ (log : Log). log.page ≡ l.page → l.entries ≤ length log.entries) homes bodies) lengths
+  pub lengths_reached : EachListed (λ (l : Length). EachBody (Reaches l) homes bodies) lengths
