@@ -21,10 +21,6 @@ use Rattle.hwp_rule.proofs.Lists.{change, at_map, each-set}
 use Rattle.hwp_rule.proofs.FrameWord.{IsLike, like-translations, like-caches, like-handled, like-counter, like-marks, like-unpoisoned, like-locked, like-bodies, locked-again}
 use Rattle.hwp_rule.proofs.Kept
 
--- a processor's view is not without processors
-pub past-some : (parts : List Part) (who : Who) → IsPast parts who → length parts ≢ 0
-past-some parts who past = let within : past.0 < length parts = slice_get_within parts past.0 past.1 past.2 in λ e. omega (arith, e)
-
 -- a frame's count, a view's references and its frames in hand change
 module _ (layout : Layout) (w : Words) (homes : Homes) (views : List View) (seat : ℕ) (v : View) (f word now : ℕ) (refs : List Ref) (hands : List Frame) where
   abbrev u : View

@@ -1,5 +1,5 @@
 -- A slot that has no body leaves its home or comes home empty: no body is elsewhere than before.
-use Rattle.std.proofs.Common.{◌≡◌, ℕ, ◌+◌, ◌≤◌, Bool, true, false, List, Option, Some, None, length, set, slice_get, inl, inr, refl, sym, ap, ◌∙◌, arith}
+use Rattle.std.proofs.Common.{◌≡◌, ℕ, ◌+◌, Bool, true, false, List, Option, Some, None, set, slice_get, inl, inr, refl, sym, ap, ◌∙◌, arith}
 use Rattle.std.specs.List.{sum_by, list_any}
 use Rattle.hwp_geom.specs.declared.Layout.{Layout}
 use Rattle.hwp_page.specs.declared.Entry.{Entry}

@@ -1,5 +1,5 @@
 -- Why no frame is available: each that isn't the kernel's is free, in hand, named by a cache word, referenced or marked.
-use Rattle.std.proofs.Common.{◌≡◌, ◌≢◌, ℕ, ◌+◌, ◌*◌, ◌^◌, ◌<◌, ◌≤◌, ◌==◌, ◌&&◌, nat_lt, not, min, eq-eqb, eqb-true, le-ltb, Bool, true, false, cond, List, Some, map, length, slice_get, slice_index, slice_index_or, inl, inr, refl, sym, ap, ◌∙◌, subst, arith}
+use Rattle.std.proofs.Common.{◌≡◌, ◌≢◌, ℕ, ◌+◌, ◌*◌, ◌^◌, ◌<◌, ◌≤◌, ◌==◌, ◌&&◌, nat_lt, not, min, eq-eqb, eqb-true, le-ltb, Bool, true, false, cond, List, [], Some, map, length, slice_get, slice_index, slice_index_or, inl, inr, refl, sym, ap, ◌∙◌, subst, arith}
 use Rattle.std.specs.Int.{from_bool}
 use Rattle.std.specs.List.{sum_by}
 use Rattle.std.proofs.lemmas.Option.{same_Some, slice_get_within, slice_get-get_or, slice_get_cases}
@@ -21,7 +21,7 @@ use Rattle.hwp_rule.specs.Words.{Words, free_bit, sum_below}
 use Rattle.hwp_rule.specs.parts.Counter.{is_poisoning}
 use Rattle.hwp_rule.specs.parts.Counts.{named}
 use Rattle.hwp_rule.specs.parts.Exhaustion.{usable, is_marked}
-use Rattle.hwp_rule.specs.parts.Holdings.{IsBounded, frames_held}
+use Rattle.hwp_rule.specs.parts.Holdings.{IsBounded, frames_held, HoldsNothing, HeldByProcessors}
 use Rattle.hwp_rule.specs.parts.Locks.{IsLocked}
 use Rattle.hwp_rule.specs.parts.Marks.{poisonings}
 use Rattle.hwp_rule.specs.parts.Places.{in_hand}
@@ -31,6 +31,7 @@ use Rattle.hwp_rule.proofs.Lists.{from_bool-same, same-or, at_map, map-was, term
 use Rattle.hwp_rule.proofs.RefBounds.{parts-number}
 use Rattle.hwp_rule.proofs.Sights.{IsExplained, explained-exhausted}
 use Rattle.hwp_rule.specs.declared.place.Place.TheVariants as places
+use Rattle.std.proofs.lemmas.List.{nil_from_length}
 
 -- a term above 0 of equal numbers
 is-equal : (a b : ℕ) (c : Bool) → (a == b) ≡ c → 0 < from_bool c → a ≡ b
@@ -49,7 +50,7 @@ both-le false b = omega arith
 handled-one : (word : ℕ) → handled_of word ≢ 0 → handled_of word ≡ 1
 handled-one word some = omega arith
 
-module _ (layout : Layout) (w : Words) (homes : Homes) (views : List View) (sound : IsSound layout) (shaped : IsShaped layout w homes) (h : FrameRule layout w homes views) where
+module _ (layout : Layout) (w : Words) (homes : Homes) (views : List View) (sound : IsSound layout) (shaped : IsShaped layout w homes) (h : FrameRule layout w homes views) (held : HeldByProcessors views) where
   abbrev refs : List (List Ref)
   refs = map (λ (v : View). v.refs) views
 
@@ -179,15 +180,20 @@ module _ (layout : Layout) (w : Words) (homes : Homes) (views : List View) (soun
   held-few =
       let parts : List (List Part) = map (λ (v : View). v.parts) views in
       let few : sum_by (λ (v : View). frames_held (holdings_of v)) views ≤ sum_by (λ (v : View). length v.parts + length v.parts) views =
-      sum-le (λ (v : View). frames_held (holdings_of v)) (λ (v : View). length v.parts + length v.parts) views (λ i v is. bounded v (h.frames.holdings.bounded i (holdings_of v) (at_map holdings_of views i v is))) in
+      sum-le (λ (v : View). frames_held (holdings_of v)) (λ (v : View). length v.parts + length v.parts) views (λ i v is. bounded v (h.frames.holdings.bounded i (holdings_of v) (at_map holdings_of views i v is)) (held.nothing i v is)) in
       let twice : sum_by (λ (v : View). length v.parts + length v.parts) views ≡ sum_by (λ (v : View). length v.parts) views + sum_by (λ (v : View). length v.parts) views = sum-add (λ (v : View). length v.parts) (λ (v : View). length v.parts) views in
       let mapped : sum_by (λ (l : List Part). length l) parts ≡ sum_by (λ (v : View). length v.parts) views = sum-map (λ (l : List Part). length l) (λ (v : View). v.parts) views in
       let number : sum_by (λ (l : List Part). length l) parts ≡ layout.cpus = parts-number layout parts h.processors.processors in
       omega arith
     where
-      bounded : (v : View) → IsBounded layout (holdings_of v) → frames_held (holdings_of v) ≤ length v.parts + length v.parts
-      bounded v is = elim (same-or (length v.parts) 0) [
-        | inl none ↦ let nothing : frames_held (holdings_of v) ≡ 0 = is.none none in omega arith
+      bounded : (v : View) → IsBounded layout (holdings_of v) → (v.parts ≡ [] → HoldsNothing v) → frames_held (holdings_of v) ≤ length v.parts + length v.parts
+      bounded v is nothing = elim (same-or (length v.parts) 0) [
+        | inl none ↦
+            let empty : HoldsNothing v = nothing (nil_from_length v.parts none) in
+            let reserved : v.reserved ≡ 0 = empty.reserved in
+            let hands : length v.hands ≡ 0 = ap (λ (l : List Frame). length l) empty.hands in
+            let refs : length v.refs ≡ 0 = ap (λ (l : List Ref). length l) empty.refs in
+            omega arith
         | inr some ↦ let few : frames_held (holdings_of v) ≤ 2 = is.few in omega arith
       ]
 
@@ -225,7 +231,7 @@ module _ (layout : Layout) (w : Words) (homes : Homes) (views : List View) (soun
 
 -- a sight of the available word as it stands
 pub explained-available : (layout : Layout) (w : Words) (homes : Homes) (views : List View) (stamp : Stamp)
-    → IsSound layout → IsShaped layout w homes → FrameRule layout w homes views
+    → IsSound layout → IsShaped layout w homes → FrameRule layout w homes views → HeldByProcessors views
     → IsExplained layout w homes views (record { stamp = stamp; place = places.Available; word = w.available })
-explained-available layout w homes views stamp sound shaped h =
-    explained-exhausted layout w homes views (record { stamp = stamp; place = places.Available; word = w.available }) refl (exhausted layout w homes views sound shaped h)
+explained-available layout w homes views stamp sound shaped h held =
+    explained-exhausted layout w homes views (record { stamp = stamp; place = places.Available; word = w.available }) refl (exhausted layout w homes views sound shaped h held)

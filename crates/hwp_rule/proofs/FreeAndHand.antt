@@ -82,7 +82,7 @@ module _ (layout : Layout) (w : Words) (homes : Homes) (views : List View) (seat
       bounded = h.frames.holdings.bounded seat (holdings_of v) (at_map holdings_of views seat v me)
 
       bounded-still : IsBounded layout (holdings_of u)
-      bounded-still = record { few = omega (arith, bounded.few); none = λ empty. omega (arith, bounded.none empty); shares = bounded.shares }
+      bounded-still = record { few = omega (arith, bounded.few); shares = bounded.shares }
 
   pub my-hands : slice_get hands seat ≡ Some v.hands
   my-hands = at_map (λ (v : View). v.hands) views seat v me

@@ -13,7 +13,7 @@ use Rattle.hwp_rule.specs.Slots.{homes_after, Meets}
 use Rattle.hwp_rule.specs.Steps.{place_of, word_after}
 use Rattle.hwp_rule.specs.Views.{view_by}
 use Rattle.hwp_rule.specs.Words.{Words, read, put, IsPlace, free_words}
-use Rattle.hwp_rule.specs.parts.Holdings.{IsPast}
+use Rattle.hwp_rule.specs.parts.Holdings.{IsPast, HeldByProcessors}
 
 -- there is a word of each kind for all that the layout has, and a slot for each frame and each page
 pub record IsShaped (layout : Layout) (w : Words) (homes : Homes) : Type 0 where
@@ -41,6 +41,7 @@ pub record Given (layout : Layout) (w : Words) (homes : Homes) (views : List Vie
   pub fits : read (place_of step) w < 2 ^ 64
   pub meets : Meets layout homes step (read (place_of step) w) content
   pub rule : FrameRule layout w homes views
+  pub held : HeldByProcessors views
 
 -- the rule, after the step
 abbrev pub After : Layout → Words → Homes → List View → ℕ → View → Who → Step → Option Log → Type 0

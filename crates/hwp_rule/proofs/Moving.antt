@@ -1,5 +1,5 @@
 -- A move keeps the frame rule, where its kind of step does.
-use Rattle.std.proofs.Common.{◌≡◌, ℕ, ◌+◌, ◌-◌, min, ◌^◌, ◌<◌, ◌≤◌, List, Option, Some, None, set, length, drop, refl, sym, ◌∙◌, subst, arith}
+use Rattle.std.proofs.Common.{◌≡◌, ℕ, ◌+◌, ◌-◌, min, ◌^◌, ◌<◌, ◌≤◌, List, Option, Some, None, set, length, drop, refl, sym, ◌∙◌, subst, arith, ap, [], slice_get}
 use Rattle.std.proofs.lemmas.List.{length-set, length-take, length-drop}
 use Rattle.hwp_geom.specs.declared.Layout.{Layout}
 use Rattle.hwp_rule.specs.declared.log.Log.{Log}
@@ -8,19 +8,23 @@ use Rattle.hwp_rule.specs.declared.record.State.{State}
 use Rattle.hwp_rule.specs.declared.slot_move.SlotMove.{SlotMove}
 use Rattle.hwp_rule.specs.declared.step.Step.{Step}
 use Rattle.hwp_rule.specs.declared.view.View.{View}
-use Rattle.hwp_rule.specs.Lists.{Homes}
+use Rattle.hwp_rule.specs.Lists.{Homes, SomeMember}
 use Rattle.hwp_rule.specs.Moves.{Move, moved}
 use Rattle.hwp_rule.specs.Rule.{FrameRule, Holds}
 use Rattle.hwp_rule.specs.Slots.{slot_move, homes_moved, homes_after, Meets}
 use Rattle.hwp_rule.specs.Steps.{place_of, word_after}
-use Rattle.hwp_rule.specs.Views.{noted, view_by}
+use Rattle.hwp_rule.specs.Views.{noted, view_by, view_after}
 use Rattle.hwp_rule.specs.Words.{Words, words_of, read, put, index, size, segment, free_words, trans_from, caches_from, pages_from, frees_from, bads_from, weaks_from, processes_from, policies_from, losses_from}
 use Rattle.hwp_rule.proofs.AsksNoted.{asks-noted}
 use Rattle.hwp_rule.proofs.Keeps.{Given, IsShaped, Keeps}
-use Rattle.hwp_rule.proofs.Lists.{set_here, set-set}
+use Rattle.hwp_rule.proofs.Lists.{set_here, set-set, each-set}
 use Rattle.hwp_rule.proofs.Noted.{keeps-noted, past-now, turn-noted}
 use Rattle.hwp_rule.proofs.WordsByKind.{words-read, words-put}
 use Rattle.hwp_rule.specs.declared.slot_move.SlotMove.TheVariants as moves
+use Rattle.hwp_rule.specs.parts.Holdings.{HoldsNothing, HeldByProcessors}
+use Rattle.hwp_rule.specs.declared.view.Part.{Part}
+use Rattle.std.proofs.lemmas.Option.{none-some}
+use Rattle.hwp_rule.proofs.KeptTurns.{turn-after}
 
 length-segment : (from count : ℕ) (ws : List ℕ) → from + count ≤ length ws → length (segment from count ws) ≡ count
 length-segment from count ws fits =
@@ -55,6 +59,13 @@ length-moved (moves.Home slot) content homes = length-set homes slot (Some conte
 pub length-homes : (layout : Layout) (step : Step) (found : ℕ) (content : Option Log) (homes : Homes) → length (homes_after layout step found content homes) ≡ length homes
 length-homes layout step found content homes = length-moved (slot_move layout step found) content homes
 
+-- a seat with a processor may hold
+held-set : {P : Part → Type 0} (views : List View) (seat : ℕ) (u : View) → SomeMember P u.parts → HeldByProcessors views → HeldByProcessors (set views seat u)
+held-set views seat u some h = record {
+  nothing = each-set (λ (v : View). v.parts ≡ [] → HoldsNothing v) views seat u
+      (λ none. absurd (none-some some.1 (sym (ap (λ (l : List Part). slice_get l some.0) none) ∙ some.2))) h.nothing;
+}
+
 rule-moved : (layout : Layout) (seat : ℕ) (r : Rec) (a b : State) → Keeps r.step → Holds layout a → (m : Move layout seat r a b) → FrameRule layout (words_of layout (moved layout seat r m.view a).words) (moved layout seat r m.view a).homes (moved layout seat r m.view a).views
 rule-moved layout seat r a b keeps h m =
     let known : read (place_of r.step) w ≡ r.found = words-read layout a.words (place_of r.step) m.asks.place ∙ sym m.met in
@@ -69,6 +80,7 @@ rule-moved layout seat r a b keeps h m =
       fits = subst (λ (n : ℕ). n < 2 ^ 64) (sym known) m.fits;
       meets = subst (λ (n : ℕ). Meets layout a.homes r.step n r.content) (sym known) m.slot;
       rule = keeps-noted layout w a.homes a.views seat m.view r.who m.me h.rule;
+      held = held-set a.views seat (noted r.who m.view) (turn-noted r.who m.view m.asks.turn).part h.held;
     } in
     let after = keeps layout w a.homes noted-views seat (noted r.who m.view) r.who r.content given in
     let there = subst (λ (n : ℕ). FrameRule layout (put (place_of r.step) (word_after r.step n) w) (homes_after layout r.step n r.content a.homes) (set noted-views seat (view_by layout r.who r.step n r.content (noted r.who m.view)))) known after in
@@ -88,4 +100,5 @@ holds-moved layout seat r a b keeps h m = subst (Holds layout) (sym m.next) (rec
   words = length-set a.words (index layout (place_of r.step)) (word_after r.step r.found) ∙ h.words;
   slots = length-homes layout r.step r.found r.content a.homes ∙ h.slots;
   rule = rule-moved layout seat r a b keeps h m;
+  held = held-set a.views seat (view_after layout r m.view) (turn-after layout r m.view r.who refl m.asks.turn).part h.held;
 })

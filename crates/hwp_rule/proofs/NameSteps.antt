@@ -35,7 +35,6 @@ use Rattle.hwp_rule.specs.parts.Owners.{TranslationsOwned, CacheWordsOwned, Name
 use Rattle.hwp_rule.proofs.Keeps.{IsShaped}
 use Rattle.hwp_rule.proofs.KnownByLocks.{page-listed, lock-referenced, lock-names}
 use Rattle.hwp_rule.proofs.Lists.{change, keep, at_map, at_set, map-was, same-or, same-number, each-set, each-weaken, sum-set, term-le, terms-le, length-changed}
-use Rattle.hwp_rule.proofs.CountSteps.{past-some}
 use Rattle.hwp_rule.proofs.Without.{find-is}
 use Rattle.hwp_rule.proofs.PageLockLists.{same-locks, locks-listed}
 use Rattle.hwp_rule.proofs.Refs.{hits, renamed, refs-renamed, some-renamed, length-renamed, shares-renamed}
@@ -260,33 +259,31 @@ module _ (layout : Layout) (w : Words) (homes : Homes) (views : List View) (seat
             h.frames.frame_locks.known;
       }
 
-      bounded-naming : (who : Who) → IsPast v.parts who → IsBounded layout (holdings_of u)
-      bounded-naming who past = record {
+      bounded-naming : IsBounded layout (holdings_of u)
+      bounded-naming = record {
         few =
             let few : frames_held (holdings_of v) ≤ 2 = bounded.few in
             let no_more : length u.refs ≤ length v.refs = length-renamed old new v.refs spare (λ frame is. lock-referenced v frame (can.0 frame is).has w.frames my-locks) in
             omega arith;
-        none = λ empty. absurd (past-some v.parts who past empty);
         shares = shares-renamed old new v.refs spare (length layout.trans + 2) bounded.shares (λ frame is. (can.0 frame is).room);
       }
         where
           bounded : IsBounded layout (holdings_of v)
           bounded = h.frames.holdings.bounded seat (holdings_of v) (at_map holdings_of views seat v me)
 
-      pub keeps-naming : (who : Who) → IsPast v.parts who
-          → ((f : ℕ) → f < 2 ^ 16 → named f trans + named f caches + hits f old ≡ named f w.trans + named f w.caches + hits f new)
+      pub keeps-naming : ((f : ℕ) → f < 2 ^ 16 → named f trans + named f caches + hits f old ≡ named f w.trans + named f w.caches + hits f new)
           → TranslationsOwned layout.trans w.frames trans
           → CacheWordsOwned w.frames caches (set (map (λ (v : View). (v.locks, v.pages)) views) seat (v.locks, pages))
           → BodiesAtHome layout w.frames caches w.pages homes (set (map holder_of views) seat (holder_of (record v { pages = pages })))
           → PageFits layout trans caches homes (set fitting seat (pages, v.bodies))
           → FrameRule layout (record w { trans = trans; caches = caches }) homes (set views seat u)
-      keeps-naming who past words translations owned at_home fits = record {
+      keeps-naming words translations owned at_home fits = record {
         frames = record {
           counts = change (λ (v : View). v.refs) (CountsBalance w.frames trans caches) views seat u (counts-naming words);
           places = Kept.kept-places views seat v u me refl h.frames.places;
           frame_locks = change (λ (v : View). (v.refs, v.locks)) (FrameLocksHeld w.frames) views seat u locks-naming;
           free = Kept.kept-free views seat v u me refl h.frames.free;
-          holdings = change holdings_of (HoldingsBounded layout) views seat u (record { bounded = each-set (IsBounded layout) (map holdings_of views) seat (holdings_of u) (bounded-naming who past) h.frames.holdings.bounded });
+          holdings = change holdings_of (HoldingsBounded layout) views seat u (record { bounded = each-set (IsBounded layout) (map holdings_of views) seat (holdings_of u) bounded-naming h.frames.holdings.bounded });
         };
         pages = record {
           page_locks = keep (λ (v : View). v.locks) (λ l. PageLocksHeld w.pages (map (λ (v : View). v.pages) (set views seat u)) l) views seat v u me refl

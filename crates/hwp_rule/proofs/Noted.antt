@@ -1,5 +1,5 @@
 -- What every step notes keeps the frame rule.
-use Rattle.std.proofs.Common.{◌≡◌, ℕ, ◌+◌, ◌<◌, ◌≤◌, ◌==◌, max, Bool, true, false, cond, List, Some, map, set, slice_get, refl, sym, ap, ◌∙◌, arith}
+use Rattle.std.proofs.Common.{◌≡◌, ℕ, ◌+◌, ◌<◌, ◌≤◌, ◌==◌, max, Bool, true, false, cond, List, Some, map, set, slice_get, refl, ap, ◌∙◌, arith}
 use Rattle.std.specs.List.{sum_by}
 use Rattle.std.specs.Int.{from_bool}
 use Rattle.hwp_geom.specs.declared.Cpu.{Cpu}
@@ -14,12 +14,12 @@ use Rattle.hwp_rule.specs.declared.view.Length.{Length}
 use Rattle.hwp_rule.specs.declared.view.View.{View}
 use Rattle.hwp_rule.specs.Asks.{IsTurnOf}
 use Rattle.hwp_rule.specs.Lists.{Homes, EachMember}
-use Rattle.hwp_rule.specs.Rule.{FrameRule, holdings_of}
+use Rattle.hwp_rule.specs.Rule.{FrameRule}
 use Rattle.hwp_rule.specs.Views.{noted}
 use Rattle.hwp_rule.specs.Words.{Words}
-use Rattle.hwp_rule.specs.parts.Holdings.{IsBounded, HoldingsBounded, ProcessorsApart, AreOwn, IsPast}
+use Rattle.hwp_rule.specs.parts.Holdings.{ProcessorsApart, AreOwn, IsPast}
 use Rattle.hwp_rule.specs.parts.Policies.{PoliciesListed, PolicyAgrees, IsSetByOwn, IsOf, settings_of}
-use Rattle.hwp_rule.proofs.Lists.{change, keep, at_map, map-was, same-number, each-set, each-weaken, each-changed, some-changed, sum-changed, sum-set, length-changed}
+use Rattle.hwp_rule.proofs.Lists.{change, keep, at_map, map-was, same-number, each-set, each-weaken, each-changed, some-changed, sum-changed, sum-set}
 use Rattle.hwp_rule.proofs.Kept
 
 abbrev is_part : Who → Part → Bool
@@ -113,15 +113,7 @@ processors-noted layout views seat v who me h = change (λ (v : View). v.parts) 
 pub keeps-noted : (layout : Layout) (w : Words) (homes : Homes) (views : List View) (seat : ℕ) (v : View) (who : Who) → slice_get views seat ≡ Some v
     → FrameRule layout w homes views → FrameRule layout w homes (set views seat (noted who v))
 keeps-noted layout w homes views seat v who me h = record {
-  frames = record {
-    counts = Kept.kept-counts views seat v (noted who v) me refl h.frames.counts;
-    places = Kept.kept-places views seat v (noted who v) me refl h.frames.places;
-    frame_locks = Kept.kept-frame-locks views seat v (noted who v) me refl refl h.frames.frame_locks;
-    free = Kept.kept-free views seat v (noted who v) me refl h.frames.free;
-    holdings = change holdings_of (HoldingsBounded layout) views seat (noted who v) (record {
-      bounded = each-set (IsBounded layout) (map holdings_of views) seat (holdings_of (noted who v)) bounded-noted h.frames.holdings.bounded;
-    });
-  };
+  frames = Kept.same-frames views seat v (noted who v) me refl h.frames;
   pages = Kept.same-pages views seat v (noted who v) me refl h.pages;
   histories = Kept.same-histories views seat v (noted who v) me refl h.histories;
   failures = Kept.same-failures views seat v (noted who v) me refl h.failures;
@@ -133,13 +125,3 @@ keeps-noted layout w homes views seat v who me h = record {
     commands = Kept.kept-commands views seat v (noted who v) me (own-noted who v (h.processors.commands.own seat v me)) h.processors.commands;
   };
 }
-  where
-    bounded : IsBounded layout (holdings_of v)
-    bounded = h.frames.holdings.bounded seat (holdings_of v) (at_map holdings_of views seat v me)
-
-    bounded-noted : IsBounded layout (holdings_of (noted who v))
-    bounded-noted = record {
-      few = bounded.few;
-      none = λ empty. bounded.none (sym (length-changed (is_part who) (later who) v.parts) ∙ empty);
-      shares = bounded.shares;
-    }

@@ -37,7 +37,7 @@ use Rattle.hwp_rule.specs.parts.Policies.{PoliciesListed, PolicyAgrees, IsSetByO
 use Rattle.hwp_rule.specs.parts.Exhaustion.{usable, is_marked}
 use Rattle.hwp_rule.specs.parts.Stops.{EndingsAndStopsStay}
 use Rattle.hwp_rule.specs.parts.Fits.{PageFits, Fits, KnowsWords, KnowsOwn}
-use Rattle.hwp_rule.specs.parts.Holdings.{IsBounded, ProcessorsApart, AreOwn, IsPast}
+use Rattle.hwp_rule.specs.parts.Holdings.{IsBounded, ProcessorsApart, AreOwn, IsPast, HoldsNothing}
 use Rattle.hwp_rule.specs.parts.Unpoisoned.{NothingPoisonedYet, is_failure}
 use Rattle.hwp_words.specs.Counters.{hardware_of, biased_poisoned_of}
 use Rattle.hwp_words.specs.Stops.{stopper_of}
@@ -446,7 +446,7 @@ module _ (layout : Layout) (sound : IsSound layout) (w : Words) (o : AreOpening 
             omega arith;
         within = λ f past. ap (λ (l : List ℕ). free_bit l f) o.frees ∙ OpeningWords.free-bit-past layout sound f past;
       };
-      holdings = record { bounded = OpeningWords.each-view holdings_of (IsBounded layout) layout.cpus (λ c less. record { few = omega arith; none = λ empty. refl; shares = λ f. omega arith }) };
+      holdings = record { bounded = OpeningWords.each-view holdings_of (IsBounded layout) layout.cpus (λ c less. record { few = omega arith; shares = λ f. omega arith }) };
     };
     pages = record {
       page_locks = record {
@@ -505,4 +505,5 @@ opening-holds layout sound = record {
   words = OpeningWords.opening-size layout sound;
   slots = homes-length layout;
   rule = rule-opened layout sound (words_of layout (opening_words layout)) (are-opening layout sound);
+  held = record { nothing = each-map opening_view (λ (v : View). v.parts ≡ [] → HoldsNothing v) (below layout.cpus) (λ i c e none. record { refs = refl; locks = refl; pages = refl; reserved = refl; hands = refl; owed = refl; bodies = refl }) };
 }

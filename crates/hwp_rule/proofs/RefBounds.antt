@@ -14,11 +14,10 @@ use Rattle.hwp_rule.specs.Rule.{FrameRule, holdings_of}
 use Rattle.hwp_rule.specs.Views.{refs_on}
 use Rattle.hwp_rule.specs.Words.{Words, sum_below}
 use Rattle.hwp_rule.specs.parts.Counts.{named}
-use Rattle.hwp_rule.specs.parts.Holdings.{Holdings, IsBounded, frames_held, ProcessorsApart}
+use Rattle.hwp_rule.specs.parts.Holdings.{IsBounded, ProcessorsApart, HoldsNothing, HeldByProcessors}
 use Rattle.hwp_rule.proofs.Counting.{below-zero}
 use Rattle.hwp_rule.proofs.Keeps.{IsShaped}
 use Rattle.hwp_rule.proofs.Lists.{same-number, same-or}
-use Rattle.hwp_rule.proofs.Refs.{refs-none}
 
 -- ---- each processor once: no more parts than processors
 
@@ -79,25 +78,24 @@ parts-number layout parts h = sym (all-parts-counted layout.cpus parts h.declare
 
 -- ---- references
 
-refs-at_most : (layout : Layout) (f : ℕ) (h : Holdings) → IsBounded layout h → refs_on f h.refs ≤ length h.parts * (length layout.trans + 2)
-refs-at_most layout f h bounded = which h.parts refl
+refs-at_most : (layout : Layout) (f : ℕ) (v : View) → IsBounded layout (holdings_of v) → (v.parts ≡ [] → HoldsNothing v) → refs_on f v.refs ≤ length v.parts * (length layout.trans + 2)
+refs-at_most layout f v bounded nothing = which v.parts refl
   where
-    which : (parts : List Part) → h.parts ≡ parts → refs_on f h.refs ≤ length parts * (length layout.trans + 2)
+    which : (parts : List Part) → v.parts ≡ parts → refs_on f v.refs ≤ length parts * (length layout.trans + 2)
     which [] e =
-        let held : frames_held h ≡ 0 = bounded.none (ap (λ (l : List Part). length l) e) in
-        let none : refs_on f h.refs ≡ 0 = refs-none f h.refs (omega (arith, held)) in
+        let none : refs_on f v.refs ≡ 0 = ap (refs_on f) (nothing e).refs in
         omega arith
     which (p ∷ ps) e =
-        let shares : refs_on f h.refs ≤ length layout.trans + 2 = bounded.shares f in
+        let shares : refs_on f v.refs ≤ length layout.trans + 2 = bounded.shares f in
         let wide : length (p ∷ ps) * (length layout.trans + 2) ≡ (length layout.trans + 2) + length ps * (length layout.trans + 2) = omega arith in
         omega arith
 
-all-refs-at_most : (layout : Layout) (f : ℕ) (views : List View) → EachMember (IsBounded layout) (map holdings_of views)
+all-refs-at_most : (layout : Layout) (f : ℕ) (views : List View) → EachMember (IsBounded layout) (map holdings_of views) → EachMember (λ (v : View). v.parts ≡ [] → HoldsNothing v) views
     → sum_by (refs_on f) (map (λ (v : View). v.refs) views) ≤ sum_by (λ (l : List Part). length l) (map (λ (v : View). v.parts) views) * (length layout.trans + 2)
-all-refs-at_most layout f [] each = omega arith
-all-refs-at_most layout f (v ∷ vs) each =
-    let here : refs_on f v.refs ≤ length v.parts * (length layout.trans + 2) = refs-at_most layout f (holdings_of v) (each 0 (holdings_of v) refl) in
-    let rest : sum_by (refs_on f) (map (λ (v : View). v.refs) vs) ≤ sum_by (λ (l : List Part). length l) (map (λ (v : View). v.parts) vs) * (length layout.trans + 2) = all-refs-at_most layout f vs (λ i x e. each (suc i) x e) in
+all-refs-at_most layout f [] each nothing = omega arith
+all-refs-at_most layout f (v ∷ vs) each nothing =
+    let here : refs_on f v.refs ≤ length v.parts * (length layout.trans + 2) = refs-at_most layout f v (each 0 (holdings_of v) refl) (nothing 0 v refl) in
+    let rest : sum_by (refs_on f) (map (λ (v : View). v.refs) vs) ≤ sum_by (λ (l : List Part). length l) (map (λ (v : View). v.parts) vs) * (length layout.trans + 2) = all-refs-at_most layout f vs (λ i x e. each (suc i) x e) (λ i x e. nothing (suc i) x e) in
     let left : sum_by (refs_on f) (map (λ (v : View). v.refs) (v ∷ vs)) ≡ refs_on f v.refs + sum_by (refs_on f) (map (λ (v : View). v.refs) vs) = sum_by-cons (refs_on f) v.refs (map (λ (v : View). v.refs) vs) in
     let right : sum_by (λ (l : List Part). length l) (map (λ (v : View). v.parts) (v ∷ vs)) ≡ length v.parts + sum_by (λ (l : List Part). length l) (map (λ (v : View). v.parts) vs) =
     sum_by-cons (λ (l : List Part). length l) v.parts (map (λ (v : View). v.parts) vs) in
@@ -120,12 +118,12 @@ named-at_most f (w ∷ ws) =
     which false = omega arith
 
 -- a count has room for as many references as a view can have more
-pub count-fits : (layout : Layout) (w : Words) (homes : Homes) (views : List View) → IsSound layout → IsShaped layout w homes → FrameRule layout w homes views
+pub count-fits : (layout : Layout) (w : Words) (homes : Homes) (views : List View) → IsSound layout → IsShaped layout w homes → FrameRule layout w homes views → HeldByProcessors views
     → (f word n : ℕ) → slice_get w.frames f ≡ Some word → n ≤ length layout.trans + 2 → count_of word + n < 2 ^ 20
-count-fits layout w homes views sound shaped h f word n there few =
+count-fits layout w homes views sound shaped h held f word n there few =
     let balance : count_of word ≡ named f w.trans + named f w.caches + sum_by (refs_on f) (map (λ (v : View). v.refs) views) + handled_of word = h.frames.counts.balance f word there in
     let parts : sum_by (λ (l : List Part). length l) (map (λ (v : View). v.parts) views) ≡ layout.cpus = parts-number layout (map (λ (v : View). v.parts) views) h.processors.processors in
-    let refs : sum_by (refs_on f) (map (λ (v : View). v.refs) views) ≤ sum_by (λ (l : List Part). length l) (map (λ (v : View). v.parts) views) * (length layout.trans + 2) = all-refs-at_most layout f views h.frames.holdings.bounded in
+    let refs : sum_by (refs_on f) (map (λ (v : View). v.refs) views) ≤ sum_by (λ (l : List Part). length l) (map (λ (v : View). v.parts) views) * (length layout.trans + 2) = all-refs-at_most layout f views h.frames.holdings.bounded held.nothing in
     let cpus : layout.cpus ≤ 8 = sound.cpus in
     let trans : length layout.trans ≤ 512 = sound.trans in
     let pages : length layout.pages ≤ 256 = sound.pages in

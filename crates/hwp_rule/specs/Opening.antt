@@ -8,6 +8,7 @@ use Rattle.hwp_rule.specs.declared.record.State.{State}
 use Rattle.hwp_rule.specs.declared.view.View.{View}
 use Rattle.hwp_rule.specs.Lists.{Homes}
 use Rattle.hwp_rule.specs.Words.{free_words}
+use Rattle.hwp_rule.specs.Views.{no_debts}
 
 -- the numbers below n
 abbrev pub below : ℕ → List ℕ
@@ -67,7 +68,7 @@ opening_view c = record {
   pages = [];
   reserved = 0;
   hands = [];
-  owed = record { counts = 0; hardware = 0; uncounts = 0; losses = [] };
+  owed = no_debts;
   bodies = [];
   made = [];
   marks = [];

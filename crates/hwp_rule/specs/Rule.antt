@@ -18,7 +18,7 @@ use Rattle.hwp_rule.specs.parts.Damage.{DamageListed}
 use Rattle.hwp_rule.specs.parts.Entries.{EntriesListed}
 use Rattle.hwp_rule.specs.parts.Endings.{EndingsAgree}
 use Rattle.hwp_rule.specs.parts.Marks.{MarksAlternate}
-use Rattle.hwp_rule.specs.parts.Holdings.{Holdings, HoldingsBounded, ProcessorsApart, CommandsOwn}
+use Rattle.hwp_rule.specs.parts.Holdings.{Holdings, HoldingsBounded, ProcessorsApart, CommandsOwn, HeldByProcessors}
 use Rattle.hwp_rule.specs.parts.Losses.{Losing, LossesBalance}
 use Rattle.hwp_rule.specs.parts.Policies.{PoliciesListed}
 use Rattle.hwp_rule.specs.parts.Exhaustion.{ExhaustionExplained}
@@ -31,7 +31,7 @@ abbrev pub holder_of : View → Holder
 holder_of v = record { locks = v.locks; pages = v.pages; bodies = v.bodies }
 
 abbrev pub holdings_of : View → Holdings
-holdings_of v = record { parts = v.parts; reserved = v.reserved; hands = v.hands; refs = v.refs }
+holdings_of v = record { reserved = v.reserved; hands = v.hands; refs = v.refs }
 
 abbrev pub losing_of : View → Losing
 losing_of v = record { owed = v.owed.losses; reported = v.reported; made = v.made; marks = v.marks }
@@ -82,9 +82,11 @@ pub record FrameRule (layout : Layout) (w : Words) (homes : Homes) (views : List
   pub failures : FailureParts layout w.frames w.counter w.bads w.weaks homes views
   pub processors : ProcessorParts layout w.processes w.policies w.stop views
 
--- a board of a sound layout, with all its words and slots, that keeps the frame rule
+-- a board of a sound layout, with all its words and slots, that keeps the frame rule, and where processors alone hold
+-- something
 pub record Holds (layout : Layout) (s : State) : Type 0 where
   pub sound : IsSound layout
   pub words : length s.words ≡ size layout
   pub slots : length s.homes ≡ layout.frames + length layout.pages
   pub rule : FrameRule layout (words_of layout s.words) s.homes s.views
+  pub held : HeldByProcessors s.views

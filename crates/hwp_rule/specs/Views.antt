@@ -89,6 +89,10 @@ locks_on f locks = sum_by (λ (l : FrameLock). from_bool (l.frame.0 == f)) locks
 abbrev pub page_locks_on : ℕ → List PageLock → ℕ
 page_locks_on q locks = sum_by (λ (l : PageLock). from_bool (l.page.0 == q)) locks
 
+-- nothing is owed
+abbrev pub no_debts : Debts
+no_debts = record { counts = 0; hardware = 0; uncounts = 0; losses = [] }
+
 -- a stamp of now: the command, and the locks held
 abbrev pub stamp_of : Who → View → Stamp
 stamp_of who v = record {

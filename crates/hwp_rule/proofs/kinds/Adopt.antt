@@ -250,7 +250,6 @@ module _ (layout : Layout) (w : Words) (homes : Homes) (views : List View) (seat
         let more : length u.refs ≤ length v.refs + 1 = length-with frame 1 v.refs in
         record {
           few = omega (arith, was.few);
-          none = λ alone. let held : v.reserved + length v.hands + length v.refs ≡ 0 = was.none alone in absurd (omega arith);
           shares = λ f. elim (same-or f frame.0) [
             | inl same ↦ subst (λ (n : ℕ). refs_on n u.refs ≤ length layout.trans + 2) (sym same) (omega (arith, refs-with frame 1 v.refs, unreferenced))
             | inr other ↦ omega (arith, refs-with-other frame 1 f v.refs other, was.shares f)

@@ -18,7 +18,7 @@ use Rattle.hwp_rule.proofs.Lists.{at_map, same-or, set_again}
 use Rattle.hwp_rule.proofs.Keeps.{Keeps}
 use Rattle.hwp_rule.proofs.FrameWord.{IsLike, bare-like, like-fields, placed-again, counted-again}
 use Rattle.hwp_rule.proofs.RefBounds.{count-fits}
-use Rattle.hwp_rule.proofs.CountSteps.{past-some, keeps-refs}
+use Rattle.hwp_rule.proofs.CountSteps.{keeps-refs}
 use Rattle.hwp_rule.proofs.WordsByKind.{word-there}
 use Rattle.hwp_rule.proofs.Sights.{keeps-shown, explained-frame}
 use Rattle.hwp_rule.specs.declared.step.Step.TheVariants as steps
@@ -44,7 +44,7 @@ keeps-get_ref frame seen count layout w homes views seat v who content given = w
     shares = given.asks.2.shares
 
     room : count_of (slice_index w.frames frame.0) + count < 2 ^ 20
-    room = count-fits layout w homes views given.sound given.shaped given.rule frame.0 (slice_index w.frames frame.0) count there (omega (arith, given.asks.2.shares))
+    room = count-fits layout w homes views given.sound given.shaped given.rule given.held frame.0 (slice_index w.frames frame.0) count there (omega (arith, given.asks.2.shares))
 
     bounded : IsBounded layout (holdings_of v)
     bounded = h.frames.holdings.bounded seat (holdings_of v) (at_map holdings_of views seat v given.me)
@@ -61,7 +61,6 @@ keeps-get_ref frame seen count layout w homes views seat v who content given = w
             let as_long : length (with_refs frame count v.refs) ≡ length v.refs = Refs.length-with-listed frame count v.refs (omega (arith, listed)) in
             omega arith
       ];
-      none = λ empty. absurd (past-some v.parts who given.past empty);
       shares = λ g. elim (same-or g frame.0) [
         | inl same ↦ subst (λ (n : ℕ). refs_on n (with_refs frame count v.refs) ≤ length layout.trans + 2) (sym same)
             (subst (λ (n : ℕ). n ≤ length layout.trans + 2) (sym (Refs.refs-with frame count v.refs)) shares)

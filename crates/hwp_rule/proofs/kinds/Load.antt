@@ -32,7 +32,7 @@ keeps-load_frame frame layout w homes views seat v who content given =
 pub keeps-load_avail : Keeps (steps.Load places.Available)
 keeps-load_avail layout w homes views seat v who content given =
     keeps-shown layout w homes views seat v who places.Available given.me given.past
-    (explained-available layout w homes views (stamp_of who v) given.sound given.shaped given.rule) given.rule
+    (explained-available layout w homes views (stamp_of who v) given.sound given.shaped given.rule given.held) given.rule
 
 pub keeps-load_free : (number : ℕ) → Keeps (steps.Load (places.Free number))
 keeps-load_free number layout w homes views seat v who content given =

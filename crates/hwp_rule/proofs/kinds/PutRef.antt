@@ -24,7 +24,7 @@ use Rattle.hwp_rule.specs.parts.Places.{HasOnePlace, IsBare, in_hand}
 use Rattle.hwp_rule.proofs.Lists.{at_map, map-was, same-or, same-number, set_again, sum-set, term-le, terms-le, each-set, each-push, sum-zero}
 use Rattle.hwp_rule.proofs.Keeps.{Keeps}
 use Rattle.hwp_rule.proofs.FrameWord.{IsLike, bare-like, like-fields, placed-again, counted-again}
-use Rattle.hwp_rule.proofs.CountSteps.{past-some, keeps-refs}
+use Rattle.hwp_rule.proofs.CountSteps.{keeps-refs}
 use Rattle.hwp_rule.proofs.WordsByKind.{word-there}
 use Rattle.hwp_rule.specs.declared.step.Step.TheVariants as steps
 use Rattle.hwp_rule.proofs.Refs
@@ -124,7 +124,6 @@ keeps-put_ref frame count layout w homes views seat v who content given =
     bounded-less : IsBounded layout (record (holdings_of v) { refs = less_refs frame count v.refs; hands = cond (is_last count (slice_index w.frames frame.0)) (v.hands ++ frame ∷ []) v.hands })
     bounded-less = record {
       few = few-less (is_last count (slice_index w.frames frame.0)) refl;
-      none = λ empty. absurd (past-some v.parts who given.past empty);
       shares = λ g. elim (same-or g frame.0) [
         | inl same ↦ subst (λ (n : ℕ). refs_on n (less_refs frame count v.refs) ≤ length layout.trans + 2) (sym same) (let most : refs_on frame.0 v.refs ≤ length layout.trans + 2 = bounded.shares frame.0 in omega (arith, left))
         | inr differs ↦ subst (λ (n : ℕ). n ≤ length layout.trans + 2) (sym (Refs.refs-less-other frame count g v.refs differs)) (bounded.shares g)

@@ -1,7 +1,6 @@
 -- A reservation keeps the frame rule, and so does one that found no frame as expected.
 use Rattle.std.proofs.Common.{◌≡◌, ℕ, ◌+◌, ◌-◌, ◌<◌, ◌≤◌, ◌==◌, eqb-true, Bool, true, false, cond, List, Some, map, set, length, slice_get, refl, arith}
 use Rattle.std.specs.List.{sum_by}
-use Rattle.std.proofs.lemmas.Option.{slice_get_within}
 use prog.Atomic.{either}
 use Rattle.hwp_rule.specs.declared.view.View.{View}
 use Rattle.hwp_rule.specs.Rule.{FrameRule, holdings_of}
@@ -38,11 +37,8 @@ keeps-reserve seen layout w homes views seat v who content given = arm (w.availa
     room : v.reserved + length v.hands + length v.refs + 1 ≤ 2
     room = given.asks.1
 
-    some_part : 0 < length v.parts
-    some_part = let within : given.past.0 < length v.parts = slice_get_within v.parts given.past.0 given.past.1 given.past.2 in omega arith
-
     bounded-more : IsBounded layout (holdings_of u)
-    bounded-more = record { few = omega (arith, room); none = λ empty. let empty : length v.parts ≡ 0 = empty in absurd (omega (arith, some_part)); shares = bounded.shares }
+    bounded-more = record { few = omega (arith, room); shares = bounded.shares }
 
     reserved : List ℕ
     reserved = map (λ (v : View). v.reserved) views
@@ -72,4 +68,4 @@ keeps-reserve seen layout w homes views seat v who content given = arm (w.availa
       failures = Kept.same-failures views seat v u me refl h.failures;
       processors = Kept.same-processors views seat v u me refl h.processors;
     }
-    arm false differs = keeps-sight layout w homes views seat v who places.Available w.available me given.past (explained-available layout w homes views (stamp_of who v) given.sound given.shaped h) h
+    arm false differs = keeps-sight layout w homes views seat v who places.Available w.available me given.past (explained-available layout w homes views (stamp_of who v) given.sound given.shaped h given.held) h

@@ -32,7 +32,7 @@ resident-name (Some frame) = ap not (ne_eqb (frame.0 + 1) 0 (λ e. omega (arith,
 
 pub keeps-set_cache : (page : Page) (frame : Option Frame) → Keeps (steps.SetCache page frame)
 keeps-set_cache page frame layout w homes views seat v who content given =
-    keeps-naming layout w homes views seat v page has given.sound given.shaped given.place me h test to (λ l. refl) w.trans caches (frame_in found) frame can who given.past words h.pages.translations owned at_home fits
+    keeps-naming layout w homes views seat v page has given.sound given.shaped given.place me h test to (λ l. refl) w.trans caches (frame_in found) frame can words h.pages.translations owned at_home fits
   where
     found : ℕ
     found = slice_index w.caches page.0

@@ -42,7 +42,7 @@ pte-name ptes.Poison fits = refl
 
 pub keeps-set_pte : (slot : VSlot) (pte : Pte) → Keeps (steps.SetPte slot pte)
 keeps-set_pte slot pte layout w homes views seat v who content given =
-    keeps-naming layout w homes views seat v page has given.sound given.shaped within me h test to (λ l. refl) trans w.caches (frame_in found) (frame_in (pte_word pte)) can who given.past words translations
+    keeps-naming layout w homes views seat v page has given.sound given.shaped within me h test to (λ l. refl) trans w.caches (frame_in found) (frame_in (pte_word pte)) can words translations
     (caches-listed layout w homes views seat v me h test to (λ l. refl)) (bodies-listed layout w homes views seat v me h test to (λ l. refl))
     (fits-naming layout w homes views seat v page has given.sound given.shaped within me h test to (λ l. refl) trans w.caches refl (λ q differs. refl) other_words knows-now has.cache has.cache_is (set has.trans slot.0 (pte_word pte)) trans-now)
   where

@@ -47,7 +47,7 @@ keeps-unreserve layout w homes views seat v who content given = record {
     bounded = h.frames.holdings.bounded seat (holdings_of v) (at_map holdings_of views seat v me)
 
     bounded-less : IsBounded layout (holdings_of u)
-    bounded-less = record { few = omega (arith, bounded.few); none = λ empty. omega (arith, bounded.none empty); shares = bounded.shares }
+    bounded-less = record { few = omega (arith, bounded.few); shares = bounded.shares }
 
     reserved : List ℕ
     reserved = map (λ (v : View). v.reserved) views

@@ -1,5 +1,5 @@
 -- How much a view holds, and of which processors it is.
-use Rattle.std.specs.Prelude.{◌≡◌, ℕ, ◌+◌, ◌<◌, ◌≤◌, ◌==◌, List, length}
+use Rattle.std.specs.Prelude.{◌≡◌, ℕ, ◌+◌, ◌<◌, ◌≤◌, ◌==◌, List, [], length}
 use Rattle.std.specs.Int.{from_bool}
 use Rattle.hwp_geom.specs.declared.Frame.{Frame}
 use Rattle.hwp_geom.specs.declared.Layout.{Layout}
@@ -13,11 +13,10 @@ use Rattle.hwp_rule.specs.declared.view.Length.{Length}
 use Rattle.hwp_rule.specs.declared.view.Setting.{Setting}
 use Rattle.hwp_rule.specs.declared.view.View.{View}
 use Rattle.hwp_rule.specs.Lists.{EachMember, EachListed, SomeMember, sum_all}
-use Rattle.hwp_rule.specs.Views.{refs_on}
+use Rattle.hwp_rule.specs.Views.{refs_on, no_debts}
 
 -- what a view holds of frames
 pub record Holdings : Type 0 where
-  pub parts : List Part
   pub reserved : ℕ
   pub hands : List Frame
   pub refs : List Ref
@@ -25,16 +24,29 @@ pub record Holdings : Type 0 where
 abbrev pub frames_held : Holdings → ℕ
 frames_held h = h.reserved + length h.hands + length h.refs
 
--- at most two frames, none without a processor, and on one frame no more references than a page can need
+-- at most two frames, and on one frame no more references than a page can need
 pub record IsBounded (layout : Layout) (h : Holdings) : Type 0 where
   pub few : frames_held h ≤ 2
-  pub none : length h.parts ≡ 0 → frames_held h ≡ 0
   pub shares : (f : ℕ) → refs_on f h.refs ≤ length layout.trans + 2
 
 -- In each view the reservations, the frames in hand and the frames with references are together at most 2, and references
 -- on one frame at most the translations plus two. Broken by: a task that takes a third frame, which could fill a count.
 pub record HoldingsBounded (layout : Layout) (held : List Holdings) : Type 0 where
   pub bounded : EachMember (IsBounded layout) held
+
+-- no reference, no lock, no reservation, no frame or body in hand, and nothing owed
+pub record HoldsNothing (v : View) : Type 0 where
+  pub refs : v.refs ≡ []
+  pub locks : v.locks ≡ []
+  pub pages : v.pages ≡ []
+  pub reserved : v.reserved ≡ 0
+  pub hands : v.hands ≡ []
+  pub owed : v.owed ≡ no_debts
+  pub bodies : v.bodies ≡ []
+
+-- A view of no processor holds nothing. Broken by: a seat that gives its processor away and keeps a lock.
+pub record HeldByProcessors (views : List View) : Type 0 where
+  pub nothing : EachMember (λ (v : View). v.parts ≡ [] → HoldsNothing v) views
 
 -- Each processor of the layout is part of exactly one view, and no other processor of any. Broken by: one processor
 -- stepped by two seats.
