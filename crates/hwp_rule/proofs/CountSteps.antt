@@ -1,7 +1,6 @@
 -- Steps on a frame's count keep the frame rule, where the parts on counts, places and locks do.
 use Rattle.std.proofs.Common.{◌≡◌, ◌≢◌, ℕ, ◌+◌, ◌<◌, List, Some, map, set, length, slice_get, refl, ap, arith}
 use Rattle.std.proofs.lemmas.Option.{slice_get_within}
-use Rattle.hwp_geom.specs.declared.Frame.{Frame}
 use Rattle.hwp_geom.specs.declared.Layout.{Layout}
 use Rattle.hwp_geom.specs.declared.Who.{Who}
 use Rattle.hwp_words.specs.Frames.{lock_of}
@@ -20,9 +19,10 @@ use Rattle.hwp_rule.specs.parts.Places.{HasOnePlace}
 use Rattle.hwp_rule.proofs.Lists.{change, at_map, each-set}
 use Rattle.hwp_rule.proofs.FrameWord.{IsLike, like-translations, like-caches, like-handled, like-counter, like-marks, like-unpoisoned, like-locked, like-bodies, locked-again}
 use Rattle.hwp_rule.proofs.Kept
+use Rattle.hwp_rule.specs.declared.view.FrameInHand.{FrameInHand}
 
 -- a frame's count, a view's references and its frames in hand change
-module _ (layout : Layout) (w : Words) (homes : Homes) (views : List View) (seat : ℕ) (v : View) (f word now : ℕ) (refs : List Ref) (hands : List Frame) where
+module _ (layout : Layout) (w : Words) (homes : Homes) (views : List View) (seat : ℕ) (v : View) (f word now : ℕ) (refs : List Ref) (hands : List FrameInHand) where
   abbrev u : View
   u = record v { refs = refs; hands = hands }
 

@@ -3,7 +3,6 @@ use Rattle.std.proofs.Common.{◌≡◌, ◌≢◌, ℕ, ◌+◌, ◌*◌, ◌^�
 use Rattle.std.specs.Int.{from_bool}
 use Rattle.std.specs.List.{sum_by}
 use Rattle.std.proofs.lemmas.Option.{same_Some, slice_get_within, slice_get-get_or, slice_get_cases}
-use Rattle.hwp_geom.specs.declared.Frame.{Frame}
 use Rattle.hwp_geom.specs.declared.Layout.{Layout}
 use Rattle.hwp_geom.specs.Layout.{IsSound}
 use Rattle.hwp_words.specs.Frames.{count_of, owner_of, poison_of, handled_of, cycle_of}
@@ -32,6 +31,7 @@ use Rattle.hwp_rule.proofs.RefBounds.{parts-number}
 use Rattle.hwp_rule.proofs.Sights.{IsExplained, explained-exhausted}
 use Rattle.hwp_rule.specs.declared.place.Place.TheVariants as places
 use Rattle.std.proofs.lemmas.List.{nil_from_length}
+use Rattle.hwp_rule.specs.declared.view.FrameInHand.{FrameInHand}
 
 -- a term above 0 of equal numbers
 is-equal : (a b : ℕ) (c : Bool) → (a == b) ≡ c → 0 < from_bool c → a ≡ b
@@ -54,7 +54,7 @@ module _ (layout : Layout) (w : Words) (homes : Homes) (views : List View) (soun
   abbrev refs : List (List Ref)
   refs = map (λ (v : View). v.refs) views
 
-  abbrev hands : List (List Frame)
+  abbrev hands : List (List FrameInHand)
   hands = map (λ (v : View). v.hands) views
 
   abbrev marks : List (List Mark)
@@ -218,8 +218,8 @@ module _ (layout : Layout) (w : Words) (homes : Homes) (views : List View) (soun
       let four : sum_below (λ f. is_marked layout marks f + listed_on f) layout.frames ≡ sum_below (is_marked layout marks) layout.frames + sum_below listed_on layout.frames = below-add (is_marked layout marks) listed_on layout.frames in
       let free : sum_below (free_bit w.frees) layout.frames ≡ w.available + sum_by (λ (n : ℕ). n) (map (λ (v : View). v.reserved) views) = h.frames.free.number in
       let free_held : sum_by (λ (n : ℕ). n) (map (λ (v : View). v.reserved) views) ≡ sum_by (λ (v : View). v.reserved) views = sum-map (λ (n : ℕ). n) (λ (v : View). v.reserved) views in
-      let handed : sum_below (λ f. in_hand f hands) layout.frames ≤ sum_by (λ (l : List Frame). length l) hands = hits-all-le (λ (h : Frame). h.0) hands layout.frames in
-      let handed_held : sum_by (λ (l : List Frame). length l) hands ≡ sum_by (λ (v : View). length v.hands) views = sum-map (λ (l : List Frame). length l) (λ (v : View). v.hands) views in
+      let handed : sum_below (λ f. in_hand f hands) layout.frames ≤ sum_by (λ (l : List FrameInHand). length l) hands = hits-all-le (λ (h : FrameInHand). h.frame.0) hands layout.frames in
+      let handed_held : sum_by (λ (l : List FrameInHand). length l) hands ≡ sum_by (λ (v : View). length v.hands) views = sum-map (λ (l : List FrameInHand). length l) (λ (v : View). v.hands) views in
       let listed : sum_below listed_on layout.frames ≤ sum_by (λ (l : List Ref). length l) refs = hits-all-le (λ (r : Ref). r.frame.0) refs layout.frames in
       let listed_held : sum_by (λ (l : List Ref). length l) refs ≡ sum_by (λ (v : View). length v.refs) views = sum-map (λ (l : List Ref). length l) (λ (v : View). v.refs) views in
       let held : sum_by (λ (v : View). v.reserved + length v.hands + length v.refs) views ≡ sum_by (λ (v : View). v.reserved + length v.hands) views + sum_by (λ (v : View). length v.refs) views =

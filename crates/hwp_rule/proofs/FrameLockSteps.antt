@@ -20,7 +20,7 @@ use Rattle.hwp_rule.specs.parts.Locks.{FrameLocksHeld, PageLocksHeld, IsLocked}
 use Rattle.hwp_rule.specs.parts.Owners.{CacheWordsOwned, HoldsBoth}
 use Rattle.hwp_rule.specs.parts.Places.{HasOnePlace, in_hand}
 use Rattle.hwp_rule.proofs.Lists.{change, at_map, at_set, set_here, set_else, same-or, set_again, sum-set, term-le, each-set}
-use Rattle.hwp_rule.proofs.FrameWord.{IsLike, word-was, like-translations, like-caches, like-handled, like-counter, like-marks, like-unpoisoned, placed-again, counted-again, locked-again}
+use Rattle.hwp_rule.proofs.FrameWord.{IsLike, word-was, like-translations, like-caches, like-handled, like-counter, like-marks, like-unpoisoned, placed-again, like-handed-all, counted-again, locked-again}
 use Rattle.hwp_rule.proofs.Carrying.{Carries}
 use Rattle.hwp_rule.proofs.Carrying
 use Rattle.hwp_rule.proofs.Kept
@@ -77,7 +77,7 @@ module _ (layout : Layout) (w : Words) (homes : Homes) (views : List View) (seat
     places-locking : HasOnePlace layout.kernel frames w.frees (map (λ (v : View). v.hands) views)
     places-locking = placed-again w.frames f word now there x.like layout.kernel w.frees (map (λ (v : View). v.hands) views) (map (λ (v : View). v.hands) views) counted (λ g differs. refl)
         (λ usable. subst (λ (n : ℕ). free_bit w.frees f + in_hand f (map (λ (v : View). v.hands) views) + min n 1 ≡ 1) (sym x.count) (h.frames.places.placed f word there usable))
-        (λ idle. absurd (not-idle idle)) h.frames.places.handed h.frames.places
+        (λ idle. absurd (not-idle idle)) (like-handed-all w.frames f word now there x.like (map (λ (v : View). v.hands) views) h.frames.places.handed) h.frames.places
 
     page-locks-locking : PageLocksHeld w.pages (set (map (λ (v : View). v.pages) views) seat pages) (set (map (λ (v : View). v.locks) views) seat locks)
     page-locks-locking = record {

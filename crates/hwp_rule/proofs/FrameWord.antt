@@ -1,10 +1,9 @@
 -- The parts of the rule under a change of a frame's word that leaves its poison, owner and cycle: references and the lock.
-use Rattle.std.proofs.Common.{◌≡◌, ◌≢◌, ℕ, ◌+◌, ◌<◌, ◌≤◌, ◌==◌, ◌^◌, nat_lt, min, Bool, true, false, cond, List, Some, length, set, slice_get, inl, inr, refl, sym, ap, ◌∙◌, subst, arith}
+use Rattle.std.proofs.Common.{◌≡◌, ◌≢◌, ℕ, ◌+◌, ◌<◌, ◌≤◌, ◌==◌, ◌^◌, nat_lt, min, Bool, true, false, cond, List, Some, set, slice_get, inl, inr, refl, sym, ap, ◌∙◌, subst, arith}
 use Rattle.std.proofs.lemmas.List.{length-set}
 use Rattle.std.proofs.lemmas.Option.{same_Some}
 use Rattle.std.specs.Int.{from_bool}
 use Rattle.std.specs.List.{sum_by}
-use Rattle.hwp_geom.specs.declared.Frame.{Frame}
 use Rattle.hwp_geom.specs.declared.Layout.{Layout}
 use Rattle.hwp_geom.specs.declared.TransDecl.{TransDecl}
 use Rattle.hwp_words.specs.Frames.{lock_of, poison_of, handled_of, kernel_of, count_of, owner_of, cycle_of, is_kernel}
@@ -28,9 +27,10 @@ use Rattle.hwp_rule.specs.parts.Handled.{HandledIsPoisoned, IsOutOfUse}
 use Rattle.hwp_rule.specs.parts.Locks.{FrameLocksHeld, IsLocked}
 use Rattle.hwp_rule.specs.parts.Marks.{MarksAlternate, IsBefore}
 use Rattle.hwp_rule.specs.parts.Owners.{TranslationsOwned, CacheWordsOwned, NamesOwn}
-use Rattle.hwp_rule.specs.parts.Places.{HasOnePlace, IsBare, IsApart, in_hand}
+use Rattle.hwp_rule.specs.parts.Places.{HasOnePlace, IsBare, IsApart, in_hand, IsHanded}
 use Rattle.hwp_rule.specs.parts.Unpoisoned.{NothingPoisonedYet}
 use Rattle.hwp_rule.proofs.Lists.{at_set, set_here, set_else, same-or, sum-set, each-set, each-weaken}
+use Rattle.hwp_rule.specs.declared.view.FrameInHand.{FrameInHand}
 
 -- the words differ at most in their count and their lock
 pub record IsLike (w u : ℕ) : Type 0 where
@@ -175,12 +175,20 @@ module _ (frames : List ℕ) (f w u : ℕ) (there : slice_get frames f ≡ Some 
       is : (x : ℕ) × (slice_get (set frames f u) l.frame.0 ≡ Some x) × IsLike known.word x
       is = word-is l.frame.0 known.word known.there
 
+  pub like-handed : (hand : FrameInHand) → IsHanded frames hand → IsHanded (set frames f u) hand
+  like-handed hand known =
+      let is : (x : ℕ) × (slice_get (set frames f u) hand.frame.0 ≡ Some x) × IsLike known.word x = word-is hand.frame.0 known.word known.there in
+      record { word = is.0; there = is.1; poisoned = λ e. ap (λ (n : ℕ). n == 1) is.2.poison ∙ known.poisoned e }
+
+  pub like-handed-all : (hands : List (List FrameInHand)) → EachListed (IsHanded frames) hands → EachListed (IsHanded (set frames f u)) hands
+  like-handed-all hands each i list at j hand there = like-handed hand (each i list at j hand there)
+
   -- the places, where the frame had a reference before
-  pub placed-again : (kernel : List Bool) (frees : List ℕ) (hands now : List (List Frame)) → 0 < count_of w
+  pub placed-again : (kernel : List Bool) (frees : List ℕ) (hands now : List (List FrameInHand)) → 0 < count_of w
       → ((g : ℕ) → g ≢ f → in_hand g now ≡ in_hand g hands)
       → (is_kernel w ≡ false → free_bit frees f + in_hand f now + min (count_of u) 1 ≡ 1)
       → (0 < free_bit frees f + in_hand f now → IsBare u)
-      → EachListed (λ (h : Frame). h.0 < length kernel) now
+      → EachListed (IsHanded (set frames f u)) now
       → HasOnePlace kernel frames frees hands → HasOnePlace kernel (set frames f u) frees now
   placed-again kernel frees hands now counted others here idle handed h = record {
     declared = λ g x k a b.

@@ -3,7 +3,7 @@ use Rattle.std.proofs.Common.{◌≡◌, ℕ, ◌+◌, ◌-◌, ◌*◌, ◌/◌
 use Rattle.std.specs.Int.{bit_not, from_bool}
 use Rattle.std.specs.List.{sum_by}
 use Rattle.std.proofs.lemmas.List.{length-append}
-use Rattle.std.proofs.lemmas.Option.{slice_get-get_or}
+use Rattle.std.proofs.lemmas.Option.{slice_get-get_or, slice_get_within}
 use Rattle.hwp_geom.specs.declared.Frame.{Frame}
 use Rattle.hwp_geom.specs.declared.Layout.{Layout}
 use Rattle.hwp_words.specs.Frames.{count_of, is_kernel}
@@ -11,21 +11,22 @@ use Rattle.hwp_rule.specs.declared.view.View.{View}
 use Rattle.hwp_rule.specs.Asks.{HasInHand}
 use Rattle.hwp_rule.specs.Lists.{Homes, EachMember, EachListed}
 use Rattle.hwp_rule.specs.Rule.{FrameRule, holdings_of}
-use Rattle.hwp_rule.specs.Views.{without, is_frame}
+use Rattle.hwp_rule.specs.Views.{without, is_hand_of, unpoisoned}
 use Rattle.hwp_rule.specs.Words.{Words, free_bit, sum_below}
 use Rattle.hwp_rule.specs.parts.Free.{FreeBitsAgree}
 use Rattle.hwp_rule.specs.parts.Holdings.{AreOwn, IsBounded, HoldingsBounded}
-use Rattle.hwp_rule.specs.parts.Places.{in_hand, HasOnePlace, IsApart}
-use Rattle.hwp_rule.proofs.Lists.{change, at_map, each-set, each-push, sum-set, same-or, same-number, from_bool-same, from_bool-other}
+use Rattle.hwp_rule.specs.parts.Places.{in_hand, HasOnePlace, IsApart, IsHanded}
+use Rattle.hwp_rule.proofs.Lists.{change, at_map, each-set, each-push, sum-set, same-or, from_bool-same, from_bool-other, not-both}
 use Rattle.hwp_rule.proofs.Bits.{sum-below-change, free_bit-cleared, free_bit-cleared_other, free_bit-raised, free_bit-raised_other}
 use Rattle.hwp_rule.proofs.Without.{each-without, length-without}
-use Rattle.hwp_rule.proofs.FramesInHand.{in_hand-push, in_hand-without, in_hand-mine}
+use Rattle.hwp_rule.proofs.FramesInHand.{in_hand-push, in_hand-without, in_hand-mine, is-of}
 use Rattle.hwp_rule.proofs.Kept
+use Rattle.hwp_rule.specs.declared.view.FrameInHand.{FrameInHand}
 
 -- frames go between free bits and hands: of each frame both together are as many as before
-places-moved : (kernel : List Bool) (frames frees frees' : List ℕ) (hands hands' : List (List Frame))
+places-moved : (kernel : List Bool) (frames frees frees' : List ℕ) (hands hands' : List (List FrameInHand))
     → ((f : ℕ) → free_bit frees' f + in_hand f hands' ≡ free_bit frees f + in_hand f hands)
-    → EachListed (λ (h : Frame). h.0 < length kernel) hands'
+    → EachListed (IsHanded frames) hands'
     → HasOnePlace kernel frames frees hands → HasOnePlace kernel frames frees' hands'
 places-moved kernel frames frees frees' hands hands' same handed h = record {
   declared = h.declared;
@@ -46,14 +47,14 @@ places-moved kernel frames frees frees' hands hands' same handed h = record {
 }
 
 module _ (layout : Layout) (w : Words) (homes : Homes) (views : List View) (seat : ℕ) (v : View) (me : slice_get views seat ≡ Some v) (h : FrameRule layout w homes views) where
-  abbrev hands : List (List Frame)
+  abbrev hands : List (List FrameInHand)
   hands = map (λ (v : View). v.hands) views
 
   abbrev reserved : List ℕ
   reserved = map (λ (v : View). v.reserved) views
 
   -- a frame between the free bits and the hand: the parts that read them are so, and the view holds no more than before
-  rule-moved : (frees : List ℕ) (reserved' : ℕ) (hands' : List Frame)
+  rule-moved : (frees : List ℕ) (reserved' : ℕ) (hands' : List FrameInHand)
       → HasOnePlace layout.kernel w.frames frees (set hands seat hands')
       → FreeBitsAgree layout.frames frees w.available (set reserved seat reserved')
       → reserved' + length hands' ≡ v.reserved + length v.hands
@@ -105,8 +106,8 @@ module _ (layout : Layout) (w : Words) (homes : Homes) (views : List View) (seat
 
     -- the bit was set
     pub bit-taken : 0 < v.reserved → free_bit w.frees frame.0 ≡ 1
-        → FrameRule layout (record w { frees = cleared }) homes (set views seat (record v { reserved = v.reserved - 1; hands = v.hands ++ frame ∷ [] }))
-    bit-taken some bit = rule-moved cleared (v.reserved - 1) (v.hands ++ frame ∷ []) places free (omega (arith, length-append v.hands (frame ∷ [])))
+        → FrameRule layout (record w { frees = cleared }) homes (set views seat (record v { reserved = v.reserved - 1; hands = v.hands ++ unpoisoned frame ∷ [] }))
+    bit-taken some bit = rule-moved cleared (v.reserved - 1) (v.hands ++ unpoisoned frame ∷ []) places free (omega (arith, length-append v.hands (unpoisoned frame ∷ [])))
       where
         inside : frame.0 < layout.frames
         inside = elim (same-or (layout.frames - frame.0) 0) [
@@ -114,9 +115,9 @@ module _ (layout : Layout) (w : Words) (homes : Homes) (views : List View) (seat
           | inr before ↦ omega arith
         ]
 
-        both : (f : ℕ) → free_bit cleared f + in_hand f (set hands seat (v.hands ++ frame ∷ [])) ≡ free_bit w.frees f + in_hand f hands
+        both : (f : ℕ) → free_bit cleared f + in_hand f (set hands seat (v.hands ++ unpoisoned frame ∷ [])) ≡ free_bit w.frees f + in_hand f hands
         both f =
-            let more : in_hand f (set hands seat (v.hands ++ frame ∷ [])) ≡ in_hand f hands + from_bool (frame.0 == f) = in_hand-push hands seat v.hands frame my-hands f in
+            let more : in_hand f (set hands seat (v.hands ++ unpoisoned frame ∷ [])) ≡ in_hand f hands + from_bool (frame.0 == f) = in_hand-push hands seat v.hands my-hands (unpoisoned frame) f in
             elim (same-or f frame.0) [
               | inl same ↦
                   let now : free_bit cleared f ≡ 0 = ap (free_bit cleared) same ∙ free_bit-cleared w.frees frame.0 within in
@@ -129,10 +130,10 @@ module _ (layout : Layout) (w : Words) (homes : Homes) (views : List View) (seat
                   omega arith
             ]
 
-        places : HasOnePlace layout.kernel w.frames cleared (set hands seat (v.hands ++ frame ∷ []))
-        places = places-moved layout.kernel w.frames w.frees cleared hands (set hands seat (v.hands ++ frame ∷ [])) both
-            (each-set (EachMember (λ (h : Frame). h.0 < length layout.kernel)) hands seat (v.hands ++ frame ∷ [])
-            (each-push (λ (h : Frame). h.0 < length layout.kernel) v.hands frame (omega (arith, inside, kernel)) (h.frames.places.handed seat v.hands my-hands)) h.frames.places.handed)
+        places : HasOnePlace layout.kernel w.frames cleared (set hands seat (v.hands ++ unpoisoned frame ∷ []))
+        places = places-moved layout.kernel w.frames w.frees cleared hands (set hands seat (v.hands ++ unpoisoned frame ∷ [])) both
+            (each-set (EachMember (IsHanded w.frames)) hands seat (v.hands ++ unpoisoned frame ∷ [])
+            (each-push (IsHanded w.frames) v.hands (unpoisoned frame) (record { word = get_or w.frames frame.0 0; there = slice_get-get_or w.frames frame.0 0 (omega (arith, inside, wide)); poisoned = λ e. absurd (not-both false e refl) }) (h.frames.places.handed seat v.hands my-hands)) h.frames.places.handed)
             h.frames.places
 
         free : FreeBitsAgree layout.frames cleared w.available (set reserved seat (v.reserved - 1))
@@ -149,14 +150,15 @@ module _ (layout : Layout) (w : Words) (homes : Homes) (views : List View) (seat
 
     -- the frame was in hand
     pub bit-given : HasInHand v frame
-        → FrameRule layout (record w { frees = raised }) homes (set views seat (record v { reserved = v.reserved + 1; hands = without (is_frame frame) v.hands }))
-    bit-given has = rule-moved raised (v.reserved + 1) (without (is_frame frame) v.hands) places free (omega (arith, length-without (is_frame frame) v.hands has.0 frame mine (same-number frame.0 frame.0 refl)))
+        → FrameRule layout (record w { frees = raised }) homes (set views seat (record v { reserved = v.reserved + 1; hands = without (is_hand_of frame) v.hands }))
+    bit-given has = rule-moved raised (v.reserved + 1) (without (is_hand_of frame) v.hands) places free (omega (arith, length-without (is_hand_of frame) v.hands has.0 has.1 has.2 (is-of has.1 frame has.3)))
       where
-        mine : slice_get v.hands has.0 ≡ Some frame
-        mine = has.2 ∙ ap (λ (h : Frame). Some h) has.3
-
         inside : frame.0 < layout.frames
-        inside = omega (arith, h.frames.places.handed seat v.hands my-hands has.0 frame mine, kernel)
+        inside =
+            let handed : IsHanded w.frames has.1 = h.frames.places.handed seat v.hands my-hands has.0 has.1 has.2 in
+            let one : has.1.frame.0 < length w.frames = slice_get_within w.frames has.1.frame.0 handed.word handed.there in
+            let same : has.1.frame.0 ≡ frame.0 = ap (λ (f : Frame). f.0) has.3 in
+            omega (arith, wide)
 
         word : ℕ
         word = get_or w.frames frame.0 0
@@ -170,13 +172,13 @@ module _ (layout : Layout) (w : Words) (homes : Homes) (views : List View) (seat
             which : (b : Bool) → is_kernel word ≡ b → free_bit w.frees frame.0 ≡ 0
             which true is = (h.frames.places.kernels frame.0 word there is).taken
             which false isnt =
-                let some : 1 ≤ in_hand frame.0 hands = in_hand-mine hands seat v.hands frame my-hands has.0 mine in
+                let some : 1 ≤ in_hand frame.0 hands = in_hand-mine hands seat v.hands my-hands has.1 frame has.3 has.0 has.2 in
                 let one : free_bit w.frees frame.0 + in_hand frame.0 hands + min (count_of word) 1 ≡ 1 = h.frames.places.placed frame.0 word there isnt in
                 omega arith
 
-        both : (f : ℕ) → free_bit raised f + in_hand f (set hands seat (without (is_frame frame) v.hands)) ≡ free_bit w.frees f + in_hand f hands
+        both : (f : ℕ) → free_bit raised f + in_hand f (set hands seat (without (is_hand_of frame) v.hands)) ≡ free_bit w.frees f + in_hand f hands
         both f =
-            let less : in_hand f (set hands seat (without (is_frame frame) v.hands)) + from_bool (frame.0 == f) ≡ in_hand f hands = in_hand-without hands seat v.hands frame my-hands f has.0 mine in
+            let less : in_hand f (set hands seat (without (is_hand_of frame) v.hands)) + from_bool (frame.0 == f) ≡ in_hand f hands = in_hand-without hands seat v.hands my-hands has.1 frame has.3 f has.0 has.2 in
             elim (same-or f frame.0) [
               | inl same ↦
                   let now : free_bit raised f ≡ 1 = ap (free_bit raised) same ∙ free_bit-raised w.frees frame.0 within in
@@ -189,10 +191,10 @@ module _ (layout : Layout) (w : Words) (homes : Homes) (views : List View) (seat
                   omega arith
             ]
 
-        places : HasOnePlace layout.kernel w.frames raised (set hands seat (without (is_frame frame) v.hands))
-        places = places-moved layout.kernel w.frames w.frees raised hands (set hands seat (without (is_frame frame) v.hands)) both
-            (each-set (EachMember (λ (h : Frame). h.0 < length layout.kernel)) hands seat (without (is_frame frame) v.hands)
-            (each-without (λ (h : Frame). h.0 < length layout.kernel) (is_frame frame) v.hands (h.frames.places.handed seat v.hands my-hands)) h.frames.places.handed)
+        places : HasOnePlace layout.kernel w.frames raised (set hands seat (without (is_hand_of frame) v.hands))
+        places = places-moved layout.kernel w.frames w.frees raised hands (set hands seat (without (is_hand_of frame) v.hands)) both
+            (each-set (EachMember (IsHanded w.frames)) hands seat (without (is_hand_of frame) v.hands)
+            (each-without (IsHanded w.frames) (is_hand_of frame) v.hands (h.frames.places.handed seat v.hands my-hands)) h.frames.places.handed)
             h.frames.places
 
         free : FreeBitsAgree layout.frames raised w.available (set reserved seat (v.reserved + 1))

@@ -33,5 +33,6 @@ pub mod OwnerSteps
 pub mod NameSteps
 pub mod kinds
 pub mod Moving
+pub mod AdoptedFrames
 pub mod OpeningWords
 pub mod OpeningHolds

@@ -25,7 +25,7 @@ use Rattle.hwp_rule.specs.Views.{refs_on, locks_on, page_locks_on}
 use Rattle.hwp_rule.specs.parts.Counts.{named}
 use Rattle.hwp_rule.specs.parts.Bodies.{Holder, IsHolding}
 use Rattle.hwp_rule.proofs.Lists.{at_longer, at_map, same-or, same-number, each-map, sum-map, sum-zero}
-use Rattle.hwp_rule.specs.parts.Places.{in_hand, IsBare}
+use Rattle.hwp_rule.specs.parts.Places.{in_hand, IsBare, IsHanded}
 use Rattle.hwp_rule.specs.parts.Locks.{IsLocked}
 use Rattle.hwp_rule.specs.parts.Counter.{CounterAgrees, IsCovered, SomeHardware, is_by_hardware, is_poisoning, is_revival}
 use Rattle.hwp_rule.specs.parts.Damage.{DamageListed, is_spoil}
@@ -55,7 +55,6 @@ use Rattle.hwp_rule.specs.declared.view.Setting.{Setting}
 use Rattle.hwp_rule.specs.declared.view.Reported.{Reported}
 use Rattle.hwp_rule.specs.declared.view.Part.{Part}
 use Rattle.hwp_geom.specs.declared.Cpu.{Cpu}
-use Rattle.hwp_geom.specs.declared.Frame.{Frame}
 use Rattle.hwp_geom.specs.declared.FileNo.{FileNo}
 use Rattle.hwp_geom.specs.declared.Proc.{Proc}
 use Rattle.hwp_geom.specs.declared.Who.{Who}
@@ -64,6 +63,7 @@ use Rattle.std.specs.FinSet as set
 use Rattle.hwp_words.specs.declared.Pte.TheVariants as ptes
 use Rattle.hwp_rule.specs.declared.place.Place.TheVariants as places
 use Rattle.hwp_rule.proofs.OpeningWords
+use Rattle.hwp_rule.specs.declared.view.FrameInHand.{FrameInHand}
 
 -- the words at opening
 pub record AreOpening (layout : Layout) (w : Words) : Type 0 where
@@ -420,7 +420,7 @@ module _ (layout : Layout) (sound : IsSound layout) (w : Words) (o : AreOpening 
         placed = λ f x there is.
             let k : (frame f x there).0 ≡ false = sym (frame f x there).2.is_kernel ∙ is in
             let bit : free_bit w.frees f ≡ 1 = ap (λ (l : List ℕ). free_bit l f) o.frees ∙ OpeningWords.free-bit-opened layout f false (inside f x there) ((frame f x there).1 ∙ ap (λ (b : Bool). Some b) k) in
-            let no_hand : in_hand f (map (λ (v : View). v.hands) (opening_views layout)) ≡ 0 = no-sum (λ (v : View). v.hands) (sum_by (λ (h : Frame). from_bool (h.0 == f))) (λ c. refl) in
+            let no_hand : in_hand f (map (λ (v : View). v.hands) (opening_views layout)) ≡ 0 = no-sum (λ (v : View). v.hands) (sum_by (λ (h : FrameInHand). from_bool (h.frame.0 == f))) (λ c. refl) in
             let no_count : count_of x ≡ 0 = (frame f x there).2.count in
             omega arith;
         idle = λ f x there some. bare f x there;
@@ -430,9 +430,9 @@ module _ (layout : Layout) (sound : IsSound layout) (w : Words) (o : AreOpening 
               bare = bare f x there;
               uncounted = (frame f x there).2.count;
               taken = ap (λ (l : List ℕ). free_bit l f) o.frees ∙ OpeningWords.free-bit-opened layout f true (inside f x there) ((frame f x there).1 ∙ ap (λ (b : Bool). Some b) k);
-              unhanded = no-sum (λ (v : View). v.hands) (sum_by (λ (h : Frame). from_bool (h.0 == f))) (λ c. refl);
+              unhanded = no-sum (λ (v : View). v.hands) (sum_by (λ (h : FrameInHand). from_bool (h.frame.0 == f))) (λ c. refl);
             };
-        handed = unlisted (λ (v : View). v.hands) (λ (h : Frame). h.0 < length layout.kernel) (λ c. refl);
+        handed = unlisted (λ (v : View). v.hands) (IsHanded w.frames) (λ c. refl);
       };
       frame_locks = record {
         one = λ f x there. no-sum (λ (v : View). (v.refs, v.locks)) (λ (h : List Ref × List FrameLock). locks_on f h.1) (λ c. refl) ∙ sym (frame f x there).2.lock;

@@ -1,5 +1,5 @@
 -- The owner of a locked frame changes: the parts that don't speak of owners stay.
-use Rattle.std.proofs.Common.{◌≡◌, ◌≢◌, ℕ, ◌+◌, ◌^◌, ◌<◌, ◌≤◌, ◌==◌, nat_lt, min, eqb-true, Bool, true, false, cond, List, Some, None, map, set, length, slice_get, inl, inr, refl, sym, ap, ◌∙◌, subst, arith}
+use Rattle.std.proofs.Common.{◌≡◌, ◌≢◌, ℕ, ◌+◌, ◌^◌, ◌<◌, ◌≤◌, ◌==◌, nat_lt, min, eqb-true, Bool, true, false, cond, List, Some, None, map, set, length, slice_get, inl, inr, refl, sym, ap, ◌∙◌, subst, arith, ◌⊎◌}
 use Rattle.std.specs.Int.{from_bool}
 use Rattle.std.specs.List.{sum_by}
 use Rattle.std.proofs.lemmas.Bool.{eqb-false}
@@ -28,10 +28,11 @@ use Rattle.hwp_rule.specs.parts.Holdings.{AreOwn}
 use Rattle.hwp_rule.specs.parts.Locks.{FrameLocksHeld, PageLocksHeld, IsLocked}
 use Rattle.hwp_rule.specs.parts.Marks.{MarksAlternate, IsBefore, poisonings, revivals}
 use Rattle.hwp_rule.specs.parts.Owners.{TranslationsOwned, CacheWordsOwned}
-use Rattle.hwp_rule.specs.parts.Places.{HasOnePlace, IsApart, IsBare, in_hand}
+use Rattle.hwp_rule.specs.parts.Places.{HasOnePlace, IsApart, IsBare, in_hand, IsHanded}
 use Rattle.hwp_rule.specs.parts.Unpoisoned.{NothingPoisonedYet}
-use Rattle.hwp_rule.proofs.Lists.{change, keep, at_map, at_set, map-was, same-number, set_here, set_else, each-set, length-changed, sum-changed, sum-set, term-le, terms-le}
+use Rattle.hwp_rule.proofs.Lists.{change, keep, at_map, at_set, map-was, same-number, set_here, set_else, each-set, length-changed, sum-changed, sum-set, term-le, terms-le, same-or}
 use Rattle.hwp_rule.proofs.Kept
+use Rattle.hwp_rule.specs.declared.view.FrameInHand.{FrameInHand}
 
 module _ (layout : Layout) (w : Words) (homes : Homes) (views : List View) (seat : ℕ) (v : View) (frame : Frame) (word now b : ℕ) where
   abbrev to : FrameLock → FrameLock
@@ -75,6 +76,15 @@ module _ (layout : Layout) (w : Words) (homes : Homes) (views : List View) (seat
     kernel-same : is_kernel now ≡ is_kernel word
     kernel-same = ap (λ (n : ℕ). n == 1) are.kernel
 
+    -- a frame in hand is another, or keeps its poison
+    handed-owning : (hand : FrameInHand) → IsHanded w.frames hand → (hand.frame.0 ≡ frame.0) ⊎ (hand.frame.0 ≢ frame.0) → IsHanded frames hand
+    handed-owning hand known (inl same) = record {
+      word = now;
+      there = ap (slice_get frames) same ∙ set_here w.frames frame.0 now word there;
+      poisoned = λ e. ap (λ (n : ℕ). n == 1) (are.poison ∙ ap poison_of (same_Some word known.word (sym there ∙ ap (slice_get w.frames) (sym same) ∙ known.there))) ∙ known.poisoned e;
+    }
+    handed-owning hand known (inr differs) = record { word = known.word; there = set_else w.frames frame.0 hand.frame.0 now differs ∙ known.there; poisoned = known.poisoned }
+
     places-owning : HasOnePlace layout.kernel frames w.frees (map (λ (v : View). v.hands) views)
     places-owning = record {
       declared = λ g x k at is. at-frame (λ g x. slice_get layout.kernel g ≡ Some k → is_kernel x ≡ k) (λ is. kernel-same ∙ h.frames.places.declared frame.0 word k there is) (λ g x differs at is. h.frames.places.declared g x k at is) g x at is;
@@ -84,7 +94,9 @@ module _ (layout : Layout) (w : Words) (homes : Homes) (views : List View) (seat
       idle = at-frame (λ g x. 0 < free_bit w.frees g + in_hand g (map (λ (v : View). v.hands) views) → IsBare x)
           (λ idle. let free : lock_of word ≡ 0 = (h.frames.places.idle frame.0 word there idle).unlocked in absurd (omega (arith, free, locked)))
           (λ g x differs at idle. h.frames.places.idle g x at idle);
-      handed = h.frames.places.handed;
+      handed = λ i list at j hand listed.
+          let was : IsHanded w.frames hand = h.frames.places.handed i list at j hand listed in
+          handed-owning hand was (same-or hand.frame.0 frame.0);
       kernels = at-frame (λ g x. is_kernel x ≡ true → IsApart w.frees (map (λ (v : View). v.hands) views) g x)
           (λ kernel. let free : lock_of word ≡ 0 = (h.frames.places.kernels frame.0 word there (sym kernel-same ∙ kernel)).bare.unlocked in absurd (omega (arith, free, locked)))
           (λ g x differs at kernel. h.frames.places.kernels g x at kernel);

@@ -23,6 +23,7 @@ use Rattle.hwp_rule.specs.declared.step.Step.{Step}
 use Rattle.hwp_rule.specs.declared.step.Step.TheVariants as steps
 use Rattle.hwp_rule.specs.declared.view.View.{View}
 use Rattle.hwp_rule.specs.declared.view.Part.{Part}
+use Rattle.hwp_rule.specs.declared.view.FrameInHand.{FrameInHand}
 use Rattle.hwp_rule.specs.declared.view.FrameLock.{FrameLock}
 use Rattle.hwp_rule.specs.declared.view.PageLock.{PageLock}
 use Rattle.hwp_rule.specs.declared.view.InHand.{InHand}
@@ -48,7 +49,7 @@ pub record IsTurnOf (v : View) (who : Who) : Type 0 where
 
 -- the frame is in hand
 abbrev pub HasInHand : View → Frame → Type 0
-HasInHand v frame = SomeMember (λ (h : Frame). h ≡ frame) v.hands
+HasInHand v frame = SomeMember (λ (h : FrameInHand). h.frame ≡ frame) v.hands
 
 -- the view can hold one frame more
 abbrev pub HasRoom : View → Type 0

@@ -1,5 +1,5 @@
 -- What a seat knows after a step.
-use Rattle.std.specs.Prelude.{ℕ, suc, ◌+◌, ◌-◌, ◌%◌, ◌^◌, ◌==◌, nat_le, max, Bool, true, cond, List, [], ◌∷◌, ◌++◌, Option, Some, None, is_some, is_none, map, length, drop, option_map, slice_get, slice_set}
+use Rattle.std.specs.Prelude.{ℕ, suc, ◌+◌, ◌-◌, ◌%◌, ◌^◌, ◌==◌, nat_le, max, Bool, true, false, cond, List, [], ◌∷◌, ◌++◌, Option, Some, None, is_some, is_none, map, length, drop, option_map, slice_get, slice_set}
 use Rattle.std.specs.List.{sum_by, find}
 use Rattle.std.specs.Int.{from_bool}
 use Rattle.hwp_geom.specs.declared.FileNo.{FileNo}
@@ -21,6 +21,7 @@ use Rattle.hwp_rule.specs.declared.record.Rec.{Rec}
 use Rattle.hwp_rule.specs.declared.view.View.{View}
 use Rattle.hwp_rule.specs.declared.view.Part.{Part}
 use Rattle.hwp_rule.specs.declared.view.Ref.{Ref}
+use Rattle.hwp_rule.specs.declared.view.FrameInHand.{FrameInHand}
 use Rattle.hwp_rule.specs.declared.view.FrameLock.{FrameLock}
 use Rattle.hwp_rule.specs.declared.view.PageLock.{PageLock}
 use Rattle.hwp_rule.specs.declared.view.InHand.{InHand}
@@ -70,8 +71,8 @@ abbrev pub less_named : Option Frame → List Ref → List Ref
 less_named None refs = refs
 less_named (Some frame) refs = less_refs frame 1 refs
 
-abbrev pub is_frame : Frame → Frame → Bool
-is_frame frame other = other.0 == frame.0
+abbrev pub is_hand_of : Frame → FrameInHand → Bool
+is_hand_of frame hand = hand.frame.0 == frame.0
 
 abbrev pub is_lock_of : Frame → FrameLock → Bool
 is_lock_of frame lock = lock.frame.0 == frame.0
@@ -109,6 +110,13 @@ sighted who place word v = record v { sights = v.sights ++ (record { stamp = sta
 -- the lock of a frame whose word was this
 abbrev pub lock_found : Frame → ℕ → FrameLock
 lock_found frame found = record { frame = frame; owner = owner_of found; handled = is_handled found; poisoned = is_poisoned found }
+
+-- a frame in hand whose word was this, and one of which nothing is known
+abbrev pub hand_found : Frame → ℕ → FrameInHand
+hand_found frame found = record { frame = frame; poisoned = is_poisoned found }
+
+abbrev pub unpoisoned : Frame → FrameInHand
+unpoisoned frame = record { frame = frame; poisoned = false }
 
 -- a page's lock, when the page's body is in hand: the cache word and the translation words fit its state
 abbrev pub knowing : Layout → Log → Option Frame → PageLock → PageLock
@@ -201,7 +209,7 @@ poisoned who frame hardware found v =
 
 abbrev pub revived_by : Who → Frame → ℕ → View → View
 revived_by who frame found v =
-    record (marked who frame found mark_kinds.Revived v) { hands = v.hands ++ frame ∷ []; owed = record v.owed { uncounts = v.owed.uncounts + 1 } }
+    record (marked who frame found mark_kinds.Revived v) { hands = v.hands ++ unpoisoned frame ∷ []; owed = record v.owed { uncounts = v.owed.uncounts + 1 } }
 
 abbrev pub killed_by : Proc → Page → View → View
 killed_by process page v =
@@ -220,12 +228,12 @@ view_by layout who (steps.Reserve seen) found content v =
     cond (found == seen) (record v { reserved = v.reserved + 1 }) (sighted who places.Available found v)
 view_by layout who (steps.TakeBit frame) found content v =
     cond (goes (steps.TakeBit frame) found)
-    (record v { reserved = v.reserved - 1; hands = v.hands ++ frame ∷ [] })
+    (record v { reserved = v.reserved - 1; hands = v.hands ++ unpoisoned frame ∷ [] })
     (sighted who (place_of (steps.TakeBit frame)) found v)
-view_by layout who (steps.GiveBit frame) found content v = record v { reserved = v.reserved + 1; hands = without (is_frame frame) v.hands }
+view_by layout who (steps.GiveBit frame) found content v = record v { reserved = v.reserved + 1; hands = without (is_hand_of frame) v.hands }
 view_by layout who steps.Unreserve found content v = record v { reserved = v.reserved - 1 }
 view_by layout who (steps.Adopt frame) found content v = record (sighted who (places.Frame frame) found v) {
-  hands = without (is_frame frame) v.hands;
+  hands = without (is_hand_of frame) v.hands;
   refs = with_refs frame 1 v.refs;
   locks = v.locks ++ lock_found frame found ∷ [];
 }
@@ -233,7 +241,7 @@ view_by layout who (steps.GetRef frame seen count) found content v =
     cond (found == seen) (record v { refs = with_refs frame count v.refs }) (sighted who (places.Frame frame) found v)
 view_by layout who (steps.PutRef frame count) found content v = record v {
   refs = less_refs frame count v.refs;
-  hands = cond (is_last count found) (v.hands ++ frame ∷ []) v.hands;
+  hands = cond (is_last count found) (v.hands ++ hand_found frame found ∷ []) v.hands;
 }
 view_by layout who (steps.LockFrame frame) found content v =
     cond (goes (steps.LockFrame frame) found) (taken layout who (Some frame) content (record v { locks = v.locks ++ lock_found frame found ∷ [] })) v

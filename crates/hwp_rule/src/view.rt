@@ -18,6 +18,13 @@ pub struct Ref {
     pub count: u32,
 }
 
+/// A frame in hand. Where `poisoned` is set, its word has POISON too.
+#[derive(Clone, Copy, Debug, PartialEq, Eq)]
+pub struct FrameInHand {
+    pub frame: Frame,
+    pub poisoned: bool,
+}
+
 /// The lock of a frame, with what its word says while the lock is held: the owner (page plus 1, or 0) and whether it is
 /// handled. Where `poisoned` is set, the word has POISON too.
 #[derive(Clone, Copy, Debug, PartialEq, Eq)]
@@ -144,7 +151,7 @@ pub struct View {
     pub pages: List<PageLock>,
     /// Frames reserved, and frames in hand.
     pub reserved: u32,
-    pub hands: List<Frame>,
+    pub hands: List<FrameInHand>,
     pub owed: Debts,
     pub bodies: List<InHand>,
     pub made: List<Made>,

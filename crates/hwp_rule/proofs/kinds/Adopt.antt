@@ -16,18 +16,18 @@ use Rattle.hwp_rule.specs.declared.view.View.{View}
 use Rattle.hwp_rule.specs.Asks.{HasInHand}
 use Rattle.hwp_rule.specs.Lists.{Homes, EachMember, sum_bodies}
 use Rattle.hwp_rule.specs.Rule.{FrameRule, holder_of, holdings_of, losing_of}
-use Rattle.hwp_rule.specs.Views.{without, is_frame, with_refs, refs_on, lock_found, sighted, stamp_of, locks_on}
+use Rattle.hwp_rule.specs.Views.{without, is_hand_of, with_refs, refs_on, lock_found, sighted, stamp_of, locks_on}
 use Rattle.hwp_rule.specs.Words.{Words, free_bit}
 use Rattle.hwp_rule.specs.parts.Bodies.{BodiesAtHome, Holder, IsAtHome, IsHolding, IsLockFor}
 use Rattle.hwp_rule.specs.parts.Counts.{CountsBalance, named}
 use Rattle.hwp_rule.specs.parts.Holdings.{AreOwn, IsBounded, HoldingsBounded}
 use Rattle.hwp_rule.specs.parts.Locks.{FrameLocksHeld, PageLocksHeld, IsLocked}
 use Rattle.hwp_rule.specs.parts.Owners.{CacheWordsOwned, HoldsBoth}
-use Rattle.hwp_rule.specs.parts.Places.{HasOnePlace, IsApart, IsBare, in_hand}
-use Rattle.hwp_rule.proofs.Lists.{change, keep, at_map, at_set, set_here, set_else, set-set, each-set, each-push, each-weaken, some-set, term-le, same-or, same-number, not-both, from_bool-same, from_bool-other, some-push}
-use Rattle.hwp_rule.proofs.FrameWord.{IsLike, like-fields, word-was, like-translations, like-caches, like-handled, like-counter, like-marks, like-unpoisoned, like-locked, counted-again, locked-again}
+use Rattle.hwp_rule.specs.parts.Places.{HasOnePlace, IsApart, IsBare, in_hand, IsHanded}
+use Rattle.hwp_rule.proofs.Lists.{change, keep, at_map, at_set, set_here, set_else, set-set, each-set, each-push, each-weaken, some-set, term-le, same-or, not-both, from_bool-same, from_bool-other, some-push}
+use Rattle.hwp_rule.proofs.FrameWord.{IsLike, like-fields, word-was, like-translations, like-caches, like-handled, like-counter, like-marks, like-unpoisoned, like-locked, counted-again, locked-again, like-handed-all}
 use Rattle.hwp_rule.proofs.Without.{each-without, length-without}
-use Rattle.hwp_rule.proofs.FramesInHand.{in_hand-mine, in_hand-without}
+use Rattle.hwp_rule.proofs.FramesInHand.{in_hand-mine, in_hand-without, is-of}
 use Rattle.hwp_rule.proofs.Refs.{refs-with, refs-with-other, length-with}
 use Rattle.hwp_rule.proofs.Sights.{keeps-sight, explained-frame}
 use Rattle.hwp_rule.proofs.EmptySlots.{is_bodiless, bodiless-name, bodies-sum, slot-entries, slot-endings, slot-losses, slot-fits, slot-unpoisoned}
@@ -37,6 +37,7 @@ use Rattle.hwp_rule.specs.declared.view.PageLock.{PageLock}
 use Rattle.hwp_rule.specs.declared.place.Place.TheVariants as places
 use Rattle.hwp_rule.specs.declared.step.Step.TheVariants as steps
 use Rattle.hwp_rule.proofs.Kept
+use Rattle.hwp_rule.specs.declared.view.FrameInHand.{FrameInHand}
 
 -- one lock more on a list
 locks-push : (f : ℕ) (locks : List FrameLock) (lock : FrameLock) → locks_on f (locks ++ lock ∷ []) ≡ locks_on f locks + from_bool (lock.frame.0 == f)
@@ -69,9 +70,9 @@ module _ (layout : Layout) (w : Words) (homes : Homes) (views : List View) (seat
   out = set homes frame.0 None
 
   abbrev u : View
-  u = record v { hands = without (is_frame frame) v.hands; refs = with_refs frame 1 v.refs; locks = v.locks ++ lock_found frame word ∷ [] }
+  u = record v { hands = without (is_hand_of frame) v.hands; refs = with_refs frame 1 v.refs; locks = v.locks ++ lock_found frame word ∷ [] }
 
-  abbrev hands : List (List Frame)
+  abbrev hands : List (List FrameInHand)
   hands = map (λ (v : View). v.hands) views
 
   abbrev refs : List (List Ref)
@@ -80,9 +81,6 @@ module _ (layout : Layout) (w : Words) (homes : Homes) (views : List View) (seat
   there : slice_get w.frames frame.0 ≡ Some word
   there = slice_get-get_or w.frames frame.0 0 (omega (arith, inside, shaped.frames))
 
-  mine : slice_get v.hands has.0 ≡ Some frame
-  mine = has.2 ∙ ap (λ (h : Frame). Some h) has.3
-
   my-hands : slice_get hands seat ≡ Some v.hands
   my-hands = at_map (λ (v : View). v.hands) views seat v me
 
@@ -90,7 +88,7 @@ module _ (layout : Layout) (w : Words) (homes : Homes) (views : List View) (seat
   my-refs = at_map (λ (v : View). v.refs) views seat v me
 
   some : 1 ≤ in_hand frame.0 hands
-  some = in_hand-mine hands seat v.hands frame my-hands has.0 mine
+  some = in_hand-mine hands seat v.hands my-hands has.1 frame has.3 has.0 has.2
 
   -- the frame is in a hand, and so neither free nor counted, and bare
   user : is_kernel word ≡ false
@@ -150,19 +148,19 @@ module _ (layout : Layout) (w : Words) (homes : Homes) (views : List View) (seat
             let apart : IsApart w.frees hands g x = h.frames.places.kernels g x t.1 is in
             record { bare = apart.bare; uncounted = apart.uncounted; taken = apart.taken; unhanded = others g t.0 ∙ apart.unhanded }
       ];
-      handed = each-set (EachMember (λ (h : Frame). h.0 < length layout.kernel)) hands seat u.hands
-          (each-without (λ (h : Frame). h.0 < length layout.kernel) (is_frame frame) v.hands (h.frames.places.handed seat v.hands my-hands)) h.frames.places.handed;
+      handed = like-handed-all w.frames frame.0 word new there like (set hands seat u.hands)
+          (each-set (EachMember (IsHanded w.frames)) hands seat u.hands (each-without (IsHanded w.frames) (is_hand_of frame) v.hands (h.frames.places.handed seat v.hands my-hands)) h.frames.places.handed);
     }
       where
         others : (g : ℕ) → g ≢ frame.0 → in_hand g (set hands seat u.hands) ≡ in_hand g hands
         others g other =
-            let less : in_hand g (set hands seat u.hands) + from_bool (frame.0 == g) ≡ in_hand g hands = in_hand-without hands seat v.hands frame my-hands g has.0 mine in
+            let less : in_hand g (set hands seat u.hands) + from_bool (frame.0 == g) ≡ in_hand g hands = in_hand-without hands seat v.hands my-hands has.1 frame has.3 g has.0 has.2 in
             let none : from_bool (frame.0 == g) ≡ 0 = from_bool-other frame.0 g (λ e. other (sym e)) in
             omega arith
 
         nowhere : free_bit w.frees frame.0 + in_hand frame.0 (set hands seat u.hands) ≡ 0
         nowhere =
-            let less : in_hand frame.0 (set hands seat u.hands) + from_bool (frame.0 == frame.0) ≡ in_hand frame.0 hands = in_hand-without hands seat v.hands frame my-hands frame.0 has.0 mine in
+            let less : in_hand frame.0 (set hands seat u.hands) + from_bool (frame.0 == frame.0) ≡ in_hand frame.0 hands = in_hand-without hands seat v.hands my-hands has.1 frame has.3 frame.0 has.0 has.2 in
             let one : from_bool (frame.0 == frame.0) ≡ 1 = from_bool-same frame.0 frame.0 refl in
             omega (arith, some, placed)
 
@@ -246,7 +244,7 @@ module _ (layout : Layout) (w : Words) (homes : Homes) (views : List View) (seat
     bounded-adopted : IsBounded layout (holdings_of u)
     bounded-adopted =
         let was : IsBounded layout (holdings_of v) = h.frames.holdings.bounded seat (holdings_of v) (at_map holdings_of views seat v me) in
-        let fewer : length u.hands + 1 ≡ length v.hands = length-without (is_frame frame) v.hands has.0 frame mine (same-number frame.0 frame.0 refl) in
+        let fewer : length u.hands + 1 ≡ length v.hands = length-without (is_hand_of frame) v.hands has.0 has.1 has.2 (is-of has.1 frame has.3) in
         let more : length u.refs ≤ length v.refs + 1 = length-with frame 1 v.refs in
         record {
           few = omega (arith, was.few);
@@ -317,7 +315,7 @@ keeps-adopt frame layout w homes views seat v who content given =
     shown = sighted who (places.Frame frame) read v
 
     u : View
-    u = record shown { hands = without (is_frame frame) v.hands; refs = with_refs frame 1 v.refs; locks = v.locks ++ lock_found frame read ∷ [] }
+    u = record shown { hands = without (is_hand_of frame) v.hands; refs = with_refs frame 1 v.refs; locks = v.locks ++ lock_found frame read ∷ [] }
 
     rule : FrameRule layout w homes (set views seat shown)
     rule = keeps-sight layout w homes views seat v who (places.Frame frame) read given.me given.past (explained-frame layout w homes views (stamp_of who v) frame read there) given.rule

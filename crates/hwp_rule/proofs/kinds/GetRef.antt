@@ -16,7 +16,7 @@ use Rattle.hwp_rule.specs.parts.Holdings.{IsBounded, frames_held}
 use Rattle.hwp_rule.specs.parts.Places.{HasOnePlace, in_hand}
 use Rattle.hwp_rule.proofs.Lists.{at_map, same-or, set_again}
 use Rattle.hwp_rule.proofs.Keeps.{Keeps}
-use Rattle.hwp_rule.proofs.FrameWord.{IsLike, bare-like, like-fields, placed-again, counted-again}
+use Rattle.hwp_rule.proofs.FrameWord.{IsLike, bare-like, like-fields, placed-again, counted-again, like-handed-all}
 use Rattle.hwp_rule.proofs.RefBounds.{count-fits}
 use Rattle.hwp_rule.proofs.CountSteps.{keeps-refs}
 use Rattle.hwp_rule.proofs.WordsByKind.{word-there}
@@ -24,6 +24,7 @@ use Rattle.hwp_rule.proofs.Sights.{keeps-shown, explained-frame}
 use Rattle.hwp_rule.specs.declared.step.Step.TheVariants as steps
 use Rattle.hwp_rule.specs.declared.place.Place.TheVariants as places
 use Rattle.hwp_rule.proofs.Refs
+use Rattle.hwp_rule.specs.declared.view.FrameInHand.{FrameInHand}
 
 pub keeps-get_ref : (frame : Frame) (seen count : ℕ) → Keeps (steps.GetRef frame seen count)
 keeps-get_ref frame seen count layout w homes views seat v who content given = which (found == seen) refl
@@ -103,7 +104,7 @@ keeps-get_ref frame seen count layout w homes views seat v who content given = w
             omega arith)
             (λ g differs. Refs.refs-with-other frame count g v.refs differs) h.frames.counts
 
-        hands : List (List Frame)
+        hands : List (List FrameInHand)
         hands = map (λ (v : View). v.hands) views
 
         hands-same : set hands seat v.hands ≡ hands
@@ -117,7 +118,7 @@ keeps-get_ref frame seen count layout w homes views seat v who content given = w
             let count_is : count_of now ≡ count_of found + count = are.count in
             omega (arith, counted))
             (λ some. bare-like found now like are.lock (h.frames.places.idle frame.0 found there some))
-            h.frames.places.handed h.frames.places)
+            (like-handed-all w.frames frame.0 found now there like hands h.frames.places.handed) h.frames.places)
 
         referenced : EachMember (λ (l : FrameLock). 0 < refs_on l.frame.0 (with_refs frame count v.refs)) v.locks
         referenced i l e' =

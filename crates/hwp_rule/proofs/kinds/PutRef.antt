@@ -14,20 +14,21 @@ use Rattle.hwp_rule.specs.declared.view.View.{View}
 use Rattle.hwp_rule.specs.Lists.{EachMember}
 use Rattle.hwp_rule.specs.Rule.{FrameRule, holdings_of}
 use Rattle.hwp_rule.specs.Steps.{is_last}
-use Rattle.hwp_rule.specs.Views.{refs_on, less_refs, locks_on}
+use Rattle.hwp_rule.specs.Views.{refs_on, less_refs, locks_on, hand_found}
 use Rattle.hwp_rule.specs.Words.{free_bit}
 use Rattle.hwp_rule.specs.parts.Counts.{CountsBalance, named}
 use Rattle.hwp_rule.specs.parts.Holdings.{IsBounded, frames_held}
 use Rattle.hwp_rule.specs.parts.Locks.{IsLocked}
 use Rattle.hwp_rule.specs.parts.Owners.{HoldsBoth}
-use Rattle.hwp_rule.specs.parts.Places.{HasOnePlace, IsBare, in_hand}
+use Rattle.hwp_rule.specs.parts.Places.{HasOnePlace, IsBare, in_hand, IsHanded}
 use Rattle.hwp_rule.proofs.Lists.{at_map, map-was, same-or, same-number, set_again, sum-set, term-le, terms-le, each-set, each-push, sum-zero}
 use Rattle.hwp_rule.proofs.Keeps.{Keeps}
-use Rattle.hwp_rule.proofs.FrameWord.{IsLike, bare-like, like-fields, placed-again, counted-again}
+use Rattle.hwp_rule.proofs.FrameWord.{IsLike, bare-like, like-fields, placed-again, counted-again, like-handed-all}
 use Rattle.hwp_rule.proofs.CountSteps.{keeps-refs}
 use Rattle.hwp_rule.proofs.WordsByKind.{word-there}
 use Rattle.hwp_rule.specs.declared.step.Step.TheVariants as steps
 use Rattle.hwp_rule.proofs.Refs
+use Rattle.hwp_rule.specs.declared.view.FrameInHand.{FrameInHand}
 
 pub keeps-put_ref : (frame : Frame) (count : ℕ) → Keeps (steps.PutRef frame count)
 keeps-put_ref frame count layout w homes views seat v who content given =
@@ -45,8 +46,8 @@ keeps-put_ref frame count layout w homes views seat v who content given =
     less : List Ref
     less = less_refs frame count v.refs
 
-    after : List Frame
-    after = cond (is_last count (slice_index w.frames frame.0)) (v.hands ++ frame ∷ []) v.hands
+    after : List FrameInHand
+    after = cond (is_last count (slice_index w.frames frame.0)) (v.hands ++ hand_found frame (slice_index w.frames frame.0) ∷ []) v.hands
 
     there : slice_get w.frames frame.0 ≡ Some (slice_index w.frames frame.0)
     there = word-there w.frames frame.0 layout.frames given.shaped.frames given.place
@@ -110,18 +111,18 @@ keeps-put_ref frame count layout w homes views seat v who content given =
     all-mine : count_of (slice_index w.frames frame.0) ≡ count → refs_on frame.0 v.refs ≡ count
     all-mine last = omega (arith, has, mine, balance, last)
 
-    few-less : (b : Bool) → is_last count (slice_index w.frames frame.0) ≡ b → v.reserved + length (cond b (v.hands ++ frame ∷ []) v.hands) + length (less_refs frame count v.refs) ≤ 2
+    few-less : (b : Bool) → is_last count (slice_index w.frames frame.0) ≡ b → v.reserved + length (cond b (v.hands ++ hand_found frame (slice_index w.frames frame.0) ∷ []) v.hands) + length (less_refs frame count v.refs) ≤ 2
     few-less true e =
         let few : frames_held (holdings_of v) ≤ 2 = bounded.few in
         let one : length (less_refs frame count v.refs) + 1 ≤ length v.refs = Refs.length-less-all frame count v.refs some (all-mine (eqb-true (count_of (slice_index w.frames frame.0)) count e)) in
-        let more : length (v.hands ++ frame ∷ []) ≡ length v.hands + 1 = length-append v.hands (frame ∷ []) in
+        let more : length (v.hands ++ hand_found frame (slice_index w.frames frame.0) ∷ []) ≡ length v.hands + 1 = length-append v.hands (hand_found frame (slice_index w.frames frame.0) ∷ []) in
         omega arith
     few-less false e =
         let few : frames_held (holdings_of v) ≤ 2 = bounded.few in
         let no_longer : length (less_refs frame count v.refs) ≤ length v.refs = Refs.length-less frame count v.refs in
         omega arith
 
-    bounded-less : IsBounded layout (record (holdings_of v) { refs = less_refs frame count v.refs; hands = cond (is_last count (slice_index w.frames frame.0)) (v.hands ++ frame ∷ []) v.hands })
+    bounded-less : IsBounded layout (record (holdings_of v) { refs = less_refs frame count v.refs; hands = cond (is_last count (slice_index w.frames frame.0)) (v.hands ++ hand_found frame (slice_index w.frames frame.0) ∷ []) v.hands })
     bounded-less = record {
       few = few-less (is_last count (slice_index w.frames frame.0)) refl;
       shares = λ g. elim (same-or g frame.0) [
@@ -173,29 +174,30 @@ keeps-put_ref frame count layout w homes views seat v who content given =
     bare : count_of (slice_index w.frames frame.0) ≡ count → IsBare (slice_index w.frames frame.0)
     bare last = record { unowned = unowned last; unlocked = unlocked last; unhandled = omega (arith, has, mine, balance, last) }
 
-    hands : List (List Frame)
+    hands : List (List FrameInHand)
     hands = map (λ (v : View). v.hands) views
 
-    hand-moved : (g : ℕ) (mine' : List Frame) → in_hand g (set (map (λ (v : View). v.hands) views) seat mine') + sum_by (λ (x : Frame). from_bool (x.0 == g)) v.hands ≡ in_hand g (map (λ (v : View). v.hands) views) + sum_by (λ (x : Frame). from_bool (x.0 == g)) mine'
-    hand-moved g mine' = sum-set (sum_by (λ (x : Frame). from_bool (x.0 == g))) (map (λ (v : View). v.hands) views) seat v.hands mine' (at_map (λ (v : View). v.hands) views seat v given.me)
+    hand-moved : (g : ℕ) (mine' : List FrameInHand) → in_hand g (set (map (λ (v : View). v.hands) views) seat mine') + sum_by (λ (x : FrameInHand). from_bool (x.frame.0 == g)) v.hands ≡ in_hand g (map (λ (v : View). v.hands) views) + sum_by (λ (x : FrameInHand). from_bool (x.frame.0 == g)) mine'
+    hand-moved g mine' = sum-set (sum_by (λ (x : FrameInHand). from_bool (x.frame.0 == g))) (map (λ (v : View). v.hands) views) seat v.hands mine' (at_map (λ (v : View). v.hands) views seat v given.me)
 
-    pushed : (g : ℕ) → sum_by (λ (x : Frame). from_bool (x.0 == g)) (v.hands ++ frame ∷ []) ≡ sum_by (λ (x : Frame). from_bool (x.0 == g)) v.hands + from_bool (frame.0 == g)
-    pushed g = sum_by_push (λ (x : Frame). from_bool (x.0 == g)) v.hands frame
+    pushed : (g : ℕ) → sum_by (λ (x : FrameInHand). from_bool (x.frame.0 == g)) (v.hands ++ hand_found frame (slice_index w.frames frame.0) ∷ []) ≡ sum_by (λ (x : FrameInHand). from_bool (x.frame.0 == g)) v.hands + from_bool (frame.0 == g)
+    pushed g = sum_by_push (λ (x : FrameInHand). from_bool (x.frame.0 == g)) v.hands (hand_found frame (slice_index w.frames frame.0))
 
-    placed-at : (b : Bool) → is_last count (slice_index w.frames frame.0) ≡ b → HasOnePlace layout.kernel (set w.frames frame.0 now) w.frees (set (map (λ (v : View). v.hands) views) seat (cond b (v.hands ++ frame ∷ []) v.hands))
-    placed-at true e = placed-again w.frames frame.0 found now there like layout.kernel w.frees hands (set hands seat (v.hands ++ frame ∷ [])) (omega (arith, some, enough))
-        (λ g differs. omega (arith, hand-moved g (v.hands ++ frame ∷ []), pushed g, ap from_bool (ne_eqb frame.0 g (λ same. differs (sym same)))))
+    placed-at : (b : Bool) → is_last count (slice_index w.frames frame.0) ≡ b → HasOnePlace layout.kernel (set w.frames frame.0 now) w.frees (set (map (λ (v : View). v.hands) views) seat (cond b (v.hands ++ hand_found frame (slice_index w.frames frame.0) ∷ []) v.hands))
+    placed-at true e = placed-again w.frames frame.0 found now there like layout.kernel w.frees hands (set hands seat (v.hands ++ hand_found frame (slice_index w.frames frame.0) ∷ [])) (omega (arith, some, enough))
+        (λ g differs. omega (arith, hand-moved g (v.hands ++ hand_found frame (slice_index w.frames frame.0) ∷ []), pushed g, ap from_bool (ne_eqb frame.0 g (λ same. differs (sym same)))))
         (λ usable.
         let was : free_bit w.frees frame.0 + in_hand frame.0 (map (λ (v : View). v.hands) views) + min (count_of (slice_index w.frames frame.0)) 1 ≡ 1 = h.frames.places.placed frame.0 (slice_index w.frames frame.0) there usable in
         let count_is : count_of ((slice_index w.frames frame.0 + (2 ^ 64 - count * 16)) % 2 ^ 64) ≡ count_of (slice_index w.frames frame.0) - count = are.count in
         let last : count_of (slice_index w.frames frame.0) ≡ count = eqb-true (count_of (slice_index w.frames frame.0)) count e in
         let one : from_bool (frame.0 == frame.0) ≡ 1 = ap from_bool (same-number frame.0 frame.0 refl) in
-        omega (arith, hand-moved frame.0 (v.hands ++ frame ∷ []), pushed frame.0, some))
+        omega (arith, hand-moved frame.0 (v.hands ++ hand_found frame (slice_index w.frames frame.0) ∷ []), pushed frame.0, some))
         (λ one. bare-like found now like are.lock (bare (eqb-true (count_of (slice_index w.frames frame.0)) count e)))
-        (each-set (EachMember (λ (x : Frame). x.0 < length layout.kernel)) hands seat (v.hands ++ frame ∷ [])
-        (each-push (λ (x : Frame). x.0 < length layout.kernel) v.hands frame (subst (λ (n : ℕ). frame.0 < n) (sym given.sound.kernel) given.place)
+        (like-handed-all w.frames frame.0 found now there like (set hands seat (v.hands ++ hand_found frame (slice_index w.frames frame.0) ∷ []))
+        (each-set (EachMember (IsHanded w.frames)) hands seat (v.hands ++ hand_found frame (slice_index w.frames frame.0) ∷ [])
+        (each-push (IsHanded w.frames) v.hands (hand_found frame (slice_index w.frames frame.0)) (record { word = slice_index w.frames frame.0; there = there; poisoned = λ e. e })
         (h.frames.places.handed seat v.hands (at_map (λ (v : View). v.hands) views seat v given.me)))
-        h.frames.places.handed)
+        h.frames.places.handed))
         h.frames.places
     placed-at false e = subst (HasOnePlace layout.kernel (set w.frames frame.0 now) w.frees) (sym (set_again hands seat v.hands (at_map (λ (v : View). v.hands) views seat v given.me)))
         (placed-again w.frames frame.0 found now there like layout.kernel w.frees hands hands (omega (arith, some, enough)) (λ g differs. refl)
@@ -205,7 +207,7 @@ keeps-put_ref frame count layout w homes views seat v who content given =
         let not_last : count_of (slice_index w.frames frame.0) ≢ count = eqb-false (count_of (slice_index w.frames frame.0)) count e in
         omega (arith, some, enough))
         (λ one. bare-like found now like are.lock (h.frames.places.idle frame.0 found there one))
-        h.frames.places.handed h.frames.places)
+        (like-handed-all w.frames frame.0 found now there like hands h.frames.places.handed) h.frames.places)
 
-    placed : HasOnePlace layout.kernel (set w.frames frame.0 now) w.frees (set (map (λ (v : View). v.hands) views) seat (cond (is_last count (slice_index w.frames frame.0)) (v.hands ++ frame ∷ []) v.hands))
+    placed : HasOnePlace layout.kernel (set w.frames frame.0 now) w.frees (set (map (λ (v : View). v.hands) views) seat (cond (is_last count (slice_index w.frames frame.0)) (v.hands ++ hand_found frame (slice_index w.frames frame.0) ∷ []) v.hands))
     placed = placed-at (is_last count (slice_index w.frames frame.0)) refl

@@ -5,7 +5,7 @@ use Rattle.std.proofs.lemmas.Bool.{eqb-true}
 use Rattle.hwp_geom.specs.declared.Frame.{Frame}
 use Rattle.hwp_rule.specs.Rule.{FrameRule}
 use Rattle.hwp_rule.specs.Steps.{place_of, goes}
-use Rattle.hwp_rule.specs.Views.{sighted, stamp_of}
+use Rattle.hwp_rule.specs.Views.{sighted, stamp_of, unpoisoned}
 use Rattle.hwp_rule.specs.Words.{free_bit}
 use Rattle.hwp_rule.proofs.Lists.{same-or, same-number, not-both}
 use Rattle.hwp_rule.proofs.Bits.{cleared-none}
@@ -28,7 +28,7 @@ keeps-take_bit frame layout w homes views seat v who content given = which (goes
 
     which : (b : Bool) → goes (steps.TakeBit frame) word ≡ b
         → FrameRule layout (record w { frees = left }) homes
-        (set views seat (cond b (record v { reserved = v.reserved - 1; hands = v.hands ++ frame ∷ [] }) (sighted who (place_of (steps.TakeBit frame)) word v)))
+        (set views seat (cond b (record v { reserved = v.reserved - 1; hands = v.hands ++ unpoisoned frame ∷ [] }) (sighted who (place_of (steps.TakeBit frame)) word v)))
     which true is = bit-taken layout w homes views seat v given.me given.rule frame within given.sound.kernel given.shaped.frames given.asks (eqb-true (word / 2 ^ (frame.0 % 64) % 2) 1 is)
     which false isnt =
         subst (λ (frees : List ℕ). FrameRule layout (record w { frees = frees }) homes (set views seat (sighted who (place_of (steps.TakeBit frame)) word v))) (sym same)

@@ -1,7 +1,6 @@
 -- How much a view holds, and of which processors it is.
 use Rattle.std.specs.Prelude.{◌≡◌, ℕ, ◌+◌, ◌<◌, ◌≤◌, ◌==◌, List, [], length}
 use Rattle.std.specs.Int.{from_bool}
-use Rattle.hwp_geom.specs.declared.Frame.{Frame}
 use Rattle.hwp_geom.specs.declared.Layout.{Layout}
 use Rattle.hwp_geom.specs.declared.Who.{Who}
 use Rattle.hwp_rule.specs.declared.view.Part.{Part}
@@ -9,6 +8,7 @@ use Rattle.hwp_rule.specs.declared.view.Ref.{Ref}
 use Rattle.hwp_rule.specs.declared.view.Made.{Made}
 use Rattle.hwp_rule.specs.declared.view.Mark.{Mark}
 use Rattle.hwp_rule.specs.declared.view.Sight.{Sight}
+use Rattle.hwp_rule.specs.declared.view.FrameInHand.{FrameInHand}
 use Rattle.hwp_rule.specs.declared.view.Length.{Length}
 use Rattle.hwp_rule.specs.declared.view.Setting.{Setting}
 use Rattle.hwp_rule.specs.declared.view.View.{View}
@@ -18,7 +18,7 @@ use Rattle.hwp_rule.specs.Views.{refs_on, no_debts}
 -- what a view holds of frames
 pub record Holdings : Type 0 where
   pub reserved : ℕ
-  pub hands : List Frame
+  pub hands : List FrameInHand
   pub refs : List Ref
 
 abbrev pub frames_held : Holdings → ℕ
