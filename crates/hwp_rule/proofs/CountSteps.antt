@@ -9,7 +9,7 @@ use Rattle.hwp_rule.specs.declared.view.Part.{Part}
 use Rattle.hwp_rule.specs.declared.view.Ref.{Ref}
 use Rattle.hwp_rule.specs.declared.view.View.{View}
 use Rattle.hwp_rule.specs.Lists.{Homes, EachMember}
-use Rattle.hwp_rule.specs.Rule.{FrameRule, holdings_of, holder_of}
+use Rattle.hwp_rule.specs.Rule.{FrameRule, holdings_of, holder_of, count_debts_of}
 use Rattle.hwp_rule.specs.Views.{refs_on, locks_on}
 use Rattle.hwp_rule.specs.Words.{Words}
 use Rattle.hwp_rule.specs.parts.Counts.{CountsBalance}
@@ -54,7 +54,7 @@ module _ (layout : Layout) (w : Words) (homes : Homes) (views : List View) (seat
     histories = Kept.same-histories views seat v u me refl h.histories;
     failures = record {
       handled = like-handled w.frames f word now there like h.failures.handled;
-      counter = Kept.kept-counter views seat v u me refl refl refl (like-counter w.frames f word now there like w.counter (map (λ (v : View). (v.owed, v.marks)) views) (map (λ (v : View). v.sights) views) h.failures.counter);
+      counter = Kept.kept-counter views seat v u me refl refl (like-counter w.frames f word now there like w.counter (map count_debts_of views) (map (λ (v : View). v.sights) views) h.failures.counter);
       damage = Kept.kept-damage views seat v u me refl refl h.failures.damage;
       marks = Kept.kept-marks views seat v u me refl refl (like-marks w.frames f word now there like (map (λ (v : View). v.marks) views) (map (λ (v : View). v.sights) views) h.failures.marks);
       exhaustion = Kept.kept-exhaustion views seat v u me refl refl h.failures.exhaustion;

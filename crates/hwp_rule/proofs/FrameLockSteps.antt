@@ -11,7 +11,7 @@ use Rattle.hwp_rule.specs.declared.view.Length.{Length}
 use Rattle.hwp_rule.specs.declared.view.PageLock.{PageLock}
 use Rattle.hwp_rule.specs.declared.view.View.{View}
 use Rattle.hwp_rule.specs.Lists.{Homes, EachMember}
-use Rattle.hwp_rule.specs.Rule.{FrameRule, holder_of}
+use Rattle.hwp_rule.specs.Rule.{FrameRule, holder_of, count_debts_of}
 use Rattle.hwp_rule.specs.Views.{refs_on, locks_on, page_locks_on}
 use Rattle.hwp_rule.specs.Words.{Words, free_bit}
 use Rattle.hwp_rule.specs.parts.Bodies.{BodiesAtHome, Holder, IsAtHome, IsHolding}
@@ -165,7 +165,7 @@ module _ (layout : Layout) (w : Words) (homes : Homes) (views : List View) (seat
       };
       failures = record {
         handled = like-handled w.frames f word now there x.like h.failures.handled;
-        counter = Kept.kept-counter views seat v u me refl refl refl (like-counter w.frames f word now there x.like w.counter (map (λ (v : View). (v.owed, v.marks)) views) (map (λ (v : View). v.sights) views) h.failures.counter);
+        counter = Kept.kept-counter views seat v u me refl refl (like-counter w.frames f word now there x.like w.counter (map count_debts_of views) (map (λ (v : View). v.sights) views) h.failures.counter);
         damage = Kept.kept-damage views seat v u me refl refl h.failures.damage;
         marks = Kept.kept-marks views seat v u me refl refl (like-marks w.frames f word now there x.like (map (λ (v : View). v.marks) views) (map (λ (v : View). v.sights) views) h.failures.marks);
         exhaustion = Kept.kept-exhaustion views seat v u me refl refl h.failures.exhaustion;

@@ -9,7 +9,6 @@ use Rattle.hwp_geom.specs.declared.TransDecl.{TransDecl}
 use Rattle.hwp_words.specs.Frames.{lock_of, poison_of, handled_of, kernel_of, count_of, owner_of, cycle_of, is_kernel}
 use Rattle.hwp_words.specs.Counters.{biased_poisoned_of}
 use Rattle.hwp_words.proofs.FrameSteps.{FieldsAre}
-use Rattle.hwp_rule.specs.declared.view.Debts.{Debts}
 use Rattle.hwp_rule.specs.declared.view.FrameLock.{FrameLock}
 use Rattle.hwp_rule.specs.declared.view.InHand.{InHand}
 use Rattle.hwp_rule.specs.declared.view.Mark.{Mark}
@@ -21,7 +20,7 @@ use Rattle.hwp_rule.specs.Lists.{Homes, EachMember, EachListed}
 use Rattle.hwp_rule.specs.Views.{refs_on, locks_on}
 use Rattle.hwp_rule.specs.Words.{free_bit}
 use Rattle.hwp_rule.specs.parts.Bodies.{BodiesAtHome, Holder, IsAtHome}
-use Rattle.hwp_rule.specs.parts.Counter.{CounterAgrees}
+use Rattle.hwp_rule.specs.parts.Counter.{CounterAgrees, CountDebts}
 use Rattle.hwp_rule.specs.parts.Counts.{CountsBalance, named}
 use Rattle.hwp_rule.specs.parts.Handled.{HandledIsPoisoned, IsOutOfUse}
 use Rattle.hwp_rule.specs.parts.Locks.{FrameLocksHeld, IsLocked}
@@ -100,12 +99,12 @@ module _ (frames : List ℕ) (f w u : ℕ) (there : slice_get frames f ≡ Some 
         record { poisoned = was.2.poison ∙ out.poisoned; unowned = was.2.owner ∙ out.unowned };
   }
 
-  pub like-counter : (counter : ℕ) (debts : List (Debts × List Mark)) (sights : List (List Sight)) → CounterAgrees frames counter debts sights → CounterAgrees (set frames f u) counter debts sights
+  pub like-counter : (counter : ℕ) (debts : List CountDebts) (sights : List (List Sight)) → CounterAgrees frames counter debts sights → CounterAgrees (set frames f u) counter debts sights
   like-counter counter debts sights h = record {
     poisoned =
         let changed : sum_by poison_of (set frames f u) + poison_of w ≡ sum_by poison_of frames + poison_of u = sum-set poison_of frames f w u there in
         let poison : poison_of u ≡ poison_of w = like.poison in
-        let before : biased_poisoned_of counter + sum_by (λ (d : Debts × List Mark). d.0.counts + d.0.hardware) debts ≡ 2 ^ 31 + sum_by poison_of frames + sum_by (λ (d : Debts × List Mark). d.0.uncounts) debts = h.poisoned in
+        let before : biased_poisoned_of counter + sum_by (λ (d : CountDebts). d.counts + d.hardware) debts ≡ 2 ^ 31 + sum_by poison_of frames + sum_by (λ (d : CountDebts). d.uncounts) debts = h.poisoned in
         omega arith;
     hardware = h.hardware;
     covered = h.covered;

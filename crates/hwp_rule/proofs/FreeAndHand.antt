@@ -105,16 +105,10 @@ module _ (layout : Layout) (w : Words) (homes : Homes) (views : List View) (seat
     raised = set w.frees (frame.0 / 64) (bit_or found mask)
 
     -- the bit was set
-    pub bit-taken : 0 < v.reserved → free_bit w.frees frame.0 ≡ 1
+    pub bit-taken : frame.0 < layout.frames → 0 < v.reserved → free_bit w.frees frame.0 ≡ 1
         → FrameRule layout (record w { frees = cleared }) homes (set views seat (record v { reserved = v.reserved - 1; hands = v.hands ++ unpoisoned frame ∷ [] }))
-    bit-taken some bit = rule-moved cleared (v.reserved - 1) (v.hands ++ unpoisoned frame ∷ []) places free (omega (arith, length-append v.hands (unpoisoned frame ∷ [])))
+    bit-taken inside some bit = rule-moved cleared (v.reserved - 1) (v.hands ++ unpoisoned frame ∷ []) places free (omega (arith, length-append v.hands (unpoisoned frame ∷ [])))
       where
-        inside : frame.0 < layout.frames
-        inside = elim (same-or (layout.frames - frame.0) 0) [
-          | inl past ↦ let none : free_bit w.frees frame.0 ≡ 0 = h.frames.free.within frame.0 (omega arith) in absurd (omega (arith, bit))
-          | inr before ↦ omega arith
-        ]
-
         both : (f : ℕ) → free_bit cleared f + in_hand f (set hands seat (v.hands ++ unpoisoned frame ∷ [])) ≡ free_bit w.frees f + in_hand f hands
         both f =
             let more : in_hand f (set hands seat (v.hands ++ unpoisoned frame ∷ [])) ≡ in_hand f hands + from_bool (frame.0 == f) = in_hand-push hands seat v.hands my-hands (unpoisoned frame) f in

@@ -1,7 +1,6 @@
 -- Each part of the frame rule, and each group of parts, stays where the step changes nothing that it reads of the seat's view.
 use Rattle.std.proofs.Common.{◌≡◌, ℕ, Bool, List, Some, map, set, slice_get, sym, subst}
 use Rattle.hwp_geom.specs.declared.Who.{Who}
-use Rattle.hwp_rule.specs.declared.view.Debts.{Debts}
 use Rattle.hwp_rule.specs.declared.view.FrameLock.{FrameLock}
 use Rattle.hwp_rule.specs.declared.view.InHand.{InHand}
 use Rattle.hwp_rule.specs.declared.view.Length.{Length}
@@ -20,7 +19,7 @@ use Rattle.hwp_rule.specs.parts.Places.{HasOnePlace}
 use Rattle.hwp_rule.specs.parts.Locks.{FrameLocksHeld, PageLocksHeld}
 use Rattle.hwp_rule.specs.parts.Owners.{CacheWordsOwned}
 use Rattle.hwp_rule.specs.parts.Bodies.{BodiesAtHome}
-use Rattle.hwp_rule.specs.parts.Counter.{CounterAgrees}
+use Rattle.hwp_rule.specs.parts.Counter.{CounterAgrees, CountDebts}
 use Rattle.hwp_rule.specs.parts.Free.{FreeBitsAgree}
 use Rattle.hwp_rule.specs.parts.Damage.{DamageListed}
 use Rattle.hwp_rule.specs.parts.Entries.{EntriesListed}
@@ -33,7 +32,7 @@ use Rattle.hwp_rule.specs.parts.Exhaustion.{ExhaustionExplained}
 use Rattle.hwp_rule.specs.parts.Stops.{EndingsAndStopsStay}
 use Rattle.hwp_rule.specs.parts.Fits.{PageFits}
 use Rattle.hwp_rule.specs.parts.Unpoisoned.{NothingPoisonedYet}
-use Rattle.hwp_rule.specs.Rule.{holder_of, holdings_of, losing_of, FrameParts, PageParts, HistoryParts, FailureParts, ProcessorParts}
+use Rattle.hwp_rule.specs.Rule.{holder_of, holdings_of, losing_of, FrameParts, PageParts, HistoryParts, FailureParts, ProcessorParts, count_debts_of}
 use Rattle.hwp_rule.proofs.Lists.{keep, each-set}
 
 -- what each group of parts reads of a view
@@ -43,8 +42,8 @@ frames_read v = (holdings_of v, v.locks)
 abbrev histories_read : View → List InHand × List Sight × List Length × Losing
 histories_read v = (v.bodies, v.sights, v.lengths, losing_of v)
 
-abbrev failures_read : View → Debts × List Mark × List Spoiled × List Sight × List InHand
-failures_read v = (v.owed, v.marks, v.spoiled, v.sights, v.bodies)
+abbrev failures_read : View → CountDebts × List Spoiled × List Sight × List InHand
+failures_read v = (count_debts_of v, v.spoiled, v.sights, v.bodies)
 
 abbrev Lists : Type 0
 Lists = List Part × List Made × List Mark × List Sight × List Length × List Setting × List Who
@@ -87,8 +86,8 @@ module _ (views : List View) (seat : ℕ) (v u : View) (me : slice_get views sea
   pub kept-page-locks : {pages : List ℕ} → (u.pages) ≡ (v.pages) → (u.locks) ≡ (v.locks) → PageLocksHeld pages (map (λ (v : View). v.pages) views) (map (λ (v : View). v.locks) views) → PageLocksHeld pages (map (λ (v : View). v.pages) (set views seat u)) (map (λ (v : View). v.locks) (set views seat u))
   kept-page-locks {pages} e0 e1 h = keep (λ (v : View). v.locks) (λ l. PageLocksHeld pages (map (λ (v : View). v.pages) (set views seat u)) l) views seat v u me e1 (keep (λ (v : View). v.pages) (λ l. PageLocksHeld pages l (map (λ (v : View). v.locks) views)) views seat v u me e0 (h))
 
-  pub kept-counter : {frames : List ℕ} {counter : ℕ} → u.owed ≡ v.owed → u.marks ≡ v.marks → (u.sights) ≡ (v.sights) → CounterAgrees frames counter (map (λ (v : View). (v.owed, v.marks)) views) (map (λ (v : View). v.sights) views) → CounterAgrees frames counter (map (λ (v : View). (v.owed, v.marks)) (set views seat u)) (map (λ (v : View). v.sights) (set views seat u))
-  kept-counter {frames} {counter} e0a e0b e1 h = keep (λ (v : View). v.sights) (λ l. CounterAgrees frames counter (map (λ (v : View). (v.owed, v.marks)) (set views seat u)) l) views seat v u me e1 (keep (λ (v : View). (v.owed, v.marks)) (λ l. CounterAgrees frames counter l (map (λ (v : View). v.sights) views)) views seat v u me (λ i. (e0a i, e0b i)) (h))
+  pub kept-counter : {frames : List ℕ} {counter : ℕ} → count_debts_of u ≡ count_debts_of v → (u.sights) ≡ (v.sights) → CounterAgrees frames counter (map count_debts_of views) (map (λ (v : View). v.sights) views) → CounterAgrees frames counter (map count_debts_of (set views seat u)) (map (λ (v : View). v.sights) (set views seat u))
+  kept-counter {frames} {counter} e0 e1 h = keep (λ (v : View). v.sights) (λ l. CounterAgrees frames counter (map count_debts_of (set views seat u)) l) views seat v u me e1 (keep count_debts_of (λ l. CounterAgrees frames counter l (map (λ (v : View). v.sights) views)) views seat v u me e0 (h))
 
   pub kept-damage : {bads weaks : List ℕ} → (u.spoiled) ≡ (v.spoiled) → (u.sights) ≡ (v.sights) → DamageListed bads weaks (map (λ (v : View). v.spoiled) views) (map (λ (v : View). v.sights) views) → DamageListed bads weaks (map (λ (v : View). v.spoiled) (set views seat u)) (map (λ (v : View). v.sights) (set views seat u))
   kept-damage {bads} {weaks} e0 e1 h = keep (λ (v : View). v.sights) (λ l. DamageListed bads weaks (map (λ (v : View). v.spoiled) (set views seat u)) l) views seat v u me e1 (keep (λ (v : View). v.spoiled) (λ l. DamageListed bads weaks l (map (λ (v : View). v.sights) views)) views seat v u me e0 (h))
@@ -157,11 +156,11 @@ module _ (views : List View) (seat : ℕ) (v u : View) (me : slice_get views sea
       → FailureParts layout frames counter bads weaks homes views → FailureParts layout frames counter bads weaks homes (set views seat u)
   same-failures e h = record {
     handled = h.handled;
-    counter = kept-counter (λ i. (e i).0) (λ i. (e i).1) (λ i. (e i).3) h.counter;
-    damage = kept-damage (λ i. (e i).2) (λ i. (e i).3) h.damage;
-    marks = kept-marks (λ i. (e i).1) (λ i. (e i).3) h.marks;
-    exhaustion = kept-exhaustion (λ i. (e i).1) (λ i. (e i).3) h.exhaustion;
-    unpoisoned = kept-unpoisoned (λ i. (e i).2) (λ i. (e i).4) h.unpoisoned;
+    counter = kept-counter (λ i. (e i).0) (λ i. (e i).2) h.counter;
+    damage = kept-damage (λ i. (e i).1) (λ i. (e i).2) h.damage;
+    marks = kept-marks (λ i. (e i).0.marks) (λ i. (e i).2) h.marks;
+    exhaustion = kept-exhaustion (λ i. (e i).0.marks) (λ i. (e i).2) h.exhaustion;
+    unpoisoned = kept-unpoisoned (λ i. (e i).1) (λ i. (e i).3) h.unpoisoned;
   }
 
   -- what a view lists that its processors did

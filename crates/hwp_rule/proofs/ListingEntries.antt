@@ -297,7 +297,7 @@ module _ (layout : Layout) (w : Words) (homes : Homes) (views : List View) (seat
     };
     failures = record {
       handled = h.failures.handled;
-      counter = Kept.kept-counter views seat v u me refl refl refl h.failures.counter;
+      counter = Kept.kept-counter views seat v u me refl refl h.failures.counter;
       damage = Kept.kept-damage views seat v u me refl refl h.failures.damage;
       marks = Kept.kept-marks views seat v u me refl refl h.failures.marks;
       exhaustion = Kept.kept-exhaustion views seat v u me refl refl h.failures.exhaustion;

@@ -22,13 +22,14 @@ use Rattle.hwp_rule.specs.Lists.{EachMember, SomeMember, IsNotLater}
 use Rattle.hwp_rule.specs.Logs.{state_of, is_loss, losses_in, file_of, fitting_word}
 use Rattle.hwp_rule.specs.Steps.{policy_at}
 use Rattle.hwp_rule.specs.Views.{made_from, loss_made, losses_made}
-use Rattle.hwp_rule.specs.parts.Entries.{weigh_from, HasMask, HasPolicy, HasSeen, AreInOrder}
+use Rattle.hwp_rule.specs.parts.Entries.{weigh_from, HasMask, HasPolicy, HasSeen, Shows, AreInOrder}
 use Rattle.hwp_rule.specs.parts.Fits.{Fits, FitsWords}
 use Rattle.hwp_rule.specs.parts.Unpoisoned.{is_failure}
 use Rattle.hwp_rule.proofs.Lists.{each-weaken}
 use Rattle.std.specs.FinSet as sets
 use Rattle.hwp_page.specs.declared.What.TheVariants as entries
 use Rattle.hwp_rule.specs.declared.place.Place.TheVariants as places
+use Rattle.hwp_kill.specs.declared.Seen.{Seen}
 
 -- ---- lists of entries
 
@@ -45,7 +46,11 @@ some-drop P (suc n) (x ∷ xs) some = let rest : SomeMember P xs = some-drop P n
 
 mask-drop : (n : ℕ) (sights : List Sight) (who : Who) (frame : Option Frame) (mask : ℕ) → HasMask (drop n sights) who frame mask → HasMask sights who frame mask
 mask-drop n sights who None mask has = absurd has
-mask-drop n sights who (Some frame) mask has = some-drop (λ (s : Sight). (s.stamp.who ≡ who) × (s.place ≡ places.Bad frame) × (s.word ≡ mask)) n sights has
+mask-drop n sights who (Some frame) mask has = some-drop (Shows who frame (places.Bad frame) mask) n sights has
+
+policy-drop : (n : ℕ) (sights : List Sight) (who : Who) (frame : Option Frame) (p : Seen) → HasPolicy (drop n sights) who frame p → HasPolicy sights who frame p
+policy-drop n sights who None p has = absurd has
+policy-drop n sights who (Some frame) p has = some-drop (Shows who frame (places.Policy p.thread) (policy_at p.n p.policy)) n sights has
 
 -- what was seen of late was seen
 pub seen-drop : (n : ℕ) (sights : List Sight) (who : Who) (frame : Option Frame) (what : What) → HasSeen (drop n sights) who frame what → HasSeen sights who frame what
@@ -56,8 +61,7 @@ seen-drop n sights who frame entries.Sync has = mask-drop n sights who frame 0 h
 seen-drop n sights who frame entries.Out has = mask-drop n sights who frame 0 has
 seen-drop n sights who frame entries.Soft has = mask-drop n sights who frame 0 has
 seen-drop n sights who frame (entries.Fail situation required seen signals) has =
-    each-weaken (HasPolicy (drop n sights) who) (HasPolicy sights who) seen
-    (λ p some. some-drop (λ (s : Sight). (s.stamp.who ≡ who) × (s.place ≡ places.Policy p.thread) × (s.word ≡ policy_at p.n p.policy)) n sights some) has
+    each-weaken (HasPolicy (drop n sights) who frame) (HasPolicy sights who frame) seen (λ p has. policy-drop n sights who frame p has) has
 seen-drop n sights who frame _ has = has
 
 -- entries of a command follow those of commands that are no later

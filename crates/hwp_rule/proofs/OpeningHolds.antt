@@ -19,7 +19,7 @@ use Rattle.hwp_rule.specs.declared.view.View.{View}
 use Rattle.hwp_rule.specs.Lists.{Homes, EachMember, EachListed, EachBody, of_home, sum_all}
 use Rattle.hwp_rule.specs.Logs.{opening_at, fitting_word, state_of, has_ending, losses_of, is_file, file_of}
 use Rattle.hwp_rule.specs.Opening.{below, opening_frame, opening_free, opening_log, opening_homes, opening_view, opening_words, opening_available, opening_policy, opening}
-use Rattle.hwp_rule.specs.Rule.{FrameRule, Holds, holder_of, holdings_of, losing_of}
+use Rattle.hwp_rule.specs.Rule.{FrameRule, Holds, holder_of, holdings_of, losing_of, count_debts_of}
 use Rattle.hwp_rule.specs.Words.{Words, words_of, free_words, free_bit, sum_below}
 use Rattle.hwp_rule.specs.Views.{refs_on, locks_on, page_locks_on}
 use Rattle.hwp_rule.specs.parts.Counts.{named}
@@ -27,7 +27,7 @@ use Rattle.hwp_rule.specs.parts.Bodies.{Holder, IsHolding}
 use Rattle.hwp_rule.proofs.Lists.{at_longer, at_map, same-or, same-number, each-map, sum-map, sum-zero}
 use Rattle.hwp_rule.specs.parts.Places.{in_hand, IsBare, IsHanded}
 use Rattle.hwp_rule.specs.parts.Locks.{IsLocked}
-use Rattle.hwp_rule.specs.parts.Counter.{CounterAgrees, IsCovered, SomeHardware, is_by_hardware, is_poisoning, is_revival}
+use Rattle.hwp_rule.specs.parts.Counter.{CounterAgrees, IsCovered, SomeHardware, is_by_hardware, is_poisoning, is_revival, CountDebts}
 use Rattle.hwp_rule.specs.parts.Damage.{DamageListed, is_spoil}
 use Rattle.hwp_rule.specs.parts.Entries.{EntriesListed, HasSeen, AreInOrder, weigh, Reaches}
 use Rattle.hwp_rule.specs.parts.Endings.{EndingsAgree, AreEnded, ShowsEnding}
@@ -45,7 +45,6 @@ use Rattle.hwp_rule.specs.declared.view.Ref.{Ref}
 use Rattle.hwp_rule.specs.declared.view.FrameLock.{FrameLock}
 use Rattle.hwp_rule.specs.declared.view.PageLock.{PageLock}
 use Rattle.hwp_rule.specs.declared.view.InHand.{InHand}
-use Rattle.hwp_rule.specs.declared.view.Debts.{Debts}
 use Rattle.hwp_rule.specs.declared.view.Mark.{Mark}
 use Rattle.hwp_rule.specs.declared.view.Made.{Made}
 use Rattle.hwp_rule.specs.declared.view.Sight.{Sight}
@@ -247,22 +246,22 @@ module _ (layout : Layout) (sound : IsSound layout) (w : Words) (o : AreOpening 
   unlisted : {B : Type 0} (g : View → List B) (P : B → Type 0) → ((c : ℕ) → g (opening_view c) ≡ []) → EachListed P (map g (opening_views layout))
   unlisted g P none = OpeningWords.each-view g (EachMember P) layout.cpus (λ c less. subst (EachMember P) (sym (none c)) (each-none P))
 
-  counter-opened : CounterAgrees w.frames w.counter (map (λ (v : View). (v.owed, v.marks)) (opening_views layout)) (map (λ (v : View). v.sights) (opening_views layout))
+  counter-opened : CounterAgrees w.frames w.counter (map count_debts_of (opening_views layout)) (map (λ (v : View). v.sights) (opening_views layout))
   counter-opened = record {
     poisoned =
         let biased : biased_poisoned_of w.counter ≡ 2 ^ 31 = ap biased_poisoned_of o.counter in
-        let owed : sum_by (λ (d : Debts × List Mark). d.0.counts + d.0.hardware) (map (λ (v : View). (v.owed, v.marks)) (opening_views layout)) ≡ 0 = no-sum (λ (v : View). (v.owed, v.marks)) (λ (d : Debts × List Mark). d.0.counts + d.0.hardware) (λ c. refl) in
-        let back : sum_by (λ (d : Debts × List Mark). d.0.uncounts) (map (λ (v : View). (v.owed, v.marks)) (opening_views layout)) ≡ 0 = no-sum (λ (v : View). (v.owed, v.marks)) (λ (d : Debts × List Mark). d.0.uncounts) (λ c. refl) in
+        let owed : sum_by (λ (d : CountDebts). d.counts + d.hardware) (map count_debts_of (opening_views layout)) ≡ 0 = no-sum count_debts_of (λ (d : CountDebts). d.counts + d.hardware) (λ c. refl) in
+        let back : sum_by (λ (d : CountDebts). d.uncounts) (map count_debts_of (opening_views layout)) ≡ 0 = no-sum count_debts_of (λ (d : CountDebts). d.uncounts) (λ c. refl) in
         let none : sum_by poison_of w.frames ≡ 0 = sum-zero poison_of w.frames (λ i x e. (frame i x e).2.poison) in
         omega arith;
     hardware =
         let none : hardware_of w.counter ≡ 0 = ap hardware_of o.counter in
-        let owed : sum_by (λ (d : Debts × List Mark). d.0.hardware) (map (λ (v : View). (v.owed, v.marks)) (opening_views layout)) ≡ 0 = no-sum (λ (v : View). (v.owed, v.marks)) (λ (d : Debts × List Mark). d.0.hardware) (λ c. refl) in
-        let marks : sum_by (λ (d : Debts × List Mark). sum_by (λ (m : Mark). from_bool (is_by_hardware m.kind)) d.1) (map (λ (v : View). (v.owed, v.marks)) (opening_views layout)) ≡ 0 =
-        no-sum (λ (v : View). (v.owed, v.marks)) (λ (d : Debts × List Mark). sum_by (λ (m : Mark). from_bool (is_by_hardware m.kind)) d.1) (λ c. refl) in
+        let owed : sum_by (λ (d : CountDebts). d.hardware) (map count_debts_of (opening_views layout)) ≡ 0 = no-sum count_debts_of (λ (d : CountDebts). d.hardware) (λ c. refl) in
+        let marks : sum_by (λ (d : CountDebts). sum_by (λ (m : Mark). from_bool (is_by_hardware m.kind)) d.marks) (map count_debts_of (opening_views layout)) ≡ 0 =
+        no-sum count_debts_of (λ (d : CountDebts). sum_by (λ (m : Mark). from_bool (is_by_hardware m.kind)) d.marks) (λ c. refl) in
         omega arith;
-    covered = OpeningWords.each-view (λ (v : View). (v.owed, v.marks)) IsCovered layout.cpus (λ c less. record { counts = omega arith; uncounts = omega arith });
-    shown = unlisted (λ (v : View). v.sights) (λ (s : Sight). s.place ≡ places.Counter → 0 < hardware_of s.word → SomeHardware (map (λ (v : View). (v.owed, v.marks)) (opening_views layout)) s) (λ c. refl);
+    covered = OpeningWords.each-view count_debts_of IsCovered layout.cpus (λ c less. record { counts = omega arith; uncounts = omega arith });
+    shown = unlisted (λ (v : View). v.sights) (λ (s : Sight). s.place ≡ places.Counter → 0 < hardware_of s.word → SomeHardware (map count_debts_of (opening_views layout)) s) (λ c. refl);
   }
 
   no-bit : (l : List ℕ) (n f x line : ℕ) → l ≡ replicate n 0 → slice_get l f ≡ Some x → bit_at x line ≡ 0

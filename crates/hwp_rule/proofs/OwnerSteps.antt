@@ -10,18 +10,17 @@ use Rattle.hwp_geom.specs.declared.Layout.{Layout}
 use Rattle.hwp_words.specs.Frames.{lock_of, poison_of, handled_of, kernel_of, count_of, owner_of, cycle_of, is_kernel}
 use Rattle.hwp_words.proofs.FrameSteps.{FieldsAre}
 use Rattle.hwp_rule.specs.declared.log.Log.{Log}
-use Rattle.hwp_rule.specs.declared.view.Debts.{Debts}
 use Rattle.hwp_rule.specs.declared.view.FrameLock.{FrameLock}
 use Rattle.hwp_rule.specs.declared.view.InHand.{InHand}
 use Rattle.hwp_rule.specs.declared.view.Mark.{Mark}
 use Rattle.hwp_rule.specs.declared.view.Ref.{Ref}
 use Rattle.hwp_rule.specs.declared.view.View.{View}
 use Rattle.hwp_rule.specs.Lists.{Homes, EachMember, EachListed, sum_bodies}
-use Rattle.hwp_rule.specs.Rule.{FrameRule, holder_of}
+use Rattle.hwp_rule.specs.Rule.{FrameRule, holder_of, count_debts_of}
 use Rattle.hwp_rule.specs.Views.{changed, is_lock_of, refs_on, locks_on}
 use Rattle.hwp_rule.specs.Words.{Words, free_bit}
 use Rattle.hwp_rule.specs.parts.Bodies.{BodiesAtHome, Holder, IsAtHome, IsHolding}
-use Rattle.hwp_rule.specs.parts.Counter.{CounterAgrees}
+use Rattle.hwp_rule.specs.parts.Counter.{CounterAgrees, CountDebts}
 use Rattle.hwp_rule.specs.parts.Counts.{CountsBalance, named}
 use Rattle.hwp_rule.specs.parts.Handled.{HandledIsPoisoned, IsOutOfUse}
 use Rattle.hwp_rule.specs.parts.Holdings.{AreOwn}
@@ -184,13 +183,13 @@ module _ (layout : Layout) (w : Words) (homes : Homes) (views : List View) (seat
       out = at-frame (λ g x. handled_of x ≡ 1 → IsOutOfUse x) (λ is. absurd (omega (arith, is, unhandled, are.handled))) (λ g x differs at is. h.failures.handled.out g x at is);
     }
 
-    counter-owning : CounterAgrees frames w.counter (map (λ (v : View). (v.owed, v.marks)) views) (map (λ (v : View). v.sights) views)
+    counter-owning : CounterAgrees frames w.counter (map count_debts_of views) (map (λ (v : View). v.sights) views)
     counter-owning = record {
       poisoned =
           let moved : sum_by poison_of frames + poison_of word ≡ sum_by poison_of w.frames + poison_of now = sum-set poison_of w.frames frame.0 word now there in
           let poison : poison_of now ≡ poison_of word = are.poison in
           let same : sum_by poison_of frames ≡ sum_by poison_of w.frames = omega arith in
-          h.failures.counter.poisoned ∙ ap (λ (n : ℕ). 2 ^ 31 + n + sum_by (λ (d : Debts × List Mark). d.0.uncounts) (map (λ (v : View). (v.owed, v.marks)) views)) (sym same);
+          h.failures.counter.poisoned ∙ ap (λ (n : ℕ). 2 ^ 31 + n + sum_by (λ (d : CountDebts). d.uncounts) (map count_debts_of views)) (sym same);
       hardware = h.failures.counter.hardware;
       covered = h.failures.counter.covered;
       shown = h.failures.counter.shown;
@@ -260,7 +259,7 @@ module _ (layout : Layout) (w : Words) (homes : Homes) (views : List View) (seat
       histories = Kept.same-histories views seat v owning me refl h.histories;
       failures = record {
         handled = handled-owning;
-        counter = Kept.kept-counter views seat v owning me refl refl refl counter-owning;
+        counter = Kept.kept-counter views seat v owning me refl refl counter-owning;
         damage = Kept.kept-damage views seat v owning me refl refl h.failures.damage;
         marks = Kept.kept-marks views seat v owning me refl refl marks-owning;
         exhaustion = Kept.kept-exhaustion views seat v owning me refl refl h.failures.exhaustion;

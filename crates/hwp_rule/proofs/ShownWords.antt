@@ -11,7 +11,6 @@ use Rattle.hwp_geom.specs.declared.Thread.{Thread}
 use Rattle.hwp_page.specs.declared.Entry.{Entry}
 use Rattle.hwp_words.specs.Counters.{hardware_of}
 use Rattle.hwp_rule.specs.declared.log.Log.{Log}
-use Rattle.hwp_rule.specs.declared.view.Debts.{Debts}
 use Rattle.hwp_rule.specs.declared.view.Mark.{Mark}
 use Rattle.hwp_rule.specs.declared.view.Sight.{Sight}
 use Rattle.hwp_rule.specs.declared.view.Stamp.{Stamp}
@@ -19,9 +18,9 @@ use Rattle.hwp_rule.specs.declared.view.View.{View}
 use Rattle.hwp_rule.specs.Asks.{IsTurnOf}
 use Rattle.hwp_rule.specs.Lists.{Homes, EachBody, EachMember, SomeMember, IsNotLater}
 use Rattle.hwp_rule.specs.Logs.{has_ending, is_ending}
-use Rattle.hwp_rule.specs.Rule.{FrameRule}
+use Rattle.hwp_rule.specs.Rule.{FrameRule, count_debts_of}
 use Rattle.hwp_rule.specs.Words.{Words}
-use Rattle.hwp_rule.specs.parts.Counter.{SomeHardware, is_by_hardware}
+use Rattle.hwp_rule.specs.parts.Counter.{SomeHardware, is_by_hardware, CountDebts}
 use Rattle.hwp_rule.specs.parts.Policies.{PolicyAgrees, settings_of, policy_after}
 use Rattle.hwp_rule.proofs.Counting.{some-term}
 use Rattle.hwp_rule.proofs.Lists.{map-was}
@@ -137,19 +136,19 @@ module _ (layout : Layout) (w : Words) (homes : Homes) (views : List View) (seat
       s : Sight
       s = record { stamp = stamp; place = places.Counter; word = w.counter }
 
-      debts : List (Debts × List Mark)
-      debts = map (λ (v : View). (v.owed, v.marks)) views
+      debts : List CountDebts
+      debts = map count_debts_of views
 
       hardware : Mark → ℕ
       hardware m = from_bool (is_by_hardware m.kind)
 
       some-mark : 0 < hardware_of w.counter → SomeHardware debts s
       some-mark above =
-          let balance : hardware_of w.counter + sum_by (λ (d : Debts × List Mark). d.0.hardware) debts ≡ sum_by (λ (d : Debts × List Mark). sum_by hardware d.1) debts = h.failures.counter.hardware in
-          let some : SomeMember (λ (d : Debts × List Mark). 0 < sum_by hardware d.1) debts = some-term (λ (d : Debts × List Mark). sum_by hardware d.1) debts (omega arith) in
-          let mark : SomeMember (λ (m : Mark). 0 < hardware m) some.1.1 = some-term hardware some.1.1 some.3 in
-          let was : (x : View) × (slice_get views some.0 ≡ Some x) × ((x.owed, x.marks) ≡ some.1) = map-was (λ (v : View). (v.owed, v.marks)) views some.0 some.1 some.2 in
-          let listed : slice_get was.0.marks mark.0 ≡ Some mark.1 = subst (λ (d : Debts × List Mark). slice_get d.1 mark.0 ≡ Some mark.1) (sym was.2) mark.2 in (
+          let balance : hardware_of w.counter + sum_by (λ (d : CountDebts). d.hardware) debts ≡ sum_by (λ (d : CountDebts). sum_by hardware d.marks) debts = h.failures.counter.hardware in
+          let some : SomeMember (λ (d : CountDebts). 0 < sum_by hardware d.marks) debts = some-term (λ (d : CountDebts). sum_by hardware d.marks) debts (omega arith) in
+          let mark : SomeMember (λ (m : Mark). 0 < hardware m) some.1.marks = some-term hardware some.1.marks some.3 in
+          let was : (x : View) × (slice_get views some.0 ≡ Some x) × (count_debts_of x ≡ some.1) = map-was count_debts_of views some.0 some.1 some.2 in
+          let listed : slice_get was.0.marks mark.0 ≡ Some mark.1 = subst (λ (d : CountDebts). slice_get d.marks mark.0 ≡ Some mark.1) (sym was.2) mark.2 in (
             some.0,
             some.1,
             some.2,

@@ -22,14 +22,14 @@ use Rattle.hwp_rule.specs.declared.view.Sight.{Sight}
 use Rattle.hwp_rule.specs.declared.view.Stamp.{Stamp}
 use Rattle.hwp_rule.specs.declared.view.View.{View}
 use Rattle.hwp_rule.specs.Lists.{Homes, EachMember, EachListed}
-use Rattle.hwp_rule.specs.Rule.{FrameRule}
+use Rattle.hwp_rule.specs.Rule.{FrameRule, count_debts_of}
 use Rattle.hwp_rule.specs.Steps.{policy_at}
 use Rattle.hwp_rule.specs.Views.{sighted, stamp_of}
 use Rattle.hwp_rule.specs.Words.{Words, sum_below, read, put}
 use Rattle.hwp_rule.specs.parts.Counter.{CounterAgrees, SomeHardware}
 use Rattle.hwp_rule.specs.parts.Damage.{DamageListed}
 use Rattle.hwp_rule.specs.parts.Endings.{EndingsAgree, ShowsEnding}
-use Rattle.hwp_rule.specs.parts.Entries.{EntriesListed, HasMask, HasPolicy, HasSeen}
+use Rattle.hwp_rule.specs.parts.Entries.{EntriesListed, HasMask, HasPolicy, HasSeen, Shows}
 use Rattle.hwp_rule.specs.parts.Exhaustion.{ExhaustionExplained, usable, is_marked}
 use Rattle.hwp_rule.specs.parts.Holdings.{AreOwn, IsPast}
 use Rattle.hwp_rule.specs.parts.Marks.{MarksAlternate, IsBefore}
@@ -40,10 +40,11 @@ use Rattle.hwp_rule.proofs.WordsByKind.{same-put}
 use Rattle.hwp_page.specs.declared.What.TheVariants as entries
 use Rattle.hwp_rule.specs.declared.place.Place.TheVariants as places
 use Rattle.hwp_rule.proofs.Kept
+use Rattle.hwp_kill.specs.declared.Seen.{Seen}
 
 -- what the parts ask of a sight, on a board that keeps the rule
 pub record IsExplained (layout : Layout) (w : Words) (homes : Homes) (views : List View) (s : Sight) : Type 0 where
-  pub counter : s.place ≡ places.Counter → 0 < hardware_of s.word → SomeHardware (map (λ (v : View). (v.owed, v.marks)) views) s
+  pub counter : s.place ≡ places.Counter → 0 < hardware_of s.word → SomeHardware (map count_debts_of views) s
   pub bad : (frame : Frame) (word : ℕ) → slice_get w.bads frame.0 ≡ Some word → s.place ≡ places.Bad frame → (line : ℕ) → bit_at s.word line ≤ bit_at word line
   pub weak : (frame : Frame) (word : ℕ) → slice_get w.weaks frame.0 ≡ Some word → s.place ≡ places.Weak frame → (line : ℕ) → bit_at s.word line ≤ bit_at word line
   pub ending : ShowsEnding layout homes (map (λ (v : View). v.bodies) views) s
@@ -59,7 +60,11 @@ pub record IsExplained (layout : Layout) (w : Words) (homes : Homes) (views : Li
 -- what a command has seen it still has
 mask-more : (sights : List Sight) (s : Sight) (who : Who) (frame : Option Frame) (mask : ℕ) → HasMask sights who frame mask → HasMask (sights ++ s ∷ []) who frame mask
 mask-more sights s who None mask has = absurd has
-mask-more sights s who (Some frame) mask has = some-push (λ (s : Sight). (s.stamp.who ≡ who) × (s.place ≡ places.Bad frame) × (s.word ≡ mask)) sights s has
+mask-more sights s who (Some frame) mask has = some-push (Shows who frame (places.Bad frame) mask) sights s has
+
+policy-more : (sights : List Sight) (s : Sight) (who : Who) (frame : Option Frame) (p : Seen) → HasPolicy sights who frame p → HasPolicy (sights ++ s ∷ []) who frame p
+policy-more sights s who None p has = absurd has
+policy-more sights s who (Some frame) p has = some-push (Shows who frame (places.Policy p.thread) (policy_at p.n p.policy)) sights s has
 
 pub seen-more : (sights : List Sight) (s : Sight) (who : Who) (frame : Option Frame) (what : What) → HasSeen sights who frame what → HasSeen (sights ++ s ∷ []) who frame what
 seen-more sights s who frame (entries.Load slot line (Word mask word)) has = mask-more sights s who frame mask.0 has
@@ -69,8 +74,7 @@ seen-more sights s who frame entries.Sync has = mask-more sights s who frame 0 h
 seen-more sights s who frame entries.Out has = mask-more sights s who frame 0 has
 seen-more sights s who frame entries.Soft has = mask-more sights s who frame 0 has
 seen-more sights s who frame (entries.Fail situation required seen signals) has =
-    each-weaken (HasPolicy sights who) (HasPolicy (sights ++ s ∷ []) who) seen
-    (λ p some. some-push (λ (s : Sight). (s.stamp.who ≡ who) × (s.place ≡ places.Policy p.thread) × (s.word ≡ policy_at p.n p.policy)) sights s some) has
+    each-weaken (HasPolicy sights who frame) (HasPolicy (sights ++ s ∷ []) who frame) seen (λ p has. policy-more sights s who frame p has) has
 seen-more sights s who frame _ has = has
 
 module _ (layout : Layout) (w : Words) (homes : Homes) (views : List View) (seat : ℕ) (v : View) (s : Sight) where
@@ -159,12 +163,12 @@ module _ (layout : Layout) (w : Words) (homes : Homes) (views : List View) (seat
       };
       failures = record {
         handled = h.failures.handled;
-        counter = keep (λ (v : View). (v.owed, v.marks)) (λ l. CounterAgrees w.frames w.counter l (map (λ (v : View). v.sights) (set views seat u))) views seat v u me refl
-            (change (λ (v : View). v.sights) (CounterAgrees w.frames w.counter (map (λ (v : View). (v.owed, v.marks)) views)) views seat u (record {
+        counter = keep count_debts_of (λ l. CounterAgrees w.frames w.counter l (map (λ (v : View). v.sights) (set views seat u))) views seat v u me refl
+            (change (λ (v : View). v.sights) (CounterAgrees w.frames w.counter (map count_debts_of views)) views seat u (record {
               poisoned = h.failures.counter.poisoned;
               hardware = h.failures.counter.hardware;
               covered = h.failures.counter.covered;
-              shown = each-sight (λ (s : Sight). s.place ≡ places.Counter → 0 < hardware_of s.word → SomeHardware (map (λ (v : View). (v.owed, v.marks)) views) s) me x.counter h.failures.counter.shown;
+              shown = each-sight (λ (s : Sight). s.place ≡ places.Counter → 0 < hardware_of s.word → SomeHardware (map count_debts_of views) s) me x.counter h.failures.counter.shown;
             }));
         damage = keep (λ (v : View). v.spoiled) (λ l. DamageListed w.bads w.weaks l (map (λ (v : View). v.sights) (set views seat u))) views seat v u me refl
             (change (λ (v : View). v.sights) (DamageListed w.bads w.weaks (map (λ (v : View). v.spoiled) views)) views seat u (record {

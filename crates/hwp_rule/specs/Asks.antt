@@ -220,7 +220,8 @@ pub record CanLose (layout : Layout) (who : Who) (v : View) (file : FileNo) (log
   pub owed : SomeMember (λ (n : FileNo). n ≡ file) (listed layout who log v).owed.losses
   pub poisoned : IsPoisonLoss (losing_of (lost_by layout who file log v))
 
--- the policy of a thread of the processor can be set, after all its earlier settings
+-- the policy of a thread of the processor can be set, after all its earlier settings; code reads their number from the
+-- policy word, which no other processor writes
 pub record CanSetPolicy (layout : Layout) (who : Who) (v : View) (thread : Thread) (settings : ℕ) : Type 0 where
   pub decl : ThreadDecl
   pub declared : slice_get layout.threads thread.0 ≡ Some decl
@@ -243,7 +244,7 @@ OwesCount v false = 0 < v.owed.counts
 abbrev pub AsksOf : Layout → Who → Step → Option Log → View → Type 0
 AsksOf layout who (steps.Load place) content v = IsLoaded place
 AsksOf layout who (steps.Reserve seen) content v = (0 < seen) × HasRoom v
-AsksOf layout who (steps.TakeBit frame) content v = 0 < v.reserved
+AsksOf layout who (steps.TakeBit frame) content v = (frame.0 < layout.frames) × (0 < v.reserved)
 AsksOf layout who (steps.GiveBit frame) content v = HasInHand v frame
 AsksOf layout who steps.Unreserve content v = 0 < v.reserved
 AsksOf layout who (steps.Adopt frame) content v = HasInHand v frame × (length v.locks < 2)

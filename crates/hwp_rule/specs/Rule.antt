@@ -12,7 +12,7 @@ use Rattle.hwp_rule.specs.parts.Locks.{FrameLocksHeld, PageLocksHeld}
 use Rattle.hwp_rule.specs.parts.Owners.{TranslationsOwned, CacheWordsOwned}
 use Rattle.hwp_rule.specs.parts.Bodies.{Holder, BodiesAtHome}
 use Rattle.hwp_rule.specs.parts.Handled.{HandledIsPoisoned}
-use Rattle.hwp_rule.specs.parts.Counter.{CounterAgrees}
+use Rattle.hwp_rule.specs.parts.Counter.{CountDebts, CounterAgrees}
 use Rattle.hwp_rule.specs.parts.Free.{FreeBitsAgree}
 use Rattle.hwp_rule.specs.parts.Damage.{DamageListed}
 use Rattle.hwp_rule.specs.parts.Entries.{EntriesListed}
@@ -27,6 +27,9 @@ use Rattle.hwp_rule.specs.parts.Fits.{PageFits}
 use Rattle.hwp_rule.specs.parts.Unpoisoned.{NothingPoisonedYet}
 
 -- what the parts read of a view
+abbrev pub count_debts_of : View → CountDebts
+count_debts_of v = record { counts = v.owed.counts; hardware = v.owed.hardware; uncounts = v.owed.uncounts; marks = v.marks }
+
 abbrev pub holder_of : View → Holder
 holder_of v = record { locks = v.locks; pages = v.pages; bodies = v.bodies }
 
@@ -61,7 +64,7 @@ pub record HistoryParts (layout : Layout) (processes loss_words : List ℕ) (hom
 -- failures: handled frames, the counter, bad and weak lines, marks, and why no frame is free
 pub record FailureParts (layout : Layout) (frames : List ℕ) (counter_word : ℕ) (bads weaks : List ℕ) (homes : Homes) (views : List View) : Type 0 where
   pub handled : HandledIsPoisoned frames
-  pub counter : CounterAgrees frames counter_word (map (λ (v : View). (v.owed, v.marks)) views) (map (λ (v : View). v.sights) views)
+  pub counter : CounterAgrees frames counter_word (map count_debts_of views) (map (λ (v : View). v.sights) views)
   pub damage : DamageListed bads weaks (map (λ (v : View). v.spoiled) views) (map (λ (v : View). v.sights) views)
   pub marks : MarksAlternate frames (map (λ (v : View). v.marks) views) (map (λ (v : View). v.sights) views)
   pub exhaustion : ExhaustionExplained layout (map (λ (v : View). v.marks) views) (map (λ (v : View). v.sights) views)

@@ -104,7 +104,7 @@ pub enum Step {
     Stop {
         cpu: Cpu,
     },
-    /// A processor gives up for want of memory.
+    /// A processor gives up, out of memory.
     GiveUp,
     /// A process has an ending signal in this body, of this page, if it has had none.
     Kill {

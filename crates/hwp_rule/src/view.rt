@@ -56,8 +56,8 @@ pub struct InHand {
     pub killed: List<Proc>,
 }
 
-/// What is owed: counts of poisoned frames, those of them that a bank reported, counts to take back, and a loss of each
-/// file listed.
+/// What is owed: counts of poisoned frames that no bank reported, counts of those that a bank did, counts to take back, and
+/// a loss of each file listed.
 #[derive(Drop)]
 pub struct Debts {
     pub counts: u32,

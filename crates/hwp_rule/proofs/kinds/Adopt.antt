@@ -15,7 +15,7 @@ use Rattle.hwp_rule.specs.declared.view.Ref.{Ref}
 use Rattle.hwp_rule.specs.declared.view.View.{View}
 use Rattle.hwp_rule.specs.Asks.{HasInHand}
 use Rattle.hwp_rule.specs.Lists.{Homes, EachMember, sum_bodies}
-use Rattle.hwp_rule.specs.Rule.{FrameRule, holder_of, holdings_of, losing_of}
+use Rattle.hwp_rule.specs.Rule.{FrameRule, holder_of, holdings_of, losing_of, count_debts_of}
 use Rattle.hwp_rule.specs.Views.{without, is_hand_of, with_refs, refs_on, lock_found, sighted, stamp_of, locks_on}
 use Rattle.hwp_rule.specs.Words.{Words, free_bit}
 use Rattle.hwp_rule.specs.parts.Bodies.{BodiesAtHome, Holder, IsAtHome, IsHolding, IsLockFor}
@@ -286,7 +286,7 @@ module _ (layout : Layout) (w : Words) (homes : Homes) (views : List View) (seat
       };
       failures = record {
         handled = like-handled w.frames frame.0 word new there like h.failures.handled;
-        counter = Kept.kept-counter views seat v u me refl refl refl (like-counter w.frames frame.0 word new there like w.counter (map (λ (v : View). (v.owed, v.marks)) views) (map (λ (v : View). v.sights) views) h.failures.counter);
+        counter = Kept.kept-counter views seat v u me refl refl (like-counter w.frames frame.0 word new there like w.counter (map count_debts_of views) (map (λ (v : View). v.sights) views) h.failures.counter);
         damage = Kept.kept-damage views seat v u me refl refl h.failures.damage;
         marks = Kept.kept-marks views seat v u me refl refl (like-marks w.frames frame.0 word new there like (map (λ (v : View). v.marks) views) (map (λ (v : View). v.sights) views) h.failures.marks);
         exhaustion = Kept.kept-exhaustion views seat v u me refl refl h.failures.exhaustion;

@@ -29,7 +29,7 @@ keeps-take_bit frame layout w homes views seat v who content given = which (goes
     which : (b : Bool) → goes (steps.TakeBit frame) word ≡ b
         → FrameRule layout (record w { frees = left }) homes
         (set views seat (cond b (record v { reserved = v.reserved - 1; hands = v.hands ++ unpoisoned frame ∷ [] }) (sighted who (place_of (steps.TakeBit frame)) word v)))
-    which true is = bit-taken layout w homes views seat v given.me given.rule frame within given.sound.kernel given.shaped.frames given.asks (eqb-true (word / 2 ^ (frame.0 % 64) % 2) 1 is)
+    which true is = bit-taken layout w homes views seat v given.me given.rule frame within given.sound.kernel given.shaped.frames given.asks.0 given.asks.1 (eqb-true (word / 2 ^ (frame.0 % 64) % 2) 1 is)
     which false isnt =
         subst (λ (frees : List ℕ). FrameRule layout (record w { frees = frees }) homes (set views seat (sighted who (place_of (steps.TakeBit frame)) word v))) (sym same)
         (keeps-sight layout w homes views seat v who (place_of (steps.TakeBit frame)) word given.me given.past (explained-free layout w homes views (stamp_of who v) (frame.0 / 64) word) given.rule)
