@@ -36,3 +36,4 @@ pub mod Moving
 pub mod AdoptedFrames
 pub mod OpeningWords
 pub mod OpeningHolds
+pub mod LossBounds
