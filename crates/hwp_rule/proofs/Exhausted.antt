@@ -191,7 +191,7 @@ module _ (layout : Layout) (w : Words) (homes : Homes) (views : List View) (soun
         | inl none ↦
             let empty : HoldsNothing v = nothing (nil_from_length v.parts none) in
             let reserved : v.reserved ≡ 0 = empty.reserved in
-            let hands : length v.hands ≡ 0 = ap (λ (l : List Frame). length l) empty.hands in
+            let hands : length v.hands ≡ 0 = ap (λ (l : List FrameInHand). length l) empty.hands in
             let refs : length v.refs ≡ 0 = ap (λ (l : List Ref). length l) empty.refs in
             omega arith
         | inr some ↦ let few : frames_held (holdings_of v) ≤ 2 = is.few in omega arith
