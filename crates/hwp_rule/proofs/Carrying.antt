@@ -19,7 +19,7 @@ use Rattle.hwp_rule.specs.declared.view.Stamp.{Stamp}
 use Rattle.hwp_rule.specs.declared.view.View.{View}
 use Rattle.hwp_rule.specs.Lists.{Homes, EachBody, EachMember, SomeMember, StartsWith, IsNotLater, of_home, sum_all, sum_bodies}
 use Rattle.hwp_rule.specs.Logs.{has_ending, is_ending, losses_of}
-use Rattle.hwp_rule.specs.Rule.{FrameRule, holder_of, losing_of}
+use Rattle.hwp_rule.specs.Rule.{FrameRule, holder_of, losing_of, HistoryParts, FailureParts, ProcessorParts}
 use Rattle.hwp_rule.specs.Views.{page_locks_on, without, is_body_of}
 use Rattle.hwp_rule.specs.Words.{Words}
 use Rattle.hwp_rule.specs.parts.Bodies.{Holder}
@@ -103,7 +103,7 @@ module _ (layout : Layout) (w : Words) (homes : Homes) (views : List View) (seat
         again : (list : List Length) → EachMember Was list → EachMember Reached list
         again list each i l e = x.eachs (Reaches l) (each i l e)
 
-    pub entries-carried : EntriesListed after (map (λ (v : View). v.bodies) (set views seat u)) (map (λ (v : View). (v.made, v.sights)) (set views seat u)) (map (λ (v : View). v.lengths) (set views seat u))
+    entries-carried : EntriesListed after (map (λ (v : View). v.bodies) (set views seat u)) (map (λ (v : View). (v.made, v.sights)) (set views seat u)) (map (λ (v : View). v.lengths) (set views seat u))
     entries-carried = change (λ (v : View). v.lengths) (λ l. EntriesListed after (map (λ (v : View). v.bodies) (set views seat u)) (map (λ (v : View). (v.made, v.sights)) (set views seat u)) l) views seat u
         (keep (λ (v : View). (v.made, v.sights)) (λ l. EntriesListed after (map (λ (v : View). v.bodies) (set views seat u)) l (set (map (λ (v : View). v.lengths) views) seat lengths)) views seat v u me refl
         (change (λ (v : View). v.bodies) (λ l. EntriesListed after l (map (λ (v : View). (v.made, v.sights)) views) (set (map (λ (v : View). v.lengths) views) seat lengths)) views seat u entries-changed))
@@ -123,11 +123,11 @@ module _ (layout : Layout) (w : Words) (homes : Homes) (views : List View) (seat
           (h.histories.endings.shown i list at j s is process place);
     }
 
-    pub endings-carried : EndingsAgree layout w.processes after (map (λ (v : View). v.bodies) (set views seat u)) (map (λ (v : View). v.sights) (set views seat u))
+    endings-carried : EndingsAgree layout w.processes after (map (λ (v : View). v.bodies) (set views seat u)) (map (λ (v : View). v.sights) (set views seat u))
     endings-carried = keep (λ (v : View). v.sights) (λ l. EndingsAgree layout w.processes after (map (λ (v : View). v.bodies) (set views seat u)) l) views seat v u me refl
         (change (λ (v : View). v.bodies) (λ l. EndingsAgree layout w.processes after l (map (λ (v : View). v.sights) views)) views seat u endings-changed)
 
-    pub losses-carried : LossesBalance layout w.losses after (map (λ (v : View). v.bodies) (set views seat u)) (map losing_of (set views seat u))
+    losses-carried : LossesBalance layout w.losses after (map (λ (v : View). v.bodies) (set views seat u)) (map losing_of (set views seat u))
     losses-carried = keep losing_of (λ l. LossesBalance layout w.losses after (map (λ (v : View). v.bodies) (set views seat u)) l) views seat v u me refl
         (change (λ (v : View). v.bodies) (λ l. LossesBalance layout w.losses after l (map losing_of views)) views seat u (record {
           balance = λ file p at. h.histories.losses.balance file p at ∙ sym (x.sums (losses_of layout file));
@@ -144,7 +144,7 @@ module _ (layout : Layout) (w : Words) (homes : Homes) (views : List View) (seat
       named = h.processors.stops.named;
     }
 
-    pub stops-carried : EndingsAndStopsStay w.processes w.stop (map (λ (v : View). v.bodies) (set views seat u)) (map (λ (v : View). v.sights) (set views seat u)) (map (λ (v : View). v.stops) (set views seat u))
+    stops-carried : EndingsAndStopsStay w.processes w.stop (map (λ (v : View). v.bodies) (set views seat u)) (map (λ (v : View). v.sights) (set views seat u)) (map (λ (v : View). v.stops) (set views seat u))
     stops-carried = keep (λ (v : View). v.stops) (λ l. EndingsAndStopsStay w.processes w.stop (map (λ (v : View). v.bodies) (set views seat u)) (map (λ (v : View). v.sights) (set views seat u)) l) views seat v u me refl
         (keep (λ (v : View). v.sights) (λ l. EndingsAndStopsStay w.processes w.stop (map (λ (v : View). v.bodies) (set views seat u)) l (map (λ (v : View). v.stops) views)) views seat v u me refl
         (change (λ (v : View). v.bodies) (λ l. EndingsAndStopsStay w.processes w.stop l (map (λ (v : View). v.sights) views) (map (λ (v : View). v.stops) views)) views seat u stops-changed))
@@ -160,7 +160,7 @@ module _ (layout : Layout) (w : Words) (homes : Homes) (views : List View) (seat
       own = each-set (λ (o : List PageLock × List InHand). EachMember (λ (b : InHand). 0 < page_locks_on b.log.page.0 o.0 → KnowsOwn o.0 b) o.1) (map (λ (v : View). (v.pages, v.bodies)) views) seat (pages, bodies) x.own h.pages.fits.own;
     })
 
-    pub unpoisoned-carried : NothingPoisonedYet w.frames (map (λ (v : View). v.spoiled) (set views seat u)) after (map (λ (v : View). v.bodies) (set views seat u))
+    unpoisoned-carried : NothingPoisonedYet w.frames (map (λ (v : View). v.spoiled) (set views seat u)) after (map (λ (v : View). v.bodies) (set views seat u))
     unpoisoned-carried = change (λ (v : View). v.bodies) (λ l. NothingPoisonedYet w.frames (map (λ (v : View). v.spoiled) (set views seat u)) after l) views seat u
         (keep (λ (v : View). v.spoiled) (λ l. NothingPoisonedYet w.frames l after (set (all_bodies views) seat bodies)) views seat v u me refl (record {
           sound = h.failures.unpoisoned.sound;
@@ -168,11 +168,33 @@ module _ (layout : Layout) (w : Words) (homes : Homes) (views : List View) (seat
           no_failure = x.eachs (λ (log : Log). list_any (λ (e : Entry). is_failure e.what) log.entries ≡ false) h.failures.unpoisoned.no_failure;
         }))
 
-    pub commands-carried : CommandsOwn (set views seat u)
+    commands-carried : CommandsOwn (set views seat u)
     commands-carried = Kept.kept-commands views seat v u me (record { made = own.made; marks = own.marks; sights = own.sights; lengths = x.past; settings = own.settings; stops = own.stops }) h.processors.commands
       where
         own : AreOwn v
         own = h.processors.commands.own seat v me
+
+    -- all parts of a group
+    pub histories-carried : HistoryParts layout w.processes w.losses after (set views seat u)
+    histories-carried = record { entries = entries-carried; endings = endings-carried; losses = losses-carried }
+
+    pub failures-carried : FailureParts layout w.frames w.counter w.bads w.weaks after (set views seat u)
+    failures-carried = record {
+      handled = h.failures.handled;
+      counter = Kept.kept-counter views seat v u me refl refl h.failures.counter;
+      damage = Kept.kept-damage views seat v u me refl refl h.failures.damage;
+      marks = Kept.kept-marks views seat v u me refl refl h.failures.marks;
+      exhaustion = Kept.kept-exhaustion views seat v u me refl refl h.failures.exhaustion;
+      unpoisoned = unpoisoned-carried;
+    }
+
+    pub processors-carried : ProcessorParts layout w.processes w.policies w.stop (set views seat u)
+    processors-carried = record {
+      policies = Kept.kept-policies views seat v u me refl refl refl h.processors.policies;
+      stops = stops-carried;
+      processors = Kept.kept-processors views seat v u me refl h.processors.processors;
+      commands = commands-carried;
+    }
 
   -- ---- a slot without a body, before and after
 

@@ -1,23 +1,20 @@
 -- Steps on a frame's count keep the frame rule, where the parts on counts, places and locks do.
-use Rattle.std.proofs.Common.{◌≡◌, ◌≢◌, ℕ, ◌+◌, ◌<◌, List, Some, map, set, length, slice_get, refl, ap, arith}
-use Rattle.std.proofs.lemmas.Option.{slice_get_within}
+use Rattle.std.proofs.Common.{◌≡◌, ℕ, ◌+◌, ◌<◌, List, Some, map, set, slice_get, refl, ap}
 use Rattle.hwp_geom.specs.declared.Layout.{Layout}
-use Rattle.hwp_geom.specs.declared.Who.{Who}
 use Rattle.hwp_words.specs.Frames.{lock_of}
 use Rattle.hwp_rule.specs.declared.view.FrameLock.{FrameLock}
-use Rattle.hwp_rule.specs.declared.view.Part.{Part}
 use Rattle.hwp_rule.specs.declared.view.Ref.{Ref}
 use Rattle.hwp_rule.specs.declared.view.View.{View}
 use Rattle.hwp_rule.specs.Lists.{Homes, EachMember}
-use Rattle.hwp_rule.specs.Rule.{FrameRule, holdings_of, holder_of, count_debts_of}
+use Rattle.hwp_rule.specs.Rule.{FrameRule, holdings_of}
 use Rattle.hwp_rule.specs.Views.{refs_on, locks_on}
 use Rattle.hwp_rule.specs.Words.{Words}
 use Rattle.hwp_rule.specs.parts.Counts.{CountsBalance}
-use Rattle.hwp_rule.specs.parts.Holdings.{AreOwn, IsBounded, HoldingsBounded, IsPast}
+use Rattle.hwp_rule.specs.parts.Holdings.{IsBounded, HoldingsBounded}
 use Rattle.hwp_rule.specs.parts.Locks.{FrameLocksHeld}
 use Rattle.hwp_rule.specs.parts.Places.{HasOnePlace}
 use Rattle.hwp_rule.proofs.Lists.{change, at_map, each-set}
-use Rattle.hwp_rule.proofs.FrameWord.{IsLike, like-translations, like-caches, like-handled, like-counter, like-marks, like-unpoisoned, like-locked, like-bodies, locked-again}
+use Rattle.hwp_rule.proofs.FrameWord.{IsLike, like-locked, locked-again, like-failures, like-pages}
 use Rattle.hwp_rule.proofs.Kept
 use Rattle.hwp_rule.specs.declared.view.FrameInHand.{FrameInHand}
 
@@ -44,27 +41,11 @@ module _ (layout : Layout) (w : Words) (homes : Homes) (views : List View) (seat
       free = Kept.kept-free views seat v u me refl h.frames.free;
       holdings = change holdings_of (HoldingsBounded layout) views seat u (record { bounded = each-set (IsBounded layout) (map holdings_of views) seat (holdings_of u) bounded h.frames.holdings.bounded });
     };
-    pages = record {
-      page_locks = Kept.kept-page-locks views seat v u me refl refl h.pages.page_locks;
-      translations = like-translations w.frames f word now there like layout.trans w.trans h.pages.translations;
-      caches = Kept.kept-caches views seat v u me refl refl (like-caches w.frames f word now there like w.caches (map (λ (v : View). (v.locks, v.pages)) views) h.pages.caches);
-      bodies = Kept.kept-bodies views seat v u me refl (like-bodies w.frames f word now there like lock layout w.caches w.pages homes (map (λ (v : View). holder_of v) views) h.pages.bodies);
-      fits = Kept.kept-fits views seat v u me refl refl h.pages.fits;
-    };
+    pages = Kept.same-pages views seat v u me refl (like-pages w.frames f word now there like lock h.pages);
     histories = Kept.same-histories views seat v u me refl h.histories;
-    failures = record {
-      handled = like-handled w.frames f word now there like h.failures.handled;
-      counter = Kept.kept-counter views seat v u me refl refl (like-counter w.frames f word now there like w.counter (map count_debts_of views) (map (λ (v : View). v.sights) views) h.failures.counter);
-      damage = Kept.kept-damage views seat v u me refl refl h.failures.damage;
-      marks = Kept.kept-marks views seat v u me refl refl (like-marks w.frames f word now there like (map (λ (v : View). v.marks) views) (map (λ (v : View). v.sights) views) h.failures.marks);
-      exhaustion = Kept.kept-exhaustion views seat v u me refl refl h.failures.exhaustion;
-      unpoisoned = Kept.kept-unpoisoned views seat v u me refl refl (like-unpoisoned w.frames f word now there like (map (λ (v : View). v.spoiled) views) homes (map (λ (v : View). v.bodies) views) h.failures.unpoisoned);
-    };
+    failures = Kept.same-failures views seat v u me refl (like-failures w.frames f word now there like h.failures);
     processors = Kept.same-processors views seat v u me refl h.processors;
   }
     where
       frames : List ℕ
       frames = set w.frames f now
-
-      own : AreOwn v
-      own = h.processors.commands.own seat v me

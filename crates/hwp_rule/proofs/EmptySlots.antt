@@ -1,5 +1,5 @@
 -- A slot that has no body leaves its home or comes home empty: no body is elsewhere than before.
-use Rattle.std.proofs.Common.{◌≡◌, ℕ, ◌+◌, Bool, true, false, List, Option, Some, None, set, slice_get, inl, inr, refl, sym, ap, ◌∙◌, arith}
+use Rattle.std.proofs.Common.{◌≡◌, ℕ, ◌+◌, Bool, true, false, List, Option, Some, None, set, slice_get, inl, inr, refl, sym, ap, ◌∙◌, arith, map}
 use Rattle.std.specs.List.{sum_by, list_any}
 use Rattle.hwp_geom.specs.declared.Layout.{Layout}
 use Rattle.hwp_page.specs.declared.Entry.{Entry}
@@ -19,6 +19,8 @@ use Rattle.hwp_rule.specs.parts.Fits.{PageFits}
 use Rattle.hwp_rule.specs.parts.Losses.{LossesBalance, Losing}
 use Rattle.hwp_rule.specs.parts.Unpoisoned.{NothingPoisonedYet, is_failure}
 use Rattle.hwp_rule.proofs.Lists.{at_set, sum-set, not-both}
+use Rattle.hwp_rule.specs.Rule.{HistoryParts, FailureParts, losing_of}
+use Rattle.hwp_rule.specs.declared.view.View.{View}
 
 -- a slot that is out, or empty
 abbrev pub is_bodiless : Option (Option Log) → Bool
@@ -92,4 +94,23 @@ module _ (homes : Homes) (slot : ℕ) (was now : Option (Option Log)) (there : s
     sound = h.sound;
     unspoiled = h.unspoiled;
     no_failure = bodies-each (λ (log : Log). list_any (λ (e : Entry). is_failure e.what) log.entries ≡ false) bodies h.no_failure;
+  }
+
+  -- all parts of a group that read the slots
+  pub slot-histories : {layout : Layout} {processes losses : List ℕ} {views : List View} → HistoryParts layout processes losses homes views → HistoryParts layout processes losses after views
+  slot-histories {layout} {processes} {losses} {views} h = record {
+    entries = slot-entries (map (λ (v : View). v.bodies) views) (map (λ (v : View). (v.made, v.sights)) views) (map (λ (v : View). v.lengths) views) h.entries;
+    endings = slot-endings layout processes (map (λ (v : View). v.bodies) views) (map (λ (v : View). v.sights) views) h.endings;
+    losses = slot-losses layout losses (map (λ (v : View). v.bodies) views) (map losing_of views) h.losses;
+  }
+
+  pub slot-failures : {layout : Layout} {frames : List ℕ} {counter : ℕ} {bads weaks : List ℕ} {views : List View}
+      → FailureParts layout frames counter bads weaks homes views → FailureParts layout frames counter bads weaks after views
+  slot-failures {layout} {frames} {counter} {bads} {weaks} {views} h = record {
+    handled = h.handled;
+    counter = h.counter;
+    damage = h.damage;
+    marks = h.marks;
+    exhaustion = h.exhaustion;
+    unpoisoned = slot-unpoisoned frames (map (λ (v : View). v.spoiled) views) (map (λ (v : View). v.bodies) views) h.unpoisoned;
   }

@@ -11,7 +11,7 @@ use Rattle.hwp_rule.specs.declared.view.Length.{Length}
 use Rattle.hwp_rule.specs.declared.view.PageLock.{PageLock}
 use Rattle.hwp_rule.specs.declared.view.View.{View}
 use Rattle.hwp_rule.specs.Lists.{Homes, EachMember}
-use Rattle.hwp_rule.specs.Rule.{FrameRule, holder_of, count_debts_of}
+use Rattle.hwp_rule.specs.Rule.{FrameRule, holder_of}
 use Rattle.hwp_rule.specs.Views.{refs_on, locks_on, page_locks_on}
 use Rattle.hwp_rule.specs.Words.{Words, free_bit}
 use Rattle.hwp_rule.specs.parts.Bodies.{BodiesAtHome, Holder, IsAtHome, IsHolding}
@@ -20,7 +20,7 @@ use Rattle.hwp_rule.specs.parts.Locks.{FrameLocksHeld, PageLocksHeld, IsLocked}
 use Rattle.hwp_rule.specs.parts.Owners.{CacheWordsOwned, HoldsBoth}
 use Rattle.hwp_rule.specs.parts.Places.{HasOnePlace, in_hand}
 use Rattle.hwp_rule.proofs.Lists.{change, at_map, at_set, set_here, set_else, same-or, set_again, sum-set, term-le, each-set}
-use Rattle.hwp_rule.proofs.FrameWord.{IsLike, word-was, like-translations, like-caches, like-handled, like-counter, like-marks, like-unpoisoned, placed-again, like-handed-all, counted-again, locked-again}
+use Rattle.hwp_rule.proofs.FrameWord.{IsLike, word-was, like-translations, like-caches, placed-again, like-handed-all, counted-again, locked-again, like-failures}
 use Rattle.hwp_rule.proofs.Carrying.{Carries}
 use Rattle.hwp_rule.proofs.Carrying
 use Rattle.hwp_rule.proofs.Kept
@@ -158,24 +158,7 @@ module _ (layout : Layout) (w : Words) (homes : Homes) (views : List View) (seat
         bodies = change holder_of (BodiesAtHome layout frames w.caches w.pages (set homes f y)) views seat u (bodies-locking less);
         fits = Carrying.fits-carried layout w homes views seat v me h f y locks pages bodies lengths x.carries;
       };
-      histories = record {
-        entries = Carrying.entries-carried layout w homes views seat v me h f y locks pages bodies lengths x.carries;
-        endings = Carrying.endings-carried layout w homes views seat v me h f y locks pages bodies lengths x.carries;
-        losses = Carrying.losses-carried layout w homes views seat v me h f y locks pages bodies lengths x.carries;
-      };
-      failures = record {
-        handled = like-handled w.frames f word now there x.like h.failures.handled;
-        counter = Kept.kept-counter views seat v u me refl refl (like-counter w.frames f word now there x.like w.counter (map count_debts_of views) (map (λ (v : View). v.sights) views) h.failures.counter);
-        damage = Kept.kept-damage views seat v u me refl refl h.failures.damage;
-        marks = Kept.kept-marks views seat v u me refl refl (like-marks w.frames f word now there x.like (map (λ (v : View). v.marks) views) (map (λ (v : View). v.sights) views) h.failures.marks);
-        exhaustion = Kept.kept-exhaustion views seat v u me refl refl h.failures.exhaustion;
-        unpoisoned = like-unpoisoned w.frames f word now there x.like (map (λ (v : View). v.spoiled) (set views seat u)) (set homes f y) (map (λ (v : View). v.bodies) (set views seat u))
-            (Carrying.unpoisoned-carried layout w homes views seat v me h f y locks pages bodies lengths x.carries);
-      };
-      processors = record {
-        policies = Kept.kept-policies views seat v u me refl refl refl h.processors.policies;
-        stops = Carrying.stops-carried layout w homes views seat v me h f y locks pages bodies lengths x.carries;
-        processors = Kept.kept-processors views seat v u me refl h.processors.processors;
-        commands = Carrying.commands-carried layout w homes views seat v me h f y locks pages bodies lengths x.carries;
-      };
+      histories = Carrying.histories-carried layout w homes views seat v me h f y locks pages bodies lengths x.carries;
+      failures = like-failures w.frames f word now there x.like (Carrying.failures-carried layout w homes views seat v me h f y locks pages bodies lengths x.carries);
+      processors = Carrying.processors-carried layout w homes views seat v me h f y locks pages bodies lengths x.carries;
     }

@@ -1,5 +1,5 @@
 -- The parts of the rule under a change of a frame's word that leaves its poison, owner and cycle: references and the lock.
-use Rattle.std.proofs.Common.{◌≡◌, ◌≢◌, ℕ, ◌+◌, ◌<◌, ◌≤◌, ◌==◌, ◌^◌, nat_lt, min, Bool, true, false, cond, List, Some, set, slice_get, inl, inr, refl, sym, ap, ◌∙◌, subst, arith}
+use Rattle.std.proofs.Common.{◌≡◌, ◌≢◌, ℕ, ◌+◌, ◌<◌, ◌≤◌, ◌==◌, ◌^◌, nat_lt, min, Bool, true, false, cond, List, Some, set, slice_get, inl, inr, refl, sym, ap, ◌∙◌, subst, arith, map}
 use Rattle.std.proofs.lemmas.List.{length-set}
 use Rattle.std.proofs.lemmas.Option.{same_Some}
 use Rattle.std.specs.Int.{from_bool}
@@ -30,6 +30,8 @@ use Rattle.hwp_rule.specs.parts.Places.{HasOnePlace, IsBare, IsApart, in_hand, I
 use Rattle.hwp_rule.specs.parts.Unpoisoned.{NothingPoisonedYet}
 use Rattle.hwp_rule.proofs.Lists.{at_set, set_here, set_else, same-or, sum-set, each-set, each-weaken}
 use Rattle.hwp_rule.specs.declared.view.FrameInHand.{FrameInHand}
+use Rattle.hwp_rule.specs.Rule.{PageParts, FailureParts, holder_of, count_debts_of}
+use Rattle.hwp_rule.specs.declared.view.View.{View}
 
 -- the words differ at most in their count and their lock
 pub record IsLike (w u : ℕ) : Type 0 where
@@ -268,3 +270,25 @@ module _ (frames : List ℕ) (f w u : ℕ) (there : slice_get frames f ≡ Some 
           let moved : sum_by (λ (o : List Ref × List FrameLock). locks_on f o.1) (set held seat now) + locks_on f mine.1 ≡ sum_by (λ (o : List Ref × List FrameLock). locks_on f o.1) held + locks_on f now.1 =
           sum-set (λ (o : List Ref × List FrameLock). locks_on f o.1) held seat mine now me in
           omega arith
+
+  -- all parts of a group that read the word, where nothing else changes
+  pub like-pages : {layout : Layout} {trans caches pages : List ℕ} {homes : Homes} {views : List View} → lock_of u ≡ lock_of w
+      → PageParts layout frames trans caches pages homes views → PageParts layout (set frames f u) trans caches pages homes views
+  like-pages {layout} {trans} {caches} {pages} {homes} {views} lock h = record {
+    page_locks = h.page_locks;
+    translations = like-translations layout.trans trans h.translations;
+    caches = like-caches caches (map (λ (v : View). (v.locks, v.pages)) views) h.caches;
+    bodies = like-bodies lock layout caches pages homes (map holder_of views) h.bodies;
+    fits = h.fits;
+  }
+
+  pub like-failures : {layout : Layout} {counter : ℕ} {bads weaks : List ℕ} {homes : Homes} {views : List View}
+      → FailureParts layout frames counter bads weaks homes views → FailureParts layout (set frames f u) counter bads weaks homes views
+  like-failures {layout} {counter} {bads} {weaks} {homes} {views} h = record {
+    handled = like-handled h.handled;
+    counter = like-counter counter (map count_debts_of views) (map (λ (v : View). v.sights) views) h.counter;
+    damage = h.damage;
+    marks = like-marks (map (λ (v : View). v.marks) views) (map (λ (v : View). v.sights) views) h.marks;
+    exhaustion = h.exhaustion;
+    unpoisoned = like-unpoisoned (map (λ (v : View). v.spoiled) views) homes (map (λ (v : View). v.bodies) views) h.unpoisoned;
+  }

@@ -14,7 +14,7 @@ use Rattle.hwp_rule.specs.Rule.{FrameRule, holdings_of}
 use Rattle.hwp_rule.specs.Views.{without, is_hand_of, unpoisoned}
 use Rattle.hwp_rule.specs.Words.{Words, free_bit, sum_below}
 use Rattle.hwp_rule.specs.parts.Free.{FreeBitsAgree}
-use Rattle.hwp_rule.specs.parts.Holdings.{AreOwn, IsBounded, HoldingsBounded}
+use Rattle.hwp_rule.specs.parts.Holdings.{IsBounded, HoldingsBounded}
 use Rattle.hwp_rule.specs.parts.Places.{in_hand, HasOnePlace, IsApart, IsHanded}
 use Rattle.hwp_rule.proofs.Lists.{change, at_map, each-set, each-push, sum-set, same-or, from_bool-same, from_bool-other, not-both}
 use Rattle.hwp_rule.proofs.Bits.{sum-below-change, free_bit-cleared, free_bit-cleared_other, free_bit-raised, free_bit-raised_other}
@@ -75,9 +75,6 @@ module _ (layout : Layout) (w : Words) (homes : Homes) (views : List View) (seat
     where
       u : View
       u = record v { reserved = reserved'; hands = hands' }
-
-      own : AreOwn v
-      own = h.processors.commands.own seat v me
 
       bounded : IsBounded layout (holdings_of v)
       bounded = h.frames.holdings.bounded seat (holdings_of v) (at_map holdings_of views seat v me)

@@ -9,7 +9,6 @@ use Rattle.hwp_geom.specs.declared.Frame.{Frame}
 use Rattle.hwp_geom.specs.declared.Layout.{Layout}
 use Rattle.hwp_geom.specs.declared.Page.{Page}
 use Rattle.hwp_geom.specs.declared.TransDecl.{TransDecl}
-use Rattle.hwp_geom.specs.declared.Who.{Who}
 use Rattle.hwp_geom.specs.Layout.{IsSound}
 use Rattle.hwp_words.specs.Frames.{count_of, lock_of, handled_of}
 use Rattle.hwp_words.specs.Names.{frame_name, frame_named}
@@ -29,7 +28,7 @@ use Rattle.hwp_rule.specs.Words.{Words}
 use Rattle.hwp_rule.specs.parts.Bodies.{BodiesAtHome, Holder}
 use Rattle.hwp_rule.specs.parts.Counts.{CountsBalance, named}
 use Rattle.hwp_rule.specs.parts.Fits.{PageFits, FitsWords, Fits, KnowsWords, KnowsOwn}
-use Rattle.hwp_rule.specs.parts.Holdings.{AreOwn, IsBounded, HoldingsBounded, IsPast, frames_held}
+use Rattle.hwp_rule.specs.parts.Holdings.{IsBounded, HoldingsBounded, frames_held}
 use Rattle.hwp_rule.specs.parts.Locks.{FrameLocksHeld, PageLocksHeld, IsLocked}
 use Rattle.hwp_rule.specs.parts.Owners.{TranslationsOwned, CacheWordsOwned, NamesOwn}
 use Rattle.hwp_rule.proofs.Keeps.{IsShaped}
@@ -297,6 +296,3 @@ module _ (layout : Layout) (w : Words) (homes : Homes) (views : List View) (seat
         failures = Kept.same-failures views seat v u me refl h.failures;
         processors = Kept.same-processors views seat v u me refl h.processors;
       }
-        where
-          mine : AreOwn v
-          mine = h.processors.commands.own seat v me

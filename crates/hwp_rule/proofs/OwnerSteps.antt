@@ -23,7 +23,6 @@ use Rattle.hwp_rule.specs.parts.Bodies.{BodiesAtHome, Holder, IsAtHome, IsHoldin
 use Rattle.hwp_rule.specs.parts.Counter.{CounterAgrees, CountDebts}
 use Rattle.hwp_rule.specs.parts.Counts.{CountsBalance, named}
 use Rattle.hwp_rule.specs.parts.Handled.{HandledIsPoisoned, IsOutOfUse}
-use Rattle.hwp_rule.specs.parts.Holdings.{AreOwn}
 use Rattle.hwp_rule.specs.parts.Locks.{FrameLocksHeld, PageLocksHeld, IsLocked}
 use Rattle.hwp_rule.specs.parts.Marks.{MarksAlternate, IsBefore, poisonings, revivals}
 use Rattle.hwp_rule.specs.parts.Owners.{TranslationsOwned, CacheWordsOwned}
@@ -267,6 +266,3 @@ module _ (layout : Layout) (w : Words) (homes : Homes) (views : List View) (seat
       };
       processors = Kept.same-processors views seat v owning me refl h.processors;
     }
-      where
-        mine_own : AreOwn v
-        mine_own = h.processors.commands.own seat v me

@@ -15,7 +15,6 @@ use Rattle.hwp_rule.specs.Views.{changed, page_locks_on}
 use Rattle.hwp_rule.specs.Words.{Words}
 use Rattle.hwp_rule.specs.parts.Bodies.{Holder, IsHolding, BodiesAtHome}
 use Rattle.hwp_rule.specs.parts.Fits.{Fits, KnowsWords, KnowsOwn, PageFits}
-use Rattle.hwp_rule.specs.parts.Holdings.{AreOwn}
 use Rattle.hwp_rule.specs.parts.Locks.{PageLocksHeld}
 use Rattle.hwp_rule.specs.parts.Owners.{CacheWordsOwned, HoldsBoth}
 use Rattle.hwp_rule.proofs.Lists.{change, keep, at_map, each-set, each-weaken, some-set, sum-set, sum-changed, length-changed}
@@ -127,5 +126,3 @@ module _ (layout : Layout) (w : Words) (homes : Homes) (views : List View) (seat
       u : View
       u = listing
 
-      mine : AreOwn v
-      mine = h.processors.commands.own seat v me

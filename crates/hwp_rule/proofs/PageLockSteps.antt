@@ -125,23 +125,7 @@ module _ (layout : Layout) (w : Words) (homes : Homes) (views : List View) (seat
         bodies = change holder_of (BodiesAtHome layout w.frames w.caches words after) views seat u bodies-paging;
         fits = Carrying.fits-carried layout w homes views seat v me h (layout.frames + p) y v.locks pages bodies lengths x.carries;
       };
-      histories = record {
-        entries = Carrying.entries-carried layout w homes views seat v me h (layout.frames + p) y v.locks pages bodies lengths x.carries;
-        endings = Carrying.endings-carried layout w homes views seat v me h (layout.frames + p) y v.locks pages bodies lengths x.carries;
-        losses = Carrying.losses-carried layout w homes views seat v me h (layout.frames + p) y v.locks pages bodies lengths x.carries;
-      };
-      failures = record {
-        handled = h.failures.handled;
-        counter = Kept.kept-counter views seat v u me refl refl h.failures.counter;
-        damage = Kept.kept-damage views seat v u me refl refl h.failures.damage;
-        marks = Kept.kept-marks views seat v u me refl refl h.failures.marks;
-        exhaustion = Kept.kept-exhaustion views seat v u me refl refl h.failures.exhaustion;
-        unpoisoned = Carrying.unpoisoned-carried layout w homes views seat v me h (layout.frames + p) y v.locks pages bodies lengths x.carries;
-      };
-      processors = record {
-        policies = Kept.kept-policies views seat v u me refl refl refl h.processors.policies;
-        stops = Carrying.stops-carried layout w homes views seat v me h (layout.frames + p) y v.locks pages bodies lengths x.carries;
-        processors = Kept.kept-processors views seat v u me refl h.processors.processors;
-        commands = Carrying.commands-carried layout w homes views seat v me h (layout.frames + p) y v.locks pages bodies lengths x.carries;
-      };
+      histories = Carrying.histories-carried layout w homes views seat v me h (layout.frames + p) y v.locks pages bodies lengths x.carries;
+      failures = Carrying.failures-carried layout w homes views seat v me h (layout.frames + p) y v.locks pages bodies lengths x.carries;
+      processors = Carrying.processors-carried layout w homes views seat v me h (layout.frames + p) y v.locks pages bodies lengths x.carries;
     }

@@ -15,22 +15,22 @@ use Rattle.hwp_rule.specs.declared.view.Ref.{Ref}
 use Rattle.hwp_rule.specs.declared.view.View.{View}
 use Rattle.hwp_rule.specs.Asks.{HasInHand}
 use Rattle.hwp_rule.specs.Lists.{Homes, EachMember, sum_bodies}
-use Rattle.hwp_rule.specs.Rule.{FrameRule, holder_of, holdings_of, losing_of, count_debts_of}
+use Rattle.hwp_rule.specs.Rule.{FrameRule, holder_of, holdings_of}
 use Rattle.hwp_rule.specs.Views.{without, is_hand_of, with_refs, refs_on, lock_found, sighted, stamp_of, locks_on}
 use Rattle.hwp_rule.specs.Words.{Words, free_bit}
 use Rattle.hwp_rule.specs.parts.Bodies.{BodiesAtHome, Holder, IsAtHome, IsHolding, IsLockFor}
 use Rattle.hwp_rule.specs.parts.Counts.{CountsBalance, named}
-use Rattle.hwp_rule.specs.parts.Holdings.{AreOwn, IsBounded, HoldingsBounded}
+use Rattle.hwp_rule.specs.parts.Holdings.{IsBounded, HoldingsBounded}
 use Rattle.hwp_rule.specs.parts.Locks.{FrameLocksHeld, PageLocksHeld, IsLocked}
 use Rattle.hwp_rule.specs.parts.Owners.{CacheWordsOwned, HoldsBoth}
 use Rattle.hwp_rule.specs.parts.Places.{HasOnePlace, IsApart, IsBare, in_hand, IsHanded}
 use Rattle.hwp_rule.proofs.Lists.{change, keep, at_map, at_set, set_here, set_else, set-set, each-set, each-push, each-weaken, some-set, term-le, same-or, not-both, from_bool-same, from_bool-other, some-push}
-use Rattle.hwp_rule.proofs.FrameWord.{IsLike, like-fields, word-was, like-translations, like-caches, like-handled, like-counter, like-marks, like-unpoisoned, like-locked, counted-again, locked-again, like-handed-all}
+use Rattle.hwp_rule.proofs.FrameWord.{IsLike, like-fields, word-was, like-translations, like-caches, like-locked, counted-again, locked-again, like-handed-all, like-failures}
 use Rattle.hwp_rule.proofs.Without.{each-without, length-without}
 use Rattle.hwp_rule.proofs.FramesInHand.{in_hand-mine, in_hand-without, is-of}
 use Rattle.hwp_rule.proofs.Refs.{refs-with, refs-with-other, length-with}
 use Rattle.hwp_rule.proofs.Sights.{keeps-sight, explained-frame}
-use Rattle.hwp_rule.proofs.EmptySlots.{is_bodiless, bodiless-name, bodies-sum, slot-entries, slot-endings, slot-losses, slot-fits, slot-unpoisoned}
+use Rattle.hwp_rule.proofs.EmptySlots.{is_bodiless, bodiless-name, bodies-sum, slot-fits, slot-histories, slot-failures}
 use Rattle.hwp_rule.proofs.Keeps.{IsShaped, Keeps}
 use Rattle.std.proofs.lemmas.List.Sums.{sum_by_push}
 use Rattle.hwp_rule.specs.declared.view.PageLock.{PageLock}
@@ -276,29 +276,11 @@ module _ (layout : Layout) (w : Words) (homes : Homes) (views : List View) (seat
         fits = Kept.kept-fits views seat v u me refl refl
             (slot-fits homes frame.0 (Some slot.content) None slot.there empty refl layout w.trans w.caches (map (λ (v : View). (v.pages, v.bodies)) views) h.pages.fits);
       };
-      histories = record {
-        entries = Kept.kept-entries views seat v u me refl refl refl refl
-            (slot-entries homes frame.0 (Some slot.content) None slot.there empty refl (map (λ (v : View). v.bodies) views) (map (λ (v : View). (v.made, v.sights)) views) (map (λ (v : View). v.lengths) views) h.histories.entries);
-        endings = Kept.kept-endings views seat v u me refl refl
-            (slot-endings homes frame.0 (Some slot.content) None slot.there empty refl layout w.processes (map (λ (v : View). v.bodies) views) (map (λ (v : View). v.sights) views) h.histories.endings);
-        losses = Kept.kept-losses views seat v u me refl refl
-            (slot-losses homes frame.0 (Some slot.content) None slot.there empty refl layout w.losses (map (λ (v : View). v.bodies) views) (map losing_of views) h.histories.losses);
-      };
-      failures = record {
-        handled = like-handled w.frames frame.0 word new there like h.failures.handled;
-        counter = Kept.kept-counter views seat v u me refl refl (like-counter w.frames frame.0 word new there like w.counter (map count_debts_of views) (map (λ (v : View). v.sights) views) h.failures.counter);
-        damage = Kept.kept-damage views seat v u me refl refl h.failures.damage;
-        marks = Kept.kept-marks views seat v u me refl refl (like-marks w.frames frame.0 word new there like (map (λ (v : View). v.marks) views) (map (λ (v : View). v.sights) views) h.failures.marks);
-        exhaustion = Kept.kept-exhaustion views seat v u me refl refl h.failures.exhaustion;
-        unpoisoned = Kept.kept-unpoisoned views seat v u me refl refl
-            (slot-unpoisoned homes frame.0 (Some slot.content) None slot.there empty refl frames (map (λ (v : View). v.spoiled) views) (map (λ (v : View). v.bodies) views)
-            (like-unpoisoned w.frames frame.0 word new there like (map (λ (v : View). v.spoiled) views) homes (map (λ (v : View). v.bodies) views) h.failures.unpoisoned));
-      };
+      histories = Kept.same-histories views seat v u me refl (slot-histories homes frame.0 (Some slot.content) None slot.there empty refl h.histories);
+      failures = Kept.same-failures views seat v u me refl
+          (slot-failures homes frame.0 (Some slot.content) None slot.there empty refl (like-failures w.frames frame.0 word new there like h.failures));
       processors = Kept.same-processors views seat v u me refl h.processors;
     }
-      where
-        own : AreOwn v
-        own = h.processors.commands.own seat v me
 
 pub keeps-adopt : (frame : Frame) → Keeps (steps.Adopt frame)
 keeps-adopt frame layout w homes views seat v who content given =

@@ -5,7 +5,7 @@ use Rattle.hwp_rule.specs.declared.view.View.{View}
 use Rattle.hwp_rule.specs.Rule.{FrameRule, holdings_of}
 use Rattle.hwp_rule.specs.Words.{free_bit, sum_below}
 use Rattle.hwp_rule.specs.parts.Free.{FreeBitsAgree}
-use Rattle.hwp_rule.specs.parts.Holdings.{AreOwn, IsBounded, HoldingsBounded}
+use Rattle.hwp_rule.specs.parts.Holdings.{IsBounded, HoldingsBounded}
 use Rattle.hwp_rule.proofs.Lists.{change, at_map, each-set, sum-set, term-le}
 use Rattle.hwp_rule.proofs.Keeps.{Keeps}
 use Rattle.hwp_rule.specs.declared.step.Step.TheVariants as steps
@@ -39,9 +39,6 @@ keeps-unreserve layout w homes views seat v who content given = record {
 
     h : FrameRule layout w homes views
     h = given.rule
-
-    own : AreOwn v
-    own = h.processors.commands.own seat v me
 
     bounded : IsBounded layout (holdings_of v)
     bounded = h.frames.holdings.bounded seat (holdings_of v) (at_map holdings_of views seat v me)
