@@ -10,10 +10,10 @@ use Rattle.hwp_rule.specs.Rule.{FrameRule, holdings_of}
 use Rattle.hwp_rule.specs.Views.{refs_on, locks_on}
 use Rattle.hwp_rule.specs.Words.{Words}
 use Rattle.hwp_rule.specs.parts.Counts.{CountsBalance}
-use Rattle.hwp_rule.specs.parts.Holdings.{IsBounded, HoldingsBounded}
+use Rattle.hwp_rule.specs.parts.Holdings.{IsBounded}
 use Rattle.hwp_rule.specs.parts.Locks.{FrameLocksHeld}
 use Rattle.hwp_rule.specs.parts.Places.{HasOnePlace}
-use Rattle.hwp_rule.proofs.Lists.{change, at_map, each-set}
+use Rattle.hwp_rule.proofs.Lists.{change, at_map}
 use Rattle.hwp_rule.proofs.FrameWord.{IsLike, like-locked, locked-again, like-failures, like-pages}
 use Rattle.hwp_rule.proofs.Kept
 use Rattle.hwp_rule.specs.declared.view.FrameInHand.{FrameInHand}
@@ -39,7 +39,7 @@ module _ (layout : Layout) (w : Words) (homes : Homes) (views : List View) (seat
           (λ i l e. like-locked w.frames f word now there like v.refs refs l (referenced i l e) (h.frames.frame_locks.known seat (v.refs, v.locks) (at_map (λ (v : View). (v.refs, v.locks)) views seat v me) i l e))
           h.frames.frame_locks);
       free = Kept.kept-free views seat v u me refl h.frames.free;
-      holdings = change holdings_of (HoldingsBounded layout) views seat u (record { bounded = each-set (IsBounded layout) (map holdings_of views) seat (holdings_of u) bounded h.frames.holdings.bounded });
+      holdings = Kept.kept-bounded views seat v u me bounded h.frames.holdings;
     };
     pages = Kept.same-pages views seat v u me refl (like-pages w.frames f word now there like lock h.pages);
     histories = Kept.same-histories views seat v u me refl h.histories;

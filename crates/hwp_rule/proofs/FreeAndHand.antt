@@ -1,5 +1,5 @@
--- A frame goes between the free bits and a hand: the frame rule stays.
-use Rattle.std.proofs.Common.{◌≡◌, ℕ, ◌+◌, ◌-◌, ◌*◌, ◌/◌, ◌%◌, ◌^◌, ◌<◌, ◌≤◌, ◌==◌, min, Bool, true, false, List, [], ◌∷◌, ◌++◌, Some, map, length, set, get_or, slice_get, bit_and, bit_or, w64, inl, inr, refl, sym, ap, ◌∙◌, arith}
+-- Free bits, the available word, reservations and frames in hand change: the frame rule stays.
+use Rattle.std.proofs.Common.{◌≡◌, ℕ, ◌+◌, ◌-◌, ◌*◌, ◌/◌, ◌%◌, ◌^◌, ◌<◌, ◌≤◌, ◌==◌, min, Bool, true, false, List, [], ◌∷◌, ◌++◌, Some, map, length, set, get_or, slice_get, bit_and, bit_or, w64, inl, inr, refl, sym, ap, ◌∙◌, arith, subst}
 use Rattle.std.specs.Int.{bit_not, from_bool}
 use Rattle.std.specs.List.{sum_by}
 use Rattle.std.proofs.lemmas.List.{length-append}
@@ -14,9 +14,9 @@ use Rattle.hwp_rule.specs.Rule.{FrameRule, holdings_of}
 use Rattle.hwp_rule.specs.Views.{without, is_hand_of, unpoisoned}
 use Rattle.hwp_rule.specs.Words.{Words, free_bit, sum_below}
 use Rattle.hwp_rule.specs.parts.Free.{FreeBitsAgree}
-use Rattle.hwp_rule.specs.parts.Holdings.{IsBounded, HoldingsBounded}
+use Rattle.hwp_rule.specs.parts.Holdings.{IsBounded}
 use Rattle.hwp_rule.specs.parts.Places.{in_hand, HasOnePlace, IsApart, IsHanded}
-use Rattle.hwp_rule.proofs.Lists.{change, at_map, each-set, each-push, sum-set, same-or, from_bool-same, from_bool-other, not-both}
+use Rattle.hwp_rule.proofs.Lists.{change, at_map, each-set, each-push, sum-set, same-or, from_bool-same, from_bool-other, not-both, set_again}
 use Rattle.hwp_rule.proofs.Bits.{sum-below-change, free_bit-cleared, free_bit-cleared_other, free_bit-raised, free_bit-raised_other}
 use Rattle.hwp_rule.proofs.Without.{each-without, length-without}
 use Rattle.hwp_rule.proofs.FramesInHand.{in_hand-push, in_hand-without, in_hand-mine, is-of}
@@ -53,19 +53,22 @@ module _ (layout : Layout) (w : Words) (homes : Homes) (views : List View) (seat
   abbrev reserved : List ℕ
   reserved = map (λ (v : View). v.reserved) views
 
-  -- a frame between the free bits and the hand: the parts that read them are so, and the view holds no more than before
-  rule-moved : (frees : List ℕ) (reserved' : ℕ) (hands' : List FrameInHand)
+  pub few-held : v.reserved + length v.hands + length v.refs ≤ 2
+  few-held = (h.frames.holdings.bounded seat (holdings_of v) (at_map holdings_of views seat v me)).few
+
+  -- the free bits, the available word, the reservations and the hands: the parts that read them are so, and the view holds few
+  pub free-changed : (frees : List ℕ) (available reserved' : ℕ) (hands' : List FrameInHand)
       → HasOnePlace layout.kernel w.frames frees (set hands seat hands')
-      → FreeBitsAgree layout.frames frees w.available (set reserved seat reserved')
-      → reserved' + length hands' ≡ v.reserved + length v.hands
-      → FrameRule layout (record w { frees = frees }) homes (set views seat (record v { reserved = reserved'; hands = hands' }))
-  rule-moved frees reserved' hands' places free few = record {
+      → FreeBitsAgree layout.frames frees available (set reserved seat reserved')
+      → reserved' + length hands' + length v.refs ≤ 2
+      → FrameRule layout (record w { frees = frees; available = available }) homes (set views seat (record v { reserved = reserved'; hands = hands' }))
+  free-changed frees available reserved' hands' places free few = record {
     frames = record {
       counts = Kept.kept-counts views seat v u me refl h.frames.counts;
       places = change (λ (v : View). v.hands) (HasOnePlace layout.kernel w.frames frees) views seat u places;
       frame_locks = Kept.kept-frame-locks views seat v u me refl refl h.frames.frame_locks;
-      free = change (λ (v : View). v.reserved) (FreeBitsAgree layout.frames frees w.available) views seat u free;
-      holdings = change holdings_of (HoldingsBounded layout) views seat u (record { bounded = each-set (IsBounded layout) (map holdings_of views) seat (holdings_of u) bounded-still h.frames.holdings.bounded });
+      free = change (λ (v : View). v.reserved) (FreeBitsAgree layout.frames frees available) views seat u free;
+      holdings = Kept.kept-bounded views seat v u me bounded h.frames.holdings;
     };
     pages = Kept.same-pages views seat v u me refl h.pages;
     histories = Kept.same-histories views seat v u me refl h.histories;
@@ -76,11 +79,15 @@ module _ (layout : Layout) (w : Words) (homes : Homes) (views : List View) (seat
       u : View
       u = record v { reserved = reserved'; hands = hands' }
 
-      bounded : IsBounded layout (holdings_of v)
-      bounded = h.frames.holdings.bounded seat (holdings_of v) (at_map holdings_of views seat v me)
+      bounded : IsBounded layout (holdings_of u)
+      bounded = record { few = few; shares = (h.frames.holdings.bounded seat (holdings_of v) (at_map holdings_of views seat v me)).shares }
 
-      bounded-still : IsBounded layout (holdings_of u)
-      bounded-still = record { few = omega (arith, bounded.few); shares = bounded.shares }
+  -- the hands stay
+  pub reserved-changed : (available reserved' : ℕ) → FreeBitsAgree layout.frames w.frees available (set reserved seat reserved')
+      → reserved' + length v.hands + length v.refs ≤ 2
+      → FrameRule layout (record w { available = available }) homes (set views seat (record v { reserved = reserved' }))
+  reserved-changed available reserved' free few = free-changed w.frees available reserved' v.hands
+      (subst (HasOnePlace layout.kernel w.frames w.frees) (sym (set_again hands seat v.hands (at_map (λ (v : View). v.hands) views seat v me))) h.frames.places) free few
 
   pub my-hands : slice_get hands seat ≡ Some v.hands
   my-hands = at_map (λ (v : View). v.hands) views seat v me
@@ -104,7 +111,7 @@ module _ (layout : Layout) (w : Words) (homes : Homes) (views : List View) (seat
     -- the bit was set
     pub bit-taken : frame.0 < layout.frames → 0 < v.reserved → free_bit w.frees frame.0 ≡ 1
         → FrameRule layout (record w { frees = cleared }) homes (set views seat (record v { reserved = v.reserved - 1; hands = v.hands ++ unpoisoned frame ∷ [] }))
-    bit-taken inside some bit = rule-moved cleared (v.reserved - 1) (v.hands ++ unpoisoned frame ∷ []) places free (omega (arith, length-append v.hands (unpoisoned frame ∷ [])))
+    bit-taken inside some bit = free-changed cleared w.available (v.reserved - 1) (v.hands ++ unpoisoned frame ∷ []) places free (omega (arith, few-held, length-append v.hands (unpoisoned frame ∷ [])))
       where
         both : (f : ℕ) → free_bit cleared f + in_hand f (set hands seat (v.hands ++ unpoisoned frame ∷ [])) ≡ free_bit w.frees f + in_hand f hands
         both f =
@@ -142,7 +149,7 @@ module _ (layout : Layout) (w : Words) (homes : Homes) (views : List View) (seat
     -- the frame was in hand
     pub bit-given : HasInHand v frame
         → FrameRule layout (record w { frees = raised }) homes (set views seat (record v { reserved = v.reserved + 1; hands = without (is_hand_of frame) v.hands }))
-    bit-given has = rule-moved raised (v.reserved + 1) (without (is_hand_of frame) v.hands) places free (omega (arith, length-without (is_hand_of frame) v.hands has.0 has.1 has.2 (is-of has.1 frame has.3)))
+    bit-given has = free-changed raised w.available (v.reserved + 1) (without (is_hand_of frame) v.hands) places free (omega (arith, few-held, length-without (is_hand_of frame) v.hands has.0 has.1 has.2 (is-of has.1 frame has.3)))
       where
         inside : frame.0 < layout.frames
         inside =

@@ -25,7 +25,7 @@ use Rattle.hwp_rule.specs.parts.Damage.{DamageListed}
 use Rattle.hwp_rule.specs.parts.Entries.{EntriesListed}
 use Rattle.hwp_rule.specs.parts.Endings.{EndingsAgree}
 use Rattle.hwp_rule.specs.parts.Marks.{MarksAlternate}
-use Rattle.hwp_rule.specs.parts.Holdings.{Holdings, HoldingsBounded, ProcessorsApart, CommandsOwn, AreOwn, IsPast}
+use Rattle.hwp_rule.specs.parts.Holdings.{Holdings, HoldingsBounded, ProcessorsApart, CommandsOwn, AreOwn, IsPast, IsBounded}
 use Rattle.hwp_rule.specs.parts.Losses.{Losing, LossesBalance}
 use Rattle.hwp_rule.specs.parts.Policies.{PoliciesListed}
 use Rattle.hwp_rule.specs.parts.Exhaustion.{ExhaustionExplained}
@@ -33,7 +33,7 @@ use Rattle.hwp_rule.specs.parts.Stops.{EndingsAndStopsStay}
 use Rattle.hwp_rule.specs.parts.Fits.{PageFits}
 use Rattle.hwp_rule.specs.parts.Unpoisoned.{NothingPoisonedYet}
 use Rattle.hwp_rule.specs.Rule.{holder_of, holdings_of, losing_of, FrameParts, PageParts, HistoryParts, FailureParts, ProcessorParts, count_debts_of}
-use Rattle.hwp_rule.proofs.Lists.{keep, each-set}
+use Rattle.hwp_rule.proofs.Lists.{keep, each-set, change}
 
 -- what each group of parts reads of a view
 abbrev frames_read : View → Holdings × List FrameLock
@@ -119,6 +119,9 @@ module _ (views : List View) (seat : ℕ) (v u : View) (me : slice_get views sea
   kept-unpoisoned {frames} {homes} e0 e1 h =
       keep (λ (v : View). v.bodies) (λ l. NothingPoisonedYet frames (map (λ (v : View). v.spoiled) (set views seat u)) homes l) views seat v u me e1
       (keep (λ (v : View). v.spoiled) (λ l. NothingPoisonedYet frames l homes (map (λ (v : View). v.bodies) views)) views seat v u me e0 h)
+
+  pub kept-bounded : {layout : Layout} → IsBounded layout (holdings_of u) → HoldingsBounded layout (map holdings_of views) → HoldingsBounded layout (map holdings_of (set views seat u))
+  kept-bounded {layout} bounded h = change holdings_of (HoldingsBounded layout) views seat u (record { bounded = each-set (IsBounded layout) (map holdings_of views) seat (holdings_of u) bounded h.bounded })
 
   pub kept-commands : AreOwn u → CommandsOwn views → CommandsOwn (set views seat u)
   kept-commands own h = record { own = each-set AreOwn views seat u own h.own }

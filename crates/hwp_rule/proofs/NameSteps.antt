@@ -28,7 +28,7 @@ use Rattle.hwp_rule.specs.Words.{Words}
 use Rattle.hwp_rule.specs.parts.Bodies.{BodiesAtHome, Holder}
 use Rattle.hwp_rule.specs.parts.Counts.{CountsBalance, named}
 use Rattle.hwp_rule.specs.parts.Fits.{PageFits, FitsWords, Fits, KnowsWords, KnowsOwn}
-use Rattle.hwp_rule.specs.parts.Holdings.{IsBounded, HoldingsBounded, frames_held}
+use Rattle.hwp_rule.specs.parts.Holdings.{IsBounded, frames_held}
 use Rattle.hwp_rule.specs.parts.Locks.{FrameLocksHeld, PageLocksHeld, IsLocked}
 use Rattle.hwp_rule.specs.parts.Owners.{TranslationsOwned, CacheWordsOwned, NamesOwn}
 use Rattle.hwp_rule.proofs.Keeps.{IsShaped}
@@ -282,7 +282,7 @@ module _ (layout : Layout) (w : Words) (homes : Homes) (views : List View) (seat
           places = Kept.kept-places views seat v u me refl h.frames.places;
           frame_locks = change (λ (v : View). (v.refs, v.locks)) (FrameLocksHeld w.frames) views seat u locks-naming;
           free = Kept.kept-free views seat v u me refl h.frames.free;
-          holdings = change holdings_of (HoldingsBounded layout) views seat u (record { bounded = each-set (IsBounded layout) (map holdings_of views) seat (holdings_of u) bounded-naming h.frames.holdings.bounded });
+          holdings = Kept.kept-bounded views seat v u me bounded-naming h.frames.holdings;
         };
         pages = record {
           page_locks = keep (λ (v : View). v.locks) (λ l. PageLocksHeld w.pages (map (λ (v : View). v.pages) (set views seat u)) l) views seat v u me refl

@@ -20,7 +20,7 @@ use Rattle.hwp_rule.specs.Views.{without, is_hand_of, with_refs, refs_on, lock_f
 use Rattle.hwp_rule.specs.Words.{Words, free_bit}
 use Rattle.hwp_rule.specs.parts.Bodies.{BodiesAtHome, Holder, IsAtHome, IsHolding, IsLockFor}
 use Rattle.hwp_rule.specs.parts.Counts.{CountsBalance, named}
-use Rattle.hwp_rule.specs.parts.Holdings.{IsBounded, HoldingsBounded}
+use Rattle.hwp_rule.specs.parts.Holdings.{IsBounded}
 use Rattle.hwp_rule.specs.parts.Locks.{FrameLocksHeld, PageLocksHeld, IsLocked}
 use Rattle.hwp_rule.specs.parts.Owners.{CacheWordsOwned, HoldsBoth}
 use Rattle.hwp_rule.specs.parts.Places.{HasOnePlace, IsApart, IsBare, in_hand, IsHanded}
@@ -261,7 +261,7 @@ module _ (layout : Layout) (w : Words) (homes : Homes) (views : List View) (seat
         places = change (λ (v : View). v.hands) (HasOnePlace layout.kernel frames w.frees) views seat u places-adopted;
         frame_locks = change (λ (v : View). (v.refs, v.locks)) (FrameLocksHeld frames) views seat u locks-adopted;
         free = Kept.kept-free views seat v u me refl h.frames.free;
-        holdings = change holdings_of (HoldingsBounded layout) views seat u (record { bounded = each-set (IsBounded layout) (map holdings_of views) seat (holdings_of u) bounded-adopted h.frames.holdings.bounded });
+        holdings = Kept.kept-bounded views seat v u me bounded-adopted h.frames.holdings;
       };
       pages = record {
         page_locks = keep (λ (v : View). v.pages) (λ l. PageLocksHeld w.pages l (map (λ (v : View). v.locks) (set views seat u))) views seat v u me refl
