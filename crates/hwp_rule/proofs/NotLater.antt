@@ -22,59 +22,46 @@ use Rattle.hwp_rule.specs.parts.Entries.{weigh, weigh_from}
 use Rattle.hwp_rule.specs.parts.Holdings.{AreOwn, IsPast, ProcessorsApart}
 use Rattle.hwp_rule.proofs.Lists.{same-or, at_map, map-was, term-le, terms-le, sum-zero}
 
--- two views with a part of the same processor are one
-pub one-view : (layout : Layout) (parts : List (List Part)) → ProcessorsApart layout parts
-    → (i j k l : ℕ) (a b : List Part) (p q : Part) → slice_get parts i ≡ Some a → slice_get parts j ≡ Some b → slice_get a k ≡ Some p → slice_get b l ≡ Some q
-    → p.cpu ≡ q.cpu → i ≡ j
-one-view layout parts apart i j k l a b p q there here listed noted same =
-    elim (same-or i j) [
-      | inl views_same ↦ views_same
-      | inr differ ↦
-          let in_a : count p ≤ sum_by count a = term-le count a k p listed in
-          let in_b : count q ≤ sum_by count b = term-le count b l q noted in
-          let two : sum_by count a + sum_by count b ≤ sum_by (sum_by count) parts = terms-le (sum_by count) parts i j a b differ there here in
-          absurd (omega (arith, once, first, second))
-    ]
-  where
-    count : Part → ℕ
-    count x = from_bool (x.cpu.0 == q.cpu.0)
+-- a processor is part of one view, once
+module _ (layout : Layout) (parts : List (List Part)) (apart : ProcessorsApart layout parts) (i j k l : ℕ) (a b : List Part) (p q : Part)
+    (there : slice_get parts i ≡ Some a) (here : slice_get parts j ≡ Some b) (listed : slice_get a k ≡ Some p) (noted : slice_get b l ≡ Some q) (same : p.cpu ≡ q.cpu) where
+  abbrev count : Part → ℕ
+  count x = from_bool (x.cpu.0 == q.cpu.0)
 
-    once : sum_by (sum_by count) parts ≡ 1
-    once = apart.one q.cpu.0 (apart.declared j b here l q noted)
+  once : sum_by (sum_by count) parts ≡ 1
+  once = apart.one q.cpu.0 (apart.declared j b here l q noted)
 
-    first : count p ≡ 1
-    first = ap from_bool (eq-eqb p.cpu.0 q.cpu.0 (ap (λ (c : Cpu). c.0) same))
+  first : count p ≡ 1
+  first = ap from_bool (eq-eqb p.cpu.0 q.cpu.0 (ap (λ (c : Cpu). c.0) same))
 
-    second : count q ≡ 1
-    second = ap from_bool (eq-eqb q.cpu.0 q.cpu.0 refl)
+  second : count q ≡ 1
+  second = ap from_bool (eq-eqb q.cpu.0 q.cpu.0 refl)
 
--- and the parts are one
-one-part : (layout : Layout) (parts : List (List Part)) → ProcessorsApart layout parts
-    → (i j k l : ℕ) (a b : List Part) (p q : Part) → slice_get parts i ≡ Some a → slice_get parts j ≡ Some b → slice_get a k ≡ Some p → slice_get b l ≡ Some q
-    → p.cpu ≡ q.cpu → p ≡ q
-one-part layout parts apart i j k l a b p q there here listed noted same =
-    elim (same-or k l) [
-      | inl places_same ↦ same_Some p q (sym listed_b ∙ ap (slice_get b) places_same ∙ noted)
-      | inr differ ↦
-          let two : count p + count q ≤ sum_by count b = terms-le count b k l p q differ listed_b noted in
-          let all : sum_by count b ≤ sum_by (sum_by count) parts = term-le (sum_by count) parts j b here in
-          absurd (omega (arith, once, first, second))
-    ]
-  where
-    count : Part → ℕ
-    count x = from_bool (x.cpu.0 == q.cpu.0)
+  -- two views with a part of the same processor are one
+  pub one-view : i ≡ j
+  one-view =
+      elim (same-or i j) [
+        | inl views_same ↦ views_same
+        | inr differ ↦
+            let in_a : count p ≤ sum_by count a = term-le count a k p listed in
+            let in_b : count q ≤ sum_by count b = term-le count b l q noted in
+            let two : sum_by count a + sum_by count b ≤ sum_by (sum_by count) parts = terms-le (sum_by count) parts i j a b differ there here in
+            absurd (omega (arith, once, first, second))
+      ]
 
-    once : sum_by (sum_by count) parts ≡ 1
-    once = apart.one q.cpu.0 (apart.declared j b here l q noted)
+  same-list : slice_get b k ≡ Some p
+  same-list = subst (λ (x : List Part). slice_get x k ≡ Some p) (same_Some a b (sym there ∙ ap (slice_get parts) one-view ∙ here)) listed
 
-    first : count p ≡ 1
-    first = ap from_bool (eq-eqb p.cpu.0 q.cpu.0 (ap (λ (c : Cpu). c.0) same))
-
-    second : count q ≡ 1
-    second = ap from_bool (eq-eqb q.cpu.0 q.cpu.0 refl)
-
-    listed_b : slice_get b k ≡ Some p
-    listed_b = subst (λ (x : List Part). slice_get x k ≡ Some p) (same_Some a b (sym there ∙ ap (slice_get parts) (one-view layout parts apart i j k l a b p q there here listed noted same) ∙ here)) listed
+  -- and the parts are one
+  one-part : p ≡ q
+  one-part =
+      elim (same-or k l) [
+        | inl places_same ↦ same_Some p q (sym same-list ∙ ap (slice_get b) places_same ∙ noted)
+        | inr differ ↦
+            let two : count p + count q ≤ sum_by count b = terms-le count b k l p q differ same-list noted in
+            let all : sum_by count b ≤ sum_by (sum_by count) parts = term-le (sum_by count) parts j b here in
+            absurd (omega (arith, once, first, second))
+      ]
 
 module _ (layout : Layout) (w : Words) (homes : Homes) (views : List View) (seat : ℕ) (v : View) (who : Who) (me : slice_get views seat ≡ Some v) (turn : IsTurnOf v who) (h : FrameRule layout w homes views) where
   -- what a view has come to is of no later command

@@ -170,11 +170,6 @@ module _ (frame : Frame) where
           let rest : length (less_refs frame n rs) + 1 ≤ length rs = again (omega (arith, all)) in
           omega arith
 
--- a list of references without members has none
-pub refs-none : (f : ℕ) (rs : List Ref) → length rs ≡ 0 → refs_on f rs ≡ 0
-refs-none f [] e = refl
-refs-none f (r ∷ rs) e = absurd (omega (arith, e))
-
 -- ---- names of frames
 
 -- 1 where the name is that of frame f
