@@ -125,4 +125,3 @@ module _ (layout : Layout) (w : Words) (homes : Homes) (views : List View) (seat
     where
       u : View
       u = listing
-

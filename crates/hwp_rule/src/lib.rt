@@ -18,7 +18,7 @@ pub use record::{Rec, State};
 pub use slot_move::SlotMove;
 pub use step::Step;
 pub use view::{
-    Debts, FrameInHand, FrameLock, InHand, Length, Made, Mark, MarkKind, PageLock, Part, Ref, Reported, Setting,
-    Sight, Spoiled, Stamp, View,
+    Debts, FrameInHand, FrameLock, InHand, Length, Made, Mark, MarkKind, PageLock, Part, Ref,
+    Reported, Setting, Sight, Spoiled, Stamp, View,
 };
 pub use words::{frame_in, index};

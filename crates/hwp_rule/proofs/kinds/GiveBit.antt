@@ -1,5 +1,5 @@
 -- A frame in hand made free again keeps the frame rule.
-use Rattle.std.proofs.Common.{◌-◌, arith}
+use Rattle.std.proofs.Common.{arith}
 use Rattle.hwp_geom.specs.declared.Frame.{Frame}
 use Rattle.hwp_rule.proofs.Keeps.{Keeps}
 use Rattle.hwp_rule.proofs.FreeAndHand.{bit-given}

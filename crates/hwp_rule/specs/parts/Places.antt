@@ -1,5 +1,5 @@
 -- Where a frame is.
-use Rattle.std.specs.Prelude.{◌≡◌, ℕ, ◌+◌, ◌<◌, ◌==◌, min, Bool, true, false, List, Some, length, slice_get}
+use Rattle.std.specs.Prelude.{◌≡◌, ℕ, ◌+◌, ◌<◌, ◌==◌, min, Bool, true, false, List, Some, slice_get}
 use Rattle.std.specs.Int.{from_bool}
 use Rattle.hwp_rule.specs.declared.view.FrameInHand.{FrameInHand}
 use Rattle.hwp_words.specs.Frames.{count_of, owner_of, lock_of, handled_of, is_kernel, is_poisoned}
