@@ -7,7 +7,7 @@ pub invariant_of-result : goal.invariant_of-result
 invariant_of-result c =
     rw (c.in_ok-clone.ensures.cases)
     (IsKept-opened c.as_slice.result.now c.from.result _ c.requires.sound c.requires.inside (cc (c.as_slice.ensures, c.deref-declared.ensures)) c.from.ensures c.new-2.ensures.items
-      (c.in_ok-new.ensures.ok ∙ c.opening.ensures))
+    (c.in_ok-new.ensures.ok ∙ c.opening.ensures))
 
 pub returns : goal.returns
 returns c = record {
