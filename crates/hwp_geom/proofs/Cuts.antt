@@ -1,12 +1,10 @@
--- A text that was put together from lines of words is cut back to them.
+-- A line that was put together from words is cut back to them.
 use Rattle.std.proofs.Common.{◌≡◌, ◌≢◌, ℕ, ◌==◌, false, List, [], ◌∷◌, ◌++◌, refl, sym, ap, ◌∙◌, append_assoc, arith}
-use Rattle.std.specs.Prelude.{All, map}
-use Rattle.std.specs.List.{flat_map}
-use Rattle.std.proofs.lemmas.List.{append_cancel_right}
+use Rattle.std.specs.Prelude.{All}
 use Rattle.std.proofs.lemmas.List.Splits.{slice_split_none, slice_split_at}
 use Rattle.std.proofs.lemmas.List.Elements.{All-nil, All-cons, All-head, All-tail, All-append, All-weaker}
 use Rattle.std.proofs.lemmas.Bool.Decides.{nat_tests}
-use Rattle.hwp_geom.specs.Words.{IsWord, IsLine, AreLines, line, pieces, cut}
+use Rattle.hwp_geom.specs.Words.{IsWord, IsLine, line, pieces, cut}
 
 -- the bytes of a line without its line feed
 abbrev pub joined : List (List ℕ) → List ℕ
@@ -50,33 +48,3 @@ pieces-line ws rest h =
     ap (λ t. pieces (t ++ rest)) (line-joined ws)
     ∙ ap pieces (append_assoc (joined ws) (10 ∷ []) rest)
     ∙ slice_split_at (λ b. b == 10) (joined ws) 10 rest (none_is 10 (joined ws) (no_feed-joined ws h.each)) refl
-
--- a text of lines, cut at its line feeds and each piece at its spaces, is the words of its lines, and an empty piece
--- after the last line feed
-pub cut-lines : (wss : List (List (List ℕ))) → AreLines wss → map cut (pieces (flat_map line wss)) ≡ wss ++ ([] ∷ []) ∷ []
-cut-lines [] h = refl
-cut-lines (ws ∷ wss) h =
-    ap (map cut) (pieces-line ws (flat_map line wss) (All-head IsLine ws wss h.each))
-    ∙ ap (λ t. t ∷ map cut (pieces (flat_map line wss))) (cut-joined_line ws (All-head IsLine ws wss h.each))
-    ∙ ap (λ t. ws ∷ t) (cut-lines wss (record { each = All-tail IsLine ws wss h.each }))
-
--- lines of words with the same text are the same lines
-pub lines_injective : (wss vss : List (List (List ℕ))) → AreLines wss → AreLines vss → flat_map line wss ≡ flat_map line vss → wss ≡ vss
-lines_injective wss vss h k e =
-    append_cancel_right wss vss (([] ∷ []) ∷ []) (sym (cut-lines wss h) ∙ ap (λ t. map cut (pieces t)) e ∙ cut-lines vss k)
-
--- what is made of words, word by word and line by line
-pub IsLine-one : {w : List ℕ} → IsWord w → IsLine (w ∷ [])
-IsLine-one {w} h = record { some = λ e. cc; each = All-cons IsWord w [] h (All-nil IsWord) }
-
-pub IsLine-cons : {w : List ℕ} {ws : List (List ℕ)} → IsWord w → IsLine ws → IsLine (w ∷ ws)
-IsLine-cons {w} {ws} h k = record { some = λ e. cc; each = All-cons IsWord w ws h k.each }
-
-pub AreLines-nil : AreLines []
-AreLines-nil = record { each = All-nil IsLine }
-
-pub AreLines-cons : {ws : List (List ℕ)} {wss : List (List (List ℕ))} → IsLine ws → AreLines wss → AreLines (ws ∷ wss)
-AreLines-cons {ws} {wss} h k = record { each = All-cons IsLine ws wss h k.each }
-
-pub AreLines-append : {wss vss : List (List (List ℕ))} → AreLines wss → AreLines vss → AreLines (wss ++ vss)
-AreLines-append {wss} {vss} h k = record { each = All-append IsLine wss vss h.each k.each }

@@ -1,4 +1,5 @@
 pub mod Limits
+pub mod Bits
 pub mod Words
 pub mod Layout
 pub mod Pairs

@@ -14,10 +14,6 @@ pub record IsLine (words : List (List ℕ)) : Type 0 where
   pub some : words ≢ []
   pub each : All IsWord words
 
--- each of them is the words of a line
-pub record AreLines (lines : List (List (List ℕ))) : Type 0 where
-  pub each : All IsLine lines
-
 -- the bytes of a line: its words with one space between two, and a line feed
 abbrev pub line : List (List ℕ) → List ℕ
 line [] = 10 ∷ []

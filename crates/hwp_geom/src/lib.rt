@@ -1,6 +1,7 @@
 //! Numbers and layout of the simulated machine, and the small types that all crates share.
 #![tactic(auto)]
 
+mod bits;
 mod kind;
 mod layout;
 mod line;
@@ -9,6 +10,7 @@ mod list;
 mod numbers;
 mod text;
 
+pub use bits::lowest_bit;
 pub use kind::Kind;
 pub use layout::{
     Layout, MAX_COMMANDS, MAX_CPUS, MAX_FILES, MAX_FRAMES, MAX_PAGES, MAX_PROCS, MAX_THREADS,

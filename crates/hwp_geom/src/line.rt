@@ -1,5 +1,5 @@
 ghost use Rattle.std.specs.Prelude.{◌≡◌, ℕ, ◌<◌, ◌↔◌, IsSome, IfSome};
-ghost use Rattle.hwp_geom.specs.declared.line.TheConstants.{LINES};
+ghost use Rattle.hwp_geom.specs.Limits.{line_limit};
 
 use std::marker::Model;
 
@@ -23,16 +23,20 @@ impl Model for Line {
 impl Line {
     /// The line of this number. It is `None` exactly where the number is 64 or more.
     pub fn new(n: u8) -> Option<Line>
-        ensures range { IsSome result ↔ (n < LINES) }
+        ensures range { IsSome result ↔ (n < line_limit) }
         ensures value { IfSome result (λ line. line ≡ n) }
     {
-        if n < 64 { Some(Line(n)) } else { None }
+        if usize::from(n) < LINES {
+            Some(Line(n))
+        } else {
+            None
+        }
     }
 
     /// The number of the line.
     pub fn get(self) -> u8
         ensures value { result ≡ self }
-        ensures below { result < LINES }
+        ensures below { result < line_limit }
     {
         self.0
     }

@@ -1,13 +1,13 @@
 ghost use Rattle.std.specs.Prelude.{◌≡◌, ℕ, List, length, slice_index, slice_set, replicate};
-ghost use Rattle.hwp_geom.specs.declared.line.TheConstants.{LINES};
+ghost use Rattle.hwp_geom.specs.Limits.{line_limit};
 
-use crate::line::Line;
+use crate::line::{LINES, Line};
 use std::marker::Model;
 
 /// The content of a page: one 64-bit word for each of its 64 lines. Clauses see it as the list of them.
 #[derive(Drop)]
 pub struct Lines {
-    words: [u64; 64],
+    words: [u64; LINES],
 }
 
 impl Model for Lines {
@@ -19,15 +19,15 @@ impl Model for Lines {
 impl Lines {
     /// The same word on every line.
     pub fn filled(x: u64) -> Lines
-        ensures { result ≡ replicate LINES x }
+        ensures { result ≡ replicate line_limit x }
     {
-        Lines { words: [x; 64] }
+        Lines { words: [x; LINES] }
     }
 
     /// The word of a line.
     pub fn get(&self, line: Line) -> u64
         ensures word { result ≡ slice_index self.now line }
-        ensures whole { length self.now ≡ LINES }
+        ensures whole { length self.now ≡ line_limit }
     {
         self.words[usize::from(line.get())]
     }
@@ -35,7 +35,7 @@ impl Lines {
     /// Puts a word on a line.
     pub fn set(&mut self, line: Line, x: u64)
         ensures word { self.new ≡ slice_set self.old line x }
-        ensures whole { length self.old ≡ LINES }
+        ensures whole { length self.old ≡ line_limit }
     {
         self.words[usize::from(line.get())] = x;
     }

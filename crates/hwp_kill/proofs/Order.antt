@@ -52,6 +52,3 @@ pairs_in_order {layout = layout} {xs = xs} near all i j d below within =
     let whole : InOrderTo layout xs (length xs) = record { each = λ k e h. near.each k e (omega arith) } in
     let P : ℕ → Type 0 = λ m. StandsBefore layout (get_or xs i d) (get_or xs m d) in
     subst P (omega arith) (far layout xs i (j - i - 1) d whole (omega arith))
-
-pub InOrderTo-start : (layout : Layout) (xs : List Seen) → InOrderTo layout xs 1
-InOrderTo-start layout xs = record { each = λ k d h. absurd (omega arith) }

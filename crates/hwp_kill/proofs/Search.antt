@@ -1,41 +1,13 @@
--- How the lowest member of a set is found: bit by bit in a word, and word by word.
-use Rattle.std.proofs.Common.{◌≡◌, ◌≢◌, ℕ, ◌+◌, ◌-◌, ◌*◌, ◌/◌, ◌%◌, ◌^◌, ◌<◌, ◌≤◌, false, ◌&&◌, List, length, slice_index, nat_eq, nat_lt, refl, sym, ap, ◌∙◌, inl, inr, arith}
+-- How the lowest member of a set is found, word by word.
+use Rattle.std.proofs.Common.{◌≡◌, ℕ, ◌+◌, ◌*◌, ◌/◌, ◌%◌, ◌<◌, ◌≤◌, false, ◌&&◌, List, length, slice_index, nat_eq, nat_lt, ap, ◌∙◌, inl, inr, arith}
 use Rattle.std.specs.Ordering.{nat_cmp}
 use Rattle.std.specs.FinSet as set
-use Rattle.std.specs.Int.{bit_at, w64, trailing_zeros}
-use Rattle.std.proofs.Math.Nat.{div-le_self}
+use Rattle.std.specs.Int.{bit_at}
 use Rattle.std.proofs.lemmas.Bool.{cases_lt, and_from, lt-ltb}
-use Rattle.std.proofs.lemmas.Nat.{shr-shr}
-use Rattle.std.proofs.lemmas.Nat.Bits.{bit_at-zero, bit_at_above, bit_at-trailing_zeros}
-use Rattle.hwp_kill.specs.Lowest.{HasNoneFrom, IsLowestFrom, HasNoBitFrom, IsLowestBit}
+use Rattle.hwp_geom.specs.Bits.{HasNoBitFrom, IsLowestBit}
+use Rattle.hwp_kill.specs.Lowest.{HasNoneFrom, IsLowestFrom}
 use Rattle.hwp_kill.specs.Members.{members}
 use Rattle.hwp_kill.proofs.Membership.{contains-members, has-past, and_false}
-
-bit_at-shift : (word from i j : ℕ) → i ≡ from + j → bit_at word i ≡ bit_at (word / 2 ^ from) j
-bit_at-shift word from i j sum = ap (λ n. bit_at word n) sum ∙ sym (ap (λ n. n % 2) (shr-shr word from j))
-
--- a word that is 0 once shifted has no bit from there on
-pub no_bit : (word from : ℕ) → word / 2 ^ from ≡ 0 → HasNoBitFrom word from
-no_bit word from nothing i above = bit_at-shift word from i (i - from) (omega arith) ∙ ap (λ n. bit_at n (i - from)) nothing ∙ bit_at-zero (i - from)
-
-within_word : (word i : ℕ) → word < 2 ^ 64 → bit_at word i ≡ 1 → i < 64
-within_word word i fits one = elim (cases_lt i 64) [
-  | inl below ↦ below
-  | inr above ↦ let none : bit_at word i ≡ 0 = bit_at_above word 64 i fits above in absurd (omega arith)
-]
-
--- else the shifted word's lowest bit is the lowest from there on
-pub lowest_bit_at : (word from : ℕ) → word < 2 ^ 64 → word / 2 ^ from ≢ 0 → IsLowestBit word from (from + trailing_zeros w64 (word / 2 ^ from))
-lowest_bit_at word from fits some =
-    let small : word / 2 ^ from ≤ word = div-le_self word (2 ^ from) in
-    let zeros = bit_at-trailing_zeros w64 (word / 2 ^ from) (omega arith) (omega arith) in
-    let is_set : bit_at word (from + trailing_zeros w64 (word / 2 ^ from)) ≡ 1 = bit_at-shift word from _ (trailing_zeros w64 (word / 2 ^ from)) refl ∙ zeros.1 in
-    record {
-      within = within_word word _ fits is_set;
-      is_set = is_set;
-      not_below = omega arith;
-      lowest = λ i above below. bit_at-shift word from i (i - from) (omega arith) ∙ zeros.2 (i - from) (omega arith);
-    }
 
 -- a number whose bit is not set is no member
 unset : (words : List ℕ) (v : ℕ) → bit_at (slice_index words (v / 64)) (v % 64) ≡ 0 → set.contains (set.from_list {R = nat_cmp} (members words)) v ≡ false

@@ -97,13 +97,6 @@ same_due {layout = layout} {maps = maps} {current = current} {seen = seen} {s = 
     let reached = same_reached layout current seen s.process s.thread t.thread s.code t.code a.thread thread in
     both s.process t.process s.thread t.thread s.code t.code s.slot t.slot same reached.0 reached.1 (ap slot_of (same_slot a.slot slot))
 
-pub DueBelow-start : (layout : Layout) (maps : set.FinSet nat_cmp) (current : Option Thread) (seen : List Seen) → DueBelow layout maps current seen 0 []
-DueBelow-start layout maps current seen = record {
-  few = omega arith;
-  each = λ signal. (λ has. absurd (omega (arith, has.1)), λ due. absurd (omega (arith, due.0)));
-  rising = λ i j d below within. absurd (omega (arith, within));
-}
-
 -- no signal to the next process
 pub DueBelow-none : {layout : Layout} {maps : set.FinSet nat_cmp} {current : Option Thread} {seen : List Seen} {n : ℕ} {signals : List Signal}
     → DueBelow layout maps current seen n signals

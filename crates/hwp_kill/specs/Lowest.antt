@@ -1,6 +1,5 @@
--- The lowest member of a set from a number on, and the lowest bit of a word.
-use Rattle.std.specs.Prelude.{◌≡◌, ℕ, ◌<◌, ◌≤◌, IsTrue, IsFalse}
-use Rattle.std.specs.Int.{bit_at}
+-- The lowest member of a set from a number on.
+use Rattle.std.specs.Prelude.{ℕ, ◌<◌, ◌≤◌, IsTrue, IsFalse}
 use Rattle.std.specs.Ordering.{nat_cmp}
 use Rattle.std.specs.FinSet as set
 
@@ -13,14 +12,3 @@ pub record IsLowestFrom (s : set.FinSet nat_cmp) (from v : ℕ) : Type 0 where
   pub member : IsTrue (set.contains s v)
   pub not_below : from ≤ v
   pub lowest : (w : ℕ) → from ≤ w → w < v → IsFalse (set.contains s w)
-
--- no bit of the word is set from bit `from` on
-abbrev pub HasNoBitFrom : ℕ → ℕ → Type 0
-HasNoBitFrom word from = (i : ℕ) → from ≤ i → bit_at word i ≡ 0
-
--- bit `k` is the lowest of the word that is set, from bit `from` on
-pub record IsLowestBit (word from k : ℕ) : Type 0 where
-  pub within : k < 64
-  pub is_set : bit_at word k ≡ 1
-  pub not_below : from ≤ k
-  pub lowest : (i : ℕ) → from ≤ i → i < k → bit_at word i ≡ 0

@@ -1,16 +1,29 @@
--- What prctl(2) does with its arguments.
+-- What prctl(2) does with its arguments. The numbers are those of Linux's include/uapi/linux/prctl.h.
 use Rattle.std.specs.Prelude.{ℕ, Bool, ◌==◌, ◌&&◌, if◌then◌else◌, Option, Some, None, List, slice_index}
 use Rattle.hwp_kill.specs.declared.types.Policy.{Policy}
 use Rattle.hwp_kill.specs.declared.types.Policy.TheVariants.{Late, Early, Default}
 use Rattle.hwp_kill.specs.declared.types.Reply.{Reply}
 use Rattle.hwp_kill.specs.declared.types.Reply.TheVariants.{Set, Is, Einval}
-use Rattle.hwp_kill.specs.declared.policies.TheConstants.{PR_MCE_KILL, PR_MCE_KILL_GET, PR_MCE_KILL_CLEAR, PR_MCE_KILL_SET, PR_MCE_KILL_LATE, PR_MCE_KILL_EARLY, PR_MCE_KILL_DEFAULT}
 
--- the number of a policy
+-- PR_MCE_KILL and PR_MCE_KILL_GET, the operations that set a thread's policy and ask for it
+abbrev pub set_operation : ℕ
+set_operation = 33
+
+abbrev pub get_operation : ℕ
+get_operation = 34
+
+-- PR_MCE_KILL_CLEAR and PR_MCE_KILL_SET: back to the system default, or to the policy that the next argument names
+abbrev pub clear_mode : ℕ
+clear_mode = 0
+
+abbrev pub set_mode : ℕ
+set_mode = 1
+
+-- the number of a policy: PR_MCE_KILL_LATE, PR_MCE_KILL_EARLY, PR_MCE_KILL_DEFAULT
 abbrev pub policy_number : Policy → ℕ
-policy_number Late = PR_MCE_KILL_LATE
-policy_number Early = PR_MCE_KILL_EARLY
-policy_number Default = PR_MCE_KILL_DEFAULT
+policy_number Late = 0
+policy_number Early = 1
+policy_number Default = 2
 
 -- the five arguments are an operation, how, which policy, and two zeros
 abbrev pub are : List ℕ → ℕ → ℕ → ℕ → Bool
@@ -21,15 +34,15 @@ are arguments operation how which =
 -- the policy that the arguments set, if they set one
 abbrev pub policy_set : List ℕ → Option Policy
 policy_set arguments =
-    if are arguments PR_MCE_KILL PR_MCE_KILL_CLEAR 0 then Some Default
-    else if are arguments PR_MCE_KILL PR_MCE_KILL_SET PR_MCE_KILL_LATE then Some Late
-    else if are arguments PR_MCE_KILL PR_MCE_KILL_SET PR_MCE_KILL_EARLY then Some Early
-    else if are arguments PR_MCE_KILL PR_MCE_KILL_SET PR_MCE_KILL_DEFAULT then Some Default
+    if are arguments set_operation clear_mode 0 then Some Default
+    else if are arguments set_operation set_mode (policy_number Late) then Some Late
+    else if are arguments set_operation set_mode (policy_number Early) then Some Early
+    else if are arguments set_operation set_mode (policy_number Default) then Some Default
     else None
 
 -- the arguments ask for the policy
 abbrev pub asks_policy : List ℕ → Bool
-asks_policy arguments = are arguments PR_MCE_KILL_GET 0 0
+asks_policy arguments = are arguments get_operation 0 0
 
 -- what a call does that sets this policy, or sets none and is refused
 abbrev pub setting : Option Policy → Reply

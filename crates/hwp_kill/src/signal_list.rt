@@ -1,5 +1,5 @@
 ghost use Rattle.std.specs.Prelude.{◌≡◌, ◌<◌, ◌≤◌, [], ◌∷◌, ◌++◌, length};
-ghost use Rattle.hwp_kill.specs.declared.signal_list.TheConstants.{MAX_SIGNALS};
+ghost use Rattle.hwp_kill.specs.Limits.{signal_limit};
 
 use crate::types::{Code, Signal};
 use hwp_geom::{Proc, Thread, VSlot};
@@ -26,13 +26,13 @@ pub struct SignalList {
 impl Model for SignalList {
     ghost use Rattle.std.specs.Prelude.{List, take, ◌≤◌};
     ghost use Rattle.hwp_kill.specs.declared.types.Signal.{Signal};
-    ghost use Rattle.hwp_kill.specs.declared.signal_list.TheConstants.{MAX_SIGNALS};
+    ghost use Rattle.hwp_kill.specs.Limits.{signal_limit};
 
     ghost Value = { List Signal };
 
     ghost view = { λ a. take a.taken a.places };
 
-    ghost invariant = { λ a. a.taken ≤ MAX_SIGNALS };
+    ghost invariant = { λ a. a.taken ≤ signal_limit };
 }
 
 impl SignalList {
@@ -49,14 +49,14 @@ impl SignalList {
     /// The signals, from the first one on.
     pub fn as_slice(&self) -> &[Signal]
         ensures signals { result.now ≡ self.now }
-        ensures few { length self.now ≤ MAX_SIGNALS }
+        ensures few { length self.now ≤ signal_limit }
     {
         &self.places[..self.taken]
     }
 
     /// Adds a signal at the end.
     pub fn push(&mut self, signal: Signal)
-        requires { length self.old < MAX_SIGNALS }
+        requires { length self.old < signal_limit }
         ensures { self.new ≡ self.old ++ signal ∷ [] }
     {
         self.places[self.taken] = signal;

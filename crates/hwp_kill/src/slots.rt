@@ -3,10 +3,10 @@ ghost use Rattle.std.specs.Ordering.{nat_cmp};
 ghost use Rattle.std.specs.FinSet as set;
 ghost use Rattle.std.specs.Coded.{coded_ℕ};
 ghost use Rattle.hwp_kill.specs.Members.{members};
-ghost use Rattle.hwp_kill.specs.Lowest.{HasNoneFrom, HasNoBitFrom, IsLowestBit, IsLowestFrom};
-ghost use Rattle.hwp_kill.specs.declared.slots.TheConstants.{SLOTS};
+ghost use Rattle.hwp_kill.specs.Lowest.{HasNoneFrom, IsLowestFrom};
+ghost use Rattle.hwp_kill.specs.Limits.{slot_limit};
 
-use hwp_geom::{MAX_TRANS, VSlot};
+use hwp_geom::{MAX_TRANS, VSlot, lowest_bit};
 use std::marker::Model;
 
 /// How many translations a set can hold: as many as a layout can declare.
@@ -46,7 +46,7 @@ impl Slots {
 
     /// Puts a translation into the set.
     pub fn insert(&mut self, slot: VSlot)
-        requires { slot.0 < SLOTS }
+        requires { slot.0 < slot_limit }
         ensures { self.new ≡ set.insert self.old slot.0 }
     {
         let at = usize::from(slot.0);
@@ -66,7 +66,7 @@ impl Slots {
     /// The lowest member that is not below a translation. It is `None` exactly where there is no such member.
     pub fn lowest_from(&self, slot: VSlot) -> Option<VSlot>
         ensures lowest { MatchOption result (HasNoneFrom self.now slot.0) (λ found. IsLowestFrom self.now slot.0 found.0) }
-        ensures below { IfSome result (λ found. found.0 < SLOTS) }
+        ensures below { IfSome result (λ found. found.0 < slot_limit) }
     {
         let mut at = usize::from(slot.0);
         while at < SLOTS {
@@ -83,19 +83,6 @@ impl Slots {
         ensures { result ≡ self.now }
     {
         Slots { words: self.words }
-    }
-}
-
-/// The lowest bit of the word that is set, from bit `from` on.
-fn lowest_bit(word: u64, from: u32) -> Option<u32>
-    requires { from < 64 }
-    ensures { MatchOption result (HasNoBitFrom word from) (IsLowestBit word from) }
-{
-    let rest = word >> from;
-    if rest == 0 {
-        None
-    } else {
-        Some(from + rest.trailing_zeros())
     }
 }
 

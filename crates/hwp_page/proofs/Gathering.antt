@@ -52,14 +52,6 @@ one_more start slots at found v low =
       ]
     ]
 
-none_below : (s t : Bool) (v : ℕ) → s ≡ (s || (t && nat_lt v 0))
-none_below true t v = refl
-none_below false true v = grind (arith, nat_tests)
-none_below false false v = refl
-
-pub Gathered-start : (start slots : set.FinSet nat_cmp) → Gathered start slots start 0
-Gathered-start start slots = record { within = omega arith; each = λ v. none_below (set.contains start v) (set.contains slots v) v }
-
 pub Gathered-next : {start slots into : set.FinSet nat_cmp} {at : ℕ} (found : ℕ) → Gathered start slots into at → IsLowestFrom slots at found → found < 512
     → Gathered start slots (set.insert into found) (found + 1)
 Gathered-next {start = start} {slots = slots} {into = into} {at = at} found so_far low inside = record {

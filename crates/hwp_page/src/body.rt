@@ -18,7 +18,8 @@ use std::sync::Arc;
 pub struct Body {
     page: Page,
     layout: Arc<Layout, Global>,
-    state: PageState,
+    /// In a box, so that a body moves in few bytes.
+    state: Box<PageState, Global>,
     log: Vec<Entry>,
 }
 
@@ -36,12 +37,12 @@ impl Model for Body {
     ghost view = { λ b. record {
       page = b.page;
       layout = arc_value b.layout;
-      state = b.state;
+      state = b.state.value;
       log = b.log.items;
       spare = vec_capacity b.log - vec_len b.log;
     } };
 
-    ghost invariant = { λ b. IsKept (arc_value b.layout) b.page b.log.items b.state };
+    ghost invariant = { λ b. IsKept (arc_value b.layout) b.page b.log.items b.state.value };
 }
 
 impl Body {
@@ -56,7 +57,7 @@ impl Body {
         Ok(Body {
             page,
             layout: layout.clone()?,
-            state: PageState::opening(kind),
+            state: Box::new(alloc, PageState::opening(kind))?,
             log: Vec::new(alloc),
         })
     }

@@ -1,6 +1,6 @@
 -- How each atomic step on a frame word reads in the word's fields.
 use Rattle.std.proofs.Common.{◌≡◌, ℕ, ◌+◌, ◌-◌, ◌*◌, ◌%◌, ◌^◌, ◌<◌, ◌≤◌, bit_and, bit_or, bit_xor, arith, refl, ap, subst, ◌∙◌, sym}
-use Rattle.std.specs.Int.Bits.{and_zero_r, xor_assoc, xor_self, xor_zero_r}
+use Rattle.std.specs.Int.Bits.{and_zero_r, xor_assoc, xor_self}
 use Rattle.std.proofs.lemmas.Nat.{xor_lt}
 use Rattle.hwp_words.specs.Fields.{field}
 use Rattle.hwp_words.specs.Frames.{lock_bit, poison_bit, handled_bit, kernel_bit, count_field, owner_field, cycle_field}
@@ -34,19 +34,6 @@ fields-adopt w fits free room = record {
 pub fields-get_ref : (w k n : ℕ) → k ≡ n * 16 → w < 2 ^ 64 → count_of w + n < 2 ^ 20
     → FieldsAre ((w + k) % 2 ^ 64) (lock_of w) (poison_of w) (handled_of w) (kernel_of w) (count_of w + n) (owner_of w) (cycle_of w)
 fields-get_ref w k n e fits room = record {
-  lock = omega arith;
-  poison = omega arith;
-  handled = omega arith;
-  kernel = omega arith;
-  count = omega arith;
-  owner = omega arith;
-  cycle = omega arith;
-}
-
--- the same where an exchange writes the sum, which is not cut
-pub fields-more_refs : (w n : ℕ) → count_of w + n < 2 ^ 20
-    → FieldsAre (w + n * 16) (lock_of w) (poison_of w) (handled_of w) (kernel_of w) (count_of w + n) (owner_of w) (cycle_of w)
-fields-more_refs w n room = record {
   lock = omega arith;
   poison = omega arith;
   handled = omega arith;
@@ -134,16 +121,6 @@ fields-set_owner w k a b e owned fits =
       owner = field-xor owner_field w k ∙ ap (bit_xor (owner_of w)) operand ∙ turned;
       cycle = field-xor_other cycle_field w k (omega arith);
     }
-
--- a frame without an owner gets one
-pub fields-own : (w n : ℕ) → owner_of w ≡ 0 → n < 2 ^ 20
-    → FieldsAre (bit_xor w (n * 2 ^ 24)) (lock_of w) (poison_of w) (handled_of w) (kernel_of w) (count_of w) n (cycle_of w)
-fields-own w n none fits = fields-set_owner w (n * 2 ^ 24) 0 n refl none fits
-
--- a frame loses its owner
-pub fields-disown : (w n : ℕ) → owner_of w ≡ n
-    → FieldsAre (bit_xor w (n * 2 ^ 24)) (lock_of w) (poison_of w) (handled_of w) (kernel_of w) (count_of w) 0 (cycle_of w)
-fields-disown w n owned = fields-set_owner w (n * 2 ^ 24) n 0 (ap (λ x. x * 2 ^ 24) (sym (xor_zero_r n))) owned (omega arith)
 
 -- poison, handled and the last reference go, and the cycle rises
 pub fields-revive : (w : ℕ) → poison_of w ≡ 1 → handled_of w ≡ 1 → count_of w ≡ 1 → cycle_of w + 1 < 2 ^ 20

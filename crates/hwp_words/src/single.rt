@@ -1,12 +1,12 @@
-ghost use Rattle.std.specs.Prelude.{◌≡◌, ◌↔◌, IsNone, IfSome};
+ghost use Rattle.std.specs.Prelude.{◌≡◌, ◌↔◌, IsNone, MatchOption};
 ghost use Rattle.std.specs.Int.{from_bool};
-ghost use Rattle.hwp_words.specs.Fields.{IsLowestBit};
+ghost use Rattle.hwp_geom.specs.Bits.{HasNoBitFrom, IsLowestBit};
 ghost use Rattle.hwp_words.specs.Frames.{is_locked};
 ghost use Rattle.hwp_words.specs.Names.{frame_name, frame_named, page_name, page_named};
 
-use crate::field::{field, lowest_bit};
+use crate::field::field;
 use crate::names::{frame_name, frame_named, page_name, page_named};
-use hwp_geom::{Frame, Line, Mask, Page};
+use hwp_geom::{Frame, Line, Mask, Page, lowest_bit};
 
 /// The word of a page (this project's rule).
 #[derive(Clone, Copy, Debug, PartialEq, Eq)]
@@ -112,9 +112,9 @@ impl FreeWord {
     /// The place in the word of its lowest free frame. It is `None` exactly where none of the 64 is free.
     pub fn lowest(self) -> Option<u32>
         ensures none { IsNone result ↔ (self.frames ≡ 0) }
-        ensures lowest { IfSome result (IsLowestBit self.frames) }
+        ensures lowest { MatchOption result (HasNoBitFrom self.frames 0) (IsLowestBit self.frames 0) }
     {
-        lowest_bit(self.frames)
+        lowest_bit(self.frames, 0)
     }
 }
 
@@ -166,9 +166,9 @@ impl DamageWord {
     /// The lowest damaged line. It is `None` exactly where no line is damaged.
     pub fn lowest(self) -> Option<Line>
         ensures none { IsNone result ↔ (self.lines.0 ≡ 0) }
-        ensures lowest { IfSome result (IsLowestBit self.lines.0) }
+        ensures lowest { MatchOption result (HasNoBitFrom self.lines.0 0) (λ line. IsLowestBit self.lines.0 0 line) }
     {
-        match lowest_bit(self.lines.0) {
+        match lowest_bit(self.lines.0, 0) {
             Some(n) => Line::new(n as u8),
             None => None,
         }

@@ -2,5 +2,5 @@ use Rattle.hwp_page.proofs.Histories.{IsKept-more}
 use Rattle.hwp_page.proofs.body.Body.append.Goals as goal
 
 pub invariant_of-self : goal.invariant_of-self
-invariant_of-self c = rw (c.push_reserved.ensures.items, c.step.ensures)
+invariant_of-self c = rw (c.push_reserved.ensures.items, c.step.ensures, c.deref_mut.ensures.value)
     (IsKept-more c.args.entry c.self.invariant (rw (← c.self.view_is) at c.requires.allowed))
