@@ -64,36 +64,12 @@ first_is : (k : Keyword) (j : Keyword) (ws rest us : List (List ℕ)) → ws ≡
 first_is k j ws rest us e h =
     (keyword_text_injective j k (ap (λ vs. get_or vs 0 []) (sym h ∙ e)), ap (λ vs. drop 1 vs) (sym h ∙ e))
 
-pub form_from_sentence : (ws : List (List ℕ)) (k : Keyword) (rest : List (List ℕ)) (f : Form) → ws ≡ keyword_text k ∷ rest → IsSentence k rest f → IsForm ws f
-form_from_sentence ws k rest f e h = record {
-  rest = rest;
-  same = e ∙ ap (λ j. keyword_text j ∷ rest) (sym h.kind);
-  is = subst (λ j. IsSentence j rest f) (sym h.kind) h;
-}
-
 pub sentence_from_form : (ws : List (List ℕ)) (k : Keyword) (rest : List (List ℕ)) (f : Form) → ws ≡ keyword_text k ∷ rest → IsForm ws f → IsSentence k rest f
 sentence_from_form ws k rest f e h =
     let both = first_is k (keyword f) ws rest h.rest e h.same in
     subst (λ us. IsSentence k us f) both.1 (subst (λ j. IsSentence j h.rest f) both.0 h.is)
 
-pub unknown_from_sentence : (ws : List (List ℕ)) (k : Keyword) (rest : List (List ℕ)) → ws ≡ keyword_text k ∷ rest → (HasShape k rest → ⊥) → IsUnknown ws
-unknown_from_sentence ws k rest e none = λ h.
-    let both = first_is k h.first ws rest h.rest e h.same in
-    none (subst (λ us. HasShape k us) both.1 (subst (λ j. HasShape j h.rest) both.0 h.shape))
-
-pub bad_from_sentence : (ws : List (List ℕ)) (k : Keyword) (rest : List (List ℕ)) → ws ≡ keyword_text k ∷ rest → All (All IsPrintable) ws → HasShape k rest
-    → ((f : Form) → IsSentence k rest f → ⊥) → IsBadNumber ws
-bad_from_sentence ws k rest e printable shape none = record {
-  shaped = record { printable = printable; first = k; rest = rest; same = e; shape = shape };
-  none = λ f h. none f (sentence_from_form ws k rest f e h);
-}
-
 -- words whose first is no first word of a line
 pub no_first : (ws : List (Bor (List ℕ))) (d : Bor (List ℕ)) → 0 < length ws → ((k : Keyword) → (get_or ws 0 d).now ≡ keyword_text k → ⊥)
     → IsUnknown (map (λ w. w.now) ws)
 no_first ws d l none = λ h. none h.first (ap (λ vs. get_or vs 0 []) (sym (uncons ws d l) ∙ h.same))
-
--- no words
-pub no_words : (ws : List (Bor (List ℕ))) → length ws ≡ 0 → IsUnknown (map (λ w. w.now) ws)
-no_words [] l = λ h. absurd (omega (arith, ap length h.same))
-no_words (w ∷ ws) l = absurd (omega arith)

@@ -1,33 +1,31 @@
--- The limits of a machine and of a script, under names that crates above can cite.
+-- The limits of a machine and of a script.
 use Rattle.std.specs.Prelude.{ℕ}
-use Rattle.hwp_geom.specs.declared.line.TheConstants.{LINES}
-use Rattle.hwp_geom.specs.declared.layout.TheConstants.{MAX_CPUS, MAX_FRAMES, MAX_FILES, MAX_PROCS, MAX_THREADS, MAX_PAGES, MAX_TRANS, MAX_COMMANDS}
 
 -- the lines of a page
 abbrev pub line_limit : ℕ
-line_limit = LINES
+line_limit = 64
 
 abbrev pub cpu_limit : ℕ
-cpu_limit = MAX_CPUS
+cpu_limit = 8
 
 abbrev pub frame_limit : ℕ
-frame_limit = MAX_FRAMES
+frame_limit = 256
 
 abbrev pub file_limit : ℕ
-file_limit = MAX_FILES
+file_limit = 16
 
 abbrev pub process_limit : ℕ
-process_limit = MAX_PROCS
+process_limit = 16
 
 abbrev pub thread_limit : ℕ
-thread_limit = MAX_THREADS
+thread_limit = 32
 
 abbrev pub page_limit : ℕ
-page_limit = MAX_PAGES
+page_limit = 256
 
 abbrev pub translation_limit : ℕ
-translation_limit = MAX_TRANS
+translation_limit = 512
 
 -- the commands of a script, over all processors
 abbrev pub command_limit : ℕ
-command_limit = MAX_COMMANDS
+command_limit = 4096

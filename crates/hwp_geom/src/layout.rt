@@ -1,4 +1,5 @@
 ghost use Rattle.std.specs.Prelude.{◌≡◌, IfOk};
+ghost use Rattle.hwp_geom.specs.Limits.{cpu_limit, frame_limit, file_limit, process_limit, thread_limit, page_limit, translation_limit, command_limit};
 
 use crate::OutOfMemory;
 use crate::list::List;
@@ -21,6 +22,19 @@ pub const MAX_PAGES: u16 = 256;
 pub const MAX_TRANS: u16 = 512;
 /// The most commands of a script, over all processors.
 pub const MAX_COMMANDS: u32 = 4096;
+
+/// Proves that each limit is the number that the definitions name.
+fn limits_are_as_defined()
+    ensures cpus { MAX_CPUS ≡ cpu_limit }
+    ensures frames { MAX_FRAMES ≡ frame_limit }
+    ensures files { MAX_FILES ≡ file_limit }
+    ensures procs { MAX_PROCS ≡ process_limit }
+    ensures threads { MAX_THREADS ≡ thread_limit }
+    ensures pages { MAX_PAGES ≡ page_limit }
+    ensures trans { MAX_TRANS ≡ translation_limit }
+    ensures commands { MAX_COMMANDS ≡ command_limit }
+{
+}
 
 /// What stands behind a page: nothing (anonymous memory), or a file whose words are all `fill` at opening.
 #[derive(Clone, Copy, Debug, PartialEq, Eq)]
