@@ -1,4 +1,4 @@
--- Words are the words of one line.
+-- From words back to their line: words are those of one line at most.
 use Rattle.std.proofs.Common.{ℕ, ◌≡◌, ◌<◌, ◌^◌, ◌+◌, ◌*◌, ◌==◌, cond, Bool, true, false, inl, inr, List, [], ◌∷◌, length, get_or, drop, decimal, refl, sym, ap, ◌∙◌, arith}
 use Rattle.std.specs.Str.Parse.{digits_value}
 use Rattle.std.proofs.lemmas.Fmt.{decimal_is_IsNumeral, decimal_injective}
@@ -22,20 +22,18 @@ use Rattle.hwp_form.specs.declared.form.Backing.TheVariants as backings
 use Rattle.hwp_form.specs.declared.form.Until.TheVariants as untils
 use Rattle.hwp_form.specs.declared.keywords.Keyword.TheVariants as keywords
 use Rattle.hwp_form.specs.declared.keywords.OrderWord.TheVariants as words
+use Rattle.hwp_form.proofs.Listed.{all_kinds}
 use Rattle.hwp_form.proofs.PairsLaws.{Pairs-unique}
-use Rattle.hwp_form.proofs.SentenceLaws.{sentence_from_form}
+use Rattle.hwp_form.proofs.SentenceLaws.{text_number, sentence_from_form}
 use Rattle.hwp_form.proofs.TurnLaws.{no_dot}
 
--- a kind of step by its name, as one number
-name_number : List ℕ → ℕ
-name_number [] = 0
-name_number (b ∷ bs) = b + 256 * name_number bs
+-- the first of these kinds whose name is this number
+kind_among : List Kind → ℕ → Kind
+kind_among [] t = kinds.LoadPte
+kind_among (k ∷ ks) t = cond (text_number (kind_text k) == t) k (kind_among ks t)
 
-kind_at : ℕ → Kind
-kind_at t = cond (t == 478884637267643812900716) kinds.LoadCache (cond (t == 478976731661197423767404) kinds.LoadFrame (cond (t == 511959511185392450760556) kinds.LoadAvail (cond (t == 1870431169149732482924) kinds.LoadFree (cond (t == 7233170638379249516) kinds.LoadBad (cond (t == 1834258267937808936812) kinds.LoadProc (cond (t == 146749483176889398037933932) kinds.LoadPolicy (cond (t == 2074066507144521412460) kinds.LoadStop (cond (t == 549832115952473105067884) kinds.LoadCount (cond (t == 28559206348186994) kinds.Reserve (cond (t == 8388343942817210740) kinds.TakeBit (cond (t == 8388343942817933671) kinds.GiveBit (cond (t == 1871656147234782867061) kinds.Unreserve (cond (t == 500102554721) kinds.Adopt (cond (t == 28821989526627687) kinds.GetRef (cond (t == 28821989526631792) kinds.PutRef (cond (t == 478976731661197541338988) kinds.LockFrame (cond (t == 31390219086148242069191945845) kinds.UnlockFrame (cond (t == 111542069912946) kinds.Retire (cond (t == 111559249913202) kinds.Revive (cond (t == 2110237734968384316787) kinds.SetOwner (cond (t == 1870570510258438106988) kinds.LockPage (cond (t == 122589708960296999779593845) kinds.UnlockPage (cond (t == 28556998634399091) kinds.SetPte (cond (t == 1870643114326734693747) kinds.SetCache (cond (t == 121424956714864) kinds.Poison (cond (t == 34178086863408862236096425827) kinds.CountPoison (cond (t == 32772547957452405) kinds.Uncount (cond (t == 465625378931) kinds.Spoil (cond (t == 1886352499) kinds.Stop (cond (t == 31654249976195431) kinds.GiveUp (cond (t == 1819044203) kinds.Kill (cond (t == 573240168659724212135283) kinds.SetPolicy (cond (t == 1702063980) kinds.Lose (cond (t == 140780522618507488954180978) kinds.ReportLost (kinds.LoadPte)))))))))))))))))))))))))))))))))))
-
-kind_found : (k : Kind) → kind_at (name_number (kind_text k)) ≡ k
-unfolding name_number kind_at
+kind_found : (k : Kind) → kind_among all_kinds (text_number (kind_text k)) ≡ k
+unfolding text_number kind_among
 kind_found kinds.LoadPte = refl
 kind_found kinds.LoadCache = refl
 kind_found kinds.LoadFrame = refl
@@ -74,7 +72,7 @@ kind_found kinds.Lose = refl
 kind_found kinds.ReportLost = refl
 
 kind_text_injective : (j k : Kind) → kind_text j ≡ kind_text k → j ≡ k
-kind_text_injective j k e = sym (kind_found j) ∙ ap (λ w. kind_at (name_number w)) e ∙ kind_found k
+kind_text_injective j k e = sym (kind_found j) ∙ ap (λ w. kind_among all_kinds (text_number w)) e ∙ kind_found k
 
 -- the pieces of one word of a schedule
 until_unique : (c d : ℕ) (u v : Until) → c < 2 ^ 64 → d < 2 ^ 64 → pieces_of c u ≡ pieces_of d v → (c ≡ d) × (u ≡ v)

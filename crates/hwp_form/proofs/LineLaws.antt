@@ -38,9 +38,6 @@ numbered_from-push n (q ∷ qs) p =
 pub record AreLinesSoFar (ps : List (List ℕ)) (i : ℕ) (lines : List Numbered) : Type 0 where
   pub each : Pairs IsNumbered (numbered_from 1 (take i ps)) lines
 
-pub lines-first : (ps : List (List ℕ)) → AreLinesSoFar ps 0 []
-lines-first ps = record { each = tt }
-
 -- a piece that is skipped
 pub lines-skipped : (ps : List (Bor (List ℕ))) (i : ℕ) (d : Bor (List ℕ)) (lines : List Numbered) → AreLinesSoFar (map (λ p. p.now) ps) i lines
     → i < length ps → is_skipped (get_or ps i d).now ≡ true → AreLinesSoFar (map (λ p. p.now) ps) (i + 1) lines

@@ -11,7 +11,12 @@ use Rattle.hwp_form.specs.declared.keywords.Keyword.TheVariants as keywords
 use Rattle.hwp_form.specs.declared.keywords.OrderWord.TheVariants as words
 
 abbrev pub all_kinds : List Kind
-all_kinds = kinds.LoadPte ∷ kinds.LoadCache ∷ kinds.LoadFrame ∷ kinds.LoadAvail ∷ kinds.LoadFree ∷ kinds.LoadBad ∷ kinds.LoadProc ∷ kinds.LoadPolicy ∷ kinds.LoadStop ∷ kinds.LoadCount ∷ kinds.Reserve ∷ kinds.TakeBit ∷ kinds.GiveBit ∷ kinds.Unreserve ∷ kinds.Adopt ∷ kinds.GetRef ∷ kinds.PutRef ∷ kinds.LockFrame ∷ kinds.UnlockFrame ∷ kinds.Retire ∷ kinds.Revive ∷ kinds.SetOwner ∷ kinds.LockPage ∷ kinds.UnlockPage ∷ kinds.SetPte ∷ kinds.SetCache ∷ kinds.Poison ∷ kinds.CountPoison ∷ kinds.Uncount ∷ kinds.Spoil ∷ kinds.Stop ∷ kinds.GiveUp ∷ kinds.Kill ∷ kinds.SetPolicy ∷ kinds.Lose ∷ kinds.ReportLost ∷ []
+all_kinds =
+    kinds.LoadPte ∷ kinds.LoadCache ∷ kinds.LoadFrame ∷ kinds.LoadAvail ∷ kinds.LoadFree ∷ kinds.LoadBad ∷ kinds.LoadProc ∷
+    kinds.LoadPolicy ∷ kinds.LoadStop ∷ kinds.LoadCount ∷ kinds.Reserve ∷ kinds.TakeBit ∷ kinds.GiveBit ∷ kinds.Unreserve ∷ kinds.Adopt ∷
+    kinds.GetRef ∷ kinds.PutRef ∷ kinds.LockFrame ∷ kinds.UnlockFrame ∷ kinds.Retire ∷ kinds.Revive ∷ kinds.SetOwner ∷ kinds.LockPage ∷
+    kinds.UnlockPage ∷ kinds.SetPte ∷ kinds.SetCache ∷ kinds.Poison ∷ kinds.CountPoison ∷ kinds.Uncount ∷ kinds.Spoil ∷ kinds.Stop ∷
+    kinds.GiveUp ∷ kinds.Kill ∷ kinds.SetPolicy ∷ kinds.Lose ∷ kinds.ReportLost ∷ []
 
 -- each kind of step has a place in the list
 pub kind_listed : (k : Kind) → (i : ℕ) × (i < 36) × (get_or all_kinds i kinds.LoadPte ≡ k)
@@ -53,7 +58,9 @@ kind_listed kinds.Lose = (34, omega arith, refl)
 kind_listed kinds.ReportLost = (35, omega arith, refl)
 
 abbrev pub all_words : List OrderWord
-all_words = words.Load ∷ words.Fetch ∷ words.KLoad ∷ words.Store ∷ words.Free ∷ words.Drop ∷ words.Sync ∷ words.Out ∷ words.Fsync ∷ words.Prctl ∷ words.Bad ∷ words.Weak ∷ words.Scrub ∷ words.Log ∷ words.Raise ∷ words.Inject ∷ words.Soft ∷ words.Unpoison ∷ []
+all_words =
+    words.Load ∷ words.Fetch ∷ words.KLoad ∷ words.Store ∷ words.Free ∷ words.Drop ∷ words.Sync ∷ words.Out ∷ words.Fsync ∷ words.Prctl ∷
+    words.Bad ∷ words.Weak ∷ words.Scrub ∷ words.Log ∷ words.Raise ∷ words.Inject ∷ words.Soft ∷ words.Unpoison ∷ []
 
 pub word_listed : (w : OrderWord) → (i : ℕ) × (i < 18) × (get_or all_words i words.Load ≡ w)
 word_listed words.Load = (0, omega arith, refl)
@@ -76,7 +83,9 @@ word_listed words.Soft = (16, omega arith, refl)
 word_listed words.Unpoison = (17, omega arith, refl)
 
 abbrev pub all_heads : List Keyword
-all_heads = keywords.Hwp ∷ keywords.Cpus ∷ keywords.Frames ∷ keywords.Kernel ∷ keywords.Recovery ∷ keywords.Early ∷ keywords.File ∷ keywords.Proc ∷ keywords.Thread ∷ keywords.Page ∷ keywords.Trans ∷ keywords.Cpu ∷ keywords.Schedule ∷ keywords.End ∷ []
+all_heads =
+    keywords.Hwp ∷ keywords.Cpus ∷ keywords.Frames ∷ keywords.Kernel ∷ keywords.Recovery ∷ keywords.Early ∷ keywords.File ∷ keywords.Proc ∷
+    keywords.Thread ∷ keywords.Page ∷ keywords.Trans ∷ keywords.Cpu ∷ keywords.Schedule ∷ keywords.End ∷ []
 
 -- each first word has a place in the list, or is a command's
 pub head_listed : (k : Keyword) → ((i : ℕ) × (i < 14) × (get_or all_heads i keywords.Hwp ≡ k)) ⊎ ((w : OrderWord) × (k ≡ keywords.Order w))

@@ -8,9 +8,6 @@ use Rattle.std.proofs.lemmas.List.Elements.{All-nil, All-more, All-get_or}
 pub record IsNoneOf {A : Type 0} (P : A → Type 0) (xs : List A) (i : ℕ) : Type 0 where
   pub each : All (λ x. P x → ⊥) (take i xs)
 
-pub none-first : {A : Type 0} (P : A → Type 0) (xs : List A) → IsNoneOf P xs 0
-none-first P xs = record { each = All-nil (λ x. P x → ⊥) }
-
 pub none-more : {A : Type 0} (P : A → Type 0) (xs : List A) (i : ℕ) (d : A) → i < length xs → IsNoneOf P xs i → (P (get_or xs i d) → ⊥)
     → IsNoneOf P xs (i + 1)
 none-more P xs i d l h none = record { each = All-more (λ x. P x → ⊥) xs i d l h.each none }

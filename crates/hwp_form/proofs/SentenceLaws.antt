@@ -1,23 +1,28 @@
 -- A line has one first word, and what the first word and the others say of the line.
-use Rattle.std.proofs.Common.{ℕ, ◌≡◌, ◌<◌, ◌+◌, ◌*◌, ◌==◌, cond, List, [], ◌∷◌, length, get_or, drop, map, Bor, refl, sym, ap, subst, ◌∙◌, arith}
+use Rattle.std.proofs.Common.{ℕ, ◌≡◌, ◌<◌, ◌+◌, ◌*◌, ◌==◌, ◌++◌, cond, List, [], ◌∷◌, length, get_or, drop, map, Bor, refl, sym, ap, subst, ◌∙◌, arith}
 use Rattle.std.specs.Prelude.{All}
 use Rattle.hwp_form.specs.Grammar.{keyword_text, keyword, IsSentence, IsForm, IsPrintable, IsUnknown, IsBadNumber, HasShape}
 use Rattle.hwp_form.specs.declared.form.Form.{Form}
 use Rattle.hwp_form.specs.declared.keywords.Keyword.{Keyword}
 use Rattle.hwp_form.specs.declared.keywords.Keyword.TheVariants as keywords
 use Rattle.hwp_form.specs.declared.keywords.OrderWord.TheVariants as words
+use Rattle.hwp_form.proofs.Listed.{all_heads, all_words}
 
 -- a word as one number
-word_number : List ℕ → ℕ
-word_number [] = 0
-word_number (b ∷ bs) = b + 256 * word_number bs
+unfoldable pub text_number : List ℕ → ℕ
+text_number [] = 0
+text_number (b ∷ bs) = b + 256 * text_number bs
 
--- the first word of this number
-keyword_at : ℕ → Keyword
-keyword_at t = cond (t == 1937076323) (keywords.Cpus) (cond (t == 126879463993958) (keywords.Frames) (cond (t == 119182900487531) (keywords.Kernel) (cond (t == 8751168585283626354) (keywords.Recovery) (cond (t == 521510478181) (keywords.Early) (cond (t == 1701603686) (keywords.File) (cond (t == 1668248176) (keywords.Proc) (cond (t == 110369476601972) (keywords.Thread) (cond (t == 1701273968) (keywords.Page) (cond (t == 495773119092) (keywords.Trans) (cond (t == 7696483) (keywords.Cpu) (cond (t == 7308345369373991795) (keywords.Schedule) (cond (t == 6581861) (keywords.End) (cond (t == 1684107116) (keywords.Order words.Load) (cond (t == 448345171302) (keywords.Order words.Fetch) (cond (t == 431131421803) (keywords.Order words.KLoad) (cond (t == 435711603827) (keywords.Order words.Store) (cond (t == 1701147238) (keywords.Order words.Free) (cond (t == 1886351972) (keywords.Order words.Drop) (cond (t == 1668184435) (keywords.Order words.Sync) (cond (t == 7632239) (keywords.Order words.Out) (cond (t == 427055215462) (keywords.Order words.Fsync) (cond (t == 465809142384) (keywords.Order words.Prctl) (cond (t == 6578530) (keywords.Order words.Bad) (cond (t == 1801545079) (keywords.Order words.Weak) (cond (t == 422877225843) (keywords.Order words.Scrub) (cond (t == 6778732) (keywords.Order words.Log) (cond (t == 435727982962) (keywords.Order words.Raise) (cond (t == 127970252058217) (keywords.Order words.Inject) (cond (t == 1952870259) (keywords.Order words.Soft) (cond (t == 7957705963265355381) (keywords.Order words.Unpoison) (keywords.Hwp)))))))))))))))))))))))))))))))
+abbrev all_keywords : List Keyword
+all_keywords = all_heads ++ map keywords.Order all_words
 
-keyword_found : (k : Keyword) → keyword_at (word_number (keyword_text k)) ≡ k
-unfolding word_number keyword_at
+-- the first of these first words that is this number
+keyword_among : List Keyword → ℕ → Keyword
+keyword_among [] t = keywords.Hwp
+keyword_among (k ∷ ks) t = cond (text_number (keyword_text k) == t) k (keyword_among ks t)
+
+keyword_found : (k : Keyword) → keyword_among all_keywords (text_number (keyword_text k)) ≡ k
+unfolding text_number keyword_among
 keyword_found keywords.Hwp = refl
 keyword_found keywords.Cpus = refl
 keyword_found keywords.Frames = refl
@@ -53,7 +58,7 @@ keyword_found (keywords.Order words.Unpoison) = refl
 
 -- first words of one text are one
 pub keyword_text_injective : (j k : Keyword) → keyword_text j ≡ keyword_text k → j ≡ k
-keyword_text_injective j k e = sym (keyword_found j) ∙ ap (λ w. keyword_at (word_number w)) e ∙ keyword_found k
+keyword_text_injective j k e = sym (keyword_found j) ∙ ap (λ w. keyword_among all_keywords (text_number w)) e ∙ keyword_found k
 
 pub uncons : (ws : List (Bor (List ℕ))) (d : Bor (List ℕ)) → 0 < length ws
     → map (λ w. w.now) ws ≡ (get_or ws 0 d).now ∷ map (λ w. w.now) (drop 1 ws)
@@ -64,36 +69,12 @@ first_is : (k : Keyword) (j : Keyword) (ws rest us : List (List ℕ)) → ws ≡
 first_is k j ws rest us e h =
     (keyword_text_injective j k (ap (λ vs. get_or vs 0 []) (sym h ∙ e)), ap (λ vs. drop 1 vs) (sym h ∙ e))
 
-pub form_from_sentence : (ws : List (List ℕ)) (k : Keyword) (rest : List (List ℕ)) (f : Form) → ws ≡ keyword_text k ∷ rest → IsSentence k rest f → IsForm ws f
-form_from_sentence ws k rest f e h = record {
-  rest = rest;
-  same = e ∙ ap (λ j. keyword_text j ∷ rest) (sym h.kind);
-  is = subst (λ j. IsSentence j rest f) (sym h.kind) h;
-}
-
 pub sentence_from_form : (ws : List (List ℕ)) (k : Keyword) (rest : List (List ℕ)) (f : Form) → ws ≡ keyword_text k ∷ rest → IsForm ws f → IsSentence k rest f
 sentence_from_form ws k rest f e h =
     let both = first_is k (keyword f) ws rest h.rest e h.same in
     subst (λ us. IsSentence k us f) both.1 (subst (λ j. IsSentence j h.rest f) both.0 h.is)
 
-pub unknown_from_sentence : (ws : List (List ℕ)) (k : Keyword) (rest : List (List ℕ)) → ws ≡ keyword_text k ∷ rest → (HasShape k rest → ⊥) → IsUnknown ws
-unknown_from_sentence ws k rest e none = λ h.
-    let both = first_is k h.first ws rest h.rest e h.same in
-    none (subst (λ us. HasShape k us) both.1 (subst (λ j. HasShape j h.rest) both.0 h.shape))
-
-pub bad_from_sentence : (ws : List (List ℕ)) (k : Keyword) (rest : List (List ℕ)) → ws ≡ keyword_text k ∷ rest → All (All IsPrintable) ws → HasShape k rest
-    → ((f : Form) → IsSentence k rest f → ⊥) → IsBadNumber ws
-bad_from_sentence ws k rest e printable shape none = record {
-  shaped = record { printable = printable; first = k; rest = rest; same = e; shape = shape };
-  none = λ f h. none f (sentence_from_form ws k rest f e h);
-}
-
 -- words whose first is no first word of a line
 pub no_first : (ws : List (Bor (List ℕ))) (d : Bor (List ℕ)) → 0 < length ws → ((k : Keyword) → (get_or ws 0 d).now ≡ keyword_text k → ⊥)
     → IsUnknown (map (λ w. w.now) ws)
 no_first ws d l none = λ h. none h.first (ap (λ vs. get_or vs 0 []) (sym (uncons ws d l) ∙ h.same))
-
--- no words
-pub no_words : (ws : List (Bor (List ℕ))) → length ws ≡ 0 → IsUnknown (map (λ w. w.now) ws)
-no_words [] l = λ h. absurd (omega (arith, ap length h.same))
-no_words (w ∷ ws) l = absurd (omega arith)

@@ -36,9 +36,6 @@ pub record AreTurnsSoFar (ws : List (List ℕ)) (i : ℕ) (turns : List GoWord) 
   pub good : is_bad ≡ false → Pairs IsTurn (take i ws) turns
   pub ill : is_bad ≡ true → (ts : List GoWord) → Pairs IsTurn ws ts → ⊥
 
-pub turns-first : (ws : List (List ℕ)) → AreTurnsSoFar ws 0 [] false
-turns-first ws = record { shaped = All-nil HasTurnShape; good = λ e. tt; ill = λ e. absurd (cc e) }
-
 pub turns-good : (words : List (Bor (List ℕ))) (i : ℕ) (d : Bor (List ℕ)) (turns : List GoWord) (is_bad : Bool) (turn : GoWord)
     → AreTurnsSoFar (map (λ w. w.now) words) i turns is_bad → i < length words → HasTurnShape (get_or words i d).now
     → IsTurn (get_or words i d).now turn → AreTurnsSoFar (map (λ w. w.now) words) (i + 1) (turns ++ turn ∷ []) is_bad
@@ -74,9 +71,3 @@ pub turns-shaped : (words : List (Bor (List ℕ))) (i : ℕ) (turns : List GoWor
     → length words ≤ i → All HasTurnShape (map (λ w. w.now) words)
 turns-shaped words i turns is_bad h all =
     subst (All HasTurnShape) (take_all i (map (λ w. w.now) words) (rw length-map all)) h.shaped
-
--- all words are turns
-pub turns-all : (words : List (Bor (List ℕ))) (i : ℕ) (turns : List GoWord) → AreTurnsSoFar (map (λ w. w.now) words) i turns false
-    → length words ≤ i → Pairs IsTurn (map (λ w. w.now) words) turns
-turns-all words i turns h all =
-    subst (λ ws. Pairs IsTurn ws turns) (take_all i (map (λ w. w.now) words) (rw length-map all)) (h.good refl)

@@ -1,6 +1,8 @@
 -- What it says of a line that no reason applies to it, kind by kind.
 use Rattle.std.proofs.Common.{ℕ, Bool, ◌≡◌, ◌<◌, ◌≤◌, List, [], ◌∷◌, length, inl, inr, refl, arith, rules, Option, None, Some, ◌+◌}
 use Rattle.std.specs.Prelude.{slice_get, option_and_then, IsSome}
+use Rattle.hwp_script.specs.Limits.{schedule_limit}
+use Rattle.hwp_geom.specs.Limits.{command_limit}
 use Rattle.hwp_script.specs.Context.{cpus_in, frames_in, recovery_in, early_in, files_in, procs_in, threads_in, pages_in, trans_in, commands_in, go_in, place_in, highest}
 use Rattle.hwp_script.specs.Reasons.{IsMisplaced, IsElsewhere, IsBackingOver, IsBackingUndeclared, IsOver, IsUndeclared, actor, top_cpu, IsClean}
 use Rattle.hwp_form.specs.declared.Order.{Order}
@@ -199,13 +201,13 @@ clean_cpu {above} {c} h =
 pub record IsOrderClean (above : List Form) (o : Order) : Type 0 where
   pub placed : IsPlaced above 11
   pub low : IsOver o → ⊥
-  pub few : commands_in above < 4096
+  pub few : commands_in above < command_limit
   pub named : IsUndeclared above o → ⊥
   pub here : IsElsewhere (place_in above) (option_and_then (λ t. slice_get (threads_in above) t) (actor o)) → ⊥
 
 pub clean_order : {above : List Form} {o : Order} → IsClean above (forms.Order o) → IsOrderClean above o
 clean_order {above} {o} h =
-    let many : 4096 ≤ commands_in above → ⊥ = λ e. h.none whys.OverLimit (inr e) in
+    let many : command_limit ≤ commands_in above → ⊥ = λ e. h.none whys.OverLimit (inr e) in
     record {
       placed = placed above 11 (λ e. h.none whys.WrongPlace (inl e));
       low = λ e. h.none whys.OverLimit (inl e);
@@ -216,14 +218,14 @@ clean_order {above} {o} h =
 
 pub record IsScheduleClean (above : List Form) (ws : List GoWord) : Type 0 where
   pub placed : IsPlaced above 12
-  pub few : length (go_in above) + length ws ≤ 100000
+  pub few : length (go_in above) + length ws ≤ schedule_limit
   pub cpus : top_cpu ws < cpus_in above
   pub low : top_cpu ws < 8
 
 pub clean_schedule : {above : List Form} {ws : List GoWord} → IsClean above (forms.Schedule ws) → IsScheduleClean above ws
 clean_schedule {above} {ws} h =
     let over : 8 ≤ top_cpu ws → ⊥ = λ e. h.none whys.OverLimit (inl e) in
-    let many : 100000 < length (go_in above) + length ws → ⊥ = λ e. h.none whys.OverLimit (inr e) in
+    let many : schedule_limit < length (go_in above) + length ws → ⊥ = λ e. h.none whys.OverLimit (inr e) in
     let none = h.none whys.Undeclared in
     record { placed = placed above 12 (h.none whys.WrongPlace); few = omega arith; cpus = omega arith; low = omega arith }
 

@@ -30,7 +30,3 @@ AreClean-push xs f h k = record {
       rw (at, take_at xs (f ∷ []) (length xs) refl, ← same) k)
       (cases_lt n (length xs));
 }
-
-pub AreClean-more : (fs : List Form) (i : ℕ) (d : Form) → i < length fs → AreClean (take i fs) → IsClean (take i fs) (get_or fs i d)
-    → AreClean (take (i + 1) fs)
-AreClean-more fs i d l h k = rw (take_more fs i d l) (AreClean-push (take i fs) (get_or fs i d) h k)

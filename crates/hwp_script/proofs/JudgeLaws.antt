@@ -55,10 +55,6 @@ lowest_of : (last : Bool) (above : List Form) (f : Form) (w : Why) → IsLowest 
 lowest_of last above f w h whys.NoEnd e = omega (arith, low above f w h.applies)
 lowest_of last above f w h v e = h.lowest v e
 
--- the lowest reason that applies to a form is its lowest fault
-pub lowest_form : {last : Bool} {above : List Form} {f : Form} {w : Why} → IsLowest above f w → IsLowestFault last above (reads.Form f) w
-lowest_form {last} {above} {f} {w} h = record { applies = fault_of last above f w h.applies; lowest = lowest_of last above f w h }
-
 only_end : (last : Bool) (above : List Form) (f : Form) → IsClean above f → (v : Why) → IsFault last above (reads.Form f) v → 8 ≤ number v
 only_end last above f h whys.NoEnd e = omega arith
 only_end last above f h whys.BadHeader e = absurd (h.none whys.BadHeader e)
@@ -71,19 +67,12 @@ only_end last above f h whys.WrongPlace e = absurd (h.none whys.WrongPlace e)
 only_end last above f h whys.TooLong e = omega arith
 only_end last above f h whys.NotBuilt e = omega arith
 
--- a clean last line that is not `end`
-pub lacks_end : {last : Bool} {above : List Form} {f : Form} → IsClean above f → last ≡ true → f ≢ forms.End → IsLowestFault last above (reads.Form f) whys.NoEnd
-lacks_end {last} {above} {f} h l n = record { applies = (l, n); lowest = only_end last above f h }
-
 -- the lines so far have these forms, each is clean, and this is their summary; of all lines the last is `end`
 pub record AreSoFar (lines yielded : List Numbered) (fs : List Form) (s : Summary) : Type 0 where
   pub each : AreForms yielded fs
   pub clean : AreClean fs
   pub ended : 0 < length fs → length lines ≤ length fs → IsEnded fs
   pub sums : Sums fs s
-
-pub so_far_none : (lines : List Numbered) (s : Summary) → Sums [] s → AreSoFar lines [] [] s
-so_far_none lines s h = record { each = record { same = refl }; clean = AreClean-none; ended = λ some all. absurd (omega arith); sums = h }
 
 -- the next line
 pub record IsTurn (lines yielded : List Numbered) (n : Numbered) : Type 0 where

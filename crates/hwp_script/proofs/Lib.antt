@@ -9,3 +9,4 @@ pub mod NameLaws
 pub mod FitLaws
 pub mod ValidLaws
 pub mod ReadLaws
+pub mod OneScript

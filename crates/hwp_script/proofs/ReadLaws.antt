@@ -19,11 +19,12 @@ use Rattle.hwp_script.specs.Refusals.{AreScript, IsFault, IsFirst, AreRefused}
 use Rattle.hwp_script.specs.Reads.{Reads, IsFaulty, IsRefused, IsRefusedFor}
 use Rattle.hwp_script.proofs.JudgeLaws.{as_many}
 
-constructors : (fs gs : List Form) → map reads.Form fs ≡ map reads.Form gs → fs ≡ gs
-constructors [] [] e = refl
-constructors [] (g ∷ gs) e = cc
-constructors (f ∷ fs) [] e = cc
-constructors (f ∷ fs) (g ∷ gs) e = let rest : fs ≡ gs = constructors fs gs (cc) in cc
+-- forms are told apart by what they are read as
+pub same_forms : (fs gs : List Form) → map reads.Form fs ≡ map reads.Form gs → fs ≡ gs
+same_forms [] [] e = refl
+same_forms [] (g ∷ gs) e = cc
+same_forms (f ∷ fs) [] e = cc
+same_forms (f ∷ fs) (g ∷ gs) e = let rest : fs ≡ gs = same_forms fs gs (cc) in cc
 
 -- the form of a line among those of all lines
 pub record IsAt (fs : List Form) (i : ℕ) (line : Numbered) : Type 0 where
@@ -58,7 +59,7 @@ last_end fs i f there ended e =
 no_first : (lines : List Numbered) (s : Script) (r : Refused) → AreScript lines s → IsFirst lines r → ⊥
 no_first lines s r h k =
     let line = form_at lines h.forms k.at k.line h.each.same k.there in
-    let above : k.above ≡ take k.at h.forms = constructors k.above (take k.at h.forms) (sym k.each.same ∙ sym (take-map (λ (l : Numbered). l.read) k.at lines)
+    let above : k.above ≡ take k.at h.forms = same_forms k.above (take k.at h.forms) (sym k.each.same ∙ sym (take-map (λ (l : Numbered). l.read) k.at lines)
     ∙ ap (take k.at) h.each.same ∙ take-map reads.Form k.at h.forms) in
     let fault : IsFault (k.at + 1 == length lines) (take k.at h.forms) (reads.Form line.form) r.why = rw (← above, ← line.read) k.fault.applies in
     let last = λ (e : (k.at + 1 == length lines) ≡ true). last_end h.forms k.at line.form line.there h.ended (omega (arith, same_number (k.at + 1) (length lines) e, as_many h.each)) in

@@ -90,6 +90,3 @@ one_mark {above} {s} f h l =
           ))
           (cases_eq frame f);
     }
-
-pub Sums-more : (fs : List Form) (i : ℕ) (d : Form) (s : Summary) → i < length fs → Sums (take i fs ++ get_or fs i d ∷ []) s → Sums (take (i + 1) fs) s
-Sums-more fs i d s l h = rw (take_more fs i d l) h

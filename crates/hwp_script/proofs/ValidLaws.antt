@@ -9,6 +9,8 @@ use Rattle.std.proofs.lemmas.List.FromFn.{length-map-range_with_len}
 use Rattle.std.proofs.lemmas.Option.{slice_get-get_or, slice_get_within, get_or_from_slice_get}
 use Rattle.std.proofs.lemmas.Bool.{cases_eq}
 use Rattle.std.proofs.lemmas.Bool.Decides.{nat_tests}
+use Rattle.hwp_script.specs.Limits.{schedule_limit}
+use Rattle.hwp_geom.specs.Limits.{command_limit}
 use Rattle.hwp_geom.specs.Layout.{IsBacked}
 use Rattle.hwp_geom.specs.declared.Layout.{Layout}
 use Rattle.hwp_geom.specs.declared.ThreadDecl.{ThreadDecl}
@@ -60,11 +62,11 @@ files_step : (above : List Form) (f : Form) → files_in above ≤ 16 → IsClea
 files_step above (forms.File n) h k = omega (arith, (clean_file k).few, (clean_file k).next)
 files_step above f h k = h
 
-commands_step : (above : List Form) (f : Form) → commands_in above ≤ 4096 → IsClean above f → more (command_of f) (commands_in above) ≤ 4096
+commands_step : (above : List Form) (f : Form) → commands_in above ≤ command_limit → IsClean above f → more (command_of f) (commands_in above) ≤ command_limit
 commands_step above (forms.Order o) h k = omega (arith, (clean_order k).few)
 commands_step above f h k = h
 
-go_count_step : (above : List Form) (f : Form) → length (go_in above) ≤ 100000 → IsClean above f → length (go_in above ++ map go_of (words_of f)) ≤ 100000
+go_count_step : (above : List Form) (f : Form) → length (go_in above) ≤ schedule_limit → IsClean above f → length (go_in above ++ map go_of (words_of f)) ≤ schedule_limit
 go_count_step above (forms.Schedule ws) h k = simp (length-append, length-map) (simp length-map at (clean_schedule k).few)
 go_count_step above f h k = rw append-nil h
 
@@ -134,13 +136,13 @@ pub record IsDeclared (fs : List Form) : Type 0 where
   pub threads : length (threads_in fs) ≤ 32
   pub pages : length (pages_in fs) ≤ 256
   pub trans : length (trans_in fs) ≤ 512
-  pub commands : commands_in fs ≤ 4096
+  pub commands : commands_in fs ≤ command_limit
   pub thread_names : All (IsNamedThread (procs_in fs) (cpus_in fs)) (threads_in fs)
   pub trans_names : All (IsNamedTrans (procs_in fs) (length (pages_in fs))) (trans_in fs)
   pub page_names : All (IsBacked (names_in fs)) (pages_in fs)
   pub own : (c : ℕ) → All (IsCommandOf (names_in fs) c) (commands_of fs c)
   pub go : All (IsNamedGo (cpus_in fs)) (go_in fs)
-  pub few_go : length (go_in fs) ≤ 100000
+  pub few_go : length (go_in fs) ≤ schedule_limit
 
 declared_none : IsDeclared []
 declared_none = record {

@@ -23,8 +23,3 @@ pub top_cpu-at : (ws : List GoWord) (i : ℕ) (d : GoWord) → i < length ws →
 top_cpu-at [] i d l = absurd (omega arith)
 top_cpu-at (w ∷ ws) zero d l = omega arith
 top_cpu-at (w ∷ ws) (suc i) d l = omega (arith, top_cpu-at ws i d (omega arith))
-
--- words whose highest processor is below a number name processors below it
-pub words_below : (n : ℕ) (ws : List GoWord) → top_cpu ws < n → All (λ (w : GoWord). w.cpu < n) ws
-words_below n [] l = All-nil (λ (w : GoWord). w.cpu < n)
-words_below n (w ∷ ws) l = All-cons (λ (v : GoWord). v.cpu < n) w ws (omega arith) (words_below n ws (omega arith))

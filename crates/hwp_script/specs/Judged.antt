@@ -12,10 +12,6 @@ use Rattle.hwp_script.specs.Sums.{Sums}
 use Rattle.hwp_script.specs.Collects.{IsEnded}
 use Rattle.hwp_script.specs.Refusals.{IsFault, AreForms, AreRefused}
 
--- no reason applies to the line
-pub record IsFaultless (last : Bool) (above : List Form) (r : LineRead) : Type 0 where
-  pub none : (w : Why) → IsFault last above r w → ⊥
-
 -- the lines have these forms, each is clean, the last is `end`, and this is their summary
 pub record AreSummed (lines : List Numbered) (j : Clean) : Type 0 where
   pub each : AreForms lines j.forms.items

@@ -1,11 +1,10 @@
--- The limits of a script, under names that crates above can cite.
-use Rattle.std.specs.Prelude.{ℕ}
-use Rattle.hwp_script.specs.declared.script.TheConstants.{MAX_SCHEDULE, MAX_SCRIPT}
+-- The limits of a script.
+use Rattle.std.specs.Prelude.{ℕ, ◌^◌}
 
 -- the words of a schedule
 abbrev pub schedule_limit : ℕ
-schedule_limit = MAX_SCHEDULE
+schedule_limit = 100000
 
--- the bytes of a script
+-- the bytes of a script: 1 MiB
 abbrev pub script_limit : ℕ
-script_limit = MAX_SCRIPT
+script_limit = 2 ^ 20

@@ -2,7 +2,7 @@ ghost use Rattle.std.specs.Prelude.{◌≡◌, ◌↔◌, Bool, IsTrue, true, If
 ghost use Rattle.hwp_script.specs.Reasons.{IsClean};
 ghost use Rattle.hwp_script.specs.Sums.{Sums};
 ghost use Rattle.hwp_script.specs.Refusals.{IsLowestFault};
-ghost use Rattle.hwp_script.specs.Judged.{IsFaultless, AreJudged};
+ghost use Rattle.hwp_script.specs.Judged.{AreJudged};
 
 use crate::context::Summary;
 use crate::faults::fault;

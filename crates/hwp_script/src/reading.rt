@@ -37,12 +37,13 @@ fn read_script(alloc: Global, lines: Vec<Numbered>) -> Result<Result<Script, Ref
 
 /// The script that bytes are the text of. Bytes beyond `MAX_SCRIPT` are refused as `TooLong` at line 0. All others
 /// that are the text of no script are refused at the first line that is at fault, with the lowest reason that applies
-/// to it. No text is both.
+/// to it. No text is both, and none is the text of two scripts.
 pub fn read(alloc: Global, bytes: &[u8]) -> Result<Script, ReadScript>
     ensures script { IfOk result (λ script. Reads bytes.now script) }
     ensures valid { IfOk result IsValid }
     ensures refused { (r : Refused) → IsErrOf result (ReadScript.Refused r) → IsRefused bytes.now r }
     ensures apart { (r : Refused) (script : Script) → IsRefused bytes.now r → Reads bytes.now script → ⊥ }
+    ensures one { (script other : Script) → Reads bytes.now script → Reads bytes.now other → other ≡ script }
 {
     if bytes.len() > MAX_SCRIPT {
         return Err(ReadScript::Refused(Refused {

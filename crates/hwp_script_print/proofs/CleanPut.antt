@@ -1,6 +1,8 @@
 -- When no reason applies to a line, kind by kind.
 use Rattle.std.proofs.Common.{ℕ, Bool, ◌≡◌, ◌<◌, ◌≤◌, ◌+◌, List, [], length, inl, inr, arith, Option, None, Some}
 use Rattle.std.specs.Prelude.{Contains, IsSome}
+use Rattle.hwp_script.specs.Limits.{schedule_limit}
+use Rattle.hwp_geom.specs.Limits.{command_limit}
 use Rattle.hwp_script.specs.Context.{cpus_in, kernel_in, recovery_in, early_in, lists_in, commands_in, go_in}
 use Rattle.hwp_script.specs.Reasons.{Applies, IsMisplaced, IsClean, top_cpu}
 use Rattle.hwp_form.specs.declared.Order.{Order}
@@ -162,7 +164,7 @@ put_cpu l h k = record { none = no_cpu l h k }
 no_order : {above : List Form} {o : Order} → 0 < length above → IsOrderClean above o → (w : Why) → Applies above (forms.Order o) w → ⊥
 no_order l h whys.BadHeader e = omega (arith, l, e)
 no_order l h whys.OverLimit (inl e) = h.low e
-no_order {above} l h whys.OverLimit (inr e) = let big : 4096 ≤ commands_in above = e in omega (arith, h.few, big)
+no_order {above} l h whys.OverLimit (inr e) = let big : command_limit ≤ commands_in above = e in omega (arith, h.few, big)
 no_order l h whys.Undeclared e = h.named e
 no_order l h whys.WrongPlace (inl e) = not_misplaced h.placed e
 no_order l h whys.WrongPlace (inr e) = h.here e
@@ -174,7 +176,7 @@ put_order l h = record { none = no_order l h }
 no_schedule : {above : List Form} {ws : List GoWord} → 0 < length above → IsScheduleClean above ws → (w : Why) → Applies above (forms.Schedule ws) w → ⊥
 no_schedule l h whys.BadHeader e = omega (arith, l, e)
 no_schedule {above} {ws} l h whys.OverLimit (inl e) = let big : 8 ≤ top_cpu ws = e in omega (arith, h.low, big)
-no_schedule {above} {ws} l h whys.OverLimit (inr e) = let big : 100000 < length (go_in above) + length ws = e in omega (arith, h.few, big)
+no_schedule {above} {ws} l h whys.OverLimit (inr e) = let big : schedule_limit < length (go_in above) + length ws = e in omega (arith, h.few, big)
 no_schedule l h whys.Undeclared e = omega (arith, h.cpus, e)
 no_schedule l h whys.WrongPlace e = not_misplaced h.placed e
 no_schedule l h w e = e

@@ -6,5 +6,4 @@ pub mod Sections
 pub mod ListsPut
 pub mod RowsPut
 pub mod CommandsBack
-pub mod OneScript
 pub mod RoundTrip

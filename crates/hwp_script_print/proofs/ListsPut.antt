@@ -6,7 +6,7 @@ use Rattle.std.proofs.lemmas.List.{append-nil, append_assoc}
 use Rattle.std.proofs.lemmas.List.Elements.{All-head, All-tail, All-push, All-weaker, All-contains}
 use Rattle.std.proofs.lemmas.List.Sums.{sum_by-cons}
 use Rattle.hwp_geom.specs.Layout.{IsSound}
-use Rattle.hwp_geom.specs.Limits.{frame_limit, file_limit, thread_limit, page_limit, translation_limit}
+use Rattle.hwp_geom.specs.Limits.{frame_limit, file_limit, thread_limit, page_limit, translation_limit, command_limit}
 use Rattle.hwp_geom.specs.declared.Layout.{Layout}
 use Rattle.hwp_geom.specs.declared.Thread.{Thread}
 use Rattle.hwp_geom.specs.declared.VSlot.{VSlot}
@@ -234,7 +234,7 @@ abbrev pub command_form : Command → Form
 command_form cmd = forms.Order (order_of cmd)
 
 pub made_commands : {fs : List Form} (k : Known) (l : Layout) (c n : ℕ) (cmds : List Command) → IsMade fs 11 (record k { commands = n }) → IsLaidOut k l → 0 < k.cpus → 0 < k.frames
-    → k.place ≡ Some c → All (IsCommandOf l c) cmds → All HasWords cmds → n + length cmds ≤ 4096
+    → k.place ≡ Some c → All (IsCommandOf l c) cmds → All HasWords cmds → n + length cmds ≤ command_limit
     → IsMade (fs ++ map command_form cmds) 11 (record k { commands = n + length cmds })
 made_commands k l c n [] h laid some_c some_f here own words few = let e : n + zero ≡ n = omega arith in rw e (made_nil h)
 made_commands {fs} k l c n (cmd ∷ cmds) h laid some_c some_f here own words few =
@@ -261,7 +261,7 @@ placed_at p m (list ∷ lists) = placed_at (Some m) (m + 1) lists
 
 pub made_lists : {fs : List Form} (k : Known) (l : Layout) (done : List ℕ) (p : Option ℕ) (n m : ℕ) (lists : List (List Command))
     → IsMade fs 11 (record k { lists = done; place = p; commands = n }) → IsLaidOut k l → 0 < k.cpus → 0 < k.frames
-    → All (λ i. i < m) done → m + length lists ≤ k.cpus → k.cpus ≤ 8 → AreLists l m lists → All (All HasWords) lists → n + sum_by length lists ≤ 4096
+    → All (λ i. i < m) done → m + length lists ≤ k.cpus → k.cpus ≤ 8 → AreLists l m lists → All (All HasWords) lists → n + sum_by length lists ≤ command_limit
     → IsMade (fs ++ numbered list_forms m lists) 11 (record k { lists = done ++ range_with_len m (length lists); place = placed_at p m lists; commands = n + sum_by length lists })
 made_lists k l done p n m [] h laid some_c some_f low l_c few_c own words few =
     let e : n + zero ≡ n = omega arith in rw (append-nil done, e) (made_nil h)

@@ -54,15 +54,6 @@ put_counted form_of old now new i e f =
     map-range_with_len_more form_of 0 i i (omega arith) in
     put_one old now new (counted form_of i) (form_of i) e f ∙ ap (λ fs. old ++ forms_text fs) (sym more)
 
--- a command more
-pub put_command : {A : Type 0} (form_of : A → Form) (front : Form) (old now new : List ℕ) (xs : List A) (i : ℕ) (d x : A) → i < length xs
-    → now ≡ old ++ forms_text (front ∷ map form_of (take i xs)) → new ≡ now ++ line (form_words (form_of x)) → x ≡ get_or xs i d
-    → new ≡ old ++ forms_text (front ∷ map form_of (take (i + 1) xs))
-put_command form_of front old now new xs i d x l e f is =
-    let more : map form_of (take (i + 1) xs) ≡ map form_of (take i xs) ++ form_of x ∷ [] =
-    ap (map form_of) (take_more xs i d l) ∙ map_push form_of (take i xs) (get_or xs i d) ∙ ap (λ y. map form_of (take i xs) ++ form_of y ∷ []) (sym is) in
-    put_one old now new (front ∷ map form_of (take i xs)) (form_of x) e f ∙ ap (λ fs. old ++ forms_text (front ∷ fs)) (sym more)
-
 forms_text-one : (f : Form) → forms_text (f ∷ []) ≡ line (form_words f)
 forms_text-one f = append-nil (line (form_words f))
 

@@ -4,6 +4,7 @@ use Rattle.std.specs.Prelude.{◌↔◌, All, Contains, slice_get, sum_by, fold}
 use Rattle.std.specs.List.{range_with_len}
 use Rattle.std.proofs.lemmas.List.{length_push, take_all}
 use Rattle.std.proofs.lemmas.List.Elements.{All-nil, Contains-append_right, Contains-append_cases, Contains-push_cases}
+use Rattle.hwp_geom.specs.Limits.{command_limit}
 use Rattle.hwp_geom.specs.Layout.{IsSound, IsBacked}
 use Rattle.hwp_geom.specs.declared.Layout.{Layout}
 use Rattle.hwp_geom.specs.declared.PageKind.{PageKind}
@@ -25,7 +26,7 @@ use Rattle.hwp_script_print.proofs.Sections.{Known, IsMade, nothing, marked, Has
 use Rattle.hwp_script_print.proofs.ListsPut.{made_lists, placed_at}
 use Rattle.hwp_script_print.proofs.RowsPut.{made_rows}
 use Rattle.hwp_script_print.proofs.CommandsBack.{lists_back, between}
-use Rattle.hwp_script_print.proofs.OneScript.{one_script}
+use Rattle.hwp_script.proofs.OneScript.{one_script}
 
 -- the lines of the declarations
 abbrev layout_forms : Layout → List Form
@@ -86,7 +87,7 @@ made_script s v =
     let layout = made_layout s.layout sound v.fills in
     let lists = made_lists (declared s.layout) s.layout [] None 0 0 s.lists (made_later 11 layout (omega arith))
     (record { sound = sound; cpus = refl; frames = refl; files = refl; threads = refl; pages = refl; trans = refl }) sound.some_cpu sound.some_frame
-    (All-nil (λ i. i < 0)) (omega (arith, v.one_each)) sound.cpus v.lists v.words (no_more (sum_by length s.lists) 4096 v.few) in
+    (All-nil (λ i. i < 0)) (omega (arith, v.one_each)) sound.cpus v.lists v.words (no_more (sum_by length s.lists) command_limit v.few) in
     let rows = made_rows (record (said s) { go = [] }) s.go (placed_at None 0 s.lists) 0 (rows_of (length s.go)) (made_later 12 (rw (from_none (sum_by length s.lists)) at lists) (omega arith))
     sound.some_cpu sound.some_frame sound.cpus v.go v.few_go (omega arith) in
     let end = made_push forms.End (made_later 13 rows (omega arith)) (omega arith) (plain tt refl) (put_end rows.some (placed rows sound.some_cpu sound.some_frame)) in
@@ -177,4 +178,4 @@ reads_back s v short =
 -- the text of a valid script is read as the script, and as no other
 pub round_trip : (s : Script) → IsValid s → length (script_text s) ≤ script_limit → IsTextOf (script_text s) s
 round_trip s v short =
-    let reads = reads_back s v short in record { reads = reads; only = λ t k. one_script t reads k }
+    let reads = reads_back s v short in record { reads = reads; only = λ t k. one_script (script_text s) s t reads k }

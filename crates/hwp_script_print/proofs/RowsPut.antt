@@ -6,6 +6,7 @@ use Rattle.std.proofs.lemmas.List.{length-map, length-take, length-drop}
 use Rattle.std.proofs.lemmas.List.Elements.{All-nil, All-cons, All-head, All-tail, All-take, All-drop}
 use Rattle.hwp_form.specs.declared.Form.{Form}
 use Rattle.hwp_form.specs.declared.GoWord.{GoWord}
+use Rattle.hwp_script.specs.Limits.{schedule_limit}
 use Rattle.hwp_script.specs.declared.Go.{Go}
 use Rattle.hwp_script.specs.Context.{cpus_in, go_in, go_of}
 use Rattle.hwp_script.specs.Reasons.{IsClean, top_cpu}
@@ -56,7 +57,7 @@ placed_rows p zero = p
 placed_rows p (suc n) = placed_rows None n
 
 pub made_rows : {fs : List Form} (k : Known) (go : List Go) (p : Option ℕ) (i n : ℕ) → IsMade fs 12 (record k { place = p; go = take (i * 50) go })
-    → 0 < k.cpus → 0 < k.frames → k.cpus ≤ 8 → All (IsGoBelow k.cpus) go → length go ≤ 100000 → i + n ≤ rows_of (length go)
+    → 0 < k.cpus → 0 < k.frames → k.cpus ≤ 8 → All (IsGoBelow k.cpus) go → length go ≤ schedule_limit → i + n ≤ rows_of (length go)
     → IsMade (fs ++ map (go_row go) (range_with_len i n)) 12 (record k { place = placed_rows p n; go = take ((i + n) * 50) go })
 made_rows k go p i zero h some_c some_f few_c own few l = let e : i + zero ≡ i = omega arith in rw e (made_nil h)
 made_rows {fs} k go p i (suc n) h some_c some_f few_c own few l =

@@ -1,5 +1,6 @@
 use Rattle.std.proofs.Common.{rules}
 use Rattle.hwp_script.proofs.ReadLaws.{apart}
+use Rattle.hwp_script.proofs.OneScript.{one_script}
 use Rattle.hwp_script.proofs.ValidLaws.{valid_read}
 use Rattle.hwp_script.proofs.reading.read.Goals as goal
 
@@ -17,3 +18,15 @@ returns-in-Err-clause-apart c = λ r script. apart c.args.bytes.now r script
 
 pub returns-in-Ok-Ok-clause-valid : goal.returns-in-Ok-Ok-clause-valid
 returns-in-Ok-Ok-clause-valid c = valid_read {bytes = c.args.bytes.now} (search rules)
+
+pub returns-in_default-clause-one : goal.returns-in_default-clause-one
+returns-in_default-clause-one c = λ script other. one_script c.args.bytes.now script other
+
+pub returns-in-Ok-Ok-clause-one : goal.returns-in-Ok-Ok-clause-one
+returns-in-Ok-Ok-clause-one c = λ script other. one_script c.args.bytes.now script other
+
+pub returns-in-Ok-Err-clause-one : goal.returns-in-Ok-Err-clause-one
+returns-in-Ok-Err-clause-one c = λ script other. one_script c.args.bytes.now script other
+
+pub returns-in-Err-clause-one : goal.returns-in-Err-clause-one
+returns-in-Err-clause-one c = λ script other. one_script c.args.bytes.now script other

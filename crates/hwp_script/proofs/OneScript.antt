@@ -9,17 +9,12 @@ use Rattle.hwp_form.specs.declared.Form.{Form}
 use Rattle.hwp_form.specs.declared.LineRead.TheVariants as reads
 use Rattle.hwp_form.specs.declared.Numbered.{Numbered}
 use Rattle.hwp_form.proofs.LineLaws.{one_reading}
-use Rattle.hwp_script.specs.declared.Script.{Script}
-use Rattle.hwp_script.specs.declared.Command.{Command}
-use Rattle.hwp_script.specs.declared.Go.{Go}
+use Rattle.hwp_script.specs.declared.script.Script.{Script}
+use Rattle.hwp_script.specs.declared.script.Command.{Command}
+use Rattle.hwp_script.specs.declared.script.Go.{Go}
 use Rattle.hwp_script.specs.Collects.{Collects}
 use Rattle.hwp_script.specs.Reads.{Reads}
-
-forms_same : (fs gs : List Form) → map reads.Form fs ≡ map reads.Form gs → fs ≡ gs
-forms_same [] [] e = refl
-forms_same [] (g ∷ gs) e = cc
-forms_same (f ∷ fs) [] e = cc
-forms_same (f ∷ fs) (g ∷ gs) e = let rest : fs ≡ gs = forms_same fs gs (cc) in cc
+use Rattle.hwp_script.proofs.ReadLaws.{same_forms}
 
 -- marks of the same frames
 pub record AreAlike (xs ys : List Bool) : Type 0 where
@@ -68,8 +63,8 @@ collected_once fs s t h k =
     ≡ script_made (laid_out s.layout.cpus s.layout.frames s.layout.kernel s.layout.recovery s.layout.early s.layout.files s.layout.procs s.layout.threads s.layout.pages s.layout.trans) s.lists s.go =
     rw (cpus, frames, kernel, recovery, early, files, procs, threads, pages, trans, lists, go) refl in same
 
-pub one_script : {bytes : List ℕ} {s : Script} (t : Script) → Reads bytes s → Reads bytes t → t ≡ s
-one_script {bytes} {s} t h k =
+pub one_script : (bytes : List ℕ) (s t : Script) → Reads bytes s → Reads bytes t → t ≡ s
+one_script bytes s t h k =
     let lines : h.lines ≡ k.lines = one_reading h.numbered k.numbered in
-    let forms : h.script.forms ≡ k.script.forms = forms_same h.script.forms k.script.forms (sym h.script.each.same ∙ ap (map (λ (l : Numbered). l.read)) lines ∙ k.script.each.same) in
+    let forms : h.script.forms ≡ k.script.forms = same_forms h.script.forms k.script.forms (sym h.script.each.same ∙ ap (map (λ (l : Numbered). l.read)) lines ∙ k.script.each.same) in
     collected_once k.script.forms s t (subst (λ fs. Collects fs s) forms h.script.collects) k.script.collects
