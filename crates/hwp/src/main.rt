@@ -50,7 +50,7 @@ fn main(rt: HostRuntime) -> ExitCode {
     let printed = match words.as_slice() {
         [word] if word.as_str() == "--help" => rt.println(HELP),
         [word] if word.as_str() == "--version" => rt.println(VERSION),
-        words => return ExitCode::from(serve(&rt, words).status),
+        words => return serve(&rt, words).exit_code(),
     };
     match printed {
         Ok(()) => ExitCode::SUCCESS,

@@ -1,23 +1,35 @@
--- The four events that the machine makes of its own, at the address of a line.
+-- The four events that the machine makes of its own, each with its bank. The banks and the choice of bits are this
+-- project's rule, the bits and the codes are Intel's (SDM vol. 3).
 use Rattle.std.specs.Prelude.{ℕ}
+use Rattle.hwp_geom.specs.declared.Frame.{Frame}
 use Rattle.hwp_banks.specs.declared.event.Event.{Event}
+use Rattle.hwp_banks.specs.declared.event.Origin.{Origin}
+use Rattle.hwp_banks.specs.declared.event.Origin.TheVariants as origins
+use Rattle.hwp_banks.specs.Addresses.{line_address}
 
--- an event of this status at a physical address that is valid from bit 6 on
-abbrev pub line_event : ℕ → ℕ → Event
-line_event status addr = record { status = record { 0 = status }; addr = addr; misc = 0x86 }
+-- how many banks a processor has
+abbrev pub bank_count : ℕ
+bank_count = 3
 
--- a load, a store or a load of the kernel meets a bad line
-abbrev pub load_event : ℕ → Event
-load_event addr = line_event 0xbd80000000000134 addr
+-- the bank that an event of the machine's own is logged in
+abbrev pub bank_of : Origin → ℕ
+bank_of origins.Access = 0
+bank_of origins.Fetch = 1
+bank_of origins.BadLine = 2
+bank_of origins.WeakLine = 2
 
--- a fetch meets a bad line
-abbrev pub fetch_event : ℕ → Event
-fetch_event addr = line_event 0xbd80000000000150 addr
+-- its status: VAL, UC, EN, MISCV, ADDRV, S and AR with the code of a data load or of an instruction fetch; the same
+-- without AR for the scrubber's bad line; VAL, EN, MISCV and ADDRV for its weak line; both with the code of memory scrubbing
+abbrev pub own_status : Origin → ℕ
+own_status origins.Access = 0xbd80000000000134
+own_status origins.Fetch = 0xbd80000000000150
+own_status origins.BadLine = 0xbd000000000000c0
+own_status origins.WeakLine = 0x9c000000000000c0
 
--- the scrubber meets a bad line
-abbrev pub bad_line_event : ℕ → Event
-bad_line_event addr = line_event 0xbd000000000000c0 addr
+-- its misc word: a physical address (mode 010 in bits 8:6) that is valid from bit 6 on (bits 5:0)
+abbrev pub line_misc : ℕ
+line_misc = 0x86
 
--- the scrubber meets a weak line
-abbrev pub weak_line_event : ℕ → Event
-weak_line_event addr = line_event 0x9c000000000000c0 addr
+-- the event at a line of a frame
+abbrev pub own_event : Origin → Frame → ℕ → Event
+own_event origin frame line = record { status = record { 0 = own_status origin }; addr = line_address frame line; misc = line_misc }

@@ -1,4 +1,4 @@
 pub mod Status
+pub mod Addresses
 pub mod Events
 pub mod Logged
-pub mod Numbers

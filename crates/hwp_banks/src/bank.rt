@@ -9,13 +9,6 @@ use std::marker::Model;
 
 /// How many banks a processor has (this project's rule).
 pub const BANKS: usize = 3;
-/// The number of the bank of loads and stores (this project's rule).
-pub const DATA_BANK: usize = 0;
-/// The number of the bank of fetches and of raw events (this project's rule).
-pub const FETCH_BANK: usize = 1;
-/// The number of the bank of the scrubber (this project's rule).
-pub const SCRUB_BANK: usize = 2;
-
 /// A machine-check bank. Clauses see it as the event that it holds, if there is one. A held event has VAL set.
 #[derive(Drop)]
 pub struct Bank {

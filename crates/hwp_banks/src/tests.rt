@@ -1,4 +1,5 @@
-use crate::{Bank, Event, Mcg, Shutdown, Status};
+use crate::{Bank, Event, Mcg, Origin, Shutdown, Status};
+use hwp_geom::{Frame, Line};
 
 /// An event of a status, with the address and the misc that tell the first from the second.
 fn first_of(status: u64) -> Event {
@@ -104,15 +105,22 @@ fn an_event_without_val_changes_nothing(rt: HostRuntime) {
 
 #[test]
 fn the_machine_makes_four_events(rt: HostRuntime) {
-    for (event, status) in [
-        (Event::load(0x1fc0), 0xbd80000000000134),
-        (Event::fetch(0x1fc0), 0xbd80000000000150),
-        (Event::bad_line(0x1fc0), 0xbd000000000000c0),
-        (Event::weak_line(0x1fc0), 0x9c000000000000c0),
+    for (origin, bank, status) in [
+        (Origin::Access, 0, 0xbd80000000000134),
+        (Origin::Fetch, 1, 0xbd80000000000150),
+        (Origin::BadLine, 2, 0xbd000000000000c0),
+        (Origin::WeakLine, 2, 0x9c000000000000c0),
     ] {
-        assert_eq!(rt; event.status, Status(status));
-        assert_eq!(rt; event.addr, 0x1fc0);
-        assert_eq!(rt; event.misc, 0x86);
+        assert_eq!(rt; origin.bank(), bank);
+        for (frame, line, addr) in [(0, 0, 0), (0, 5, 0x140), (1, 63, 0x1fc0), (255, 1, 0xff040)] {
+            let event = Line::new(line).map(|line| origin.event(Frame(frame), line));
+            let expected = Event {
+                status: Status(status),
+                addr,
+                misc: 0x86,
+            };
+            assert_eq!(rt; event, Some(expected));
+        }
     }
 }
 

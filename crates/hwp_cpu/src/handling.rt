@@ -1,4 +1,5 @@
 ghost use Rattle.std.specs.Prelude.{◌≡◌, ◌<◌, IfSome, map};
+ghost use Rattle.hwp_banks.specs.Events.{bank_count};
 ghost use Rattle.hwp_cpu.specs.Handling.{grade_of, lowest_stop, stops};
 
 use hwp_banks::{BANKS, Bank, Status};
@@ -18,7 +19,7 @@ pub struct Decision {
 pub fn handle(banks: &[Bank; BANKS], mcg: McgBits, mode: Mode) -> Decision
     ensures acts { result.acts ≡ map (grade_of mcg mode) banks.now }
     ensures stop { result.stop ≡ lowest_stop result.acts }
-    ensures within { IfSome result.stop (λ bank. bank < BANKS) }
+    ensures within { IfSome result.stop (λ bank. bank < bank_count) }
 {
     let acts = [
         grade_bank(&banks[0], mcg, mode),
@@ -45,7 +46,7 @@ fn grade_bank(bank: &Bank, mcg: McgBits, mode: Mode) -> Grade
 /// The lowest bank that is graded `Stop`.
 fn stopping_bank(grades: &[Grade; BANKS]) -> Option<usize>
     ensures lowest { result ≡ lowest_stop grades.now }
-    ensures below { IfSome result (λ bank. bank < BANKS) }
+    ensures below { IfSome result (λ bank. bank < bank_count) }
 {
     grades.iter().position(|grade| is_stop(*grade))
 }

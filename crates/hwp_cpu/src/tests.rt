@@ -63,7 +63,11 @@ fn the_lowest_stopping_bank_stops_the_machine(rt: HostRuntime) {
 #[test]
 fn two_raw_events_of_one_bank_stop_the_machine(rt: HostRuntime) {
     let mut raw = bank_after(0xbd000000000000c0);
-    raw.log(Event::load(0x2000));
+    raw.log(Event {
+        status: Status(0xbd80000000000134),
+        addr: 0x2000,
+        misc: 0x86,
+    });
     let banks = [Bank::new(), raw, Bank::new()];
     let mcg = McgBits {
         ripv: true,

@@ -27,7 +27,7 @@ use Rattle.hwp_report.specs.declared.CpuLine.TheVariants as lines
 use Rattle.hwp_law.specs.Places.{entry_at}
 use Rattle.hwp_law.specs.History.{AreMade, AreOrdered, IsMade}
 use Rattle.hwp_law.specs.Answers.{AreAnswers, IsAnswer, IsLoadAnswer, IsPageAnswer, StandsAt, AreNamed, IsNamed, is_answering}
-use Rattle.hwp_law.specs.States.{HadState, place_named}
+use Rattle.hwp_law.specs.States.{HadState, entry_named}
 
 -- the new histories are the old ones with one entry more, at the end of its page
 pub record OneMore (old new : List (List Entry)) (at : At) (e : Entry) : Type 0 where
@@ -222,7 +222,7 @@ AreNamed-quiet {old} {new} {at} {e} cpus more quiet named bt f there answering =
 
 -- an entry of the first processor, and the answer that names it
 pub AreNamed-answered : {old new : List (List Entry)} {at : At} {e : Entry} (rows : List CpuLine) (answer : Answer)
-    → OneMore old new at e → e.who.cpu.0 ≡ 0 → place_named answer ≡ Some at
+    → OneMore old new at e → e.who.cpu.0 ≡ 0 → entry_named answer ≡ Some at
     → AreNamed old (rows ∷ []) → AreNamed new ((rows ++ lines.Answer e.who.seq answer ∷ []) ∷ [])
 AreNamed-answered {old} {new} {at} {e} rows answer more first place named bt f there answering =
     elim (more.only bt f there) [

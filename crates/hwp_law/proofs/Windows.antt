@@ -1,19 +1,23 @@
 -- The windows of answers, and the stop record, under one more entry and one more answer of the first processor.
-use Rattle.std.proofs.Common.{◌≡◌, ℕ, suc, zero, ◌+◌, ◌<◌, ◌≤◌, List, [], ◌∷◌, ◌++◌, Option, Some, length, slice_get, inl, inr, refl, sym, ap, ◌∙◌, subst, arith, option_and_then}
+use Rattle.std.proofs.Common.{◌≡◌, ℕ, suc, zero, false, ◌+◌, ◌<◌, ◌≤◌, List, [], ◌∷◌, ◌++◌, Option, Some, None, length, slice_get, inl, inr, refl, sym, ap, ◌∙◌, subst, arith, option_and_then}
+use Rattle.std.specs.Option.{option_or}
 use Rattle.std.proofs.lemmas.Option.{same_Some, none-some, slice_get_within}
 use Rattle.hwp_geom.specs.declared.Cpu.{Cpu}
 use Rattle.hwp_geom.specs.declared.Page.{Page}
+use Rattle.hwp_geom.specs.declared.VSlot.{VSlot}
 use Rattle.hwp_geom.specs.declared.Who.{Who}
 use Rattle.hwp_page.specs.declared.At.{At}
 use Rattle.hwp_page.specs.declared.Entry.{Entry}
+use Rattle.hwp_script.specs.declared.Script.{Script}
 use Rattle.hwp_report.specs.declared.Answer.{Answer}
 use Rattle.hwp_report.specs.declared.Answer.TheVariants as answers
 use Rattle.hwp_report.specs.declared.CpuLine.{CpuLine}
 use Rattle.hwp_report.specs.declared.CpuLine.TheVariants as lines
-use Rattle.hwp_law.specs.Places.{entry_at}
-use Rattle.hwp_law.specs.States.{AreBelow, AreWithin, IsInWindow, IsWithin, place_named, state_named}
+use Rattle.hwp_law.specs.Places.{command_at, entry_at}
+use Rattle.hwp_law.specs.States.{AreBelow, AreWithin, IsInWindow, IsWithin, entry_named, place_named, state_named}
 use Rattle.hwp_law.specs.Answers.{AreInWindows}
-use Rattle.hwp_law.proofs.Growth.{OneMore, slice_get-push_cases}
+use Rattle.hwp_law.specs.Runs.{WasOut, WereOut, slot_of}
+use Rattle.hwp_law.proofs.Growth.{HadState-more, OneMore, slice_get-push_cases}
 
 pub AreWithin-more : {old new : List (List Entry)} {at : At} {e : Entry} (rows : List CpuLine) → OneMore old new at e → AreWithin old rows → AreWithin new rows
 AreWithin-more rows more within i seq answer bt row names log there =
@@ -78,6 +82,18 @@ state_is_place (answers.Mapped bt) at is = is
 state_is_place (answers.BadLines mask bt) at is = is
 state_is_place answer at is = absurd (none-some at is)
 
+pub entry_is_place : (answer : Answer) (at : At) → entry_named answer ≡ Some at → place_named answer ≡ Some at
+entry_is_place answer at is = ap (λ (o : Option At). option_or o (state_named answer)) is
+
+-- an answer that names an entry says no state
+pub entry_is_stateless : (answer : Answer) (at : At) → entry_named answer ≡ Some at → state_named answer ≡ None
+entry_is_stateless (answers.Value word bt) at is = refl
+entry_is_stateless (answers.Stored bt) at is = refl
+entry_is_stateless (answers.Sigbus bt) at is = refl
+entry_is_stateless (answers.DoneAt bt) at is = refl
+entry_is_stateless (answers.Moved frame bt) at is = refl
+entry_is_stateless answer at is = absurd (none-some at is)
+
 pub AreInWindows-more : {old new : List (List Entry)} {at : At} {e : Entry} (rows : List CpuLine) → OneMore old new at e → AreBelow (e.who.seq + 1) rows → AreWithin old rows → AreInWindows old (rows ∷ []) → AreInWindows new (rows ∷ [])
 AreInWindows-more {old} {new} {at} {e} rows more below within windows cpu mine i seq answer w of_cpu row names =
     let only = only_rows rows mine cpu.0 of_cpu in
@@ -86,6 +102,17 @@ AreInWindows-more {old} {new} {at} {e} rows more below within windows cpu mine i
     let before : seq ≤ e.who.seq = omega arith in
     IsInWindow-more mine (record { cpu = cpu; seq = seq }) w more before (within i seq answer w row_here (state_is_place answer w names))
     (windows cpu mine i seq answer w of_cpu row names)
+
+-- an answer of a later command, or of this one, leaves a window one
+IsInWindow-push : (pages : List (List Entry)) (rows : List CpuLine) (n : ℕ) (answer : Answer) (who : Who) (w : At) → who.seq ≤ n → IsInWindow pages rows who w → IsInWindow pages (rows ++ lines.Answer n answer ∷ []) who w
+IsInWindow-push pages rows n answer who w later window = record {
+  past_earlier = window.past_earlier;
+  not_below = λ j m b bt there less place page. elim (slice_get-push_cases rows (lines.Answer n answer) j (lines.Answer m b) there) [
+    | inl kept ↦ window.not_below j m b bt kept less place page
+    | inr last ↦ let same : m ≡ n = (same_answer m n b answer last.1).0 in absurd (omega arith)
+  ];
+  before_later = window.before_later;
+}
 
 pub AreInWindows-push : (pages : List (List Entry)) (rows : List CpuLine) (n : ℕ) (answer : Answer) → AreBelow n rows
     → ((cpu : Cpu) (w : At) → cpu.0 ≡ 0 → state_named answer ≡ Some w → IsInWindow pages (rows ++ lines.Answer n answer ∷ []) (record { cpu = cpu; seq = n }) w)
@@ -97,17 +124,8 @@ AreInWindows-push pages rows n answer below mine windows cpu theirs i seq a w of
     subst (λ (r : List CpuLine). IsInWindow pages r (record { cpu = cpu; seq = seq }) w) (sym only.1)
     (elim (slice_get-push_cases rows (lines.Answer n answer) i (lines.Answer seq a) row_here) [
       | inl was ↦
-          let old : IsInWindow pages rows (record { cpu = cpu; seq = seq }) w =
-          windows cpu rows i seq a w (ap (slice_get (rows ∷ [])) only.0) was names in
           let under : seq < n = below i seq a was in
-          record {
-            past_earlier = old.past_earlier;
-            not_below = λ j m b bt there less place page. elim (slice_get-push_cases rows (lines.Answer n answer) j (lines.Answer m b) there) [
-              | inl kept ↦ old.not_below j m b bt kept less place page
-              | inr last ↦ let same : m ≡ n = (same_answer m n b answer last.1).0 in absurd (omega arith)
-            ];
-            before_later = old.before_later;
-          }
+          IsInWindow-push pages rows n answer (record { cpu = cpu; seq = seq }) w (omega (arith, under)) (windows cpu rows i seq a w (ap (slice_get (rows ∷ [])) only.0) was names)
       | inr last ↦
           let same = same_answer seq n a answer last.1 in
           subst (λ (k : ℕ). IsInWindow pages all (record { cpu = cpu; seq = k }) w) (sym same.0) (mine cpu w only.0 (ap state_named (sym same.1) ∙ names))
@@ -127,3 +145,37 @@ IsInWindow-now pages rows n answer cpu w log there count within latest = record 
       omega arith;
   before_later = λ bt e is page of_cpu less. let late : e.who.seq ≤ n = latest bt e is in absurd (omega arith);
 }
+
+-- an access whose page was in no frame stays one when an entry is added
+pub WereOut-more : (script : Script) {old new : List (List Entry)} {at : At} {e : Entry} (rows : List CpuLine) → OneMore old new at e → AreBelow (e.who.seq + 1) rows → WereOut script old (rows ∷ []) → WereOut script new (rows ∷ [])
+WereOut-more script {old} {new} {at} {e} rows more below were cpu mine i seq slot of_cpu row of_slot =
+    let row_here : slice_get rows i ≡ Some (lines.Answer seq answers.NoFrame) = ap (λ (r : List CpuLine). slice_get r i) (sym (only_rows rows mine cpu.0 of_cpu).1) ∙ row in
+    let under : seq < e.who.seq + 1 = below i seq answers.NoFrame row_here in
+    let was = were cpu mine i seq slot of_cpu row of_slot in
+    let within : IsWithin old was.at = λ log there. let same = ap (λ (l : List Entry). length l) (same_Some was.out.entries log (sym was.out.there ∙ there)) in omega (arith, was.out.within, same) in
+    record {
+      at = was.at;
+      of_slot = was.of_slot;
+      out = HadState-more script.layout was.at (λ s. s.cached ≡ false) more was.out;
+      window = IsInWindow-more mine (record { cpu = cpu; seq = seq }) was.at more (omega (arith, under)) within was.window;
+    }
+
+-- one answer more: where it is `noframe`, its page is in no frame
+pub WereOut-push : (script : Script) (pages : List (List Entry)) (rows : List CpuLine) (n : ℕ) (answer : Answer) → AreBelow n rows
+    → ((cpu : Cpu) (slot : VSlot) → cpu.0 ≡ 0 → answer ≡ answers.NoFrame → option_and_then slot_of (command_at script (record { cpu = cpu; seq = n })) ≡ Some slot → WasOut script pages (rows ++ lines.Answer n answer ∷ []) (record { cpu = cpu; seq = n }) slot)
+    → WereOut script pages (rows ∷ []) → WereOut script pages ((rows ++ lines.Answer n answer ∷ []) ∷ [])
+WereOut-push script pages rows n answer below now were cpu theirs i seq slot of_cpu row of_slot =
+    let all : List CpuLine = rows ++ lines.Answer n answer ∷ [] in
+    let only = only_rows all theirs cpu.0 of_cpu in
+    let row_here : slice_get all i ≡ Some (lines.Answer seq answers.NoFrame) = ap (λ (r : List CpuLine). slice_get r i) (sym only.1) ∙ row in
+    subst (λ (r : List CpuLine). WasOut script pages r (record { cpu = cpu; seq = seq }) slot) (sym only.1)
+    (elim (slice_get-push_cases rows (lines.Answer n answer) i (lines.Answer seq answers.NoFrame) row_here) [
+      | inl old ↦
+          let under : seq < n = below i seq answers.NoFrame old in
+          let was = were cpu rows i seq slot (ap (slice_get (rows ∷ [])) only.0) old of_slot in
+          record { at = was.at; of_slot = was.of_slot; out = was.out; window = IsInWindow-push pages rows n answer (record { cpu = cpu; seq = seq }) was.at (omega (arith, under)) was.window }
+      | inr last ↦
+          let same = same_answer seq n answers.NoFrame answer last.1 in
+          subst (λ (k : ℕ). WasOut script pages all (record { cpu = cpu; seq = k }) slot) (sym same.0)
+          (now cpu slot only.0 (sym same.1) (subst (λ (k : ℕ). option_and_then slot_of (command_at script (record { cpu = cpu; seq = k })) ≡ Some slot) same.0 of_slot))
+    ])

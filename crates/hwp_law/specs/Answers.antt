@@ -1,5 +1,6 @@
 -- When the answers of a report are those of the script's commands.
-use Rattle.std.specs.Prelude.{◌≡◌, ◌≢◌, ◌⊎◌, ℕ, ◌+◌, ◌*◌, Bool, true, false, not, nat_lt, List, [], ◌∷◌, Option, Some, None, length, slice_get, count_by, IsSome, IsSomeAnd, IsTrue, IsFalse}
+use Rattle.std.specs.Prelude.{◌≡◌, ◌≢◌, ◌⊎◌, ℕ, ◌+◌, ◌*◌, ◌/◌, ◌==◌, Bool, true, false, ◌||◌, cond, nat_lt, List, [], ◌∷◌, flat_map, Option, Some, None, length, slice_get, filter_map, IsSome, IsSomeAnd, IsTrue, IsFalse}
+use Rattle.std.specs.List.{list_any}
 use Rattle.std.specs.FinSet as set
 use Rattle.hwp_geom.specs.declared.Cpu.{Cpu}
 use Rattle.hwp_geom.specs.declared.Who.{Who}
@@ -7,6 +8,7 @@ use Rattle.hwp_geom.specs.declared.Mask.{Mask}
 use Rattle.hwp_geom.specs.declared.Layout.{Layout}
 use Rattle.hwp_geom.specs.declared.Page.{Page}
 use Rattle.hwp_geom.specs.declared.VSlot.{VSlot}
+use Rattle.hwp_banks.specs.Addresses.{frame_at}
 use Rattle.hwp_page.specs.declared.PageState.{PageState}
 use Rattle.hwp_page.specs.Step.{IsOf}
 use Rattle.hwp_page.specs.declared.At.{At}
@@ -27,13 +29,30 @@ use Rattle.hwp_kill.specs.declared.Reply.TheVariants as replies
 use Rattle.hwp_kill.specs.Prctl.{policy_number, reply}
 use Rattle.hwp_law.specs.Places.{entry_at}
 use Rattle.hwp_law.specs.Policies.{arguments, policy_before}
-use Rattle.hwp_law.specs.States.{HadState, IsInWindow, place_named, state_named}
+use Rattle.hwp_law.specs.States.{HadState, IsInWindow, entry_named, state_named}
 
--- the frames that are not the kernel's
+-- the frame that a command names to go bad, to fail or to go out of use
+abbrev pub frame_named : Command → Option ℕ
+frame_named (commands.Bad frame line) = Some frame.0
+frame_named (commands.Inject frame) = Some frame.0
+frame_named (commands.Soft frame) = Some frame.0
+frame_named (commands.Log status addr misc) = Some (frame_at addr)
+frame_named _ = None
+
+-- the frames that the commands of the script name
+abbrev pub named_frames : Script → List ℕ
+named_frames script = flat_map (filter_map frame_named) script.lists
+
+-- how many of these frames, from number n on, are neither the kernel's nor named
+abbrev pub usable_from : List ℕ → ℕ → List Bool → ℕ
+usable_from named n [] = 0
+usable_from named n (kernel ∷ rest) = cond (kernel || list_any (λ f. f == n) named) 0 1 + usable_from named (n + 1) rest
+
+-- the frames that are neither the kernel's nor named
 abbrev pub usable_frames : Script → ℕ
-usable_frames script = count_by (λ kernel. not kernel) script.layout.kernel
+usable_frames script = usable_from (named_frames script) 0 script.layout.kernel
 
--- the script has frames enough for every page at once, with two more for each processor
+-- the script has usable frames enough for every page at once, with two more for each processor
 abbrev pub is_ample : Script → Bool
 is_ample script = nat_lt (length script.layout.pages + 2 * script.layout.cpus) (usable_frames script)
 
@@ -107,7 +126,7 @@ abbrev pub IsNamed : List (List CpuLine) → At → Entry → Type 0
 IsNamed cpus at e =
     (answer : Answer) × (i : ℕ)
     × IsSomeAnd (slice_get cpus e.who.cpu.0) (λ (rows : List CpuLine). slice_get rows i ≡ Some (lines.Answer e.who.seq answer))
-    × (place_named answer ≡ Some at)
+    × (entry_named answer ≡ Some at)
 
 -- each entry that answers a command is the one that the command's answer names
 abbrev pub AreNamed : List (List Entry) → List (List CpuLine) → Type 0

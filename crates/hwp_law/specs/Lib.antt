@@ -5,3 +5,4 @@ pub mod States
 pub mod Answers
 pub mod Stops
 pub mod Report
+pub mod Runs

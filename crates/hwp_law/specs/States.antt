@@ -1,5 +1,6 @@
 -- The state of a page at a place of its history, and the window in which a command can have seen it.
 use Rattle.std.specs.Prelude.{◌≡◌, ℕ, ◌<◌, ◌≤◌, List, Option, Some, None, length, take, slice_get}
+use Rattle.std.specs.Option.{option_or}
 use Rattle.hwp_geom.specs.declared.Layout.{Layout}
 use Rattle.hwp_geom.specs.declared.PageKind.{PageKind}
 use Rattle.hwp_geom.specs.declared.Who.{Who}
@@ -23,21 +24,16 @@ pub record HadState (layout : Layout) (pages : List (List Entry)) (at : At) (P :
   pub within : at.entry ≤ length entries
   pub had : P (state_after (opening_of kind) (take at.entry entries))
 
--- the place that an answer names, of an entry or of a number of entries
-abbrev pub place_named : Answer → Option At
-place_named (answers.Value word at) = Some at
-place_named (answers.Stored at) = Some at
-place_named (answers.Sigbus at) = Some at
-place_named (answers.DoneAt at) = Some at
-place_named (answers.NotResident at) = Some at
-place_named (answers.NotMapped at) = Some at
-place_named (answers.Dirty at) = Some at
-place_named (answers.Mapped at) = Some at
-place_named (answers.BadLines mask at) = Some at
-place_named (answers.Moved frame at) = Some at
-place_named _ = None
+-- the place of the entry that an answer names
+abbrev pub entry_named : Answer → Option At
+entry_named (answers.Value word at) = Some at
+entry_named (answers.Stored at) = Some at
+entry_named (answers.Sigbus at) = Some at
+entry_named (answers.DoneAt at) = Some at
+entry_named (answers.Moved frame at) = Some at
+entry_named _ = None
 
--- the place that an answer names, where it says what state the page was in
+-- the number of entries that an answer names, where it says what state the page was in
 abbrev pub state_named : Answer → Option At
 state_named (answers.NotResident at) = Some at
 state_named (answers.NotMapped at) = Some at
@@ -45,6 +41,10 @@ state_named (answers.Dirty at) = Some at
 state_named (answers.Mapped at) = Some at
 state_named (answers.BadLines mask at) = Some at
 state_named _ = None
+
+-- the place that an answer names, of an entry or of a number of entries
+abbrev pub place_named : Answer → Option At
+place_named answer = option_or (entry_named answer) (state_named answer)
 
 -- the number of entries lies in the command's window: past the entries of the processor's earlier commands, not below
 -- what its earlier answers name, and not past the entries of its later commands

@@ -18,15 +18,13 @@ abbrev pub IsCause : Command → StopCause → Type 0
 IsCause commands.RaiseNested causes.Shutdown = Unit {0}
 IsCause _ _ = ⊥
 
--- the record's command can stop the machine for its cause, answers `stopped`, and is the first of its processor that
--- answers `stopped`
+-- the record's command can stop the machine for its cause, and answers `stopped`
 pub record IsStop (script : Script) (cpus : List (List CpuLine)) (stop : Stop) : Type 0 where
   pub cause : IsSomeAnd (command_at script stop.who) (λ (command : Command). IsCause command stop.cause)
   pub rows : List CpuLine
   pub row : ℕ
   pub of_cpu : slice_get cpus stop.who.cpu.0 ≡ Some rows
   pub answered : slice_get rows row ≡ Some (lines.Answer stop.who.seq answers.Stopped)
-  pub first : (i m : ℕ) → slice_get rows i ≡ Some (lines.Answer m answers.Stopped) → stop.who.seq ≤ m
 
 -- after its first `stopped` a processor has no other answer
 abbrev pub StaysStopped : List CpuLine → Type 0

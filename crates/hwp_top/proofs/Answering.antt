@@ -11,7 +11,7 @@ use Rattle.std.proofs.lemmas.Bool.{cases_Bool, eqb-true}
 use Rattle.std.proofs.lemmas.List.Elements.{All-head, All-tail}
 use Rattle.std.proofs.lemmas.List.Quantifiers.{position-Some}
 use Rattle.std.proofs.lemmas.List.Sums.{sum_by-cons}
-use Rattle.std.proofs.lemmas.Option.{same_Some, slice_get-get_or, slice_get-map}
+use Rattle.std.proofs.lemmas.Option.{none-some, same_Some, slice_get-get_or, slice_get-map}
 use Rattle.hwp_geom.specs.declared.Layout.{Layout}
 use Rattle.hwp_geom.specs.declared.Page.{Page}
 use Rattle.hwp_geom.specs.declared.VSlot.{VSlot}
@@ -80,7 +80,7 @@ pub Answers-made : (script : Script) (seq : ℕ) (command : Command) (page : Pag
 Answers-made script seq command page {old} {new} {at} what added of_page serves fits is =
     let e : Entry = record { who = at_command seq; what = what } in
     let made : IsMade script page e = made-by script seq command page e serves refl fits in
-    Answers-entry script seq command (answers.DoneAt at) added refl (subst (λ (q : Page). IsMade script q e) (sym of_page) made) (is (OneMore-appended added).placed) refl refl
+    Answers-entry script seq command (answers.DoneAt at) added refl (subst (λ (q : Page). IsMade script q e) (sym of_page) made) (is (OneMore-appended added).placed) refl
 
 -- entries that leave a page in its frame
 pub still-Free : {old new : List BodyValue} {at : At} {e : Entry} (slot : VSlot) (added : Appended old new at e) → e.what ≡ entries.Free slot → IsStill added.held.state added.now.state
@@ -106,6 +106,7 @@ pub Answers-state : (script : Script) (seq : ℕ) (command : Command) (page : Pa
     → Answers script seq command answer (logs bodies) (logs bodies)
 Answers-state script seq command page bodies frames at answer P machine now names holds is =
     Answers-refused script seq command answer (logs bodies) (is now.page_is (HadState-now script.layout bodies frames page at P machine now holds)) (NamesNow-at bodies page at answer now names)
+    (λ none slot of_slot. absurd (none-some at (sym (ap place_named none) ∙ names)))
 
 -- the frame of a cached page is found
 found_of : (page : Page) (p : Place) → is_of page p ≡ true → p ≡ places.Of page

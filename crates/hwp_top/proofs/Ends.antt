@@ -24,11 +24,12 @@ use Rattle.hwp_report.specs.declared.Report.{Report}
 use Rattle.hwp_law.specs.Places.{entry_at}
 use Rattle.hwp_law.specs.History.{AreMade, AreOrdered}
 use Rattle.hwp_law.specs.Answers.{AreAnswers, AreInWindows, AreNamed}
+use Rattle.hwp_law.specs.Runs.{IsOfRun, StopsFirst, WereOut}
 use Rattle.hwp_law.specs.Stops.{StopFits}
 use Rattle.hwp_law.proofs.Windows.{only_rows}
 use Rattle.hwp_report.specs.declared.Stop.{Stop}
 use Rattle.hwp_report.specs.declared.CpuLine.TheVariants as lines
-use Rattle.hwp_top.proofs.Following.{StopFits-none}
+use Rattle.hwp_top.proofs.Following.{StopFits-none, StopsFirst-none}
 use Rattle.hwp_law.specs.Report.{is_of, IsPlace, IsFrame, IsHistory, IsReport}
 use Rattle.hwp_top.specs.Bench.{Reports, Machine, IsBodyOf, Follows, AreFresh, logs, opening_place, frame_line, is_used, first_cpu}
 
@@ -113,6 +114,8 @@ Follows-none script layout bodies fresh = record {
   within = λ i seq answer bt row names. absurd (none-some (lines.Answer seq answer) row);
   below = λ i seq answer row. absurd (none-some (lines.Answer seq answer) row);
   stops = StopFits-none script (logs bodies) [] [] tt;
+  stops_first = StopsFirst-none ([] ∷ []);
+  were_out = λ cpu rows i seq slot of_cpu row of_slot. absurd (no_rows rows i cpu.0 of_cpu row);
 }
 
 count-lines : (page : Page) (frames : List Place) → count_by (λ (f : FrameLine). is_of page f.place) (map frame_line frames) ≡ count_by (is_of page) frames
@@ -182,3 +185,11 @@ IsReport-whole script report bodies frames rows stop list n one lists machine fo
           replay = subst (λ (l : List Entry). IsReplay layout page l body.state) (same_Some body.log entries is) mine.replay;
           held = held page ∙ mine.held;
         }
+
+-- the report of a run that is over shows what every run's does
+pub IsOfRun-whole : (script : Script) (report : Report) (bodies : List BodyValue) (frames : List Place) (rows : List CpuLine) (stop : Option Stop) (list : List Command) (n : ℕ)
+    → Follows script list n (logs bodies) rows stop → Reports script.layout.files report bodies frames rows stop → IsOfRun script report
+IsOfRun-whole script report bodies frames rows stop list n follows reports = record {
+  stops_first = subst (λ (l : List (List CpuLine)). StopsFirst l report.stop) (sym reports.cpus_are) (subst (StopsFirst (rows ∷ [])) (sym reports.stop_is) follows.stops_first);
+  were_out = subst (λ (l : List (List CpuLine)). WereOut script report.pages l) (sym reports.cpus_are) (subst (λ (l : List (List Entry)). WereOut script l (rows ∷ [])) (sym reports.pages_are) follows.were_out);
+}

@@ -3,6 +3,8 @@ use Rattle.std.proofs.Common.{◌≡◌, ℕ, suc, zero, ◌+◌, ◌<◌, ◌�
 use Rattle.std.proofs.lemmas.List.{length-append, map-set}
 use Rattle.std.proofs.lemmas.Option.{none-some, same_Some, slice_get-map, slice_get_within}
 use Rattle.hwp_geom.specs.declared.Cpu.{Cpu}
+use Rattle.hwp_geom.specs.declared.VSlot.{VSlot}
+use Rattle.hwp_page.specs.Step.{IsOf}
 use Rattle.hwp_page.specs.declared.At.{At}
 use Rattle.hwp_page.specs.declared.Entry.{Entry}
 use Rattle.hwp_page.specs.History.{BodyValue}
@@ -16,11 +18,12 @@ use Rattle.hwp_report.specs.declared.Stop.{Stop}
 use Rattle.hwp_report.specs.declared.StopCause.{StopCause}
 use Rattle.hwp_law.specs.Places.{command_at, entry_at}
 use Rattle.hwp_law.specs.History.{IsMade}
-use Rattle.hwp_law.specs.States.{AreBelow, AreWithin, IsWithin, place_named, state_named}
+use Rattle.hwp_law.specs.States.{HadState, AreBelow, AreWithin, IsWithin, entry_named, place_named}
 use Rattle.hwp_law.specs.Stops.{IsCause, IsStop, StopFits}
+use Rattle.hwp_law.specs.Runs.{StopsFirst, slot_of}
 use Rattle.hwp_law.specs.Answers.{AreAnswers, AreNamed, IsAnswer, is_answering}
 use Rattle.hwp_law.proofs.Growth.{OneMore, OneMore-set, IsLatest, AreMade-more, AreOrdered-more, AreAnswers-more, AreAnswers-push, AreAnswers-stopped, AreNamed-quiet, AreNamed-rows, AreNamed-answered, slice_get-kept, slice_get-pushed, slice_get-push_cases}
-use Rattle.hwp_law.proofs.Windows.{AreBelow-push, AreInWindows-more, AreInWindows-push, AreWithin-more, AreWithin-push, IsInWindow-now, only_rows, same_answer, state_is_place}
+use Rattle.hwp_law.proofs.Windows.{AreBelow-push, AreInWindows-more, AreInWindows-push, AreWithin-more, AreWithin-push, IsInWindow-now, WereOut-more, WereOut-push, only_rows, same_answer, entry_is_place, entry_is_stateless, state_is_place}
 use Rattle.hwp_top.specs.Bench.{Follows, Appended, Keeps, Answers, IsBefore, logs, at_command, first_cpu}
 
 -- an appended entry is one more entry of the histories
@@ -71,6 +74,23 @@ StopFits-none script pages list rows are = record {
       absurd (none_stopped script pages first_cpu 0 list rows are i m here);
 }
 
+-- a machine that runs has no stop
+pub StopsFirst-none : (cpus : List (List CpuLine)) → StopsFirst cpus None
+StopsFirst-none cpus s rows i m is of_cpu row = absurd (none-some s is)
+
+-- the command that stops the machine, or one after the stop, is later than no earlier `stopped`
+StopsFirst-push : (rows : List CpuLine) (n : ℕ) (s : Stop) → s.who.seq ≤ n → ((i m : ℕ) → slice_get rows i ≡ Some (lines.Answer m answers.Stopped) → s.who.seq ≤ m)
+    → StopsFirst ((rows ++ lines.Answer n answers.Stopped ∷ []) ∷ []) (Some s)
+StopsFirst-push rows n s last before t mine i m is of_cpu row =
+    let all : List CpuLine = rows ++ lines.Answer n answers.Stopped ∷ [] in
+    let same : t ≡ s = same_Some t s (sym is) in
+    let row_here : slice_get all i ≡ Some (lines.Answer m answers.Stopped) = ap (λ (r : List CpuLine). slice_get r i) (sym (only_rows all mine t.who.cpu.0 of_cpu).1) ∙ row in
+    subst (λ (x : Stop). x.who.seq ≤ m) (sym same)
+    (elim (slice_get-push_cases rows (lines.Answer n answers.Stopped) i (lines.Answer m answers.Stopped) row_here) [
+      | inl was ↦ before i m was
+      | inr end ↦ let number : m ≡ n = (same_answer m n answers.Stopped answers.Stopped end.1).0 in omega (arith, number, last)
+    ])
+
 weaker-below : (n : ℕ) (list : List Command) (rows : List CpuLine) → length list ≡ n → AreBelow (length list) rows → AreBelow (n + 1) rows
 weaker-below n list rows count below i seq answer row = let under : seq < length list = below i seq answer row in omega arith
 
@@ -90,6 +110,8 @@ Keeps-quiet script n {old} {new} {at} {e} added who made quiet list rows count f
       within = AreWithin-more rows more follows.within;
       below = follows.below;
       stops = follows.stops;
+      stops_first = follows.stops_first;
+      were_out = WereOut-more script rows more (subst (λ (k : ℕ). AreBelow (k + 1) rows) (sym seq) (weaker-below n list rows count follows.below)) follows.were_out;
     }
 
 -- one answer more is below one command more
@@ -100,14 +122,14 @@ longer list command rows n answer count below =
 
 -- an entry, and the answer that names it
 pub Answers-entry : (script : Script) (n : ℕ) (command : Command) (answer : Answer) {old new : List BodyValue} {at : At} {e : Entry} → Appended old new at e
-    → e.who ≡ at_command n → IsMade script at.page e → IsAnswer script (logs new) None (at_command n) command answer → place_named answer ≡ Some at → state_named answer ≡ None
+    → e.who ≡ at_command n → IsMade script at.page e → IsAnswer script (logs new) None (at_command n) command answer → entry_named answer ≡ Some at
     → Answers script n command answer (logs old) (logs new)
-Answers-entry script n command answer {old} {new} {at} {e} added who made is place stateless list rows count follows =
+Answers-entry script n command answer {old} {new} {at} {e} added who made is place list rows count follows =
     let more : OneMore (logs old) (logs new) at e = OneMore-appended added in
     let seq : e.who.seq ≡ n = ap (λ w. w.seq) who in
     let are = AreAnswers-push script (logs new) None first_cpu 0 list rows command answer n (omega arith) (AreAnswers-more script None first_cpu 0 list rows more follows.answers) is in
     let within : AreWithin (logs new) (rows ++ lines.Answer n answer ∷ []) =
-    AreWithin-push (logs new) rows n answer (λ bt names. here more bt (same_Some bt at (sym names ∙ place))) (AreWithin-more rows more follows.within) in
+    AreWithin-push (logs new) rows n answer (λ bt names. here more bt (same_Some bt at (sym names ∙ entry_is_place answer at place))) (AreWithin-more rows more follows.within) in
     let below : AreBelow n rows = subst (λ (k : ℕ). AreBelow k rows) count follows.below in
     record {
       made = AreMade-more script more made follows.made;
@@ -115,11 +137,14 @@ Answers-entry script n command answer {old} {new} {at} {e} added who made is pla
       before = before-more n more who follows.before;
       answers = are;
       named = subst (λ (k : ℕ). AreNamed (logs new) ((rows ++ lines.Answer k answer ∷ []) ∷ [])) seq (AreNamed-answered rows answer more (ap (λ w. w.cpu.0) who) place follows.named);
-      windows = AreInWindows-push (logs new) rows n answer below (λ cpu w first names. absurd (none-some w (sym stateless ∙ names)))
+      windows = AreInWindows-push (logs new) rows n answer below (λ cpu w first names. absurd (none-some w (sym (entry_is_stateless answer at place) ∙ names)))
           (AreInWindows-more rows more (subst (λ (k : ℕ). AreBelow (k + 1) rows) (sym seq) (weaker-below n list rows count follows.below)) follows.within follows.windows);
       within = within;
       below = longer list command rows n answer count below;
       stops = StopFits-none script (logs new) (list ++ command ∷ []) (rows ++ lines.Answer n answer ∷ []) are;
+      stops_first = StopsFirst-none ((rows ++ lines.Answer n answer ∷ []) ∷ []);
+      were_out = WereOut-push script (logs new) rows n answer below (λ cpu slot first is of_slot. absurd (none-some at (sym (ap entry_named is) ∙ place)))
+          (WereOut-more script rows more (subst (λ (k : ℕ). AreBelow (k + 1) rows) (sym seq) (weaker-below n list rows count follows.below)) follows.were_out);
     }
   where
     here : OneMore (logs old) (logs new) at e → (bt : At) → bt ≡ at → IsWithin (logs new) bt
@@ -134,10 +159,23 @@ Answers-entry script n command answer {old} {new} {at} {e} added who made is pla
 abbrev pub NamesNow : List (List Entry) → Answer → Type 0
 NamesNow pages answer = (bt : At) → place_named answer ≡ Some bt → (log : List Entry) × (slice_get pages bt.page.0 ≡ Some log) × (bt.entry ≡ length log)
 
+-- the page of the translation is in no frame now
+pub record IsOutNow (script : Script) (pages : List (List Entry)) (slot : VSlot) : Type 0 where
+  pub at : At
+  pub log : List Entry
+  pub of_slot : IsOf script.layout at.page slot
+  pub out : HadState script.layout pages at (λ s. s.cached ≡ false)
+  pub there : slice_get pages at.page.0 ≡ Some log
+  pub entry_is : at.entry ≡ length log
+
+-- where the answer is `noframe`, the page of its command's translation is in no frame now
+abbrev pub SaysOut : Script → ℕ → List (List Entry) → Answer → Type 0
+SaysOut script n pages answer = answer ≡ answers.NoFrame → (slot : VSlot) → option_and_then slot_of (command_at script (at_command n)) ≡ Some slot → IsOutNow script pages slot
+
 -- an answer without an entry
-pub Answers-refused : (script : Script) (n : ℕ) (command : Command) (answer : Answer) (pages : List (List Entry)) → IsAnswer script pages None (at_command n) command answer → NamesNow pages answer
+pub Answers-refused : (script : Script) (n : ℕ) (command : Command) (answer : Answer) (pages : List (List Entry)) → IsAnswer script pages None (at_command n) command answer → NamesNow pages answer → SaysOut script n pages answer
     → Answers script n command answer pages pages
-Answers-refused script n command answer pages is now list rows count follows =
+Answers-refused script n command answer pages is now out list rows count follows =
     let all : List CpuLine = rows ++ lines.Answer n answer ∷ [] in
     let are = AreAnswers-push script pages None first_cpu 0 list rows command answer n (omega arith) follows.answers is in
     let within : AreWithin pages all = AreWithin-push pages rows n answer (λ bt names log there.
@@ -158,6 +196,16 @@ Answers-refused script n command answer pages is now list rows count follows =
       within = within;
       below = longer list command rows n answer count below;
       stops = StopFits-none script pages (list ++ command ∷ []) all are;
+      stops_first = StopsFirst-none (all ∷ []);
+      were_out = WereOut-push script pages rows n answer below (λ cpu slot first none of_slot.
+          let cpu_is : cpu ≡ first_cpu = ap (λ (k : ℕ). let c : Cpu = record { 0 = k } in c) first in
+          let mine = out none slot (subst (λ (c : Cpu). option_and_then slot_of (command_at script (record { cpu = c; seq = n })) ≡ Some slot) cpu_is of_slot) in
+          record {
+            at = mine.at;
+            of_slot = mine.of_slot;
+            out = mine.out;
+            window = IsInWindow-now pages rows n answer cpu mine.at mine.log mine.there mine.entry_is within (λ bt e there. let early : e.who.seq < n + 1 = (follows.before bt e there).1 in omega arith);
+          }) follows.were_out;
     }
 
 -- the machine stops: the command answers `stopped`, and its record stands
@@ -186,10 +234,6 @@ Follows-stops script n command cause pages list rows there is_cause count follow
               row = length rows;
               of_cpu = refl;
               answered = slice_get-pushed rows (lines.Answer n answers.Stopped);
-              first = λ i m row. elim (slice_get-push_cases rows (lines.Answer n answers.Stopped) i (lines.Answer m answers.Stopped) row) [
-                | inl was ↦ absurd (none_stopped script pages first_cpu 0 list rows follows.answers i m was)
-                | inr last ↦ let same : m ≡ n = (same_answer m n answers.Stopped answers.Stopped last.1).0 in omega arith
-              ];
             });
         stays = λ cpu mine of_cpu i j m k answer less first second.
             let same = (only_rows all mine cpu.0 of_cpu).1 in
@@ -203,6 +247,8 @@ Follows-stops script n command cause pages list rows there is_cause count follow
               | inr last_j ↦ (same_answer k n answer answers.Stopped last_j.1).1
             ];
       };
+      stops_first = StopsFirst-push rows n stop (omega arith) (λ i m row. absurd (none_stopped script pages first_cpu 0 list rows follows.answers i m row));
+      were_out = WereOut-push script pages rows n answers.Stopped below (λ cpu slot first is of_slot. absurd (cc)) follows.were_out;
     }
 
 -- after a stop every command answers `stopped`
@@ -211,6 +257,12 @@ pub Follows-stopped : (script : Script) (n : ℕ) (command : Command) (s : Stop)
 Follows-stopped script n command s pages list rows count follows =
     let all : List CpuLine = rows ++ lines.Answer n answers.Stopped ∷ [] in
     let below : AreBelow n rows = subst (λ (k : ℕ). AreBelow k rows) count follows.below in
+    let own = follows.stops.caused s refl in
+    let rows_are = only_rows rows own.rows s.who.cpu.0 own.of_cpu in
+    let here : slice_get rows own.row ≡ Some (lines.Answer s.who.seq answers.Stopped) = ap (λ (r : List CpuLine). slice_get r own.row) (sym rows_are.1) ∙ own.answered in
+    let under : s.who.seq < n = below own.row s.who.seq answers.Stopped here in
+    let number : s.who.seq ≤ n = omega (arith, under) in
+    let of_cpu : slice_get (rows ∷ []) s.who.cpu.0 ≡ Some rows = ap (slice_get (rows ∷ [])) rows_are.0 in
     record {
       made = follows.made;
       ordered = follows.ordered;
@@ -230,14 +282,6 @@ Follows-stopped script n command s pages list rows count follows =
               row = old.row;
               of_cpu = ap (slice_get (all ∷ [])) rows_are.0;
               answered = slice_get-kept rows (lines.Answer n answers.Stopped ∷ []) old.row (lines.Answer t.who.seq answers.Stopped) (ap (λ (r : List CpuLine). slice_get r old.row) (sym rows_are.1) ∙ old.answered);
-              first = λ i m row. elim (slice_get-push_cases rows (lines.Answer n answers.Stopped) i (lines.Answer m answers.Stopped) row) [
-                | inl was ↦ old.first i m (ap (λ (r : List CpuLine). slice_get r i) rows_are.1 ∙ was)
-                | inr last ↦
-                    let same : m ≡ n = (same_answer m n answers.Stopped answers.Stopped last.1).0 in
-                    let here : slice_get rows old.row ≡ Some (lines.Answer t.who.seq answers.Stopped) = ap (λ (r : List CpuLine). slice_get r old.row) (sym rows_are.1) ∙ old.answered in
-                    let before : t.who.seq < n = below old.row t.who.seq answers.Stopped here in
-                    omega arith
-              ];
             };
         stays = λ cpu mine of_cpu i j m k answer less first second.
             let same = (only_rows all mine cpu.0 of_cpu).1 in
@@ -251,6 +295,8 @@ Follows-stopped script n command s pages list rows count follows =
               | inr last_j ↦ (same_answer k n answer answers.Stopped last_j.1).1
             ];
       };
+      stops_first = StopsFirst-push rows n s number (λ i m row. follows.stops_first s rows i m refl of_cpu row);
+      were_out = WereOut-push script pages rows n answers.Stopped below (λ cpu slot first is of_slot. absurd (cc)) follows.were_out;
     }
 
 -- the next command begins
@@ -266,6 +312,8 @@ Follows-next {script} {list} {n} {pages} {rows} {stop} follows =
       within = follows.within;
       below = follows.below;
       stops = follows.stops;
+      stops_first = follows.stops_first;
+      were_out = follows.were_out;
     }
   where
     later : (k : ℕ) → k < n → k < n + 1

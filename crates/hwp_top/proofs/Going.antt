@@ -140,7 +140,8 @@ Answers-called script list i thread args answer old new pages only are calls =
     let answer_is : answer ≡ reply_answer (reply (policy_before script (at_command i) thread) (arguments args)) = calls.answer_is ∙ ap (λ (p : Policy). reply_answer (reply p (arguments args))) policy_is in
     let the_reply = reply (policy_before script (at_command i) thread) (arguments args) in
     subst (λ (a : Answer). Answers script i (commands.Prctl thread args) a pages pages) (sym answer_is)
-    (Answers-refused script i (commands.Prctl thread args) (reply_answer the_reply) pages (is_reply the_reply refl) (λ bt names. absurd (placeless the_reply bt names)))
+    (Answers-refused script i (commands.Prctl thread args) (reply_answer the_reply) pages (is_reply the_reply refl) (λ bt names. absurd (placeless the_reply bt names))
+    (λ none slot of_slot. absurd (framed the_reply none)))
   where
     is_reply : (r : Reply) → r ≡ reply (policy_before script (at_command i) thread) (arguments args) → IsAnswer script pages None (at_command i) (commands.Prctl thread args) (reply_answer r)
     is_reply (replies.Set policy) is = ap reply_answer is
@@ -152,12 +153,17 @@ Answers-called script list i thread args answer old new pages only are calls =
     placeless (replies.Is policy) bt names = none-some bt names
     placeless replies.Einval bt names = none-some bt names
 
+    framed : (r : Reply) → reply_answer r ≡ answers.NoFrame → ⊥
+    framed (replies.Set policy) is = cc
+    framed (replies.Is policy) is = cc
+    framed replies.Einval is = cc
+
 -- a call that answers `done` and changes nothing that is reported
 pub Answers-done : (script : Script) (i : ℕ) (command : Command) (pages : List (List Entry)) → ((file : FileNo) × (command ≡ commands.Fsync file)) ⊎ ((status addr misc : ℕ) × (command ≡ commands.Log status addr misc)) → Answers script i command answers.Done pages pages
 Answers-done script i command pages (inl fsync) =
-    subst (λ (c : Command). Answers script i c answers.Done pages pages) (sym fsync.1) (Answers-refused script i (commands.Fsync fsync.0) answers.Done pages tt (λ bt names. absurd (none-some bt names)))
+    subst (λ (c : Command). Answers script i c answers.Done pages pages) (sym fsync.1) (Answers-refused script i (commands.Fsync fsync.0) answers.Done pages tt (λ bt names. absurd (none-some bt names)) (λ none slot of_slot. absurd (cc)))
 Answers-done script i command pages (inr log) =
-    subst (λ (c : Command). Answers script i c answers.Done pages pages) (sym log.3) (Answers-refused script i (commands.Log log.0 log.1 log.2) answers.Done pages tt (λ bt names. absurd (none-some bt names)))
+    subst (λ (c : Command). Answers script i c answers.Done pages pages) (sym log.3) (Answers-refused script i (commands.Log log.0 log.1 log.2) answers.Done pages tt (λ bt names. absurd (none-some bt names)) (λ none slot of_slot. absurd (cc)))
 
 -- each command that the bench serves is an access or one of these
 pub servable_is : (command : Command) → IsServable command → ((slot : VSlot) → IsAccessBy command slot → ⊥) → ((x : VSlot) → command ≡ commands.Free x → ⊥) → ((x : Page) → command ≡ commands.Drop x → ⊥)

@@ -1,10 +1,11 @@
 -- What each step of serving a command needs and gives.
-use Rattle.std.proofs.Common.{◌≡◌, ℕ, ◌+◌, ◌*◌, ◌<◌, ◌≤◌, Bool, true, false, cond, List, Some, None, Option, length, get_or, slice_get, position, nat_lt, All, IsSomeAnd, IsTrue, refl, sym, ap, ◌∙◌, subst, arith, inl, inr}
+use Rattle.std.proofs.Common.{◌≡◌, ℕ, ◌+◌, ◌*◌, ◌<◌, ◌≤◌, Bool, true, false, cond, List, [], ◌∷◌, Some, None, Option, length, get_or, slice_get, position, nat_lt, All, IsSomeAnd, IsTrue, refl, sym, ap, ◌∙◌, subst, arith, inl, inr}
 use Rattle.std.proofs.lemmas.Bool.{cases_Bool, ltb-false, le-ltb}
 use Rattle.std.proofs.lemmas.List.Quantifiers.{position-Some}
-use Rattle.std.proofs.lemmas.List.Sums.{fails_before_first}
+use Rattle.std.proofs.lemmas.List.Sums.{fails_before_first, sum_by-cons}
 use Rattle.std.proofs.lemmas.Option.{slice_get_read, slice_get-get_or, slice_get_within}
-use Rattle.std.specs.List.{position_or_len}
+use Rattle.std.specs.List.{list_any, position_or_len}
+use Rattle.std.specs.Prelude.{◌==◌, ◌||◌, count_by, not}
 use Rattle.std.specs.Ordering.{nat_cmp}
 use Rattle.std.specs.FinSet as set
 use Rattle.std.proofs.Common.{rules}
@@ -24,7 +25,7 @@ use Rattle.hwp_report.specs.declared.Place.{Place}
 use Rattle.hwp_report.specs.declared.Place.TheVariants as places
 use Rattle.hwp_law.specs.Places.{command_at}
 use Rattle.hwp_law.specs.History.{IsMade, Fits, Names}
-use Rattle.hwp_law.specs.Answers.{is_ample, usable_frames}
+use Rattle.hwp_law.specs.Answers.{is_ample, named_frames, usable_frames, usable_from}
 use Rattle.hwp_law.proofs.Growth.{slice_get-set_at}
 use Rattle.hwp_top.specs.Bench.{Machine, Appended, Serves, IsCached, IsMapped, IsAccessBy, at_command, is_free}
 use Rattle.hwp_top.proofs.Machines.{IsStill, full-few}
@@ -42,10 +43,29 @@ none_passes p xs none i d within =
           omega arith
     ])
 
+-- 1 where the test passes
+abbrev flag : Bool → ℕ
+flag b = cond b 1 0
+
+-- no more frames are usable than are not the kernel's
+usable-few : (named : List ℕ) (n : ℕ) (kernel : List Bool) → usable_from named n kernel ≤ count_by (λ (k : Bool). not k) kernel
+usable-few named n [] = omega arith
+usable-few named n (k ∷ kernel) =
+    let rest = usable-few named (n + 1) kernel in
+    let first : cond (k || list_any (λ f. f == n) named) 0 1 ≤ flag (not k) = at_most k (list_any (λ f. f == n) named) in
+    let all = sum_by-cons (λ (b : Bool). flag (not b)) k kernel in
+    omega (arith, rest, first, all)
+  where
+    at_most : (kernel named : Bool) → cond (kernel || named) 0 1 ≤ flag (not kernel)
+    at_most true named = omega arith
+    at_most false true = omega arith
+    at_most false false = omega arith
+
 pub unample-full : (script : Script) (bodies : List BodyValue) (frames : List Place) → Machine script.layout bodies frames → position is_free frames ≡ None → is_ample script ≡ false
 unample-full script bodies frames machine none =
-    let few : usable_frames script ≤ length script.layout.pages = full-few script.layout bodies frames machine (none_passes is_free frames none) in
-    ltb_not (length script.layout.pages + 2 * script.layout.cpus) (usable_frames script) (omega arith)
+    let few = full-few script.layout bodies frames machine (none_passes is_free frames none) in
+    let usable : usable_frames script ≤ count_by (λ (k : Bool). not k) script.layout.kernel = usable-few (named_frames script) 0 script.layout.kernel in
+    ltb_not (length script.layout.pages + 2 * script.layout.cpus) (usable_frames script) (omega (arith, few, usable))
   where
     ltb_not : (a b : ℕ) → b ≤ a → nat_lt a b ≡ false
     ltb_not a b le = le-ltb a b le

@@ -1,5 +1,5 @@
 -- The bench: how far a run of one processor has come, command by command.
-use Rattle.std.specs.Prelude.{◌≡◌, ℕ, ◌+◌, ◌<◌, Bool, true, false, cond, List, [], ◌∷◌, ◌++◌, Option, Some, None, length, map, replicate, slice_get, slice_set, count_by, take, All, IsSomeAnd, IsTrue}
+use Rattle.std.specs.Prelude.{◌≡◌, ℕ, ◌+◌, ◌<◌, Bool, true, false, cond, List, [], ◌∷◌, ◌++◌, Option, Some, None, length, map, replicate, slice_get, slice_set, position, count_by, take, All, IsSomeAnd, IsTrue}
 use Rattle.std.specs.FinSet as set
 use Rattle.hwp_geom.specs.Pairs.{Pairs}
 use Rattle.hwp_geom.specs.declared.Layout.{Layout}
@@ -39,6 +39,7 @@ use Rattle.hwp_kill.specs.declared.Reply.TheVariants as replies
 use Rattle.hwp_kill.specs.Prctl.{policy_set, reply}
 use Rattle.hwp_script.specs.declared.PrctlArgs.{PrctlArgs}
 use Rattle.hwp_law.specs.States.{AreBelow, AreWithin}
+use Rattle.hwp_law.specs.Runs.{StopsFirst, WereOut}
 use Rattle.hwp_law.specs.Stops.{StopFits}
 use Rattle.hwp_law.specs.Report.{is_of, IsPlace}
 
@@ -69,6 +70,8 @@ pub record Follows (script : Script) (commands : List Command) (bound : ℕ) (pa
   pub within : AreWithin pages rows
   pub below : AreBelow (length commands) rows
   pub stops : StopFits script (rows ∷ []) stop
+  pub stops_first : StopsFirst (rows ∷ []) stop
+  pub were_out : WereOut script pages (rows ∷ [])
 
 -- while the machine runs, whatever was followed before command n is still followed
 abbrev pub Keeps : Script → ℕ → List (List Entry) → List (List Entry) → Type 0
@@ -127,6 +130,13 @@ pub record Appended (old new : List BodyValue) (at : At) (e : Entry) : Type 0 wh
 -- the page is in a frame
 abbrev pub IsCached : List BodyValue → Page → Type 0
 IsCached bodies page = IsSomeAnd (slice_get bodies page.0) (λ (h : BodyValue). h.state.cached ≡ true)
+
+-- no frame is free, and the page is in none
+pub record IsFull (bodies : List BodyValue) (frames : List Place) (page : Page) : Type 0 where
+  pub none_free : position is_free frames ≡ None
+  pub body : BodyValue
+  pub there : slice_get bodies page.0 ≡ Some body
+  pub out : body.state.cached ≡ false
 
 -- the translation to the page is in use
 abbrev pub IsMapped : List BodyValue → Page → VSlot → Type 0

@@ -9,6 +9,7 @@ use Rattle.hwp_script.specs.declared.Why.TheVariants as whys
 use Rattle.hwp_script.specs.Reads.{Reads, IsRefused}
 use Rattle.hwp_report.specs.declared.Report.{Report}
 use Rattle.hwp_law.specs.Report.{IsReport}
+use Rattle.hwp_law.specs.Runs.{IsOfRun}
 use Rattle.hwp_top.specs.Bench.{IsBuilt}
 
 -- the words are those of the command that runs a script step by step
@@ -34,11 +35,12 @@ pub record Takes (left left' : Option (List ℕ)) (script : Script) : Type 0 whe
   pub reads : Reads bytes script
   pub built : IsBuilt script
 
--- the report is one of the script that a source gave
+-- the report is one of the script that a source gave, and of a run
 pub record Reports (left left' : Option (List ℕ)) (report : Report) : Type 0 where
   pub script : Script
   pub takes : Takes left left' script
   pub law : IsReport script report
+  pub run : IsOfRun script report
 
 -- the name of a reason
 abbrev pub why_text : Why → List ℕ

@@ -3,9 +3,8 @@ ghost use Rattle.std.specs.Prelude.{◌≡◌, ◌<◌, false, length, Some, IsT
 ghost use Rattle.std.specs.FinSet as set;
 ghost use Rattle.hwp_geom.specs.Layout.{IsSound};
 ghost use Rattle.hwp_page.specs.Step.{Allowed, IsOf};
-ghost use Rattle.hwp_law.specs.Answers.{is_ample};
 ghost use Rattle.hwp_law.specs.Places.{command_at};
-ghost use Rattle.hwp_top.specs.Bench.{Answers, Gives, IsAccessBy, IsCached, IsMapped, Keeps, Machine, Serves, at_command, logs};
+ghost use Rattle.hwp_top.specs.Bench.{Answers, Gives, IsAccessBy, IsCached, IsFull, IsMapped, Keeps, Machine, Serves, at_command, logs};
 
 use crate::steps::{add, lowest_free, who_at};
 use hwp_geom::{Layout, Mask, OutOfMemory, Page, VSlot};
@@ -40,7 +39,7 @@ fn bring_in(
     ensures machine { OnOk result (Machine script.now.layout bodies.new frames.new) }
     ensures keeps { OnOk result (Keeps script.now seq (logs bodies.old) (logs bodies.new)) }
     ensures there { IfOk result (λ there. IsTrue there → IsCached bodies.new page) }
-    ensures full { IfOk result (λ there. IsFalse there → is_ample script.now ≡ false) }
+    ensures full { IfOk result (λ there. IsFalse there → IsFull bodies.new frames.new page) }
 {
     if bodies[usize::from(page.0)].state().cached {
         return Ok(true);

@@ -1,6 +1,6 @@
 //! The bench: runs the commands of one processor one by one over frames and bodies, the lowest free frame first. It
 //! serves until the core does.
-ghost use Rattle.std.specs.Prelude.{◌≡◌, ◌+◌, ◌<◌, [], ◌∷◌, ◌++◌, All, true, length, map, replicate, slice_get, take, List, IfSome, IfNone, IfOk, OnOk, Some, None};
+ghost use Rattle.std.specs.Prelude.{◌≡◌, ◌+◌, ◌<◌, [], ◌∷◌, ◌++◌, All, true, length, map, replicate, slice_get, take, List, IfSome, IfNone, IfOk, IsErr, OnOk, Some, None};
 ghost use Rattle.std.specs.Arc.{arc_value};
 ghost use Rattle.hwp_geom.specs.Layout.{IsSound};
 ghost use Rattle.hwp_geom.specs.declared.VSlot.{VSlot};
@@ -9,11 +9,13 @@ ghost use Rattle.hwp_law.specs.Answers.{reply_answer};
 ghost use Rattle.hwp_law.specs.Places.{command_at};
 ghost use Rattle.hwp_law.specs.Policies.{arguments};
 ghost use Rattle.hwp_law.specs.Report.{IsReport};
+ghost use Rattle.hwp_law.specs.Runs.{IsOfRun};
 ghost use Rattle.hwp_top.specs.Bench.{Answers, Calls, AreFresh, ArePolicies, Follows, Goes, IsBuilt, IsAccessBy, IsServable, Machine, Reports, at_command, frame_line, is_built_command, logs, opening_place, set_reply};
 
 use crate::access::{page_of, serve_access};
 use crate::eviction::{drop_page, free_slot, out_page, sync_page};
 use crate::steps::who_at;
+use hwp_banks::{Mcg, Shutdown};
 use hwp_form::PrctlArgs;
 use hwp_geom::{Layout, List, Mask, OutOfMemory, Page, Thread, VSlot};
 use hwp_kill::{Policy, Reply, prctl};
@@ -124,6 +126,27 @@ fn call_prctl(policies: &mut [Policy], thread: Thread, args: PrctlArgs) -> Answe
     answer_of(reply)
 }
 
+/// A machine check, and another one before it ends.
+fn check_twice(mcg: &mut Mcg) -> Result<(), Shutdown>
+    ensures { IsErr result }
+{
+    mcg.enter()?;
+    mcg.enter()
+}
+
+/// The stop of a machine check inside another one: the second is refused, and the processor shuts down.
+fn nested_stop(seq: u32) -> Stop
+    ensures { result ≡ record { who = at_command seq; cause = StopCause.Shutdown } }
+{
+    let Err(Shutdown) = check_twice(&mut Mcg::new()) else {
+        unreachable!()
+    };
+    Stop {
+        who: who_at(seq),
+        cause: StopCause::Shutdown,
+    }
+}
+
 /// Serves the next command of the only processor, which may stop the machine.
 fn serve_next(
     script: &Script,
@@ -151,10 +174,7 @@ fn serve_next(
     match command {
         Command::Prctl { thread, args } => Ok(call_prctl(policies, *thread, *args)),
         Command::RaiseNested => {
-            *stop = Some(Stop {
-                who: who_at(seq),
-                cause: StopCause::Shutdown,
-            });
+            *stop = Some(nested_stop(seq));
             Ok(Answer::Stopped)
         }
         _ => serve(script, bodies, frames, command, seq),
@@ -281,7 +301,8 @@ fn report_of(
 pub fn run(alloc: Global, script: &Script) -> Result<Report, OutOfMemory>
     requires valid { IsValid script.now }
     requires built { IsBuilt script.now }
-    ensures { IfOk result (IsReport script.now) }
+    ensures law { IfOk result (IsReport script.now) }
+    ensures of_run { IfOk result (IsOfRun script.now) }
 {
     let layout = Arc::new(alloc, script.layout.copy(alloc)?)?;
     let mut bodies = open_bodies(alloc, &layout)?;

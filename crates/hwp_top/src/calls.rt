@@ -1,5 +1,6 @@
 ghost use Rattle.std.specs.Prelude.{◌≡◌, ◌≢◌, ◌↔◌, ◌⊎◌, ℕ, List, [], ◌∷◌, map, string_bytes, codes, Contains, IfOk, IsErrOf, IsSomeAnd, IsTrue, Some, None};
 ghost use Rattle.std.specs.Io.KnownBytes.{Appends};
+ghost use Rattle.std.specs.Process.{exit_status};
 ghost use Rattle.hwp_io.specs.Causes.{AppendsStrictFront, Rose};
 ghost use Rattle.hwp_script.specs.declared.Refused.{Refused};
 ghost use Rattle.hwp_report.specs.Text.{report_text};
@@ -12,12 +13,22 @@ use hwp_geom::{OutOfMemory, Text};
 use hwp_io::{Sink, Source, WriteFault, write_all};
 use hwp_report::{Report, print};
 use std::alloc::Global;
+use std::process::ExitCode;
 
 /// How a call ended: its exit status, and the report where there is one.
 #[derive(Drop)]
 pub struct Done {
     pub status: u8,
     pub report: Option<Report>,
+}
+
+impl Done {
+    /// The exit code of the program: the status.
+    pub fn exit_code(&self) -> ExitCode
+        ensures { exit_status result ≡ self.now.status }
+    {
+        ExitCode::from(self.status)
+    }
 }
 
 /// Whether a word is `step`.

@@ -11,12 +11,18 @@ use Rattle.hwp_report.specs.declared.Place.TheVariants as places
 use Rattle.hwp_law.specs.History.{IsMade}
 use Rattle.hwp_top.proofs.Following.{Keeps-quiet}
 use Rattle.hwp_top.proofs.Machines.{Machine-brought}
-use Rattle.hwp_top.proofs.Serving.{unample-full, found_free, read-at, made-by, fits-FaultIn, cached-after}
+use Rattle.hwp_top.proofs.Serving.{found_free, read-at, made-by, fits-FaultIn, cached-after}
 use Rattle.hwp_top.proofs.access.bring_in.Goals as goal
 
 pub returns-in_default-clause-full : goal.returns-in_default-clause-full
 returns-in_default-clause-full c _ =
-    unample-full c.args.script.now c.args.bodies.now c.args.frames.now c.requires.machine (sym c.in_default.ensures)
+    let body : BodyValue = slice_index_or c.args.bodies.now c.from.result c.index-bodies-from.result in
+    record {
+      none_free = sym c.in_default.ensures;
+      body = body;
+      there = read-at c.args.bodies.now c.args.page c.from.result c.index-bodies-from.result c.from.ensures (omega (arith, c.requires.machine.fit)) c.index-bodies-from.is;
+      out = ap (λ (s : PageState). s.cached) (sym c.state.ensures.value) ∙ c.if-state.false;
+    }
 
 pub add-requires-clause-allowed : goal.add-requires-clause-allowed
 add-requires-clause-allowed c h there =

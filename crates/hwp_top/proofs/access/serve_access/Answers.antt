@@ -4,5 +4,5 @@ use Rattle.hwp_top.proofs.access.serve_access.Goals as goal
 
 pub returns-then-not-branch-clause-answers : goal.returns-then-not-branch-clause-answers
 returns-then-not-branch-clause-answers c =
-    Answers-noframe c.args.script.now c.args.seq c.args.command c.args.slot (logs c.args.bodies.now) (logs c.bring_in.new.bodies) c.requires.access c.in_ok-bring_in.ensures.keeps
-    (c.in_ok-bring_in.ensures.full c.if-not-branch.true)
+    Answers-noframe c.args.script.now c.args.seq c.args.command c.args.slot c.page_of-page.result (logs c.args.bodies.now) c.bring_in.new.bodies c.bring_in.new.frames c.requires.at c.requires.access
+    c.page_of-page.ensures.of c.in_ok-bring_in.ensures.keeps c.in_ok-bring_in.ensures.machine (c.in_ok-bring_in.ensures.full c.if-not-branch.true)

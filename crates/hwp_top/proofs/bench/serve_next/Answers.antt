@@ -9,7 +9,6 @@ use Rattle.hwp_script.specs.declared.Command.{Command}
 use Rattle.hwp_script.specs.declared.Command.TheVariants as commands
 use Rattle.hwp_report.specs.declared.Answer.TheVariants as answers
 use Rattle.hwp_report.specs.declared.Stop.{Stop}
-use Rattle.hwp_report.specs.declared.StopCause.TheVariants as causes
 use Rattle.hwp_top.proofs.Going.{Answers-called, Goes-answer, Goes-stopped, Goes-stops, only_at, only_valid, policies-called, policies-kept, servable-built, servable-unset, on_ok, running_is, stop_cases, thread-within}
 use Rattle.hwp_top.proofs.bench.serve_next.Goals as goal
 
@@ -59,9 +58,8 @@ pub returns-in-RaiseNested-clause-goes : goal.returns-in-RaiseNested-clause-goes
 returns-in-RaiseNested-clause-goes c =
     let running : c.args.stop.now ≡ None = running_is c.args.stop.now (sym c.if-is_some.ensures) in
     let goes = Goes-stops c.args.script.now c.args.list.now c.args.seq c.index-list-seq.result c.index-list-seq.result (logs c.args.bodies.now) c.requires.only c.requires.inside c.index-list-seq.is c.in-RaiseNested.is in
-    let who_is = ap (λ w. let s : Stop = record { who = w; cause = causes.Shutdown } in Some s) (sym c.who_at.ensures) in
-    subst (λ (o : Option Stop). Goes c.args.script.now c.args.list.now c.args.seq answers.Stopped (logs c.args.bodies.now) (logs c.args.bodies.now) o (Some (record { who = c.who_at.result; cause = causes.Shutdown }))) (sym running)
-    (subst (λ (o : Option Stop). Goes c.args.script.now c.args.list.now c.args.seq answers.Stopped (logs c.args.bodies.now) (logs c.args.bodies.now) None o) who_is goes)
+    subst (λ (o : Option Stop). Goes c.args.script.now c.args.list.now c.args.seq answers.Stopped (logs c.args.bodies.now) (logs c.args.bodies.now) o (Some c.nested_stop.result)) (sym running)
+    (subst (λ (s : Stop). Goes c.args.script.now c.args.list.now c.args.seq answers.Stopped (logs c.args.bodies.now) (logs c.args.bodies.now) None (Some s)) (sym c.nested_stop.ensures) goes)
 
 pub returns-in_default : goal.returns-in_default
 returns-in_default c =

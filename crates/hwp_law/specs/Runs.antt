@@ -1,0 +1,49 @@
+-- What the report of a run shows beside the report law. The law judges a report by itself; these hold of every run.
+use Rattle.std.specs.Prelude.{◌≡◌, ℕ, ◌≤◌, false, List, Option, Some, None, slice_get, option_and_then}
+use Rattle.hwp_geom.specs.declared.Cpu.{Cpu}
+use Rattle.hwp_geom.specs.declared.VSlot.{VSlot}
+use Rattle.hwp_geom.specs.declared.Who.{Who}
+use Rattle.hwp_page.specs.declared.At.{At}
+use Rattle.hwp_page.specs.declared.Entry.{Entry}
+use Rattle.hwp_page.specs.Step.{IsOf}
+use Rattle.hwp_script.specs.declared.Command.{Command}
+use Rattle.hwp_script.specs.declared.Command.TheVariants as commands
+use Rattle.hwp_script.specs.declared.Script.{Script}
+use Rattle.hwp_report.specs.declared.Answer.TheVariants as answers
+use Rattle.hwp_report.specs.declared.CpuLine.{CpuLine}
+use Rattle.hwp_report.specs.declared.CpuLine.TheVariants as lines
+use Rattle.hwp_report.specs.declared.Report.{Report}
+use Rattle.hwp_report.specs.declared.Stop.{Stop}
+use Rattle.hwp_law.specs.Places.{command_at}
+use Rattle.hwp_law.specs.States.{HadState, IsInWindow}
+
+-- the stop's command is the first of its processor that answers `stopped`
+abbrev pub StopsFirst : List (List CpuLine) → Option Stop → Type 0
+StopsFirst cpus stop =
+    (s : Stop) (rows : List CpuLine) (i m : ℕ) → stop ≡ Some s → slice_get cpus s.who.cpu.0 ≡ Some rows → slice_get rows i ≡ Some (lines.Answer m answers.Stopped) → s.who.seq ≤ m
+
+-- the translation of an access
+abbrev pub slot_of : Command → Option VSlot
+slot_of (commands.Load thread slot line) = Some slot
+slot_of (commands.Fetch thread slot line) = Some slot
+slot_of (commands.KLoad thread slot line) = Some slot
+slot_of (commands.Store thread slot line word) = Some slot
+slot_of _ = None
+
+-- after some number of entries within the command's window, the translation's page was in no frame
+pub record WasOut (script : Script) (pages : List (List Entry)) (rows : List CpuLine) (who : Who) (slot : VSlot) : Type 0 where
+  pub at : At
+  pub of_slot : IsOf script.layout at.page slot
+  pub out : HadState script.layout pages at (λ s. s.cached ≡ false)
+  pub window : IsInWindow pages rows who at
+
+-- an access answers `noframe` only where its page was in no frame
+abbrev pub WereOut : Script → List (List Entry) → List (List CpuLine) → Type 0
+WereOut script pages cpus =
+    (cpu : Cpu) (rows : List CpuLine) (i seq : ℕ) (slot : VSlot) → slice_get cpus cpu.0 ≡ Some rows → slice_get rows i ≡ Some (lines.Answer seq answers.NoFrame)
+    → option_and_then slot_of (command_at script (record { cpu = cpu; seq = seq })) ≡ Some slot → WasOut script pages rows (record { cpu = cpu; seq = seq }) slot
+
+-- the report is of a run of the script, as far as it shows
+pub record IsOfRun (script : Script) (report : Report) : Type 0 where
+  pub stops_first : StopsFirst report.cpus report.stop
+  pub were_out : WereOut script report.pages report.cpus
