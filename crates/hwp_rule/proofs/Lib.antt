@@ -20,6 +20,7 @@ pub mod Sights
 pub mod Exhausted
 pub mod ShownWords
 pub mod FreeAndHand
+pub mod NearWord
 pub mod FrameWord
 pub mod CountSteps
 pub mod Carrying
