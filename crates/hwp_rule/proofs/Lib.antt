@@ -20,7 +20,7 @@ pub mod Sights
 pub mod Exhausted
 pub mod ShownWords
 pub mod FreeAndHand
-pub mod NearWord
+pub mod FrameFields
 pub mod FrameWord
 pub mod CountSteps
 pub mod Carrying

@@ -27,7 +27,7 @@ use Rattle.hwp_rule.specs.parts.Places.{HasOnePlace, in_hand}
 use Rattle.hwp_rule.proofs.Keeps.{Keeps}
 use Rattle.hwp_rule.proofs.Kept
 use Rattle.hwp_rule.proofs.Lists.{change, at_map, at_set, set_here, set_else, set-set, same-or, same-number, set_again, sum-set, term-le, each-set}
-use Rattle.hwp_rule.proofs.NearWord.{IsNear, near-translations, near-caches, near-bodies, near-counter, near-marks, near-unpoisoned, near-handed-all, placed-again}
+use Rattle.hwp_rule.proofs.FrameFields.{translations-kept, caches-kept, bodies-kept, counter-kept, marks-kept, unpoisoned-kept, handed-kept, placed-kept}
 use Rattle.hwp_rule.proofs.Refs
 use Rattle.hwp_rule.proofs.WordsByKind.{word-there}
 use Rattle.hwp_rule.proofs.kinds.UnlockFrame
@@ -36,7 +36,7 @@ use Rattle.hwp_rule.proofs.kinds.UnlockFrame
 module _ (layout : Layout) (w : Words) (homes : Homes) (views : List View) (seat : ℕ) (v : View) (frame : Frame) (word now : ℕ)
     (me : slice_get views seat ≡ Some v) (there : slice_get w.frames frame.0 ≡ Some word) (referenced : 0 < refs_on frame.0 v.refs)
     (free : lock_of word ≡ 0) (unhandled : handled_of word ≡ 0) (poisoned : poison_of word ≡ 1) (unowned : owner_of word ≡ 0)
-    (near : IsNear word now) (lock : lock_of now ≡ lock_of word) (handled : handled_of now ≡ 1) (count : count_of now ≡ count_of word)
+    (are : FieldsAre now (lock_of word) (poison_of word) 1 (kernel_of word) (count_of word) (owner_of word) (cycle_of word))
     (h : FrameRule layout w homes views) where
   abbrev less : List Ref
   less = less_refs frame 1 v.refs
@@ -87,12 +87,12 @@ module _ (layout : Layout) (w : Words) (homes : Homes) (views : List View) (seat
           let moved : sum_by (refs_on frame.0) (set (map (λ (v : View). v.refs) views) seat less) + refs_on frame.0 v.refs ≡ sum_by (refs_on frame.0) (map (λ (v : View). v.refs) views) + refs_on frame.0 less =
           sum-set (refs_on frame.0) (map (λ (v : View). v.refs) views) seat v.refs less my-refs in
           let fewer : refs_on frame.0 less ≡ refs_on frame.0 v.refs - 1 = Refs.refs-less frame 1 v.refs in
-          omega (arith, balance, count, handled, unhandled, referenced)
+          omega (arith, balance, are.count, are.handled, unhandled, referenced)
 
   places : HasOnePlace layout.kernel frames w.frees (map (λ (v : View). v.hands) views)
-  places = placed-again w.frames frame.0 word now there near layout.kernel w.frees (map (λ (v : View). v.hands) views) (map (λ (v : View). v.hands) views) counted (λ g differs. refl)
-      (λ usable. subst (λ (n : ℕ). free_bit w.frees frame.0 + in_hand frame.0 (map (λ (v : View). v.hands) views) + min n 1 ≡ 1) (sym count) (h.frames.places.placed frame.0 word there usable))
-      (λ idle. absurd (not-idle idle)) (near-handed-all w.frames frame.0 word now there near (map (λ (v : View). v.hands) views) h.frames.places.handed) h.frames.places
+  places = placed-kept w.frames frame.0 word now there are.kernel layout.kernel w.frees (map (λ (v : View). v.hands) views) (map (λ (v : View). v.hands) views) counted (λ g differs. refl)
+      (λ usable. subst (λ (n : ℕ). free_bit w.frees frame.0 + in_hand frame.0 (map (λ (v : View). v.hands) views) + min n 1 ≡ 1) (sym are.count) (h.frames.places.placed frame.0 word there usable))
+      (λ idle. absurd (not-idle idle)) (handed-kept w.frames frame.0 word now there are.poison (map (λ (v : View). v.hands) views) h.frames.places.handed) h.frames.places
 
   -- no view lists a lock of the frame
   of-others : (i : ℕ) (o : List Ref × List FrameLock) → slice_get held i ≡ Some o → (j : ℕ) (l : FrameLock) → slice_get o.1 j ≡ Some l → l.frame.0 ≢ frame.0
@@ -126,7 +126,7 @@ module _ (layout : Layout) (w : Words) (homes : Homes) (views : List View) (seat
         sum-set (λ (o : List Ref × List FrameLock). locks_on g o.1) held seat (v.refs, v.locks) (less, v.locks) my-held in
         let same : sum_by (λ (o : List Ref × List FrameLock). locks_on g o.1) (set held seat (less, v.locks)) ≡ sum_by (λ (o : List Ref × List FrameLock). locks_on g o.1) held = omega arith in
         elim (at_set w.frames frame.0 g now x at) [
-          | inl t ↦ same ∙ ap (λ (n : ℕ). sum_by (λ (o : List Ref × List FrameLock). locks_on n o.1) held) t.0 ∙ h.frames.frame_locks.one frame.0 word there ∙ sym lock ∙ ap lock_of t.1
+          | inl t ↦ same ∙ ap (λ (n : ℕ). sum_by (λ (o : List Ref × List FrameLock). locks_on n o.1) held) t.0 ∙ h.frames.frame_locks.one frame.0 word there ∙ sym are.lock ∙ ap lock_of t.1
           | inr t ↦ same ∙ h.frames.frame_locks.one g x t.1
         ];
     known = each-set (λ (o : List Ref × List FrameLock). EachMember (IsLocked frames o.0) o.1) held seat (less, v.locks)
@@ -155,7 +155,7 @@ module _ (layout : Layout) (w : Words) (homes : Homes) (views : List View) (seat
   out-of-use : HandledIsPoisoned frames
   out-of-use = record {
     out = λ g x at is. elim (at_set w.frames frame.0 g now x at) [
-      | inl t ↦ record { poisoned = ap poison_of (sym t.1) ∙ near.poison ∙ poisoned; unowned = ap owner_of (sym t.1) ∙ near.owner ∙ unowned }
+      | inl t ↦ record { poisoned = ap poison_of (sym t.1) ∙ are.poison ∙ poisoned; unowned = ap owner_of (sym t.1) ∙ are.owner ∙ unowned }
       | inr t ↦ h.failures.handled.out g x t.1 is
     ];
   }
@@ -171,19 +171,19 @@ module _ (layout : Layout) (w : Words) (homes : Homes) (views : List View) (seat
     };
     pages = Kept.same-pages views seat v u me refl (record {
       page_locks = h.pages.page_locks;
-      translations = near-translations w.frames frame.0 word now there near layout.trans w.trans h.pages.translations;
-      caches = near-caches w.frames frame.0 word now there near w.caches (map (λ (v : View). (v.locks, v.pages)) views) h.pages.caches;
-      bodies = near-bodies w.frames frame.0 word now there near lock layout w.caches w.pages homes (map holder_of views) h.pages.bodies;
+      translations = translations-kept w.frames frame.0 word now there are.owner layout.trans w.trans h.pages.translations;
+      caches = caches-kept w.frames frame.0 word now there are.owner w.caches (map (λ (v : View). (v.locks, v.pages)) views) h.pages.caches;
+      bodies = bodies-kept w.frames frame.0 word now there are.owner are.lock layout w.caches w.pages homes (map holder_of views) h.pages.bodies;
       fits = h.pages.fits;
     });
     histories = Kept.same-histories views seat v u me refl h.histories;
     failures = Kept.same-failures views seat v u me refl (record {
       handled = out-of-use;
-      counter = near-counter w.frames frame.0 word now there near w.counter (map count_debts_of views) (map (λ (v : View). v.sights) views) h.failures.counter;
+      counter = counter-kept w.frames frame.0 word now there are.poison w.counter (map count_debts_of views) (map (λ (v : View). v.sights) views) h.failures.counter;
       damage = h.failures.damage;
-      marks = near-marks w.frames frame.0 word now there near (map (λ (v : View). v.marks) views) (map (λ (v : View). v.sights) views) h.failures.marks;
+      marks = marks-kept w.frames frame.0 word now there are.poison are.cycle (map (λ (v : View). v.marks) views) (map (λ (v : View). v.sights) views) h.failures.marks;
       exhaustion = h.failures.exhaustion;
-      unpoisoned = near-unpoisoned w.frames frame.0 word now there near (map (λ (v : View). v.spoiled) views) homes (map (λ (v : View). v.bodies) views) h.failures.unpoisoned;
+      unpoisoned = unpoisoned-kept w.frames frame.0 word now there are.poison (map (λ (v : View). v.spoiled) views) homes (map (λ (v : View). v.bodies) views) h.failures.unpoisoned;
     });
     processors = Kept.same-processors views seat v u me refl h.processors;
   }
@@ -197,8 +197,15 @@ keeps-retire frame layout w homes views seat v who content given =
     (set_here views seat unlocking v given.me) (set_here w.frames frame.0 unlocked found there)
     (UnlockFrame.referenced layout w homes views seat v frame found can.has.listed.0 lock given.me given.place there listed can.has.frame_is given.rule)
     freed.lock (freed.handled ∙ unhandled) (freed.poison ∙ poisoned) (freed.owner ∙ owner ∙ can.unowned)
-    (record { poison = are.poison ∙ sym freed.poison; kernel = are.kernel ∙ sym freed.kernel; owner = are.owner ∙ sym freed.owner; cycle = are.cycle ∙ sym freed.cycle })
-    (are.lock ∙ sym freed.lock) are.handled (are.count ∙ sym freed.count)
+    (record {
+      lock = are.lock ∙ sym freed.lock;
+      poison = are.poison ∙ sym freed.poison;
+      handled = are.handled;
+      kernel = are.kernel ∙ sym freed.kernel;
+      count = are.count ∙ sym freed.count;
+      owner = are.owner ∙ sym freed.owner;
+      cycle = are.cycle ∙ sym freed.cycle;
+    })
     (UnlockFrame.keeps-unlock-empty layout w homes views seat v frame found can.has.listed.0 lock given.me given.place there listed can.has.frame_is given.rule can.unowned))))
   where
     can : CanRetire v frame content
