@@ -1,5 +1,5 @@
 -- The parts of the rule that read the words of frames, where one word changes: each stays where the fields that it reads do.
-use Rattle.std.proofs.Common.{◌≡◌, ◌≢◌, ℕ, ◌+◌, ◌<◌, ◌≤◌, ◌==◌, ◌^◌, nat_lt, min, Bool, true, false, cond, List, Some, set, slice_get, inl, inr, refl, sym, ap, ◌∙◌, subst, arith}
+use Rattle.std.proofs.Common.{◌≡◌, ◌≢◌, ℕ, ◌+◌, ◌<◌, ◌≤◌, ◌==◌, ◌^◌, nat_lt, min, Bool, true, false, cond, List, Some, set, slice_get, inl, inr, refl, sym, ap, ◌∙◌, subst, arith, map}
 use Rattle.std.proofs.lemmas.List.{length-set}
 use Rattle.std.proofs.lemmas.Option.{same_Some}
 use Rattle.std.specs.Int.{from_bool}
@@ -30,6 +30,8 @@ use Rattle.hwp_rule.specs.parts.Places.{HasOnePlace, IsBare, IsApart, in_hand, I
 use Rattle.hwp_rule.specs.parts.Unpoisoned.{NothingPoisonedYet}
 use Rattle.hwp_rule.proofs.Lists.{at_set, set_here, set_else, same-or, sum-set, each-set, each-weaken}
 use Rattle.hwp_rule.specs.declared.view.FrameInHand.{FrameInHand}
+use Rattle.hwp_rule.specs.Rule.{FailureParts, count_debts_of}
+use Rattle.hwp_rule.specs.declared.view.View.{View}
 
 abbrev cycle_and_poison : ℕ → ℕ × ℕ
 cycle_and_poison word = (cycle_of word, poison_of word)
@@ -92,7 +94,7 @@ module _ (frames : List ℕ) (f w u : ℕ) (there : slice_get frames f ≡ Some 
 
   -- ---- parts that read the poison
 
-  pub counter-kept : poison_of u ≡ poison_of w → (counter : ℕ) (debts : List CountDebts) (sights : List (List Sight)) → CounterAgrees frames counter debts sights → CounterAgrees (set frames f u) counter debts sights
+  counter-kept : poison_of u ≡ poison_of w → (counter : ℕ) (debts : List CountDebts) (sights : List (List Sight)) → CounterAgrees frames counter debts sights → CounterAgrees (set frames f u) counter debts sights
   counter-kept poison counter debts sights h = record {
     poisoned =
         let changed : sum_by poison_of (set frames f u) + poison_of w ≡ sum_by poison_of frames + poison_of u = sum-set poison_of frames f w u there in
@@ -103,7 +105,7 @@ module _ (frames : List ℕ) (f w u : ℕ) (there : slice_get frames f ≡ Some 
     shown = h.shown;
   }
 
-  pub unpoisoned-kept : poison_of u ≡ poison_of w → (spoiled : List (List Spoiled)) (homes : Homes) (bodies : List (List InHand)) → NothingPoisonedYet frames spoiled homes bodies → NothingPoisonedYet (set frames f u) spoiled homes bodies
+  unpoisoned-kept : poison_of u ≡ poison_of w → (spoiled : List (List Spoiled)) (homes : Homes) (bodies : List (List InHand)) → NothingPoisonedYet frames spoiled homes bodies → NothingPoisonedYet (set frames f u) spoiled homes bodies
   unpoisoned-kept poison spoiled homes bodies h = record {
     sound = λ g x a.
         let was : (y : ℕ) × (slice_get frames g ≡ Some y) × (poison_of x ≡ poison_of y) = field-was poison_of poison g x a in
@@ -119,7 +121,7 @@ module _ (frames : List ℕ) (f w u : ℕ) (there : slice_get frames f ≡ Some 
       record { word = is.0; there = is.1; poisoned = λ e. ap (λ (n : ℕ). n == 1) is.2 ∙ known.poisoned e }
 
   -- the cycle too
-  pub marks-kept : poison_of u ≡ poison_of w → cycle_of u ≡ cycle_of w → (marks : List (List Mark)) (sights : List (List Sight)) → MarksAlternate frames marks sights → MarksAlternate (set frames f u) marks sights
+  marks-kept : poison_of u ≡ poison_of w → cycle_of u ≡ cycle_of w → (marks : List (List Mark)) (sights : List (List Sight)) → MarksAlternate frames marks sights → MarksAlternate (set frames f u) marks sights
   marks-kept poison cycle marks sights h = record {
     poisoned = λ g x c a.
         let was : (y : ℕ) × (slice_get frames g ≡ Some y) × (cycle_and_poison x ≡ cycle_and_poison y) = field-was cycle_and_poison same g x a in
@@ -141,6 +143,18 @@ module _ (frames : List ℕ) (f w u : ℕ) (there : slice_get frames f ≡ Some 
     where
       same : cycle_and_poison u ≡ cycle_and_poison w
       same i = (cycle i, poison i)
+
+  -- all parts on failures, where that on handled frames is given
+  pub failures-kept : {layout : Layout} {counter : ℕ} {bads weaks : List ℕ} {homes : Homes} {views : List View} → poison_of u ≡ poison_of w → cycle_of u ≡ cycle_of w → HandledIsPoisoned (set frames f u)
+      → FailureParts layout frames counter bads weaks homes views → FailureParts layout (set frames f u) counter bads weaks homes views
+  failures-kept {layout} {counter} {bads} {weaks} {homes} {views} poison cycle handled h = record {
+    handled = handled;
+    counter = counter-kept poison counter (map count_debts_of views) (map (λ (v : View). v.sights) views) h.counter;
+    damage = h.damage;
+    marks = marks-kept poison cycle (map (λ (v : View). v.marks) views) (map (λ (v : View). v.sights) views) h.marks;
+    exhaustion = h.exhaustion;
+    unpoisoned = unpoisoned-kept poison (map (λ (v : View). v.spoiled) views) homes (map (λ (v : View). v.bodies) views) h.unpoisoned;
+  }
 
   -- the places, where the frame had a reference before
   pub placed-kept : kernel_of u ≡ kernel_of w → (kernel : List Bool) (frees : List ℕ) (hands now : List (List FrameInHand)) → 0 < count_of w

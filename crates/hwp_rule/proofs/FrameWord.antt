@@ -28,7 +28,7 @@ use Rattle.hwp_rule.specs.parts.Marks.{MarksAlternate, IsBefore}
 use Rattle.hwp_rule.specs.parts.Owners.{TranslationsOwned, CacheWordsOwned, NamesOwn}
 use Rattle.hwp_rule.specs.parts.Places.{HasOnePlace, IsBare, IsApart, in_hand, IsHanded}
 use Rattle.hwp_rule.specs.parts.Unpoisoned.{NothingPoisonedYet}
-use Rattle.hwp_rule.proofs.FrameFields.{translations-kept, caches-kept, bodies-kept, counter-kept, unpoisoned-kept, handed-kept, marks-kept, placed-kept}
+use Rattle.hwp_rule.proofs.FrameFields.{translations-kept, caches-kept, bodies-kept, handed-kept, placed-kept, failures-kept}
 use Rattle.hwp_rule.proofs.Lists.{at_set, set_here, set_else, same-or, sum-set, each-set, each-weaken}
 use Rattle.hwp_rule.specs.declared.view.FrameInHand.{FrameInHand}
 use Rattle.hwp_rule.specs.Rule.{PageParts, FailureParts, holder_of, count_debts_of}
@@ -170,11 +170,4 @@ module _ (frames : List ℕ) (f w u : ℕ) (there : slice_get frames f ≡ Some 
 
   pub like-failures : {layout : Layout} {counter : ℕ} {bads weaks : List ℕ} {homes : Homes} {views : List View}
       → FailureParts layout frames counter bads weaks homes views → FailureParts layout (set frames f u) counter bads weaks homes views
-  like-failures {layout} {counter} {bads} {weaks} {homes} {views} h = record {
-    handled = like-handled h.handled;
-    counter = counter-kept frames f w u there like.poison counter (map count_debts_of views) (map (λ (v : View). v.sights) views) h.counter;
-    damage = h.damage;
-    marks = marks-kept frames f w u there like.poison like.cycle (map (λ (v : View). v.marks) views) (map (λ (v : View). v.sights) views) h.marks;
-    exhaustion = h.exhaustion;
-    unpoisoned = unpoisoned-kept frames f w u there like.poison (map (λ (v : View). v.spoiled) views) homes (map (λ (v : View). v.bodies) views) h.unpoisoned;
-  }
+  like-failures h = failures-kept frames f w u there like.poison like.cycle (like-handled h.handled) h

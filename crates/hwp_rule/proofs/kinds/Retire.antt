@@ -27,7 +27,7 @@ use Rattle.hwp_rule.specs.parts.Places.{HasOnePlace, in_hand}
 use Rattle.hwp_rule.proofs.Keeps.{Keeps}
 use Rattle.hwp_rule.proofs.Kept
 use Rattle.hwp_rule.proofs.Lists.{change, at_map, at_set, set_here, set_else, set-set, same-or, same-number, set_again, sum-set, term-le, each-set}
-use Rattle.hwp_rule.proofs.FrameFields.{translations-kept, caches-kept, bodies-kept, counter-kept, marks-kept, unpoisoned-kept, handed-kept, placed-kept}
+use Rattle.hwp_rule.proofs.FrameFields.{translations-kept, caches-kept, bodies-kept, handed-kept, placed-kept, failures-kept}
 use Rattle.hwp_rule.proofs.Refs
 use Rattle.hwp_rule.proofs.WordsByKind.{word-there}
 use Rattle.hwp_rule.proofs.kinds.UnlockFrame
@@ -177,14 +177,7 @@ module _ (layout : Layout) (w : Words) (homes : Homes) (views : List View) (seat
       fits = h.pages.fits;
     });
     histories = Kept.same-histories views seat v u me refl h.histories;
-    failures = Kept.same-failures views seat v u me refl (record {
-      handled = out-of-use;
-      counter = counter-kept w.frames frame.0 word now there are.poison w.counter (map count_debts_of views) (map (λ (v : View). v.sights) views) h.failures.counter;
-      damage = h.failures.damage;
-      marks = marks-kept w.frames frame.0 word now there are.poison are.cycle (map (λ (v : View). v.marks) views) (map (λ (v : View). v.sights) views) h.failures.marks;
-      exhaustion = h.failures.exhaustion;
-      unpoisoned = unpoisoned-kept w.frames frame.0 word now there are.poison (map (λ (v : View). v.spoiled) views) homes (map (λ (v : View). v.bodies) views) h.failures.unpoisoned;
-    });
+    failures = Kept.same-failures views seat v u me refl (failures-kept w.frames frame.0 word now there are.poison are.cycle out-of-use h.failures);
     processors = Kept.same-processors views seat v u me refl h.processors;
   }
 
