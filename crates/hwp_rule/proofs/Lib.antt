@@ -7,7 +7,6 @@ pub mod Refs
 pub mod RefBounds
 pub mod FramesInHand
 pub mod EmptySlots
-pub mod TakenBodies
 pub mod FittingWords
 pub mod KnownByLocks
 pub mod Keeps
