@@ -26,6 +26,7 @@ use Rattle.hwp_rule.proofs.Lists.{at_set, set_here, set_else, same-or, sum-set}
 use Rattle.hwp_rule.specs.declared.view.FrameInHand.{FrameInHand}
 use Rattle.hwp_rule.specs.Rule.{FailureParts, count_debts_of}
 use Rattle.hwp_rule.specs.declared.view.View.{View}
+use Rattle.hwp_rule.specs.parts.Handled.{HandledIsPoisoned}
 
 abbrev cycle_and_poison : ℕ → ℕ × ℕ
 cycle_and_poison word = (cycle_of word, poison_of word)

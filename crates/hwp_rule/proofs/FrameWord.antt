@@ -1,37 +1,26 @@
 -- The parts of the rule under a change of a frame's word that leaves its poison, owner and cycle: references and the lock.
-use Rattle.std.proofs.Common.{◌≡◌, ◌≢◌, ℕ, ◌+◌, ◌<◌, ◌≤◌, ◌==◌, ◌^◌, nat_lt, min, Bool, true, false, cond, List, Some, set, slice_get, inl, inr, refl, sym, ap, ◌∙◌, subst, arith, map}
-use Rattle.std.proofs.lemmas.List.{length-set}
+use Rattle.std.proofs.Common.{◌≡◌, ◌≢◌, ℕ, ◌+◌, ◌<◌, ◌==◌, min, Bool, false, List, Some, set, slice_get, inl, inr, refl, sym, ap, ◌∙◌, subst, arith, map}
 use Rattle.std.proofs.lemmas.Option.{same_Some}
-use Rattle.std.specs.Int.{from_bool}
 use Rattle.std.specs.List.{sum_by}
 use Rattle.hwp_geom.specs.declared.Layout.{Layout}
 use Rattle.hwp_geom.specs.declared.TransDecl.{TransDecl}
 use Rattle.hwp_words.specs.Frames.{lock_of, poison_of, handled_of, kernel_of, count_of, owner_of, cycle_of, is_kernel}
-use Rattle.hwp_words.specs.Counters.{biased_poisoned_of}
 use Rattle.hwp_words.proofs.FrameSteps.{FieldsAre}
 use Rattle.hwp_rule.specs.declared.view.FrameLock.{FrameLock}
-use Rattle.hwp_rule.specs.declared.view.InHand.{InHand}
-use Rattle.hwp_rule.specs.declared.view.Mark.{Mark}
 use Rattle.hwp_rule.specs.declared.view.PageLock.{PageLock}
 use Rattle.hwp_rule.specs.declared.view.Ref.{Ref}
-use Rattle.hwp_rule.specs.declared.view.Sight.{Sight}
-use Rattle.hwp_rule.specs.declared.view.Spoiled.{Spoiled}
 use Rattle.hwp_rule.specs.Lists.{Homes, EachMember, EachListed}
 use Rattle.hwp_rule.specs.Views.{refs_on, locks_on}
 use Rattle.hwp_rule.specs.Words.{free_bit}
-use Rattle.hwp_rule.specs.parts.Bodies.{BodiesAtHome, Holder, IsAtHome}
-use Rattle.hwp_rule.specs.parts.Counter.{CounterAgrees, CountDebts}
 use Rattle.hwp_rule.specs.parts.Counts.{CountsBalance, named}
 use Rattle.hwp_rule.specs.parts.Handled.{HandledIsPoisoned, IsOutOfUse}
 use Rattle.hwp_rule.specs.parts.Locks.{FrameLocksHeld, IsLocked}
-use Rattle.hwp_rule.specs.parts.Marks.{MarksAlternate, IsBefore}
-use Rattle.hwp_rule.specs.parts.Owners.{TranslationsOwned, CacheWordsOwned, NamesOwn}
-use Rattle.hwp_rule.specs.parts.Places.{HasOnePlace, IsBare, IsApart, in_hand, IsHanded}
-use Rattle.hwp_rule.specs.parts.Unpoisoned.{NothingPoisonedYet}
+use Rattle.hwp_rule.specs.parts.Owners.{TranslationsOwned, CacheWordsOwned}
+use Rattle.hwp_rule.specs.parts.Places.{HasOnePlace, IsBare, in_hand, IsHanded}
 use Rattle.hwp_rule.proofs.FrameFields.{translations-kept, caches-kept, bodies-kept, handed-kept, placed-kept, failures-kept}
 use Rattle.hwp_rule.proofs.Lists.{at_set, set_here, set_else, same-or, sum-set, each-set, each-weaken}
 use Rattle.hwp_rule.specs.declared.view.FrameInHand.{FrameInHand}
-use Rattle.hwp_rule.specs.Rule.{PageParts, FailureParts, holder_of, count_debts_of}
+use Rattle.hwp_rule.specs.Rule.{PageParts, FailureParts, holder_of}
 use Rattle.hwp_rule.specs.declared.view.View.{View}
 
 -- the words differ at most in their count and their lock

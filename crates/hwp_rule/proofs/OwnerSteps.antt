@@ -1,9 +1,8 @@
 -- The owner of a locked frame changes: the parts that don't speak of owners stay.
-use Rattle.std.proofs.Common.{◌≡◌, ◌≢◌, ℕ, ◌+◌, ◌^◌, ◌<◌, ◌≤◌, ◌==◌, nat_lt, min, eqb-true, Bool, true, false, cond, List, Some, None, map, set, length, slice_get, inl, inr, refl, sym, ap, ◌∙◌, subst, arith, ◌⊎◌}
+use Rattle.std.proofs.Common.{◌≡◌, ◌≢◌, ℕ, ◌+◌, ◌<◌, ◌≤◌, ◌==◌, min, eqb-true, Bool, true, false, cond, List, Some, None, map, set, length, slice_get, inl, inr, refl, sym, ap, ◌∙◌, subst, arith}
 use Rattle.std.specs.Int.{from_bool}
 use Rattle.std.specs.List.{sum_by}
 use Rattle.std.proofs.lemmas.Bool.{eqb-false}
-use Rattle.std.proofs.lemmas.List.{length-set}
 use Rattle.std.proofs.lemmas.Option.{same_Some}
 use Rattle.hwp_geom.specs.declared.Frame.{Frame}
 use Rattle.hwp_geom.specs.declared.Layout.{Layout}
@@ -12,25 +11,20 @@ use Rattle.hwp_words.proofs.FrameSteps.{FieldsAre}
 use Rattle.hwp_rule.specs.declared.log.Log.{Log}
 use Rattle.hwp_rule.specs.declared.view.FrameLock.{FrameLock}
 use Rattle.hwp_rule.specs.declared.view.InHand.{InHand}
-use Rattle.hwp_rule.specs.declared.view.Mark.{Mark}
 use Rattle.hwp_rule.specs.declared.view.Ref.{Ref}
 use Rattle.hwp_rule.specs.declared.view.View.{View}
-use Rattle.hwp_rule.specs.Lists.{Homes, EachMember, EachListed, sum_bodies}
-use Rattle.hwp_rule.specs.Rule.{FrameRule, holder_of, count_debts_of}
+use Rattle.hwp_rule.specs.Lists.{Homes, EachMember, sum_bodies}
+use Rattle.hwp_rule.specs.Rule.{FrameRule, holder_of}
 use Rattle.hwp_rule.specs.Views.{changed, is_lock_of, refs_on, locks_on}
 use Rattle.hwp_rule.specs.Words.{Words, free_bit}
 use Rattle.hwp_rule.specs.parts.Bodies.{BodiesAtHome, Holder, IsAtHome, IsHolding}
-use Rattle.hwp_rule.specs.parts.Counter.{CounterAgrees, CountDebts}
 use Rattle.hwp_rule.specs.parts.Counts.{CountsBalance, named}
 use Rattle.hwp_rule.specs.parts.Handled.{HandledIsPoisoned, IsOutOfUse}
 use Rattle.hwp_rule.specs.parts.Locks.{FrameLocksHeld, PageLocksHeld, IsLocked}
-use Rattle.hwp_rule.specs.parts.Marks.{MarksAlternate, IsBefore, poisonings, revivals}
 use Rattle.hwp_rule.specs.parts.Owners.{TranslationsOwned, CacheWordsOwned}
-use Rattle.hwp_rule.specs.parts.Places.{HasOnePlace, IsApart, IsBare, in_hand, IsHanded}
-use Rattle.hwp_rule.specs.parts.Unpoisoned.{NothingPoisonedYet}
-use Rattle.hwp_rule.proofs.Lists.{change, keep, at_map, at_set, map-was, same-number, set_here, set_else, each-set, length-changed, sum-changed, sum-set, term-le, terms-le, same-or}
+use Rattle.hwp_rule.specs.parts.Places.{HasOnePlace, IsApart, IsBare, in_hand}
+use Rattle.hwp_rule.proofs.Lists.{change, keep, at_map, at_set, map-was, same-number, set_here, set_else, each-set, length-changed, sum-changed, sum-set, term-le, terms-le}
 use Rattle.hwp_rule.proofs.Kept
-use Rattle.hwp_rule.specs.declared.view.FrameInHand.{FrameInHand}
 use Rattle.hwp_rule.proofs.FrameFields.{failures-kept, handed-kept}
 
 module _ (layout : Layout) (w : Words) (homes : Homes) (views : List View) (seat : ℕ) (v : View) (frame : Frame) (word now b : ℕ) where

@@ -10,13 +10,12 @@ use Rattle.hwp_words.specs.Frames.{lock_of, poison_of, handled_of, kernel_of, co
 use Rattle.hwp_words.proofs.FrameSteps.{FieldsAre, fields-unlock, fields-retire}
 use Rattle.hwp_rule.specs.declared.log.Log.{Log}
 use Rattle.hwp_rule.specs.declared.step.Step.TheVariants as steps
-use Rattle.hwp_rule.specs.declared.view.FrameInHand.{FrameInHand}
 use Rattle.hwp_rule.specs.declared.view.FrameLock.{FrameLock}
 use Rattle.hwp_rule.specs.declared.view.Ref.{Ref}
 use Rattle.hwp_rule.specs.declared.view.View.{View}
 use Rattle.hwp_rule.specs.Asks.{CanRetire}
 use Rattle.hwp_rule.specs.Lists.{Homes, EachMember}
-use Rattle.hwp_rule.specs.Rule.{FrameRule, holdings_of, holder_of, count_debts_of}
+use Rattle.hwp_rule.specs.Rule.{FrameRule, holdings_of, holder_of}
 use Rattle.hwp_rule.specs.Views.{refs_on, less_refs, locks_on, without, is_lock_of}
 use Rattle.hwp_rule.specs.Words.{Words, free_bit}
 use Rattle.hwp_rule.specs.parts.Counts.{CountsBalance, named}
@@ -26,7 +25,7 @@ use Rattle.hwp_rule.specs.parts.Locks.{FrameLocksHeld, IsLocked}
 use Rattle.hwp_rule.specs.parts.Places.{HasOnePlace, in_hand}
 use Rattle.hwp_rule.proofs.Keeps.{Keeps}
 use Rattle.hwp_rule.proofs.Kept
-use Rattle.hwp_rule.proofs.Lists.{change, at_map, at_set, set_here, set_else, set-set, same-or, same-number, set_again, sum-set, term-le, each-set}
+use Rattle.hwp_rule.proofs.Lists.{change, at_map, at_set, set_here, set_else, set-set, same-or, same-number, sum-set, term-le, each-set}
 use Rattle.hwp_rule.proofs.FrameFields.{translations-kept, caches-kept, bodies-kept, handed-kept, placed-kept, failures-kept}
 use Rattle.hwp_rule.proofs.Refs
 use Rattle.hwp_rule.proofs.WordsByKind.{word-there}
