@@ -30,11 +30,50 @@ use Rattle.hwp_rule.specs.parts.Holdings.{CommandsOwn, AreOwn, IsPast}
 use Rattle.hwp_rule.specs.parts.Losses.{LossesBalance}
 use Rattle.hwp_rule.specs.parts.Stops.{EndingsAndStopsStay}
 use Rattle.hwp_rule.specs.parts.Unpoisoned.{NothingPoisonedYet, is_failure}
-use Rattle.hwp_rule.proofs.Lists.{change, keep, at_map, at_set, same-number, set_again, sum-set, term-le, each-set, each-push, each-weaken, not-both}
+use Rattle.hwp_rule.proofs.Lists.{change, keep, at_map, at_set, same-number, set_again, sum-set, term-le, each-set, each-push, each-weaken, not-both, same-or, terms-le}
 use Rattle.hwp_rule.proofs.Without.{each-without, others-unfound, sum-without-one}
 use Rattle.hwp_rule.proofs.EmptySlots.{is_bodiless, bodies-sum, bodies-each}
-use Rattle.hwp_rule.proofs.TakenBodies.{sum-taken, each-taken, only-at-home}
+use Rattle.std.proofs.lemmas.List.Sums.{sum_by_push}
 use Rattle.hwp_rule.proofs.Kept
+
+module _ (homes : Homes) (bodies : List (List InHand)) (f seat : ℕ) (log : Log) (mine : List InHand) (b : InHand) (there : slice_get homes f ≡ Some (Some (Some log))) (me : slice_get bodies seat ≡ Some mine) (is : b.log ≡ log) where
+  sum-taken : (g : Log → ℕ) → sum_bodies g (set homes f None) (set bodies seat (mine ++ b ∷ [])) ≡ sum_bodies g homes bodies
+  sum-taken g =
+      let out : sum_by (of_home g) (set homes f None) + g log ≡ sum_by (of_home g) homes + 0 = sum-set (of_home g) homes f (Some (Some log)) None there in
+      let in_hand : sum_all (λ (b : InHand). g b.log) (set bodies seat (mine ++ b ∷ [])) + sum_by (λ (b : InHand). g b.log) mine ≡ sum_all (λ (b : InHand). g b.log) bodies + sum_by (λ (b : InHand). g b.log) (mine ++ b ∷ []) =
+      sum-set (sum_by (λ (b : InHand). g b.log)) bodies seat mine (mine ++ b ∷ []) me in
+      let pushed : sum_by (λ (b : InHand). g b.log) (mine ++ b ∷ []) ≡ sum_by (λ (b : InHand). g b.log) mine + g b.log = sum_by_push (λ (b : InHand). g b.log) mine b in
+      let same : g b.log ≡ g log = ap g is in
+      omega arith
+
+  each-taken : (P : Log → Type 0) → EachBody P homes bodies → EachBody P (set homes f None) (set bodies seat (mine ++ b ∷ []))
+  each-taken P each = record {
+    at_home = λ i x e. elim (at_set homes f i None (Some (Some x)) e) [
+      | inl t ↦ absurd (none-some (Some x) t.1)
+      | inr t ↦ each.at_home i x t.1
+    ];
+    in_hand = each-set (EachMember (λ (b : InHand). P b.log)) bodies seat (mine ++ b ∷ [])
+        (each-push (λ (b : InHand). P b.log) mine b (subst P (sym is) (each.at_home f log there)) (each.in_hand seat mine me)) each.in_hand;
+  }
+
+-- where all bodies together count one, a second one that counts is no other than the first
+only-at-home : (g : Log → ℕ) (homes : Homes) (bodies : List (List InHand)) (f : ℕ) (log : Log) → slice_get homes f ≡ Some (Some (Some log)) → sum_bodies g homes bodies ≡ 1 → g log ≡ 1
+    → EachBody (λ (x : Log). g x ≡ 1 → x ≡ log) homes bodies
+only-at-home g homes bodies f log there one counts = record {
+  at_home = λ i x e is. elim (same-or i f) [
+    | inl same ↦
+        let equal : Some (Some x) ≡ Some (Some log) = same_Some (Some (Some x)) (Some (Some log)) (sym e ∙ ap (slice_get homes) same ∙ there) in
+        same_Some x log (same_Some (Some x) (Some log) equal)
+    | inr differs ↦
+        let two : g x + g log ≤ sum_by (of_home g) homes = terms-le (of_home g) homes i f (Some (Some x)) (Some (Some log)) differs e there in
+        absurd (omega (arith, one, counts, is))
+  ];
+  in_hand = λ i list at j b e is.
+      let home : g log ≤ sum_by (of_home g) homes = term-le (of_home g) homes f (Some (Some log)) there in
+      let inner : g b.log ≤ sum_by (λ (b : InHand). g b.log) list = term-le (λ (b : InHand). g b.log) list j b e in
+      let outer : sum_by (λ (b : InHand). g b.log) list ≤ sum_all (λ (b : InHand). g b.log) bodies = term-le (sum_by (λ (b : InHand). g b.log)) bodies i list at in
+      absurd (omega (arith, one, counts, is));
+}
 
 abbrev pub all_bodies : List View → List (List InHand)
 all_bodies views = map (λ (v : View). v.bodies) views

@@ -7,7 +7,6 @@ pub mod Refs
 pub mod RefBounds
 pub mod FramesInHand
 pub mod EmptySlots
-pub mod TakenBodies
 pub mod FittingWords
 pub mod KnownByLocks
 pub mod Keeps
@@ -20,6 +19,7 @@ pub mod Sights
 pub mod Exhausted
 pub mod ShownWords
 pub mod FreeAndHand
+pub mod FrameFields
 pub mod FrameWord
 pub mod CountSteps
 pub mod Carrying

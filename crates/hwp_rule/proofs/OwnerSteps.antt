@@ -1,9 +1,8 @@
 -- The owner of a locked frame changes: the parts that don't speak of owners stay.
-use Rattle.std.proofs.Common.{◌≡◌, ◌≢◌, ℕ, ◌+◌, ◌^◌, ◌<◌, ◌≤◌, ◌==◌, nat_lt, min, eqb-true, Bool, true, false, cond, List, Some, None, map, set, length, slice_get, inl, inr, refl, sym, ap, ◌∙◌, subst, arith, ◌⊎◌}
+use Rattle.std.proofs.Common.{◌≡◌, ◌≢◌, ℕ, ◌+◌, ◌<◌, ◌≤◌, ◌==◌, min, eqb-true, Bool, true, false, cond, List, Some, None, map, set, length, slice_get, inl, inr, refl, sym, ap, ◌∙◌, subst, arith}
 use Rattle.std.specs.Int.{from_bool}
 use Rattle.std.specs.List.{sum_by}
 use Rattle.std.proofs.lemmas.Bool.{eqb-false}
-use Rattle.std.proofs.lemmas.List.{length-set}
 use Rattle.std.proofs.lemmas.Option.{same_Some}
 use Rattle.hwp_geom.specs.declared.Frame.{Frame}
 use Rattle.hwp_geom.specs.declared.Layout.{Layout}
@@ -12,25 +11,21 @@ use Rattle.hwp_words.proofs.FrameSteps.{FieldsAre}
 use Rattle.hwp_rule.specs.declared.log.Log.{Log}
 use Rattle.hwp_rule.specs.declared.view.FrameLock.{FrameLock}
 use Rattle.hwp_rule.specs.declared.view.InHand.{InHand}
-use Rattle.hwp_rule.specs.declared.view.Mark.{Mark}
 use Rattle.hwp_rule.specs.declared.view.Ref.{Ref}
 use Rattle.hwp_rule.specs.declared.view.View.{View}
-use Rattle.hwp_rule.specs.Lists.{Homes, EachMember, EachListed, sum_bodies}
-use Rattle.hwp_rule.specs.Rule.{FrameRule, holder_of, count_debts_of}
+use Rattle.hwp_rule.specs.Lists.{Homes, EachMember, sum_bodies}
+use Rattle.hwp_rule.specs.Rule.{FrameRule, holder_of}
 use Rattle.hwp_rule.specs.Views.{changed, is_lock_of, refs_on, locks_on}
 use Rattle.hwp_rule.specs.Words.{Words, free_bit}
 use Rattle.hwp_rule.specs.parts.Bodies.{BodiesAtHome, Holder, IsAtHome, IsHolding}
-use Rattle.hwp_rule.specs.parts.Counter.{CounterAgrees, CountDebts}
 use Rattle.hwp_rule.specs.parts.Counts.{CountsBalance, named}
 use Rattle.hwp_rule.specs.parts.Handled.{HandledIsPoisoned, IsOutOfUse}
 use Rattle.hwp_rule.specs.parts.Locks.{FrameLocksHeld, PageLocksHeld, IsLocked}
-use Rattle.hwp_rule.specs.parts.Marks.{MarksAlternate, IsBefore, poisonings, revivals}
 use Rattle.hwp_rule.specs.parts.Owners.{TranslationsOwned, CacheWordsOwned}
-use Rattle.hwp_rule.specs.parts.Places.{HasOnePlace, IsApart, IsBare, in_hand, IsHanded}
-use Rattle.hwp_rule.specs.parts.Unpoisoned.{NothingPoisonedYet}
-use Rattle.hwp_rule.proofs.Lists.{change, keep, at_map, at_set, map-was, same-number, set_here, set_else, each-set, length-changed, sum-changed, sum-set, term-le, terms-le, same-or}
+use Rattle.hwp_rule.specs.parts.Places.{HasOnePlace, IsApart, IsBare, in_hand}
+use Rattle.hwp_rule.proofs.Lists.{change, keep, at_map, at_set, map-was, same-number, set_here, set_else, each-set, length-changed, sum-changed, sum-set, term-le, terms-le}
 use Rattle.hwp_rule.proofs.Kept
-use Rattle.hwp_rule.specs.declared.view.FrameInHand.{FrameInHand}
+use Rattle.hwp_rule.proofs.FrameFields.{failures-kept, handed-kept}
 
 module _ (layout : Layout) (w : Words) (homes : Homes) (views : List View) (seat : ℕ) (v : View) (frame : Frame) (word now b : ℕ) where
   abbrev to : FrameLock → FrameLock
@@ -74,15 +69,6 @@ module _ (layout : Layout) (w : Words) (homes : Homes) (views : List View) (seat
     kernel-same : is_kernel now ≡ is_kernel word
     kernel-same = ap (λ (n : ℕ). n == 1) are.kernel
 
-    -- a frame in hand is another, or keeps its poison
-    handed-owning : (hand : FrameInHand) → IsHanded w.frames hand → (hand.frame.0 ≡ frame.0) ⊎ (hand.frame.0 ≢ frame.0) → IsHanded frames hand
-    handed-owning hand known (inl same) = record {
-      word = now;
-      there = ap (slice_get frames) same ∙ set_here w.frames frame.0 now word there;
-      poisoned = λ e. ap (λ (n : ℕ). n == 1) (are.poison ∙ ap poison_of (same_Some word known.word (sym there ∙ ap (slice_get w.frames) (sym same) ∙ known.there))) ∙ known.poisoned e;
-    }
-    handed-owning hand known (inr differs) = record { word = known.word; there = set_else w.frames frame.0 hand.frame.0 now differs ∙ known.there; poisoned = known.poisoned }
-
     places-owning : HasOnePlace layout.kernel frames w.frees (map (λ (v : View). v.hands) views)
     places-owning = record {
       declared = λ g x k at is. at-frame (λ g x. slice_get layout.kernel g ≡ Some k → is_kernel x ≡ k) (λ is. kernel-same ∙ h.frames.places.declared frame.0 word k there is) (λ g x differs at is. h.frames.places.declared g x k at is) g x at is;
@@ -92,9 +78,7 @@ module _ (layout : Layout) (w : Words) (homes : Homes) (views : List View) (seat
       idle = at-frame (λ g x. 0 < free_bit w.frees g + in_hand g (map (λ (v : View). v.hands) views) → IsBare x)
           (λ idle. let free : lock_of word ≡ 0 = (h.frames.places.idle frame.0 word there idle).unlocked in absurd (omega (arith, free, locked)))
           (λ g x differs at idle. h.frames.places.idle g x at idle);
-      handed = λ i list at j hand listed.
-          let was : IsHanded w.frames hand = h.frames.places.handed i list at j hand listed in
-          handed-owning hand was (same-or hand.frame.0 frame.0);
+      handed = handed-kept w.frames frame.0 word now there are.poison (map (λ (v : View). v.hands) views) h.frames.places.handed;
       kernels = at-frame (λ g x. is_kernel x ≡ true → IsApart w.frees (map (λ (v : View). v.hands) views) g x)
           (λ kernel. let free : lock_of word ≡ 0 = (h.frames.places.kernels frame.0 word there (sym kernel-same ∙ kernel)).bare.unlocked in absurd (omega (arith, free, locked)))
           (λ g x differs at kernel. h.frames.places.kernels g x at kernel);
@@ -182,48 +166,6 @@ module _ (layout : Layout) (w : Words) (homes : Homes) (views : List View) (seat
       out = at-frame (λ g x. handled_of x ≡ 1 → IsOutOfUse x) (λ is. absurd (omega (arith, is, unhandled, are.handled))) (λ g x differs at is. h.failures.handled.out g x at is);
     }
 
-    counter-owning : CounterAgrees frames w.counter (map count_debts_of views) (map (λ (v : View). v.sights) views)
-    counter-owning = record {
-      poisoned =
-          let moved : sum_by poison_of frames + poison_of word ≡ sum_by poison_of w.frames + poison_of now = sum-set poison_of w.frames frame.0 word now there in
-          let poison : poison_of now ≡ poison_of word = are.poison in
-          let same : sum_by poison_of frames ≡ sum_by poison_of w.frames = omega arith in
-          h.failures.counter.poisoned ∙ ap (λ (n : ℕ). 2 ^ 31 + n + sum_by (λ (d : CountDebts). d.uncounts) (map count_debts_of views)) (sym same);
-      hardware = h.failures.counter.hardware;
-      covered = h.failures.counter.covered;
-      shown = h.failures.counter.shown;
-    }
-
-    marks-owning : MarksAlternate frames (map (λ (v : View). v.marks) views) (map (λ (v : View). v.sights) views)
-    marks-owning = record {
-      poisoned = λ g x cycle at. at-frame (λ g x. poisonings g cycle marks ≡ cond (nat_lt cycle (cycle_of x)) 1 (cond (cycle == cycle_of x) (poison_of x) 0))
-          (h.failures.marks.poisoned frame.0 word cycle there ∙ (λ i. cond (nat_lt cycle (sym are.cycle i)) 1 (cond (cycle == sym are.cycle i) (sym are.poison i) 0)))
-          (λ g x differs at. h.failures.marks.poisoned g x cycle at) g x at;
-      revived = λ g x cycle at. at-frame (λ g x. revivals g cycle marks ≡ from_bool (nat_lt cycle (cycle_of x)))
-          (h.failures.marks.revived frame.0 word cycle there ∙ ap (λ (c : ℕ). from_bool (nat_lt cycle c)) (sym are.cycle)) (λ g x differs at. h.failures.marks.revived g x cycle at) g x at;
-      framed = subst (λ (n : ℕ). EachListed (λ (m : Mark). m.frame.0 < n) marks) (sym (length-set w.frames frame.0 now)) h.failures.marks.framed;
-      few = h.failures.marks.few;
-      shown = λ g x at. elim (at_set w.frames frame.0 g.0 now x at) [
-        | inl t ↦ λ i list is j s listed place.
-            let before : IsBefore word s = h.failures.marks.shown g word (ap (slice_get w.frames) t.0 ∙ there) i list is j s listed place in
-            subst (λ (n : ℕ). IsBefore n s) t.1 (record {
-              cycle = subst (λ (c : ℕ). cycle_of s.word ≤ c) (sym are.cycle) before.cycle;
-              poison = λ e. subst (λ (p : ℕ). poison_of s.word ≤ p) (sym are.poison) (before.poison (e ∙ are.cycle));
-            })
-        | inr t ↦ h.failures.marks.shown g x t.1
-      ];
-    }
-      where
-        marks : List (List Mark)
-        marks = map (λ (v : View). v.marks) views
-
-    unpoisoned-owning : NothingPoisonedYet frames (map (λ (v : View). v.spoiled) views) homes (map (λ (v : View). v.bodies) views)
-    unpoisoned-owning = record {
-      sound = at-frame (λ g x. poison_of x ≡ 0) (are.poison ∙ h.failures.unpoisoned.sound frame.0 word there) (λ g x differs at. h.failures.unpoisoned.sound g x at);
-      unspoiled = h.failures.unpoisoned.unspoiled;
-      no_failure = h.failures.unpoisoned.no_failure;
-    }
-
     page-locks-owning : PageLocksHeld w.pages (map (λ (v : View). v.pages) views) (set (map (λ (v : View). v.locks) views) seat owning.locks)
     page-locks-owning = record {
       one = h.pages.page_locks.one;
@@ -256,13 +198,6 @@ module _ (layout : Layout) (w : Words) (homes : Homes) (views : List View) (seat
         fits = Kept.kept-fits views seat v owning me refl refl h.pages.fits;
       };
       histories = Kept.same-histories views seat v owning me refl h.histories;
-      failures = record {
-        handled = handled-owning;
-        counter = Kept.kept-counter views seat v owning me refl refl counter-owning;
-        damage = Kept.kept-damage views seat v owning me refl refl h.failures.damage;
-        marks = Kept.kept-marks views seat v owning me refl refl marks-owning;
-        exhaustion = Kept.kept-exhaustion views seat v owning me refl refl h.failures.exhaustion;
-        unpoisoned = Kept.kept-unpoisoned views seat v owning me refl refl unpoisoned-owning;
-      };
+      failures = Kept.same-failures views seat v owning me refl (failures-kept w.frames frame.0 word now there are.poison are.cycle handled-owning h.failures);
       processors = Kept.same-processors views seat v owning me refl h.processors;
     }

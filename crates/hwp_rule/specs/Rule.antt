@@ -39,7 +39,7 @@ holdings_of v = record { reserved = v.reserved; hands = v.hands; refs = v.refs }
 abbrev pub losing_of : View → Losing
 losing_of v = record { owed = v.owed.losses; reported = v.reported; made = v.made; marks = v.marks }
 
--- where frames are: their counts, their places, their locks, and how many are free
+-- frames: their counts, the one place of each, their locks, the free bits, and how many frames a view holds
 pub record FrameParts (layout : Layout) (frames trans caches frees : List ℕ) (available : ℕ) (views : List View) : Type 0 where
   pub counts : CountsBalance frames trans caches (map (λ (v : View). v.refs) views)
   pub places : HasOnePlace layout.kernel frames frees (map (λ (v : View). v.hands) views)
@@ -47,7 +47,7 @@ pub record FrameParts (layout : Layout) (frames trans caches frees : List ℕ) (
   pub free : FreeBitsAgree layout.frames frees available (map (λ (v : View). v.reserved) views)
   pub holdings : HoldingsBounded layout (map holdings_of views)
 
--- the words and the body of a page: its lock, its translations, its cache word, where its body is, and that they fit
+-- pages: their locks, the words that name frames, where the bodies are, and that a page's words fit its body
 pub record PageParts (layout : Layout) (frames trans cache_words pages : List ℕ) (homes : Homes) (views : List View) : Type 0 where
   pub page_locks : PageLocksHeld pages (map (λ (v : View). v.pages) views) (map (λ (v : View). v.locks) views)
   pub translations : TranslationsOwned layout.trans frames trans
@@ -55,7 +55,7 @@ pub record PageParts (layout : Layout) (frames trans cache_words pages : List �
   pub bodies : BodiesAtHome layout frames cache_words pages homes (map holder_of views)
   pub fits : PageFits layout trans cache_words homes (map (λ (v : View). (v.pages, v.bodies)) views)
 
--- what the histories say: their entries, the processes that they ended, the losses of files
+-- histories: their entries, the processes that they ended, and the losses of files
 pub record HistoryParts (layout : Layout) (processes loss_words : List ℕ) (homes : Homes) (views : List View) : Type 0 where
   pub entries : EntriesListed homes (map (λ (v : View). v.bodies) views) (map (λ (v : View). (v.made, v.sights)) views) (map (λ (v : View). v.lengths) views)
   pub endings : EndingsAgree layout processes homes (map (λ (v : View). v.bodies) views) (map (λ (v : View). v.sights) views)
@@ -70,7 +70,7 @@ pub record FailureParts (layout : Layout) (frames : List ℕ) (counter_word : �
   pub exhaustion : ExhaustionExplained layout (map (λ (v : View). v.marks) views) (map (λ (v : View). v.sights) views)
   pub unpoisoned : NothingPoisonedYet frames (map (λ (v : View). v.spoiled) views) homes (map (λ (v : View). v.bodies) views)
 
--- the processors and what they said: policies, the stop, whose each view is, and whose each thing that it lists
+-- processors: the policies of their threads, the stop, which view is whose, and that a view lists only its own commands
 pub record ProcessorParts (layout : Layout) (processes policy_words : List ℕ) (stop : ℕ) (views : List View) : Type 0 where
   pub policies : PoliciesListed layout.threads policy_words (map (λ (v : View). (v.parts, v.settings)) views) (map (λ (v : View). v.sights) views)
   pub stops : EndingsAndStopsStay processes stop (map (λ (v : View). v.bodies) views) (map (λ (v : View). v.sights) views) (map (λ (v : View). v.stops) views)

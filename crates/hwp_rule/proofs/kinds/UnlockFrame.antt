@@ -78,7 +78,7 @@ module _ (layout : Layout) (w : Words) (homes : Homes) (views : List View) (seat
   one : from_bool (frame.0 == frame.0) ≡ 1
   one = ap from_bool (same-number frame.0 frame.0 refl)
 
-  locked : lock_of found ≡ 1
+  pub locked : lock_of found ≡ 1
   locked =
       let all : sum_by (λ (o : List Ref × List FrameLock). locks_on frame.0 o.1) (map (λ (v : View). (v.refs, v.locks)) views) ≡ lock_of found = h.frames.frame_locks.one frame.0 found there in
       let mine : locks_on frame.0 v.locks ≤ sum_by (λ (o : List Ref × List FrameLock). locks_on frame.0 o.1) (map (λ (v : View). (v.refs, v.locks)) views) =
