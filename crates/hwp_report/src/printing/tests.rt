@@ -6,6 +6,7 @@ use hwp_geom::{Cpu, Frame, Line, Mask, Mode, Page, Proc, Thread, VSlot};
 use hwp_kill::{Code, Policy, Seen, Signal, SignalList};
 use hwp_page::{At, Met, Outcome, Situation, What};
 use hwp_severity::McgBits;
+use std::process::Abort;
 use std::str;
 use std::test::Fail;
 
@@ -79,7 +80,7 @@ fn idle(alloc: Global) -> Result<Report, Fail> {
     })
 }
 
-const IDLE: &str = "hwp-report 1
+const IDLE: &[u8] = b"hwp-report 1
 stop none
 count 0
 frame 0 free bad 0 weak 0
@@ -118,7 +119,7 @@ fn stored(alloc: Global) -> Result<Report, Fail> {
     })
 }
 
-const STORED: &str = "hwp-report 1
+const STORED: &[u8] = b"hwp-report 1
 stop none
 count 0
 frame 0 page 0 bad 0 weak 0
@@ -171,7 +172,7 @@ fn damaged(alloc: Global) -> Result<Report, Fail> {
     })
 }
 
-const DAMAGED: &str = "hwp-report 1
+const DAMAGED: &[u8] = b"hwp-report 1
 stop none
 count 18446744073709551615
 frame 0 page 1 bad 20 weak 8000000000000000
@@ -273,7 +274,7 @@ fn failed(alloc: Global) -> Result<Report, Fail> {
     })
 }
 
-const FAILED: &str = "hwp-report 1
+const FAILED: &[u8] = b"hwp-report 1
 stop 7 4095 shutdown
 count 1
 file 0 lost 0
@@ -350,7 +351,7 @@ fn marked(alloc: Global) -> Result<Report, Fail> {
     })
 }
 
-const MARKED: &str = "hwp-report 1
+const MARKED: &[u8] = b"hwp-report 1
 stop 0 0 panic 255
 count 3
 frame 0 handled bad 20 weak 0
@@ -449,7 +450,7 @@ fn answered(alloc: Global) -> Result<Report, Fail> {
     })
 }
 
-const ANSWERED: &str = "hwp-report 1
+const ANSWERED: &[u8] = b"hwp-report 1
 stop 0 2 severity S8 1 fd800000000000c0 1 0 user
 count 0
 cpu 0 12
@@ -520,20 +521,45 @@ fn a_kernel_mode_stop_prints(rt: HostRuntime) -> Result<(), Fail> {
     Ok(())
 }
 
-#[test]
-fn reports_print_as_written_by_hand(rt: HostRuntime) -> Result<(), Fail> {
-    let alloc = rt.alloc();
-    let cases = [
-        (idle(alloc)?, IDLE),
-        (stored(alloc)?, STORED),
-        (damaged(alloc)?, DAMAGED),
-        (failed(alloc)?, FAILED),
-        (marked(alloc)?, MARKED),
-        (answered(alloc)?, ANSWERED),
-    ];
-    for (report, want) in &cases {
-        let text = print(alloc, report)?;
-        assert_eq!(rt; str::from_utf8(text.as_slice())?, *want);
-    }
+/// The report's text is the one that was written by hand.
+fn is_printed(rt: &impl Abort, alloc: Global, report: &Report, want: &[u8]) -> Result<(), Fail> {
+    let text = print(alloc, report)?;
+    assert_eq!(rt; str::from_utf8(text.as_slice())?, str::from_utf8(want)?);
     Ok(())
+}
+
+#[test]
+fn a_report_with_nothing_done(rt: HostRuntime) -> Result<(), Fail> {
+    let alloc = rt.alloc();
+    is_printed(&rt, alloc, &idle(alloc)?, IDLE)
+}
+
+#[test]
+fn a_report_of_a_store_and_a_load(rt: HostRuntime) -> Result<(), Fail> {
+    let alloc = rt.alloc();
+    is_printed(&rt, alloc, &stored(alloc)?, STORED)
+}
+
+#[test]
+fn a_report_with_bad_and_weak_lines(rt: HostRuntime) -> Result<(), Fail> {
+    let alloc = rt.alloc();
+    is_printed(&rt, alloc, &damaged(alloc)?, DAMAGED)
+}
+
+#[test]
+fn a_report_of_failed_pages(rt: HostRuntime) -> Result<(), Fail> {
+    let alloc = rt.alloc();
+    is_printed(&rt, alloc, &failed(alloc)?, FAILED)
+}
+
+#[test]
+fn a_report_of_poisoned_frames(rt: HostRuntime) -> Result<(), Fail> {
+    let alloc = rt.alloc();
+    is_printed(&rt, alloc, &marked(alloc)?, MARKED)
+}
+
+#[test]
+fn a_report_with_each_kind_of_answer(rt: HostRuntime) -> Result<(), Fail> {
+    let alloc = rt.alloc();
+    is_printed(&rt, alloc, &answered(alloc)?, ANSWERED)
 }
