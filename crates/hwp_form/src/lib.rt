@@ -1,4 +1,4 @@
-//! The lines of a fault script: the kinds of line, and their reading from bytes.
+//! The lines of a fault script: the kinds of line, their reading from bytes, and their text.
 #![tactic(auto)]
 
 mod form;

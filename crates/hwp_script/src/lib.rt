@@ -1,4 +1,4 @@
-//! The fault script: its type, its reading from bytes, and its text.
+//! The fault script: its type, and its reading from bytes.
 #![tactic(auto)]
 
 mod adding;
