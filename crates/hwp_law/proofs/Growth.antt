@@ -74,9 +74,6 @@ AreOrdered-more {old} {new} {at} {e} more latest ordered bt later f g first seco
       ]
     ]
 
-pub StandsAt-more : {old new : List (List Entry)} {at : At} {e : Entry} (who : Who) (bt : At) (what : What) → OneMore old new at e → StandsAt old who bt what → StandsAt new who bt what
-StandsAt-more who bt what more stands = more.kept bt _ stands
-
 -- what a page was like is not changed by later entries
 pub HadState-more : (layout : Layout) {old new : List (List Entry)} {at : At} {e : Entry} (bt : At) (P : PageState → Type 0) → OneMore old new at e → HadState layout old bt P → HadState layout new bt P
 HadState-more layout {old} {new} {at} {e} bt P more had =

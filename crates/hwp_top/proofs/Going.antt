@@ -190,29 +190,6 @@ pub servable-unset : (command : Command) → IsServable command → (thread : Th
 servable-unset (commands.Prctl other args) servable thread = absurd servable
 servable-unset _ servable thread = refl
 
--- what stands behind a page, from what a script says of it
-pub backed-file : (layout : Layout) (page : Page) → IsSomeAnd (slice_get layout.pages page.0) IsFile → IsBackedBy layout page true
-backed-file layout page is = by (slice_get layout.pages page.0) is
-  where
-    by_kind : (kind : PageKind) → IsFile kind → is_file kind ≡ true
-    by_kind kinds.Anon is = absurd is
-    by_kind (kinds.File file fill) is = refl
-
-    by : (o : Option PageKind) → IsSomeAnd o IsFile → IsSomeAnd o (λ (k : PageKind). is_file k ≡ true)
-    by None is = is
-    by (Some kind) is = by_kind kind is
-
-pub backed-anon : (layout : Layout) (page : Page) → IsSomeAnd (slice_get layout.pages page.0) IsAnon → IsBackedBy layout page false
-backed-anon layout page is = by (slice_get layout.pages page.0) is
-  where
-    by_kind : (kind : PageKind) → IsAnon kind → is_file kind ≡ false
-    by_kind kinds.Anon is = refl
-    by_kind (kinds.File file fill) is = absurd is
-
-    by : (o : Option PageKind) → IsSomeAnd o IsAnon → IsSomeAnd o (λ (k : PageKind). is_file k ≡ false)
-    by None is = is
-    by (Some kind) is = by_kind kind is
-
 -- the thread of a call is one of the layout
 pub thread-within : (layout : Layout) (cpu : ℕ) (thread : Thread) → IsThreadOf layout cpu thread → thread.0 < length layout.threads
 thread-within layout cpu thread is = by (slice_get_cases layout.threads thread.0).1 is

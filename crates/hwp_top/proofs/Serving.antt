@@ -144,7 +144,3 @@ mapped-after {old} {new} {at} {e} slot added maps =
     let in_it : set.contains (set.insert added.held.state.maps slot.0) slot.0 ≡ true = grind (set.members, rules) in
     let mapped : set.contains added.now.state.maps slot.0 ≡ true = ap (λ (s : set.FinSet nat_cmp). set.contains s slot.0) maps_are ∙ in_it in
     subst (λ (o : Option BodyValue). IsSomeAnd o (λ (h : BodyValue). IsTrue (set.contains h.state.maps slot.0))) (sym there) mapped
-
--- what was read of the translations is so of the body at that place
-pub mapped-read : (bodies : List BodyValue) (page : Page) (slot : VSlot) (h : BodyValue) → slice_get bodies page.0 ≡ Some h → set.contains h.state.maps slot.0 ≡ true → IsMapped bodies page slot
-mapped-read bodies page slot h there is = subst (λ (o : Option BodyValue). IsSomeAnd o (λ (b : BodyValue). IsTrue (set.contains b.state.maps slot.0))) (sym there) is

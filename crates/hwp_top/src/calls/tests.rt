@@ -94,9 +94,9 @@ load 0 2 0 63 0 18446744073709551615\ncpu 0 3\n0 value 0 0 2\n1 stored 0 3\n\
         (
             "two pages and one frame",
             "hwp 1\ncpus 1\nframes 1\nproc 0\nthread 0 0 0 handler\npage 0 anon\npage 1 anon\n\
-trans 0 0 0\ntrans 1 0 1\ncpu 0\nstore 0 0 0 1\nload 0 1 0\nend\n",
-            "hwp-report 1\nstop none\ncount 0\nframe 0 page 0 bad 0 weak 0\npage 0 3\nin 0 0\nmap 0 0 0\n\
-store 0 0 0 0 0 1\npage 1 0\ncpu 0 2\n0 stored 0 2\n1 noframe\nend\n",
+trans 0 0 0\ntrans 1 0 1\ncpu 0\nstore 0 0 0 1\nload 0 1 0\nload 0 0 0\nend\n",
+            "hwp-report 1\nstop none\ncount 0\nframe 0 page 0 bad 0 weak 0\npage 0 4\nin 0 0\nmap 0 0 0\n\
+store 0 0 0 0 0 1\nload 0 2 0 0 0 1\npage 1 0\ncpu 0 3\n0 stored 0 2\n1 noframe\n2 value 1 0 3\nend\n",
         ),
         (
             "two translations of one page",
@@ -361,5 +361,56 @@ fn a_failing_write_leaves_a_front_of_the_report(rt: HostRuntime) -> Result<(), F
     )?;
     assert_eq!(rt; left.status, 0);
     assert_eq!(rt; left.out.as_slice(), report);
+    Ok(())
+}
+
+/// A report of one page and one free frame beside it, after one load through a translation.
+const LOADED_THROUGH_THE_LAST: &str = "\
+hwp-report 1
+stop none
+count 0
+frame 0 page 0 bad 0 weak 0
+frame 1 free bad 0 weak 0
+page 0 3
+in 0 0
+map 0 0 299
+load 0 0 299 0 0 0
+cpu 0 1
+0 value 0 0 2
+end
+";
+
+#[test]
+fn many_declarations_are_served(rt: HostRuntime) -> Result<(), Fail> {
+    let mut script = String::from_str(rt.alloc(),
+        "hwp 1\ncpus 1\nframes 2\nproc 0\nthread 0 0 0 handler\npage 0 anon\n")?;
+    for slot in 0..300 {
+        writeln!(script, "trans {slot} 0 0")?;
+    }
+    script.push_str("cpu 0\nload 0 299 0\nend\n")?;
+    let left = call(rt.alloc(), &["step"], script.as_bytes(), &[], 4096, &[])?;
+    assert_eq!(rt; left.status, 0);
+    assert_eq!(rt; left.out.as_slice(), LOADED_THROUGH_THE_LAST.as_bytes());
+    Ok(())
+}
+
+#[test]
+fn long_inputs_are_read_to_their_end(rt: HostRuntime) -> Result<(), Fail> {
+    let mut refused = String::new(rt.alloc());
+    for _ in 0..5000 {
+        refused.push_str("#\n")?;
+    }
+    refused.push_str("hwp 1\nsotre\n")?;
+    let left = call(rt.alloc(), &["step"], refused.as_bytes(), &[], 4096, &[])?;
+    assert_eq!(rt; left.status, 3);
+    assert_eq!(rt; left.err.as_slice(), b"script line 5002: UnknownWord\n".as_slice());
+    // A comment fills the script up to 1 MiB.
+    let mut whole = vec![in rt.alloc(); b'#'; 1_048_576 - STORE_AND_LOAD.len() - 1]?;
+    whole.push(b'\n')?;
+    whole.extend_from_slice(STORE_AND_LOAD.as_bytes())?;
+    let left = call(rt.alloc(), &["step"], whole.as_slice(), &[], 4096, &[])?;
+    assert_eq!(rt; whole.len(), 1_048_576);
+    assert_eq!(rt; left.status, 0);
+    assert_eq!(rt; left.out.as_slice(), STORED_AND_LOADED.as_bytes());
     Ok(())
 }
