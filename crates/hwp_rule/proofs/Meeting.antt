@@ -17,9 +17,9 @@ use Rattle.hwp_rule.specs.declared.view.PageLock.{PageLock}
 use Rattle.hwp_rule.specs.declared.view.View.{View}
 use Rattle.hwp_rule.specs.Asks.{HasInHand}
 use Rattle.hwp_rule.specs.Logs.{state_of}
-use Rattle.hwp_rule.specs.Moves.{IsIn}
+use Rattle.hwp_rule.specs.Slots.{IsIn, frame_slot, shelf_slot}
 use Rattle.hwp_rule.specs.Rule.{Holds}
-use Rattle.hwp_rule.specs.Views.{frame_in, frame_slot, shelf_slot}
+use Rattle.hwp_rule.specs.Views.{frame_in}
 use Rattle.hwp_rule.specs.Words.{words_of, segment, index, size, free_words}
 use Rattle.hwp_rule.specs.parts.Bodies.{IsAtHome, content_name}
 use Rattle.hwp_rule.specs.parts.Counts.{named}
@@ -48,7 +48,7 @@ frame-word layout s h frame found inside met =
 -- it has no poison
 pub unpoisoned : (layout : Layout) (s : State) → Holds layout s → (frame : Frame) (found : ℕ) → frame.0 < layout.frames
     → found ≡ slice_index s.words (index layout (places.Frame frame)) → is_poisoned found ≡ false
-unpoisoned layout s h frame found inside met = ap (λ (n : ℕ). n == 1) (h.rule.unpoisoned.sound frame.0 found (frame-word layout s h frame found inside met))
+unpoisoned layout s h frame found inside met = ap (λ (n : ℕ). n == 1) (h.rule.failures.unpoisoned.sound frame.0 found (frame-word layout s h frame found inside met))
 
 -- a bit that a free word shows is that of a frame of the layout
 pub free-within : (layout : Layout) (s : State) → Holds layout s → (number found : ℕ) → number < free_words layout
@@ -69,7 +69,7 @@ free-within layout s h number found inside met some fits = (lowest.0, within (ca
         let word_is : f / 64 ≡ number = omega arith in
         let bit_is : f % 64 ≡ trailing_zeros w64 found = omega arith in
         let read : slice_index (words_of layout s.words).frees number ≡ found = words-read layout s.words (places.Free number) inside ∙ sym met in
-        let none : slice_index (words_of layout s.words).frees (f / 64) / 2 ^ (f % 64) % 2 ≡ 0 = h.rule.free.within f past in
+        let none : slice_index (words_of layout s.words).frees (f / 64) / 2 ^ (f % 64) % 2 ≡ 0 = h.rule.frames.free.within f past in
         let none_there : slice_index (words_of layout s.words).frees number / 2 ^ (f % 64) % 2 ≡ 0 = subst (λ (n : ℕ). slice_index (words_of layout s.words).frees n / 2 ^ (f % 64) % 2 ≡ 0) word_is none in
         let none_at : slice_index (words_of layout s.words).frees number / 2 ^ trailing_zeros w64 found % 2 ≡ 0 = subst (λ (k : ℕ). slice_index (words_of layout s.words).frees number / 2 ^ k % 2 ≡ 0) bit_is none_there in
         let none_found : found / 2 ^ trailing_zeros w64 found % 2 ≡ 0 = subst (λ (w : ℕ). w / 2 ^ trailing_zeros w64 found % 2 ≡ 0) read none_at in
@@ -84,7 +84,7 @@ no-content (Some log) none = absurd (omega arith)
 module _ (layout : Layout) (s : State) (h : Holds layout s) (seat : ℕ) (view : View) (frame : Frame) where
   -- a frame in hand is bare
   pub hand-bare : (found : ℕ) → slice_get s.views seat ≡ Some view → HasInHand view frame → frame.0 < layout.frames → found ≡ slice_index s.words (index layout (places.Frame frame)) → IsBare found
-  hand-bare found me has inside met = h.rule.places.idle frame.0 found (frame-word layout s h frame found inside met) (omega (arith, some))
+  hand-bare found me has inside met = h.rule.frames.places.idle frame.0 found (frame-word layout s h frame found inside met) (omega (arith, some))
     where
       some : 1 ≤ in_hand frame.0 (map (λ (v : View). v.hands) s.views)
       some = in_hand-mine (map (λ (v : View). v.hands) s.views) seat view.hands frame (at_map (λ (v : View). v.hands) s.views seat view me) has.0 (has.2 ∙ ap Some has.3)
@@ -99,7 +99,7 @@ module _ (layout : Layout) (s : State) (h : Holds layout s) (seat : ℕ) (view :
       bare = hand-bare found me has inside met
 
       home : IsAtHome s.homes frame.0 (owner_of found)
-      home = h.rule.bodies.frame_home frame.0 found (frame-word layout s h frame found inside met) bare.unlocked
+      home = h.rule.pages.bodies.frame_home frame.0 found (frame-word layout s h frame found inside met) bare.unlocked
 
 -- frames of one number are one
 pub same-frame : (f g : Frame) → f.0 ≡ g.0 → f ≡ g
@@ -141,7 +141,7 @@ module _ (layout : Layout) (s : State) (h : Holds layout s) where
   -- a cache word that isn't 0 names a frame of the layout, which the page owns
   pub cached-frame : (page : Page) (found : ℕ) → slice_get (words_of layout s.words).caches page.0 ≡ Some found → found ≢ 0
       → (frame : Frame) × (found ≡ frame.0 + 1) × (frame.0 < layout.frames) × (frame_in found ≡ Some frame)
-  cached-frame page found at some = elim (h.rule.caches.owned page.0 found at) [
+  cached-frame page found at some = elim (h.rule.pages.caches.owned page.0 found at) [
     | inl none ↦ absurd (some none)
     | inr own ↦ from own
   ]
@@ -164,14 +164,14 @@ module _ (layout : Layout) (s : State) (h : Holds layout s) where
       cache-at = slice_get-get_or (words_of layout s.words).caches page.0 0 (subst (λ (n : ℕ). page.0 < n) (sym (shaped layout s h).caches) inside)
 
       home : IsAtHome s.homes (layout.frames + page.0) (cond (slice_index (words_of layout s.words).caches page.0 == 0) (page.0 + 1) 0)
-      home = h.rule.bodies.shelf_home page.0 found (slice_index (words_of layout s.words).caches page.0) (page-word page found inside met) cache-at free
+      home = h.rule.pages.bodies.shelf_home page.0 found (slice_index (words_of layout s.words).caches page.0) (page-word page found inside met) cache-at free
 
       name : log.page.0 + 1 ≡ cond (slice_index (words_of layout s.words).caches page.0 == 0) (page.0 + 1) 0
       name = ap content_name (same_Some (Some log) home.content (same_Some (Some (Some log)) (Some home.content) (sym there ∙ home.there))) ∙ home.named
 
       which : (b : Bool) → (slice_index (words_of layout s.words).caches page.0 == 0) ≡ b → (log.page ≡ page) × (false ≡ (state_of layout log).cached)
       which false is = absurd (omega (arith, name ∙ ap (λ (b : Bool). cond b (page.0 + 1) 0) is))
-      which true is = (page-is, ap not (sym is) ∙ (h.rule.fits.at_home (layout.frames + page.0) log there (slice_index (words_of layout s.words).caches page.0) cache-there).cached)
+      which true is = (page-is, ap not (sym is) ∙ (h.rule.pages.fits.at_home (layout.frames + page.0) log there (slice_index (words_of layout s.words).caches page.0) cache-there).cached)
         where
           number : log.page.0 + 1 ≡ page.0 + 1
           number = name ∙ ap (λ (b : Bool). cond b (page.0 + 1) 0) is
@@ -185,7 +185,7 @@ module _ (layout : Layout) (s : State) (h : Holds layout s) where
   module _ (seat : ℕ) (view : View) (me : slice_get s.views seat ≡ Some view) where
     -- what the page's lock lists is so
     pub lock-knows : (lock : PageLock) → slice_get view.pages 0 ≡ Some lock → KnowsWords layout (words_of layout s.words).trans (words_of layout s.words).caches lock
-    lock-knows lock at = h.rule.fits.known seat (view.pages, view.bodies) (at_map (λ (v : View). (v.pages, v.bodies)) s.views seat view me) 0 lock at
+    lock-knows lock at = h.rule.pages.fits.known seat (view.pages, view.bodies) (at_map (λ (v : View). (v.pages, v.bodies)) s.views seat view me) 0 lock at
 
     -- a frame that the page's lock lists as the page's is referenced, and isn't handled
     pub stays-referenced : (lock : PageLock) (frame : Frame) (found : ℕ) → slice_get view.pages 0 ≡ Some lock → lock.cache ≡ Some (frame.0 + 1) → frame.0 < layout.frames
@@ -200,13 +200,13 @@ module _ (layout : Layout) (s : State) (h : Holds layout s) where
 
         count : 1 ≤ count_of found
         count =
-            let balance = h.rule.counts.balance frame.0 found there in
+            let balance = h.rule.frames.counts.balance frame.0 found there in
             let one : from_bool (frame.0 + 1 == frame.0 + 1) ≤ named frame.0 (words_of layout s.words).caches = term-le (λ (c : ℕ). from_bool (c == frame.0 + 1)) (words_of layout s.words).caches lock.page.0 (frame.0 + 1) cached in
             let it : from_bool (frame.0 + 1 == frame.0 + 1) ≡ 1 = ap from_bool (same-number (frame.0 + 1) (frame.0 + 1) refl) in
             omega (arith, balance)
 
         unhandled : is_handled found ≡ false
-        unhandled = ne_eqb (handled_of found) 1 (λ e. let poison : poison_of found ≡ 1 = (h.rule.handled.out frame.0 found there e).poisoned in let none : poison_of found ≡ 0 = h.rule.unpoisoned.sound frame.0 found there in omega arith)
+        unhandled = ne_eqb (handled_of found) 1 (λ e. let poison : poison_of found ≡ 1 = (h.rule.failures.handled.out frame.0 found there e).poisoned in let none : poison_of found ≡ 0 = h.rule.failures.unpoisoned.sound frame.0 found there in omega arith)
 
     -- the slot of the page's frame, when its lock is free, has the page's body, which fits the cache word
     pub in-slot : (lock : PageLock) (frame : Frame) (found : ℕ) (content : Option Log) → slice_get view.pages 0 ≡ Some lock → lock.page.0 < length layout.pages → lock.cache ≡ Some (frame.0 + 1) → frame.0 < layout.frames
@@ -221,7 +221,7 @@ module _ (layout : Layout) (s : State) (h : Holds layout s) where
         cached = (lock-knows lock at).cache (frame.0 + 1) lists
 
         owner : owner_of found ≡ lock.page.0 + 1
-        owner = elim (h.rule.caches.owned lock.page.0 (frame.0 + 1) cached) [
+        owner = elim (h.rule.pages.caches.owned lock.page.0 (frame.0 + 1) cached) [
           | inl none ↦ absurd (omega (arith, none))
           | inr own ↦
               let number : own.frame ≡ frame.0 = omega (arith, own.named) in
@@ -229,7 +229,7 @@ module _ (layout : Layout) (s : State) (h : Holds layout s) where
         ]
 
         home : IsAtHome s.homes frame.0 (owner_of found)
-        home = h.rule.bodies.frame_home frame.0 found there free
+        home = h.rule.pages.bodies.frame_home frame.0 found there free
 
         name : content_name content ≡ lock.page.0 + 1
         name = ap content_name (same_Some content home.content (same_Some (Some content) (Some home.content) (sym slot ∙ home.there))) ∙ home.named ∙ owner
@@ -241,4 +241,4 @@ module _ (layout : Layout) (s : State) (h : Holds layout s) where
         fits =
             let some : not (frame.0 + 1 == 0) ≡ true = ap not (ne_eqb (frame.0 + 1) 0 (λ e. omega (arith, e))) in
             let at_home : slice_get s.homes frame.0 ≡ Some (Some (Some body.0)) = slot ∙ ap (λ (c : Option Log). Some (Some c)) body.1 in
-            sym some ∙ (h.rule.fits.at_home frame.0 body.0 at_home (frame.0 + 1) (ap (λ (p : Page). slice_get (words_of layout s.words).caches p.0) body.2 ∙ cached)).cached
+            sym some ∙ (h.rule.pages.fits.at_home frame.0 body.0 at_home (frame.0 + 1) (ap (λ (p : Page). slice_get (words_of layout s.words).caches p.0) body.2 ∙ cached)).cached

@@ -1,6 +1,6 @@
 -- What a step asks and tells. Bodies go with locks: a step that takes a lock brings the body of its slot, and a step that
 -- frees it takes the body that is to be there.
-use Rattle.std.specs.Prelude.{◌≡◌, ℕ, ◌≤◌, Bool, true, false, cond, Option, Some, None, option_map}
+use Rattle.std.specs.Prelude.{◌≡◌, ℕ, ◌≤◌, false, cond, Option, Some, None, option_map}
 use Rattle.hwp_geom.specs.declared.Layout.{Layout}
 use Rattle.hwp_geom.specs.declared.Who.{Who}
 use Rattle.hwp_page.specs.History.{BodyValue, IsReplay}
@@ -8,25 +8,17 @@ use Rattle.hwp_rule.specs.declared.Log.{Log}
 use Rattle.hwp_rule.specs.declared.Part.{Part}
 use Rattle.hwp_rule.specs.declared.Rec.{Rec}
 use Rattle.hwp_rule.specs.declared.Step.{Step}
-use Rattle.hwp_rule.specs.declared.Step.TheVariants as steps
 use Rattle.hwp_rule.specs.declared.View.{View}
 use Rattle.hwp_rule.specs.Asks.{Asks, IsTurnOf}
 use Rattle.hwp_rule.specs.Lists.{EachMember}
 use Rattle.hwp_rule.specs.Logs.{log_of}
 use Rattle.hwp_rule.specs.Moves.{Told}
 use Rattle.hwp_rule.specs.Served.{IsServed}
-use Rattle.hwp_rule.specs.Steps.{goes}
+use Rattle.hwp_rule.specs.Slots.{takes}
 
 -- the histories of bodies
 abbrev pub logs : Option BodyValue → Option Log
 logs body = option_map log_of body
-
--- the step took a lock, whose slot it empties
-abbrev pub takes : Layout → Step → ℕ → Bool
-takes layout (steps.Adopt frame) found = true
-takes layout (steps.LockFrame frame) found = goes (steps.LockFrame frame) found
-takes layout (steps.LockPage page) found = goes (steps.LockPage page) found
-takes layout step found = false
 
 -- the record of a step of this command that met this word: its content is that of the body that it brought, where it took a
 -- lock, and else that of the body that it put
