@@ -1,5 +1,5 @@
 -- References given back: the task's states, its steps and what they come to.
-use Rattle.std.specs.Prelude.{◌≡◌, ℕ, ◌+◌, ◌-◌, ◌<◌, ◌≤◌, false, cond, [], ◌∷◌, ◌++◌, Option, Some, None}
+use Rattle.std.specs.Prelude.{◌≡◌, ℕ, ◌+◌, ◌-◌, ◌<◌, ◌≤◌, true, false, cond, [], ◌∷◌, ◌++◌, Option, Some, None}
 use Rattle.hwp_geom.specs.declared.Frame.{Frame}
 use Rattle.hwp_geom.specs.declared.Layout.{Layout}
 use Rattle.hwp_geom.specs.declared.Who.{Who}
@@ -10,6 +10,7 @@ use Rattle.hwp_rule.specs.declared.View.{View}
 use Rattle.hwp_rule.specs.Asks.{HasInHand}
 use Rattle.hwp_rule.specs.Steps.{is_last}
 use Rattle.hwp_rule.specs.Views.{refs_on, locks_on, less_refs, without, is_frame}
+use Rattle.hwp_rule.specs.Words.{Words}
 use Rattle.hwp_hold.specs.declared.release.Release.{Release}
 use Rattle.hwp_hold.specs.declared.release.ReleaseAt.{ReleaseAt}
 use Rattle.hwp_hold.specs.declared.release.ReleaseAt.TheVariants as at
@@ -38,13 +39,13 @@ next_at count at.Back found = at.Back
 abbrev pub next : Release → ℕ → Release
 next r found = record r { at = next_at r.count r.at found }
 
--- the word has no poison
-abbrev pub ShowsAt : ReleaseAt → ℕ → Type 0
-ShowsAt at.Put found = is_poisoned found ≡ false
-ShowsAt _ found = Unit {0}
+-- the word of the last reference has no poison
+abbrev pub ShowsAt : ℕ → ReleaseAt → ℕ → Type 0
+ShowsAt count at.Put found = is_last count found ≡ true → is_poisoned found ≡ false
+ShowsAt count _ found = Unit {0}
 
 abbrev pub Shows : Release → ℕ → Type 0
-Shows r found = ShowsAt r.at found
+Shows r found = ShowsAt r.count r.at found
 
 -- the view has the references, of which each lock of the frame needs one; and then the frame, and the reservation
 abbrev pub FitsAt : View → Frame → ℕ → ReleaseAt → Type 0
@@ -67,3 +68,22 @@ hand_next_at frame count at.Back found h = h
 
 abbrev pub hand_next : Release → ℕ → Hand → Hand
 hand_next r found h = hand_next_at r.frame r.count r.at found h
+
+-- 1 while the frame is in hand or reserved
+abbrev pub class_at : ReleaseAt → ℕ
+class_at at.Give = 1
+class_at at.Unreserve = 1
+class_at _ = 4
+
+abbrev pub class : Release → ℕ
+class r = class_at r.at
+
+-- the turns that are left
+abbrev pub cost_at : ReleaseAt → ℕ
+cost_at at.Put = 3
+cost_at at.Give = 2
+cost_at at.Unreserve = 1
+cost_at at.Back = 0
+
+abbrev pub cost : Release → Words → ℕ
+cost r words = cost_at r.at

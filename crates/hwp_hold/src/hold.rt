@@ -1,12 +1,10 @@
 ghost use Rattle.std.specs.Prelude.{◌≡◌, is_some, true};
 
-use crate::machine::Machine;
 use crate::pin::{Pin, PinAnswer};
-use crate::ranked::Ranked;
-use hwp_core::{Turn, frame_in};
 use hwp_geom::{Frame, Layout, Page, Who};
 use hwp_page::Body;
-use hwp_rule::{Place, Step};
+use hwp_rule::{Place, Step, frame_in};
+use hwp_step::{Machine, Ranked, Turn};
 use std::mem;
 
 /// Locks a page and, where the page is in a frame, takes a reference to that frame and locks it too; and takes the page's
@@ -176,11 +174,16 @@ impl Machine for Hold {
 }
 
 impl Ranked for Hold {
-    ghost use Rattle.hwp_hold.specs.Ranks.{hold_class, hold_cost};
+    ghost use Rattle.std.specs.Prelude.{false, None};
+    ghost use Rattle.hwp_hold.specs.Holds.{class, cost};
 
-    ghost class_of = { λ h. hold_class h };
+    ghost class_of = { λ h. class h };
 
-    ghost cost = { λ h words. hold_cost h words };
+    ghost cost = { λ h words. cost h words };
+
+    ghost aborts = { λ h. false };
+
+    ghost claims = { λ h. None };
 
     fn class(&self) -> u8 {
         match self.at {

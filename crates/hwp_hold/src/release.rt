@@ -1,10 +1,9 @@
 ghost use Rattle.std.specs.Prelude.{◌≡◌, is_some, is_none};
 
-use crate::machine::Machine;
-use hwp_core::Turn;
 use hwp_geom::{Frame, Layout, Who};
 use hwp_page::Body;
 use hwp_rule::Step;
+use hwp_step::{Machine, Ranked, Turn};
 use hwp_words::FrameWord;
 
 /// Gives references to a frame back, and the frame too where they were its last ones (Linux put_page).
@@ -49,7 +48,7 @@ impl Release {
 
 impl Machine for Release {
     ghost use Rattle.std.specs.Prelude.{◌≡◌, None};
-    ghost use Rattle.hwp_step.specs.declared.turn.Turn.TheVariants.{Moved};
+    ghost use Rattle.hwp_step.specs.declared.Turn.TheVariants.{Moved};
     ghost use Rattle.hwp_hold.specs.Releases.{plan, next, Shows, Fits};
 
     ghost who = { λ r. r.who };
@@ -90,13 +89,13 @@ impl Machine for Release {
         match self.at {
             ReleaseAt::Put => {
                 let word = FrameWord::unpack(found);
-                if word.count != self.count {
-                    self.at = ReleaseAt::Back;
+                self.at = if word.count != self.count {
+                    ReleaseAt::Back
                 } else if word.poisoned {
                     unreachable!()
                 } else {
-                    self.at = ReleaseAt::Give;
-                }
+                    ReleaseAt::Give
+                };
             }
             ReleaseAt::Give => {
                 self.at = ReleaseAt::Unreserve;
@@ -107,4 +106,26 @@ impl Machine for Release {
         }
         Turn::Moved
     }
+}
+
+impl Ranked for Release {
+    ghost use Rattle.std.specs.Prelude.{false, None};
+    ghost use Rattle.hwp_hold.specs.Releases.{class, cost};
+
+    ghost class_of = { λ r. class r };
+
+    ghost cost = { λ r words. cost r words };
+
+    ghost aborts = { λ r. false };
+
+    ghost claims = { λ r. None };
+
+    fn class(&self) -> u8 {
+        match self.at {
+            ReleaseAt::Give | ReleaseAt::Unreserve => 1,
+            ReleaseAt::Put | ReleaseAt::Back => 4,
+        }
+    }
+
+    fn ranked(&self) {}
 }

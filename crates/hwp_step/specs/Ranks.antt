@@ -89,12 +89,13 @@ member who plan put bare next fits class cost aborts claims = record {
   claims = claims;
 }
 
--- a step of a task was made on a board that keeps the rule, by a seat whose view the task fits
+-- a step of a task was made on a board that keeps the rule before and after, by a seat whose view the task fits
 pub record Made {S : Type 0} (m : Member S) (layout : Layout) (seat : ℕ) (a b : State) (before after : S) (turn : Turn) : Type 0 where
   pub step : Step
   pub found : ℕ
   pub got : Option BodyValue
   pub rule : Holds layout a
+  pub kept : Holds layout b
   pub fits : m.fits layout (view_of a seat) before
   pub planned : m.plan before ≡ Some step
   pub move : Move layout seat (rec_of layout (m.who before) step (logs (m.put before)) found got) a b

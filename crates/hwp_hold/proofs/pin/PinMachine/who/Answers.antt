@@ -1,5 +1,0 @@
-use Rattle.hwp_hold.proofs.pin.PinMachine.who.Goals as goal
-use Rattle.hwp_hold.proofs.Pinning.{stays}
-
-pub returns-clause-stays : goal.returns-clause-stays
-returns-clause-stays c layout old new step = stays layout old new c.args.self.now step
