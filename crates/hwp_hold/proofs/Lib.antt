@@ -1,0 +1,2 @@
+pub mod Pinning
+pub mod Releasing
