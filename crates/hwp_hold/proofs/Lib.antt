@@ -1,2 +1,3 @@
 pub mod Pinning
 pub mod Releasing
+pub mod Ranking

@@ -1,5 +1,5 @@
 -- What a step of a task on a board says of the words before it and after it.
-use Rattle.std.proofs.Common.{◌≡◌, ℕ, ◌<◌, ◌≤◌, ◌==◌, ◌⊎◌, inl, inr, true, Some, length, slice_get, refl, sym, ap, ◌∙◌}
+use Rattle.std.proofs.Common.{◌≡◌, ℕ, ◌<◌, ◌≤◌, ◌==◌, ◌⊎◌, inl, inr, true, false, Some, length, slice_get, refl, sym, ap, ◌∙◌}
 use Rattle.std.proofs.lemmas.Bool.{both_ways, cases_lt}
 use Rattle.std.proofs.lemmas.Option.{slice_get-get_or, get_or_from_slice_get}
 use Rattle.std.proofs.lemmas.List.{get_or_past}
@@ -17,7 +17,7 @@ use Rattle.hwp_rule.proofs.Split.{words-read, words-put, same-put}
 use Rattle.hwp_step.specs.declared.turn.Turn.{Turn}
 use Rattle.hwp_step.specs.Boards.{view_of}
 use Rattle.hwp_step.specs.Calls.{Steps, logs, rec_of}
-use Rattle.hwp_step.specs.Ranks.{Member, Made, Pending, words_at}
+use Rattle.hwp_step.specs.Ranks.{Member, Made, CostFalls, IsRanked, Pending, Quiet, is_waits, top, words_at}
 
 -- no failure is open where nothing is poisoned
 nothing-pending : (layout : Layout) (s : State) → Holds layout s → (frame : Frame) (cycle : ℕ) → Pending (words_at layout s) frame cycle → ⊥
@@ -54,3 +54,18 @@ module _ {S : Type 0} {m : Member S} {layout : Layout} {seat : ℕ} {a b : State
   -- a task that claims nothing leaves no failure without a claim
   pub owns-nothing : (frame : Frame) (cycle : ℕ) → Pending (words_at layout b) frame cycle → ⊥
   owns-nothing frame cycle pending = nothing-pending layout b made.kept frame cycle pending
+
+-- the rank of a task that gives nothing up and claims nothing
+pub rank-of : {S : Type 0} (m : Member S) → ((s : S) → m.aborts s ≡ false) → ((s : S) → (1 ≤ m.class s) × (m.class s ≤ 4))
+    → ((layout : Layout) (a : State) (seat : ℕ) (s : S) → Holds layout a → m.fits layout (view_of a seat) s → m.cost s (words_at layout a) < top)
+    → ((layout : Layout) (seat : ℕ) (a b : State) (s t : S) (turn : Turn) → Made m layout seat a b s t turn → is_waits turn ≡ false → CostFalls m layout a b s t)
+    → ((layout : Layout) (seat : ℕ) (a b : State) (s t : S) (turn : Turn) → Made m layout seat a b s t turn → is_waits turn ≡ true → Quiet (m.class s) layout a seat → CostFalls m layout a b s t)
+    → IsRanked m
+rank-of m none classes small falls waits = record {
+  classes = classes;
+  small = small;
+  falls = falls;
+  waits = λ layout seat a b s t turn made is quiet. inl (waits layout seat a b s t turn made is quiet);
+  leaves = λ layout seat a b s t turn made aborts. absurd (both_ways true (sym aborts ∙ none s) refl);
+  owns = λ layout seat a b s t turn frame cycle made pending. absurd (owns-nothing made frame cycle pending);
+}
