@@ -1,3 +1,4 @@
 pub mod Pinning
 pub mod Releasing
+pub mod Holding
 pub mod Ranking
