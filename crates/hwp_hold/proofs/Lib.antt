@@ -1,4 +1,5 @@
 pub mod Pinning
 pub mod Releasing
 pub mod Holding
+pub mod Unholding
 pub mod Ranking
