@@ -1,8 +1,8 @@
 -- What the words and slots that a step meets say of a board that keeps the rule: of a frame's word, of a free word, and under a
 -- page's lock of the page's cache word, of its body and of its frame.
-use Rattle.std.proofs.Common.{◌≡◌, ◌≢◌, ℕ, ◌+◌, ◌-◌, ◌*◌, ◌/◌, ◌%◌, ◌^◌, ◌<◌, ◌≤◌, ◌==◌, Bool, true, false, not, cond, List, Option, Some, None, map, length, drop, min, slice_get, slice_index, ◌⊎◌, inl, inr, refl, sym, ap, ◌∙◌, subst, arith, w64}
+use Rattle.std.proofs.Common.{◌≡◌, ◌≢◌, ℕ, ◌+◌, ◌-◌, ◌*◌, ◌/◌, ◌%◌, ◌^◌, ◌<◌, ◌≤◌, ◌==◌, Bool, true, false, not, cond, List, [], Option, Some, None, map, length, drop, min, slice_get, slice_index, ◌⊎◌, inl, inr, refl, sym, ap, ◌∙◌, subst, arith, w64}
 use Rattle.std.specs.Int.{from_bool, trailing_zeros}
-use Rattle.std.proofs.lemmas.Bool.{cases_lt, eqb-false, ne_eqb}
+use Rattle.std.proofs.lemmas.Bool.{cases_lt, eqb-true, eqb-false, ne_eqb}
 use Rattle.std.proofs.lemmas.List.{length-take}
 use Rattle.std.proofs.lemmas.Nat.Bits.{bit_at-trailing_zeros}
 use Rattle.std.proofs.lemmas.Option.{slice_get-get_or, same_Some, slice_get_within}
@@ -13,13 +13,16 @@ use Rattle.hwp_words.specs.Frames.{lock_of, count_of, owner_of, handled_of, pois
 use Rattle.hwp_rule.specs.declared.log.Log.{Log}
 use Rattle.hwp_rule.specs.declared.place.Place.TheVariants as places
 use Rattle.hwp_rule.specs.declared.record.State.{State}
+use Rattle.hwp_rule.specs.declared.view.FrameLock.{FrameLock}
 use Rattle.hwp_rule.specs.declared.view.PageLock.{PageLock}
+use Rattle.hwp_rule.specs.declared.view.Ref.{Ref}
 use Rattle.hwp_rule.specs.declared.view.View.{View}
 use Rattle.hwp_rule.specs.Asks.{HasInHand}
+use Rattle.hwp_rule.specs.Lists.{EachMember}
 use Rattle.hwp_rule.specs.Logs.{state_of}
 use Rattle.hwp_rule.specs.Slots.{IsIn, frame_slot, shelf_slot}
 use Rattle.hwp_rule.specs.Rule.{Holds}
-use Rattle.hwp_rule.specs.Views.{frame_in}
+use Rattle.hwp_rule.specs.Views.{frame_in, locks_on, page_locks_on}
 use Rattle.hwp_rule.specs.Words.{words_of, segment, index, size, free_words}
 use Rattle.hwp_rule.specs.parts.Bodies.{IsAtHome, content_name}
 use Rattle.hwp_rule.specs.parts.Counts.{named}
@@ -27,7 +30,7 @@ use Rattle.hwp_rule.specs.parts.Fits.{KnowsWords}
 use Rattle.hwp_rule.specs.parts.Owners.{NamesOwn}
 use Rattle.hwp_rule.specs.parts.Places.{in_hand, IsBare}
 use Rattle.hwp_rule.proofs.Hands.{in_hand-mine}
-use Rattle.hwp_rule.proofs.Lists.{at_map, term-le, same-number}
+use Rattle.hwp_rule.proofs.Lists.{at_map, term-le, same-number, sum-zero, each-map, each-weaken}
 use Rattle.hwp_rule.proofs.Moving.{shaped}
 use Rattle.hwp_rule.proofs.Split.{words-read}
 use Rattle.hwp_rule.proofs.frames.PageLocks.{same-page}
@@ -125,6 +128,14 @@ free-word word free = which (lock_of word == 1) refl
     which true is = absurd (omega (arith, ap from_bool free, ap (λ (b : Bool). from_bool (not b)) is))
     which false is = let other : lock_of word ≢ 1 = eqb-false (lock_of word) 1 is in let bit : lock_of word < 2 = omega arith in omega arith
 
+-- a lock word whose lock is held
+pub held-word : (word : ℕ) → not (is_locked word) ≡ false → lock_of word ≡ 1
+held-word word held = which (lock_of word == 1) refl
+  where
+    which : (b : Bool) → (lock_of word == 1) ≡ b → lock_of word ≡ 1
+    which true is = eqb-true (lock_of word) 1 is
+    which false is = absurd (omega (arith, ap from_bool held, ap (λ (b : Bool). from_bool (not b)) is))
+
 -- the cache words of a board
 abbrev pub cache-words : Layout → List ℕ → List ℕ
 cache-words layout words = (words_of layout words).caches
@@ -137,6 +148,17 @@ module _ (layout : Layout) (s : State) (h : Holds layout s) where
   pub page-word : (page : Page) (found : ℕ) → page.0 < length layout.pages → found ≡ slice_index s.words (index layout (places.Page page)) → slice_get (words_of layout s.words).pages page.0 ≡ Some found
   page-word page found inside met =
       slice_get-get_or (words_of layout s.words).pages page.0 0 (subst (λ (n : ℕ). page.0 < n) (sym (shaped layout s h).pages) inside) ∙ ap (λ (n : ℕ). Some n) (words-read layout s.words (places.Page page) inside ∙ sym met)
+
+  -- a page's lock is free where no view lists a page's lock, and a frame's where none lists a frame's
+  pub page-free : (page : Page) (found : ℕ) → page.0 < length layout.pages → found ≡ slice_index s.words (index layout (places.Page page)) → EachMember (λ (v : View). v.pages ≡ []) s.views → lock_of found ≡ 0
+  page-free page found inside met none = sym (h.rule.pages.page_locks.one page.0 found (page-word page found inside met))
+      ∙ sum-zero (page_locks_on page.0) (map (λ (v : View). v.pages) s.views)
+      (each-map (λ (v : View). v.pages) (λ (l : List PageLock). page_locks_on page.0 l ≡ 0) s.views (each-weaken (λ (v : View). v.pages ≡ []) (λ (v : View). page_locks_on page.0 v.pages ≡ 0) s.views (λ v e. ap (page_locks_on page.0) e) none))
+
+  pub frame-free : (frame : Frame) (found : ℕ) → frame.0 < layout.frames → found ≡ slice_index s.words (index layout (places.Frame frame)) → EachMember (λ (v : View). v.locks ≡ []) s.views → lock_of found ≡ 0
+  frame-free frame found inside met none = sym (h.rule.frames.frame_locks.one frame.0 found (frame-word layout s h frame found inside met))
+      ∙ sum-zero (λ (l : List Ref × List FrameLock). locks_on frame.0 l.1) (map (λ (v : View). (v.refs, v.locks)) s.views)
+      (each-map (λ (v : View). (v.refs, v.locks)) (λ (l : List Ref × List FrameLock). locks_on frame.0 l.1 ≡ 0) s.views (each-weaken (λ (v : View). v.locks ≡ []) (λ (v : View). locks_on frame.0 v.locks ≡ 0) s.views (λ v e. ap (locks_on frame.0) e) none))
 
   -- a cache word that isn't 0 names a frame of the layout, which the page owns
   pub cached-frame : (page : Page) (found : ℕ) → slice_get (words_of layout s.words).caches page.0 ≡ Some found → found ≢ 0

@@ -1,18 +1,21 @@
 -- What a step of a task on a board says of the words before it and after it.
-use Rattle.std.proofs.Common.{◌≡◌, ℕ, ◌<◌, ◌≤◌, ◌==◌, ◌⊎◌, inl, inr, true, false, Some, length, slice_get, refl, sym, ap, ◌∙◌}
+use Rattle.std.proofs.Common.{◌≡◌, ◌≢◌, ℕ, ◌<◌, ◌≤◌, ◌==◌, ◌⊎◌, inl, inr, true, false, List, [], ◌∷◌, Some, length, slice_get, refl, sym, ap, ◌∙◌, arith}
 use Rattle.std.proofs.lemmas.Bool.{both_ways, cases_lt}
 use Rattle.std.proofs.lemmas.Option.{slice_get-get_or, get_or_from_slice_get}
 use Rattle.std.proofs.lemmas.List.{get_or_past}
 use Rattle.hwp_geom.specs.declared.Frame.{Frame}
 use Rattle.hwp_geom.specs.declared.Layout.{Layout}
+use Rattle.hwp_geom.proofs.WordLaws.{not_nil}
 use Rattle.hwp_words.specs.Frames.{is_poisoned}
 use Rattle.hwp_rule.specs.declared.State.{State}
 use Rattle.hwp_rule.specs.declared.View.{View}
+use Rattle.hwp_rule.specs.Lists.{EachMember}
 use Rattle.hwp_rule.specs.Opening.{opening_view}
 use Rattle.hwp_rule.specs.Rule.{Holds}
 use Rattle.hwp_rule.specs.Steps.{place_of, word_after}
 use Rattle.hwp_rule.specs.Views.{view_after}
 use Rattle.hwp_rule.specs.Words.{read, put}
+use Rattle.hwp_rule.proofs.Lists.{same-or}
 use Rattle.hwp_rule.proofs.Split.{words-read, words-put, same-put}
 use Rattle.hwp_step.specs.declared.turn.Turn.{Turn}
 use Rattle.hwp_step.specs.Boards.{view_of}
@@ -54,6 +57,31 @@ module _ {S : Type 0} {m : Member S} {layout : Layout} {seat : ℕ} {a b : State
   -- a task that claims nothing leaves no failure without a claim
   pub owns-nothing : (frame : Frame) (cycle : ℕ) → Pending (words_at layout b) frame cycle → ⊥
   owns-nothing frame cycle pending = nothing-pending layout b made.kept frame cycle pending
+
+-- a list that isn't other than empty is empty
+empty-list : {A : Type 0} (l : List A) → (l ≢ [] → ⊥) → l ≡ []
+empty-list [] none = refl
+empty-list (x ∷ xs) none = absurd (none (not_nil (x ∷ xs) (omega arith)))
+
+-- a view of the board is that of its seat
+seen : (a : State) (i : ℕ) (v : View) → slice_get a.views i ≡ Some v → view_of a i ≡ v
+seen a i v is = get_or_from_slice_get a.views i v (opening_view i) is
+
+module _ {class : ℕ} {layout : Layout} {a : State} {seat : ℕ} (quiet : Quiet class layout a seat) where
+  -- nobody has a page's lock, and nobody a frame's, where the seat itself has none
+  pub no-page : 3 ≤ class → (view_of a seat).pages ≡ [] → EachMember (λ (v : View). v.pages ≡ []) a.views
+  no-page third own i v is = ap (λ (x : View). x.pages) (sym (seen a i v is)) ∙ which (same-or i seat)
+    where
+      which : (i ≡ seat) ⊎ (i ≢ seat) → (view_of a i).pages ≡ []
+      which (inl same) = ap (λ (k : ℕ). (view_of a k).pages) same ∙ own
+      which (inr other) = empty-list (view_of a i).pages (quiet.pages third i other)
+
+  pub no-lock : 2 ≤ class → (view_of a seat).locks ≡ [] → EachMember (λ (v : View). v.locks ≡ []) a.views
+  no-lock second own i v is = ap (λ (x : View). x.locks) (sym (seen a i v is)) ∙ which (same-or i seat)
+    where
+      which : (i ≡ seat) ⊎ (i ≢ seat) → (view_of a i).locks ≡ []
+      which (inl same) = ap (λ (k : ℕ). (view_of a k).locks) same ∙ own
+      which (inr other) = empty-list (view_of a i).locks (λ some. quiet.frames second i other (inl some))
 
 -- the rank of a task that gives nothing up and claims nothing
 pub rank-of : {S : Type 0} (m : Member S) → ((s : S) → m.aborts s ≡ false) → ((s : S) → (1 ≤ m.class s) × (m.class s ≤ 4))
