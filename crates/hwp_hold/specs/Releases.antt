@@ -9,7 +9,7 @@ use Rattle.hwp_rule.specs.declared.Step.TheVariants as steps
 use Rattle.hwp_rule.specs.declared.View.{View}
 use Rattle.hwp_rule.specs.Asks.{HasInHand}
 use Rattle.hwp_rule.specs.Steps.{is_last}
-use Rattle.hwp_rule.specs.Views.{refs_on, locks_on, less_refs, without, is_frame}
+use Rattle.hwp_rule.specs.Views.{refs_on, locks_on, less_refs, without, is_hand_of, hand_found}
 use Rattle.hwp_rule.specs.Words.{Words}
 use Rattle.hwp_hold.specs.declared.release.Release.{Release}
 use Rattle.hwp_hold.specs.declared.release.ReleaseAt.{ReleaseAt}
@@ -61,8 +61,8 @@ pub record Fits (layout : Layout) (view : View) (r : Release) : Type 0 where
 
 -- what is held after a step
 abbrev pub hand_next_at : Frame → ℕ → ReleaseAt → ℕ → Hand → Hand
-hand_next_at frame count at.Put found h = record h { refs = less_refs frame count h.refs; hands = cond (is_last count found) (h.hands ++ frame ∷ []) h.hands }
-hand_next_at frame count at.Give found h = record h { reserved = h.reserved + 1; hands = without (is_frame frame) h.hands }
+hand_next_at frame count at.Put found h = record h { refs = less_refs frame count h.refs; hands = cond (is_last count found) (h.hands ++ hand_found frame found ∷ []) h.hands }
+hand_next_at frame count at.Give found h = record h { reserved = h.reserved + 1; hands = without (is_hand_of frame) h.hands }
 hand_next_at frame count at.Unreserve found h = record h { reserved = h.reserved - 1 }
 hand_next_at frame count at.Back found h = h
 

@@ -11,6 +11,7 @@ use Rattle.hwp_rule.specs.declared.Step.TheVariants as steps
 use Rattle.hwp_rule.specs.declared.View.{View}
 use Rattle.hwp_rule.specs.Asks.{CanGoHome}
 use Rattle.hwp_rule.specs.Logs.{log_of}
+use Rattle.hwp_rule.specs.Views.{unpoisoned}
 use Rattle.hwp_rule.specs.Words.{Words}
 use Rattle.hwp_hold.specs.declared.release.Release.{Release}
 use Rattle.hwp_hold.specs.declared.release.ReleaseAt.{ReleaseAt}
@@ -106,7 +107,7 @@ pub record HoldsAhead (layout : Layout) (who : Who) (view : View) (page : Page) 
 -- what is held while the frame is released
 abbrev pub releasing : Page → Frame → ReleaseAt → Hand
 releasing page frame release_at.Put = named page frame (one_ref frame)
-releasing page frame release_at.Give = record (named page frame []) { hands = frame ∷ [] }
+releasing page frame release_at.Give = record (named page frame []) { hands = unpoisoned frame ∷ [] }
 releasing page frame release_at.Unreserve = record (named page frame []) { reserved = 1 }
 releasing page frame release_at.Back = named page frame []
 

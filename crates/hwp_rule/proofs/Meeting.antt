@@ -29,11 +29,11 @@ use Rattle.hwp_rule.specs.parts.Counts.{named}
 use Rattle.hwp_rule.specs.parts.Fits.{KnowsWords}
 use Rattle.hwp_rule.specs.parts.Owners.{NamesOwn}
 use Rattle.hwp_rule.specs.parts.Places.{in_hand, IsBare}
-use Rattle.hwp_rule.proofs.Hands.{in_hand-mine}
+use Rattle.hwp_rule.proofs.FittingWords.{same-page}
+use Rattle.hwp_rule.proofs.FramesInHand.{in_hand-mine}
 use Rattle.hwp_rule.proofs.Lists.{at_map, term-le, same-number, sum-zero, each-map, each-weaken}
 use Rattle.hwp_rule.proofs.Moving.{shaped}
-use Rattle.hwp_rule.proofs.Split.{words-read}
-use Rattle.hwp_rule.proofs.frames.PageLocks.{same-page}
+use Rattle.hwp_rule.proofs.WordsByKind.{words-read}
 
 -- the frame word that a step met, among the words of the board
 pub frame-word : (layout : Layout) (s : State) → Holds layout s → (frame : Frame) (found : ℕ) → frame.0 < layout.frames
@@ -90,7 +90,7 @@ module _ (layout : Layout) (s : State) (h : Holds layout s) (seat : ℕ) (view :
   hand-bare found me has inside met = h.rule.frames.places.idle frame.0 found (frame-word layout s h frame found inside met) (omega (arith, some))
     where
       some : 1 ≤ in_hand frame.0 (map (λ (v : View). v.hands) s.views)
-      some = in_hand-mine (map (λ (v : View). v.hands) s.views) seat view.hands frame (at_map (λ (v : View). v.hands) s.views seat view me) has.0 (has.2 ∙ ap Some has.3)
+      some = in_hand-mine (map (λ (v : View). v.hands) s.views) seat view.hands (at_map (λ (v : View). v.hands) s.views seat view me) has.1 frame has.3 has.0 has.2
 
   -- its slot is empty
   pub hand-empty : (content : Option Log) (found : ℕ) → slice_get s.views seat ≡ Some view

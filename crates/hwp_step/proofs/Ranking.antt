@@ -16,7 +16,7 @@ use Rattle.hwp_rule.specs.Steps.{place_of, word_after}
 use Rattle.hwp_rule.specs.Views.{view_after}
 use Rattle.hwp_rule.specs.Words.{read, put}
 use Rattle.hwp_rule.proofs.Lists.{same-or}
-use Rattle.hwp_rule.proofs.Split.{words-read, words-put, same-put}
+use Rattle.hwp_rule.proofs.WordsByKind.{words-read, words-put, same-put}
 use Rattle.hwp_step.specs.declared.turn.Turn.{Turn}
 use Rattle.hwp_step.specs.Boards.{view_of}
 use Rattle.hwp_step.specs.Calls.{Steps, logs, rec_of}
