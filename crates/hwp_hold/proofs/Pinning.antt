@@ -19,7 +19,7 @@ use Rattle.hwp_hold.specs.declared.pin.PinAt.{PinAt}
 use Rattle.hwp_hold.specs.declared.pin.PinAt.TheVariants as at
 use Rattle.hwp_step.specs.Calls.{CanMake, Steps}
 use Rattle.hwp_step.specs.Hands.{Hand, hand_of, hand_after}
-use Rattle.hwp_hold.specs.Pins.{is_gone, begin, plan, plan_at, next, next_at, at_word, turn, Fits, FitsAt, hand_next, hand_next_at}
+use Rattle.hwp_hold.specs.Pins.{is_gone, plan, plan_at, next, next_at, at_word, turn, Fits, FitsAt, hand_next, hand_next_at}
 use Rattle.hwp_step.proofs.Stepping.{on-turn-after, content_of, hand-planned, can-make}
 
 -- a frame that isn't gone has references

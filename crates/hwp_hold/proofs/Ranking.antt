@@ -6,7 +6,7 @@ use Rattle.hwp_geom.specs.declared.Frame.{Frame}
 use Rattle.hwp_geom.specs.declared.Layout.{Layout}
 use Rattle.hwp_geom.specs.declared.Who.{Who}
 use Rattle.hwp_page.specs.History.{BodyValue}
-use Rattle.hwp_words.specs.Frames.{lock_of}
+use Rattle.hwp_words.specs.Frames.{lock_of, is_poisoned}
 use Rattle.hwp_rule.specs.declared.Place.TheVariants as places
 use Rattle.hwp_rule.specs.declared.State.{State}
 use Rattle.hwp_rule.specs.declared.Step.{Step}
@@ -20,7 +20,7 @@ use Rattle.hwp_step.specs.declared.Turn.{Turn}
 use Rattle.hwp_step.specs.declared.Turn.TheVariants.{Moved, Changed, Waits}
 use Rattle.hwp_step.specs.Boards.{view_of}
 use Rattle.hwp_step.specs.Hands.{Hand}
-use Rattle.hwp_step.specs.Ranks.{Member, member, Made, CostFalls, IsRanked, Quiet, is_waits, stale, top, words_at}
+use Rattle.hwp_step.specs.Ranks.{Member, member, Made, CostFalls, IsRanked, Quiet, is_waits, stale, words_at}
 use Rattle.hwp_step.proofs.Ranking.{met, words-kept, steps-on, no-page, no-lock, rank-of}
 use Rattle.hwp_hold.specs.declared.hold.Hold.{Hold}
 use Rattle.hwp_hold.specs.declared.hold.HoldAt.{HoldAt}
@@ -117,14 +117,17 @@ pin-ranked = rank-of pin-member (λ s. refl) (λ s. (omega arith, omega arith)) 
 pub release-falls : (w now : Words) (r : Release) (step : Step) (found : ℕ) → releases.plan r ≡ Some step → releases.cost (releases.next r found) now < releases.cost r w
 release-falls w now r step found is = which r.at is
   where
-    by : (b : Bool) → releases.cost_at (cond b release_at.Give release_at.Back) < 3
-    by true = omega arith
-    by false = omega arith
+    by : (b p : Bool) → releases.cost_at (cond b (cond p release_at.Adopt release_at.Give) release_at.Back) < 3
+    by true true = omega arith
+    by true false = omega arith
+    by false p = omega arith
 
     which : (x : ReleaseAt) → releases.plan_at r.frame r.count x ≡ Some step → releases.cost_at (releases.next_at r.count x found) < releases.cost_at x
-    which release_at.Put e = by (is_last r.count found)
+    which release_at.Put e = by (is_last r.count found) (is_poisoned found)
     which release_at.Give e = omega arith
     which release_at.Unreserve e = omega arith
+    which release_at.Adopt e = omega arith
+    which release_at.Retire e = omega arith
     which release_at.Back e = absurd (none-some step e)
 
 pub release-small : (w : Words) (r : Release) → releases.cost r w ≤ 3
@@ -134,6 +137,8 @@ release-small w r = which r.at
     which release_at.Put = omega arith
     which release_at.Give = omega arith
     which release_at.Unreserve = omega arith
+    which release_at.Adopt = omega arith
+    which release_at.Retire = omega arith
     which release_at.Back = omega arith
 
 pub release-class : (r : Release) → (1 ≤ releases.class r) × (releases.class r ≤ 4)
@@ -143,6 +148,8 @@ release-class r = which r.at
     which release_at.Put = (omega arith, omega arith)
     which release_at.Give = (omega arith, omega arith)
     which release_at.Unreserve = (omega arith, omega arith)
+    which release_at.Adopt = (omega arith, omega arith)
+    which release_at.Retire = (omega arith, omega arith)
     which release_at.Back = (omega arith, omega arith)
 
 abbrev release-member : Member Release
@@ -266,6 +273,8 @@ released-cost r w = which r.at
     which release_at.Put = refl
     which release_at.Give = refl
     which release_at.Unreserve = refl
+    which release_at.Adopt = refl
+    which release_at.Retire = refl
     which release_at.Back = refl
 
 pub unhold-falls : (w now : Words) (u : Unhold) (step : Step) (found : ℕ) → unholds.plan u ≡ Some step → unholds.cost (unholds.next (unholds.bare u) found) now < unholds.cost u w

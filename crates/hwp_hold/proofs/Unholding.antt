@@ -1,5 +1,5 @@
 -- The laws of `Unhold`.
-use Rattle.std.proofs.Common.{◌≡◌, ◌≢◌, ℕ, ◌+◌, ◌<◌, ◌≤◌, Bool, true, false, cond, List, [], ◌∷◌, ◌++◌, Option, Some, None, is_none, slice_get, refl, sym, ap, ◌∙◌, subst, arith}
+use Rattle.std.proofs.Common.{◌≡◌, ◌≢◌, length, ℕ, ◌+◌, ◌<◌, ◌≤◌, Bool, true, false, cond, List, [], ◌∷◌, ◌++◌, Option, Some, None, is_none, slice_get, refl, sym, ap, ◌∙◌, subst, arith}
 use Rattle.std.proofs.lemmas.Bool.{both_ways}
 use Rattle.std.proofs.lemmas.Option.{none-some, same_Some}
 use Rattle.hwp_geom.specs.declared.Frame.{Frame}
@@ -7,6 +7,7 @@ use Rattle.hwp_geom.specs.declared.Layout.{Layout}
 use Rattle.hwp_geom.specs.declared.Page.{Page}
 use Rattle.hwp_geom.specs.declared.Who.{Who}
 use Rattle.hwp_page.specs.History.{BodyValue}
+use Rattle.hwp_words.specs.Frames.{is_poisoned}
 use Rattle.hwp_rule.specs.declared.FrameLock.{FrameLock}
 use Rattle.hwp_rule.specs.declared.InHand.{InHand}
 use Rattle.hwp_rule.specs.declared.Log.{Log}
@@ -33,7 +34,7 @@ use Rattle.hwp_step.specs.Calls.{CanMake, Steps, IsOnTurn, logs}
 use Rattle.hwp_step.specs.Hands.{Hand, hand_of, empty, putting}
 use Rattle.hwp_hold.specs.Holds.{page_lock, named, one_ref}
 use Rattle.hwp_hold.specs.Releases as releases
-use Rattle.hwp_hold.specs.Unholds.{plan, plan_at, put, put_at, bare, bare_at, next, next_at, Shows, ShowsAt, after_release, holding, HoldsAhead, releasing, IsReleasing, FitsPage, Fits, FitsAt}
+use Rattle.hwp_hold.specs.Unholds.{plan, plan_at, put, put_at, bare, bare_at, next, next_at, after_release, holding, HoldsAhead, releasing, IsReleasing, FitsPage, Fits, FitsAt}
 use Rattle.hwp_hold.proofs.Releasing as releasing-laws
 use Rattle.hwp_step.proofs.Stepping.{on-turn-after, hand-planned, steps-planned, can-put}
 
@@ -52,13 +53,16 @@ emptied-freed page frame = grind arith
 
 released : (page : Page) (r : Release) (x : ReleaseAt) (found : ℕ) → r.count ≡ 1 → is_none (releases.plan_at r.frame r.count x) ≡ false
     → releases.hand_next_at r.frame r.count x found (releasing page r.frame x) ≡ releasing page r.frame (releases.next_at r.count x found)
-released page r release_at.Put found one on = by (is_last r.count found)
+released page r release_at.Put found one on = by (is_last r.count found) (is_poisoned found)
   where
-    by : (b : Bool) → record (named page r.frame (one_ref r.frame)) { refs = less_refs r.frame r.count (one_ref r.frame); hands = cond b ([] ++ r.frame ∷ []) [] } ≡ releasing page r.frame (cond b release_at.Give release_at.Back)
-    by true = grind arith
-    by false = grind arith
+    by : (b p : Bool) → record (named page r.frame (one_ref r.frame)) { refs = less_refs r.frame r.count (one_ref r.frame); hands = cond b ([] ++ (record { frame = r.frame; poisoned = p }) ∷ []) [] } ≡ releasing page r.frame (cond b (cond p release_at.Adopt release_at.Give) release_at.Back)
+    by true true = grind arith
+    by true false = grind arith
+    by false p = grind arith
 released page r release_at.Give found one on = grind arith
 released page r release_at.Unreserve found one on = grind arith
+released page r release_at.Adopt found one on = grind arith
+released page r release_at.Retire found one on = grind arith
 released page r release_at.Back found one on = absurd (both_ways true on refl)
 
 counted : (frame : Frame) → 1 + locks_on frame.0 [] ≤ refs_on frame.0 (one_ref frame)
@@ -117,7 +121,7 @@ module _ (layout : Layout) (old new : View) (who : Who) (page : Page) (found : �
       → FitsAt layout new who page (at.Release (releases.begin who frame 1))
   frame-let-go frame body has inside made = record {
     hand_is = hand;
-    release = record { on_turn = on; frame = inside; at = (omega arith, subst (λ (h : Hand). 1 + locks_on frame.0 h.locks ≤ refs_on frame.0 h.refs) (sym hand) (counted frame)) };
+    release = record { on_turn = on; frame = inside; at = (omega arith, subst (λ (h : Hand). 1 + locks_on frame.0 h.locks ≤ refs_on frame.0 h.refs) (sym hand) (counted frame), subst (λ (h : Hand). length h.locks < 2) (sym hand) (omega arith)) };
     own = refl;
     count = refl;
     under_way = refl;
@@ -136,36 +140,32 @@ module _ (layout : Layout) (old new : View) (who : Who) (page : Page) (found : �
 
   release-moved : (r : Release) (step : Step) → IsReleasing layout old who page r → releases.plan r ≡ Some step → (made : Steps layout r.who step None old new found got)
       → releases.Fits layout new (releases.next r found) → FitsAt layout new who page (after_release (releases.next r found))
-  release-moved r step has is made fits = which (releases.next_at r.count r.at found) (releasing-laws.held-after r is made (releasing page r.frame r.at) has.hand_is ∙ released page r r.at found has.count has.under_way) fits
+  release-moved r step has is made fits = which (releases.next_at r.count r.at found) (releasing-laws.held-after r is made has.release (releasing page r.frame r.at) has.hand_is ∙ released page r r.at found has.count has.under_way) fits
     where
       which : (x : ReleaseAt) → hand_of new ≡ releasing page r.frame x → releases.Fits layout new (record r { at = x }) → FitsAt layout new who page (after_release (record r { at = x }))
       which release_at.Put hand fits = record { hand_is = hand; release = fits; own = has.own; count = has.count; under_way = refl }
       which release_at.Give hand fits = record { hand_is = hand; release = fits; own = has.own; count = has.count; under_way = refl }
       which release_at.Unreserve hand fits = record { hand_is = hand; release = fits; own = has.own; count = has.count; under_way = refl }
+      which release_at.Adopt hand fits = record { hand_is = hand; release = fits; own = has.own; count = has.count; under_way = refl }
+      which release_at.Retire hand fits = record { hand_is = hand; release = fits; own = has.own; count = has.count; under_way = refl }
       which release_at.Back hand fits = record { frame = r.frame; hand_is = hand }
 
--- a step shows what is needed, and what follows fits again
-pub both : (layout : Layout) (old new : View) (u : Unhold) (step : Step) (found : ℕ) (got : Option BodyValue) → Fits layout old u → plan u ≡ Some step → Steps layout u.who step (logs (put u)) old new found got
-    → Shows (bare u) found × Fits layout new (next (bare u) found)
-both layout old new u step found got fits is made = let all = which u.at is fits.at made in (all.0, record { on_turn = on; page = fits.page; at = all.1 })
+-- what follows a step fits again
+pub moved : (layout : Layout) (old new : View) (u : Unhold) (step : Step) (found : ℕ) (got : Option BodyValue) → Fits layout old u → plan u ≡ Some step → Steps layout u.who step (logs (put u)) old new found got → Fits layout new (next (bare u) found)
+moved layout old new u step found got fits is made = record { on_turn = on; page = fits.page; at = which u.at is fits.at made }
   where
     on : IsOnTurn new u.who
     on = on-turn-after fits.on_turn made
 
-    which : (x : UnholdAt) → plan_at u.page x ≡ Some step → FitsAt layout old u.who u.page x → Steps layout u.who step (logs (put_at x)) old new found got
-        → ShowsAt (bare_at x) found × FitsAt layout new u.who u.page (next_at u.who (bare_at x) found)
-    which (at.UnlockFrame frame body) e at made = (tt, frame-let-go layout old new u.who u.page found got on frame body at.0 at.1 (steps-planned e made))
-    which (at.Release r) e at made = (child.0, release-moved layout old new u.who u.page found got on r step at e own child.1)
+    which : (x : UnholdAt) → plan_at u.page x ≡ Some step → FitsAt layout old u.who u.page x → Steps layout u.who step (logs (put_at x)) old new found got → FitsAt layout new u.who u.page (next_at u.who (bare_at x) found)
+    which (at.UnlockFrame frame body) e at made = frame-let-go layout old new u.who u.page found got on frame body at.0 at.1 (steps-planned e made)
+    which (at.Release r) e at made = release-moved layout old new u.who u.page found got on r step at e own (releasing-laws.moved r e own at.release)
       where
         own : Steps layout r.who step None old new found got
         own = subst (λ (w : Who). Steps layout w step None old new found got) (sym at.own) made
-
-        child : releases.Shows r found × releases.Fits layout new (releases.next r found)
-        child = releasing-laws.both layout old new r step found got at.release e own
-    which (at.UnlockPage body) e at made = (tt, page-let-go layout old new u.who u.page found got on body at (steps-planned e made))
+    which (at.UnlockPage body) e at made = page-let-go layout old new u.who u.page found got on body at (steps-planned e made)
     which at.Over e at made = absurd (none-some step e)
 
 pub stays : (layout : Layout) (old new : View) (u : Unhold) (step : Step) (found : ℕ) (got : Option BodyValue) → Fits layout old u → plan u ≡ Some step
-    → Steps layout u.who step (logs (put u)) old new found got → Shows (bare u) found × ((after : Unhold) (result : Turn) → (after ≡ next (bare u) found) × (result ≡ Moved) → Fits layout new after × (after.who.cpu ≡ u.who.cpu))
-stays layout old new u step found got fits is made = let all = both layout old new u step found got fits is made in
-    (all.0, λ after result follows. (subst (Fits layout new) (sym follows.0) all.1, ap (λ (x : Unhold). x.who.cpu) follows.0))
+    → Steps layout u.who step (logs (put u)) old new found got → Unit {0} × ((after : Unhold) (result : Turn) → (after ≡ next (bare u) found) × (result ≡ Moved) → Fits layout new after × (after.who.cpu ≡ u.who.cpu))
+stays layout old new u step found got fits is made = (tt, λ after result follows. (subst (Fits layout new) (sym follows.0) (moved layout old new u step found got fits is made), ap (λ (x : Unhold). x.who.cpu) follows.0))

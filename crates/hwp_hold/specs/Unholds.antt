@@ -1,5 +1,5 @@
 -- A page let go: the task's states, its steps and what they come to.
-use Rattle.std.specs.Prelude.{◌≡◌, ℕ, ◌+◌, ◌<◌, min, Bool, false, List, [], ◌∷◌, Option, Some, None, is_none, length}
+use Rattle.std.specs.Prelude.{◌≡◌, ℕ, ◌+◌, ◌<◌, min, Bool, true, false, List, [], ◌∷◌, Option, Some, None, is_none, length}
 use Rattle.hwp_geom.specs.declared.Frame.{Frame}
 use Rattle.hwp_geom.specs.declared.Layout.{Layout}
 use Rattle.hwp_geom.specs.declared.Page.{Page}
@@ -73,13 +73,6 @@ next_at who at.Over found = at.Over
 abbrev pub next : Unhold → ℕ → Unhold
 next u found = record u { at = next_at u.who u.at found }
 
-abbrev pub ShowsAt : UnholdAt → ℕ → Type 0
-ShowsAt (at.Release r) found = releases.Shows r found
-ShowsAt _ found = Unit {0}
-
-abbrev pub Shows : Unhold → ℕ → Type 0
-Shows u found = ShowsAt u.at found
-
 -- the page is locked with its frame, if it is in one, and its body is in hand
 abbrev pub holding : Page → Option Frame → List ℕ → InHand → Bool → Bool → Hand
 holding page None trans body handled poisoned = record empty { pages = page_lock page None (Some trans) ∷ []; bodies = body ∷ [] }
@@ -109,6 +102,8 @@ abbrev pub releasing : Page → Frame → ReleaseAt → Hand
 releasing page frame release_at.Put = named page frame (one_ref frame)
 releasing page frame release_at.Give = record (named page frame []) { hands = unpoisoned frame ∷ [] }
 releasing page frame release_at.Unreserve = record (named page frame []) { reserved = 1 }
+releasing page frame release_at.Adopt = record (named page frame []) { hands = record { frame = frame; poisoned = true } ∷ [] }
+releasing page frame release_at.Retire = record (named page frame (one_ref frame)) { locks = releases.poisoned_lock frame ∷ [] }
 releasing page frame release_at.Back = named page frame []
 
 pub record IsReleasing (layout : Layout) (view : View) (who : Who) (page : Page) (r : Release) : Type 0 where

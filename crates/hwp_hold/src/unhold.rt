@@ -70,7 +70,7 @@ impl Unhold {
 impl Machine for Unhold {
     ghost use Rattle.std.specs.Prelude.{◌≡◌};
     ghost use Rattle.hwp_step.specs.declared.Turn.TheVariants.{Moved};
-    ghost use Rattle.hwp_hold.specs.Unholds.{plan, put, bare, next, Shows, Fits};
+    ghost use Rattle.hwp_hold.specs.Unholds.{plan, put, bare, next, Fits};
 
     ghost who = { λ u. u.who };
 
@@ -80,7 +80,7 @@ impl Machine for Unhold {
 
     ghost bare = { λ u. bare u };
 
-    ghost shows = { λ u found got. Shows u found };
+    ghost shows = { λ u found got. Unit {0} };
 
     ghost next = { λ layout u found got after result. (after ≡ next u found) × (result ≡ Moved) };
 
