@@ -149,8 +149,9 @@ module _ (layout : Layout) (old new : View) (who : Who) (page : Page) (inside : 
 
   -- ---- the reference
   module _ (p : Pin) (step : Step) (is : pins.plan p ≡ Some step) (made : Steps layout p.who step None old new found got) (has : IsPinning layout old who page p) where
-    there : is_gone found ≡ false
-    there = counted-there found (stays-referenced layout made.told.board made.told.rule made.told.seat old made.told.me (page_lock page (Some p.frame) None) p.frame found
+    -- the frame that the page's lock lists is never gone
+    pub never-gone : is_gone found ≡ false
+    never-gone = counted-there found (stays-referenced layout made.told.board made.told.rule made.told.seat old made.told.me (page_lock page (Some p.frame) None) p.frame found
         (ap (λ (h : Hand). slice_get h.pages 0) has.hand_is) refl has.pin.frame
         (made.told.met ∙ ap (λ (q : Place). slice_index made.told.board.words (index layout q)) (pinning.place-is p is)))
 
@@ -167,13 +168,13 @@ module _ (layout : Layout) (old new : View) (who : Who) (page : Page) (inside : 
       where
         which : (x : PinAt) → pins.plan_at p.frame x ≡ Some step → hand_of new ≡ pins.hand_next_at p.frame x found (named page p.frame [])
             → pins.Fits layout new (record p { at = pins.next_at x found }) → FitsAt layout new who page (pinned (record p { at = pins.next_at x found }))
-        which pin_at.Load e hand fits = shown (is_gone found) there hand fits
+        which pin_at.Load e hand fits = shown (is_gone found) never-gone hand fits
         which (pin_at.Get seen) e hand fits = by (found == seen) hand fits
           where
             by : (b : Bool) → hand_of new ≡ cond b (named page p.frame (one_ref p.frame)) (named page p.frame []) → pins.Fits layout new (record p { at = cond b (pin_at.Held seen) (pins.at_word found) })
                 → FitsAt layout new who page (pinned (record p { at = cond b (pin_at.Held seen) (pins.at_word found) }))
             by true hand fits = (hand, fits.frame)
-            by false hand fits = shown (is_gone found) there hand fits
+            by false hand fits = shown (is_gone found) never-gone hand fits
         which (pin_at.Held word) e hand fits = absurd (none-some step e)
         which (pin_at.Gone word) e hand fits = absurd (none-some step e)
 

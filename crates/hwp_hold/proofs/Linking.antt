@@ -27,10 +27,13 @@ use Rattle.hwp_rule.specs.parts.Fits.{FitsWords}
 use Rattle.hwp_rule.specs.parts.Unpoisoned.{is_failure}
 use Rattle.hwp_rule.proofs.FittingWords.{fitting-at}
 use Rattle.hwp_rule.proofs.Lists.{same-number}
+use Rattle.hwp_hold.specs.declared.hold.Hold.{Hold}
+use Rattle.hwp_hold.specs.declared.hold.HoldAt.TheVariants as at
+use Rattle.hwp_hold.specs.declared.unhold.Unhold.{Unhold}
 use Rattle.hwp_step.specs.Calls.{IsOnTurn}
 use Rattle.hwp_step.specs.Hands.{Hand, body_in}
-use Rattle.hwp_hold.specs.Holds.{HoldsPage, held, page_lock, words_of}
-use Rattle.hwp_hold.specs.Unholds.{begin, HoldsAhead, Fits}
+use Rattle.hwp_hold.specs.Holds.{HoldsPage, FitsAt, held, page_lock, words_of}
+use Rattle.hwp_hold.specs.Unholds.{begin, HoldsAhead, Fits, LetsGo}
 
 no-member : {A : Type 0} (P : A → Type 0) → EachMember P []
 no-member P i x e = absurd (none-some x e)
@@ -140,3 +143,8 @@ held-ahead layout view who page (Some frame) body has = record {
 pub held-unholds : (layout : Layout) (view : View) (who : Who) (page : Page) (frame : Option Frame) (body : BodyValue) → IsOnTurn view who → page.0 < length layout.pages → HoldsPage layout view page frame body → Fits layout view (begin who page frame body)
 held-unholds layout view who page None body on inside has = record { on_turn = on; page = inside; at = held-ahead layout view who page None body has }
 held-unholds layout view who page (Some frame) body on inside has = record { on_turn = on; page = inside; at = (held-ahead layout view who page (Some frame) body has, has.within frame refl) }
+
+-- so a hold that is over can be let go
+pub over-lets-go : (h : Hold) (u : Unhold) (frame : Option Frame) (body : BodyValue) → h.at ≡ at.Held frame body → u ≡ begin h.who h.page frame body → LetsGo h u
+over-lets-go h u frame body over is layout view fits = subst (Fits layout view) (sym is)
+    (held-unholds layout view h.who h.page frame body fits.on_turn fits.page (subst (FitsAt layout view h.who h.page) over fits.at))

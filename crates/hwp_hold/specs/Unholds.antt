@@ -13,6 +13,7 @@ use Rattle.hwp_rule.specs.Asks.{CanGoHome}
 use Rattle.hwp_rule.specs.Logs.{log_of}
 use Rattle.hwp_rule.specs.Views.{unpoisoned}
 use Rattle.hwp_rule.specs.Words.{Words}
+use Rattle.hwp_hold.specs.declared.hold.Hold.{Hold}
 use Rattle.hwp_hold.specs.declared.release.Release.{Release}
 use Rattle.hwp_hold.specs.declared.release.ReleaseAt.{ReleaseAt}
 use Rattle.hwp_hold.specs.declared.release.ReleaseAt.TheVariants as release_at
@@ -21,6 +22,7 @@ use Rattle.hwp_hold.specs.declared.unhold.UnholdAt.{UnholdAt}
 use Rattle.hwp_hold.specs.declared.unhold.UnholdAt.TheVariants as at
 use Rattle.hwp_step.specs.Calls.{IsOnTurn}
 use Rattle.hwp_step.specs.Hands.{Hand, hand_of, empty}
+use Rattle.hwp_hold.specs.Holds as holds
 use Rattle.hwp_hold.specs.Holds.{page_lock, named, one_ref}
 use Rattle.hwp_hold.specs.Releases as releases
 
@@ -132,6 +134,10 @@ pub record Fits (layout : Layout) (view : View) (u : Unhold) : Type 0 where
   pub on_turn : IsOnTurn view u.who
   pub page : u.page.0 < length layout.pages
   pub at : FitsAt layout view u.who u.page u.at
+
+-- wherever the hold fits, the page can be let go so
+abbrev pub LetsGo : Hold → Unhold → Type 0
+LetsGo h u = (layout : Layout) (view : View) → holds.Fits layout view h → Fits layout view u
 
 -- 1 while the frame is locked, in hand or reserved, and 2 while the page is locked
 abbrev pub class_at : UnholdAt → ℕ

@@ -1,6 +1,7 @@
 ghost use Rattle.std.specs.Prelude.{◌≡◌, is_some, true};
 
 use crate::pin::{Pin, PinAnswer};
+use crate::unhold::Unhold;
 use hwp_geom::{Frame, Layout, Page, Who};
 use hwp_page::Body;
 use hwp_rule::{Place, Step, frame_in};
@@ -27,6 +28,7 @@ enum HoldAt {
 
 impl Hold {
     ghost use Rattle.hwp_hold.specs.Holds.{begin, answer, pinned, IsBody};
+    ghost use Rattle.hwp_hold.specs.Unholds.{LetsGo};
 
     /// The command holds the page.
     pub fn new(who: Who, page: Page) -> Hold
@@ -59,6 +61,21 @@ impl Hold {
     {
         match self.at {
             HoldAt::Held { body, .. } => body,
+            HoldAt::LockPage
+            | HoldAt::LoadCache { .. }
+            | HoldAt::Pin { .. }
+            | HoldAt::LockFrame { .. } => unreachable!(),
+        }
+    }
+
+    /// Lets the page go, when the task is over, with its body as it was taken.
+    pub fn let_go(self) -> Unhold
+        requires over { is_some (answer self) ≡ true }
+        ensures { LetsGo self result }
+    {
+        let Hold { who, page, at } = self;
+        match at {
+            HoldAt::Held { frame, body } => Unhold::new(who, page, frame, body),
             HoldAt::LockPage
             | HoldAt::LoadCache { .. }
             | HoldAt::Pin { .. }
