@@ -1,6 +1,6 @@
 pub mod Pinning
-pub mod Holding
 pub mod Releasing
+pub mod Holding
 pub mod Unholding
 pub mod Linking
 pub mod Ranking

@@ -4,9 +4,8 @@ use Rattle.std.proofs.lemmas.Bool.{both_ways, eqb-false}
 use Rattle.std.proofs.lemmas.Option.{none-some, same_Some}
 use Rattle.hwp_geom.specs.declared.Frame.{Frame}
 use Rattle.hwp_geom.specs.declared.Layout.{Layout}
-use Rattle.hwp_page.specs.History.{Held}
+use Rattle.hwp_page.specs.History.{BodyValue}
 use Rattle.hwp_words.specs.Frames.{count_of, is_handled}
-use Rattle.hwp_rule.specs.declared.Log.{Log}
 use Rattle.hwp_rule.specs.declared.Place.TheVariants as places
 use Rattle.hwp_rule.specs.declared.Step.{Step}
 use Rattle.hwp_rule.specs.declared.Step.TheVariants as steps
@@ -14,15 +13,14 @@ use Rattle.hwp_rule.specs.declared.View.{View}
 use Rattle.hwp_rule.specs.Asks.{HasRefRoom}
 use Rattle.hwp_rule.specs.Steps.{place_of}
 use Rattle.hwp_rule.specs.Views.{refs_on, with_refs}
-use Rattle.hwp_step.specs.declared.turn.Turn.{Turn}
-use Rattle.hwp_core.specs.Pins.{is_gone}
+use Rattle.hwp_step.specs.declared.Turn.{Turn}
 use Rattle.hwp_hold.specs.declared.pin.Pin.{Pin}
 use Rattle.hwp_hold.specs.declared.pin.PinAt.{PinAt}
 use Rattle.hwp_hold.specs.declared.pin.PinAt.TheVariants as at
 use Rattle.hwp_step.specs.Calls.{CanMake, Steps}
 use Rattle.hwp_step.specs.Hands.{Hand, hand_of, hand_after}
-use Rattle.hwp_hold.specs.Pins.{plan, plan_at, next, next_at, at_word, turn, Fits, FitsAt, hand_next, hand_next_at}
-use Rattle.hwp_step.proofs.Stepping.{on-turn-after, hand-made, hand-planned, can-make}
+use Rattle.hwp_hold.specs.Pins.{is_gone, plan, plan_at, next, next_at, at_word, turn, Fits, FitsAt, hand_next, hand_next_at}
+use Rattle.hwp_step.proofs.Stepping.{on-turn-after, content_of, hand-planned, can-make}
 
 -- a frame that isn't gone has references
 counted : (word : ℕ) → is_gone word ≡ false → 0 < count_of word
@@ -36,8 +34,8 @@ pub can : (layout : Layout) (view : View) (p : Pin) (step : Step) → Fits layou
 can layout view p step fits is = which p.at fits.at is
   where
     which : (x : PinAt) → FitsAt layout view p.frame x → plan_at p.frame x ≡ Some step → CanMake layout p.who step None view
-    which at.Load room is = can-make fits.on_turn is fits.frame tt
-    which (at.Get seen) room is = can-make fits.on_turn is fits.frame (counted seen room.0, omega arith, room.1)
+    which at.Load room is = can-make fits.on_turn is tt fits.frame tt
+    which (at.Get seen) room is = can-make fits.on_turn is tt fits.frame (counted seen room.0, omega arith, room.1)
     which (at.Held word) room is = absurd (none-some step is)
     which (at.Gone word) room is = absurd (none-some step is)
 
@@ -53,12 +51,12 @@ module _ (layout : Layout) (frame : Frame) where
     first = λ none. subst (λ (h : Hand). h.reserved + length h.hands + length h.refs + 1 ≤ 2) (sym same) (room.first (sym (ap (λ (h : Hand). refs_on frame.0 h.refs) same) ∙ none));
   }
 
-pub stays : (layout : Layout) (old new : View) (p : Pin) (step : Step) (content : Option Log) (found : ℕ) (got : Option Held) → Fits layout old p → plan p ≡ Some step
-    → Steps layout p.who step None old new content found got → Unit {0} × ((after : Pin) (result : Turn) → (after ≡ next p found) × (result ≡ turn p found) → Fits layout new after)
-stays layout old new p step content found got fits is made = (tt, λ after result follows. subst (Fits layout new) (sym follows.0) (record { on_turn = on-turn-after fits.on_turn made; frame = fits.frame; at = which p.at fits.at is }))
+-- what follows a step fits again
+pub moved : (layout : Layout) (old new : View) (p : Pin) (step : Step) (found : ℕ) (got : Option BodyValue) → Fits layout old p → plan p ≡ Some step → Steps layout p.who step None old new found got → Fits layout new (next p found)
+moved layout old new p step found got fits is made = record { on_turn = on-turn-after fits.on_turn made; frame = fits.frame; at = which p.at fits.at is }
   where
-    step-is : (other : Step) → Some other ≡ Some step → hand_of new ≡ hand_after layout other found content (length old.sights) (hand_of old)
-    step-is other is = hand-made made refl ∙ ap (λ (s : Step). hand_after layout s found content (length old.sights) (hand_of old)) (sym (same_Some other step is))
+    step-is : (other : Step) → Some other ≡ Some step → hand_of new ≡ hand_after layout other found (content_of layout p.who other None found got) (length old.sights) (hand_of old)
+    step-is other is = hand-planned made is refl
 
     which : (x : PinAt) → FitsAt layout old p.frame x → plan_at p.frame x ≡ Some step → FitsAt layout new p.frame (next_at x found)
     which at.Load room is = shown layout p.frame new found (is_gone found) refl (same-room layout p.frame old new (step-is (steps.Load (places.Frame p.frame)) is) room)
@@ -71,10 +69,14 @@ stays layout old new p step content found got fits is made = (tt, λ after resul
     which (at.Held word) room is = absurd (none-some step is)
     which (at.Gone word) room is = absurd (none-some step is)
 
+pub stays : (layout : Layout) (old new : View) (p : Pin) (step : Step) (found : ℕ) (got : Option BodyValue) → Fits layout old p → plan p ≡ Some step
+    → Steps layout p.who step None old new found got → Unit {0} × ((after : Pin) (result : Turn) → (after ≡ next p found) × (result ≡ turn p found) → Fits layout new after × (after.who.cpu ≡ p.who.cpu))
+stays layout old new p step found got fits is made = (tt, λ after result follows. (subst (Fits layout new) (sym follows.0) (moved layout old new p step found got fits is made), ap (λ (x : Pin). x.who.cpu) follows.0))
+
 -- what a step of a pin leaves of what is held: a reference more, where it was taken
-pub held-after : {layout : Layout} {old new : View} {step : Step} {content : Option Log} {found : ℕ} {got : Option Held} (p : Pin) (h : Hand) → plan p ≡ Some step → hand_of old ≡ h
-    → Steps layout p.who step None old new content found got → hand_of new ≡ hand_next p found h
-held-after {layout} {old} {new} {step} {content} {found} {got} p h is has made = which p.at is
+pub held-after : {layout : Layout} {old new : View} {step : Step} {found : ℕ} {got : Option BodyValue} (p : Pin) (h : Hand) → plan p ≡ Some step → hand_of old ≡ h
+    → Steps layout p.who step None old new found got → hand_of new ≡ hand_next p found h
+held-after {layout} {old} {new} {step} {found} {got} p h is has made = which p.at is
   where
     which : (x : PinAt) → plan_at p.frame x ≡ Some step → hand_of new ≡ hand_next_at p.frame x found h
     which at.Load e = hand-planned made e has

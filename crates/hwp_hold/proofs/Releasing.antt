@@ -1,64 +1,72 @@
 -- The laws of `Release`.
-use Rattle.std.proofs.Common.{◌≡◌, ℕ, ◌+◌, ◌<◌, Bool, true, false, cond, List, [], ◌∷◌, ◌++◌, Option, Some, None, refl, sym, ap, subst, arith}
+use Rattle.std.proofs.Common.{◌≡◌, ℕ, ◌+◌, ◌<◌, Bool, true, false, cond, List, [], ◌∷◌, ◌++◌, Option, Some, None, length, refl, sym, ap, ◌∙◌, subst, arith}
 use Rattle.std.proofs.lemmas.Option.{none-some}
-use Rattle.hwp_geom.specs.declared.Frame.{Frame}
 use Rattle.hwp_geom.specs.declared.Layout.{Layout}
-use Rattle.hwp_page.specs.History.{Held}
+use Rattle.hwp_page.specs.History.{BodyValue}
 use Rattle.hwp_words.specs.Frames.{is_poisoned}
-use Rattle.hwp_rule.specs.declared.Log.{Log}
+use Rattle.hwp_rule.specs.declared.FrameInHand.{FrameInHand}
+use Rattle.hwp_rule.specs.declared.FrameLock.{FrameLock}
 use Rattle.hwp_rule.specs.declared.Step.{Step}
 use Rattle.hwp_rule.specs.declared.View.{View}
 use Rattle.hwp_rule.specs.Lists.{SomeMember}
 use Rattle.hwp_rule.specs.Steps.{is_last}
+use Rattle.hwp_rule.specs.Views.{with_refs, without, is_hand_of, hand_found}
+use Rattle.hwp_rule.proofs.AdoptedFrames.{lock-poisoned, adopted-retires}
 use Rattle.hwp_rule.proofs.Lists.{some-last}
-use Rattle.hwp_step.specs.declared.turn.Turn.{Turn}
-use Rattle.hwp_step.specs.declared.turn.Turn.TheVariants.{Moved}
-use Rattle.hwp_core.proofs.Stepping.{unpoisoned}
+use Rattle.hwp_step.specs.declared.Turn.{Turn}
+use Rattle.hwp_step.specs.declared.Turn.TheVariants.{Moved}
 use Rattle.hwp_hold.specs.declared.release.Release.{Release}
 use Rattle.hwp_hold.specs.declared.release.ReleaseAt.{ReleaseAt}
 use Rattle.hwp_hold.specs.declared.release.ReleaseAt.TheVariants as at
-use Rattle.hwp_step.specs.Calls.{CanMake, Steps}
+use Rattle.hwp_step.specs.Calls.{CanMake, Steps, logs}
 use Rattle.hwp_step.specs.Hands.{Hand, hand_of}
-use Rattle.hwp_hold.specs.Releases.{plan, plan_at, next, next_at, ShowsAt, Shows, Fits, FitsAt, hand_next, hand_next_at}
+use Rattle.hwp_hold.specs.Releases.{plan, plan_at, next, next_at, Fits, FitsAt, hand_next, hand_next_at}
 use Rattle.hwp_step.proofs.Stepping.{on-turn-after, hand-planned, steps-planned, can-make}
 
-module _ {layout : Layout} {old new : View} {step : Step} {content : Option Log} {found : ℕ} {got : Option Held} (r : Release) (is : plan r ≡ Some step) (made : Steps layout r.who step None old new content found got) where
+module _ {layout : Layout} {old new : View} {step : Step} {found : ℕ} {got : Option BodyValue} (r : Release) (is : plan r ≡ Some step) (made : Steps layout r.who step None old new found got) (fits : Fits layout old r) where
   -- what a step leaves of what is held
   pub held-after : (h : Hand) → hand_of old ≡ h → hand_of new ≡ hand_next r found h
-  held-after h has = which r.at is
+  held-after h has = which r.at is fits.at
     where
-      which : (x : ReleaseAt) → plan_at r.frame r.count x ≡ Some step → hand_of new ≡ hand_next_at r.frame r.count x found h
-      which at.Put e = hand-planned made e has
-      which at.Give e = hand-planned made e has
-      which at.Unreserve e = hand-planned made e has
-      which at.Back e = absurd (none-some step e)
+      which : (x : ReleaseAt) → plan_at r.frame r.count x ≡ Some step → FitsAt old r.frame r.count x → hand_of new ≡ hand_next_at r.frame r.count x found h
+      which at.Put e at = hand-planned made e has
+      which at.Give e at = hand-planned made e has
+      which at.Unreserve e at = hand-planned made e has
+      which at.Adopt e at = hand-planned made e has
+          ∙ ap (λ (l : FrameLock). record h { hands = without (is_hand_of r.frame) h.hands; refs = with_refs r.frame 1 h.refs; locks = h.locks ++ l ∷ [] }) (lock-poisoned layout r.who r.frame found (logs got) old new (steps-planned e made).told at.0)
+      which at.Retire e at = hand-planned made e has
+      which at.Back e at = absurd (none-some step e)
 
-  -- the frame is in hand, where its last references were given back
-  last : (b : Bool) → new.hands ≡ cond b (old.hands ++ r.frame ∷ []) old.hands → FitsAt new r.frame r.count (cond b at.Give at.Back)
-  last true same = subst (λ (l : List Frame). SomeMember (λ (h : Frame). h ≡ r.frame) l) (sym same) (some-last (λ (h : Frame). h ≡ r.frame) old.hands r.frame refl)
-  last false same = tt
+  -- the frame is in hand, where its last references were given back, and known to be poisoned where it is
+  last : (b p : Bool) → is_poisoned found ≡ p → new.hands ≡ cond b (old.hands ++ hand_found r.frame found ∷ []) old.hands → length new.locks < 2 → FitsAt new r.frame r.count (cond b (cond p at.Adopt at.Give) at.Back)
+  last true true poisoned same room =
+      (subst (λ (l : List FrameInHand). SomeMember (λ (h : FrameInHand). (h.frame ≡ r.frame) × (h.poisoned ≡ true)) l) (sym same) (some-last (λ (h : FrameInHand). (h.frame ≡ r.frame) × (h.poisoned ≡ true)) old.hands (hand_found r.frame found) (refl, poisoned)), room)
+  last true false poisoned same room = subst (λ (l : List FrameInHand). SomeMember (λ (h : FrameInHand). h.frame ≡ r.frame) l) (sym same) (some-last (λ (h : FrameInHand). h.frame ≡ r.frame) old.hands (hand_found r.frame found) refl)
+  last false p poisoned same room = tt
 
-  moved : Fits layout old r → (x : ReleaseAt) → plan_at r.frame r.count x ≡ Some step → hand_of new ≡ hand_next_at r.frame r.count x found (hand_of old) → ShowsAt x found × FitsAt new r.frame r.count (next_at r.count x found)
-  moved fits at.Put e hand = (shown, last (is_last r.count found) (ap (λ (h : Hand). h.hands) hand))
-    where
-      shown : is_poisoned found ≡ false
-      shown = let put = steps-planned e made in unpoisoned layout put.told.board put.told.rule r.frame found fits.frame put.told.met
-  moved fits at.Give e hand = (tt, let more : new.reserved ≡ old.reserved + 1 = ap (λ (h : Hand). h.reserved) hand in omega arith)
-  moved fits at.Unreserve e hand = (tt, tt)
-  moved fits at.Back e hand = absurd (none-some step e)
+  after : (x : ReleaseAt) → plan_at r.frame r.count x ≡ Some step → FitsAt old r.frame r.count x → hand_of new ≡ hand_next_at r.frame r.count x found (hand_of old) → FitsAt new r.frame r.count (next_at r.count x found)
+  after at.Put e at hand = last (is_last r.count found) (is_poisoned found) refl (ap (λ (h : Hand). h.hands) hand) (subst (λ (h : Hand). length h.locks < 2) (sym hand) at.2)
+  after at.Give e at hand = let more : new.reserved ≡ old.reserved + 1 = ap (λ (h : Hand). h.reserved) hand in omega arith
+  after at.Unreserve e at hand = tt
+  after at.Adopt e at hand = adopted-retires layout r.who r.frame found (logs got) old new (steps-planned e made).told at.0
+  after at.Retire e at hand = tt
+  after at.Back e at hand = absurd (none-some step e)
 
-pub stays : (layout : Layout) (old new : View) (r : Release) (step : Step) (content : Option Log) (found : ℕ) (got : Option Held) → Fits layout old r → plan r ≡ Some step
-    → Steps layout r.who step None old new content found got → Shows r found × ((after : Release) (result : Turn) → (after ≡ next r found) × (result ≡ Moved) → Fits layout new after)
-stays layout old new r step content found got fits is made = (both.0, λ after result follows. subst (Fits layout new) (sym follows.0) (record { on_turn = on-turn-after fits.on_turn made; frame = fits.frame; at = both.1 }))
-  where
-    both : ShowsAt r.at found × FitsAt new r.frame r.count (next_at r.count r.at found)
-    both = moved r is made fits r.at is (held-after r is made (hand_of old) refl)
+  -- what follows a step fits again
+  pub moved : Fits layout new (next r found)
+  moved = record { on_turn = on-turn-after fits.on_turn made; frame = fits.frame; at = after r.at is fits.at (held-after (hand_of old) refl) }
+
+pub stays : (layout : Layout) (old new : View) (r : Release) (step : Step) (found : ℕ) (got : Option BodyValue) → Fits layout old r → plan r ≡ Some step
+    → Steps layout r.who step None old new found got → Unit {0} × ((after : Release) (result : Turn) → (after ≡ next r found) × (result ≡ Moved) → Fits layout new after × (after.who.cpu ≡ r.who.cpu))
+stays layout old new r step found got fits is made = (tt, λ after result follows. (subst (Fits layout new) (sym follows.0) (moved r is made fits), ap (λ (x : Release). x.who.cpu) follows.0))
 
 pub can : (layout : Layout) (view : View) (r : Release) (step : Step) → Fits layout view r → plan r ≡ Some step → CanMake layout r.who step None view
 can layout view r step fits is = which r.at fits.at is
   where
     which : (x : ReleaseAt) → FitsAt view r.frame r.count x → plan_at r.frame r.count x ≡ Some step → CanMake layout r.who step None view
-    which at.Put at e = can-make fits.on_turn e fits.frame at
-    which at.Give at e = can-make fits.on_turn e (let inside : r.frame.0 < layout.frames = fits.frame in omega arith) at
-    which at.Unreserve at e = can-make fits.on_turn e tt at
+    which at.Put at e = can-make fits.on_turn e tt fits.frame (at.0, at.1)
+    which at.Give at e = can-make fits.on_turn e tt (let inside : r.frame.0 < layout.frames = fits.frame in omega arith) at
+    which at.Unreserve at e = can-make fits.on_turn e tt tt at
+    which at.Adopt at e = can-make fits.on_turn e tt fits.frame ((at.0.0, at.0.1, at.0.2, at.0.3.0), at.1)
+    which at.Retire at e = can-make fits.on_turn e tt fits.frame at
     which at.Back at e = absurd (none-some step e)

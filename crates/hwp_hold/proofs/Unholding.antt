@@ -1,14 +1,15 @@
 -- The laws of `Unhold`.
-use Rattle.std.proofs.Common.{◌≡◌, ◌≢◌, ℕ, ◌+◌, ◌<◌, ◌≤◌, Bool, true, false, cond, List, [], ◌∷◌, ◌++◌, Option, Some, None, is_none, slice_get, refl, sym, ap, ◌∙◌, subst, arith}
+use Rattle.std.proofs.Common.{◌≡◌, ◌≢◌, length, ℕ, ◌+◌, ◌<◌, ◌≤◌, Bool, true, false, cond, List, [], ◌∷◌, ◌++◌, Option, Some, None, is_none, slice_get, refl, sym, ap, ◌∙◌, subst, arith}
 use Rattle.std.proofs.lemmas.Bool.{both_ways}
 use Rattle.std.proofs.lemmas.Option.{none-some, same_Some}
 use Rattle.hwp_geom.specs.declared.Frame.{Frame}
 use Rattle.hwp_geom.specs.declared.Layout.{Layout}
 use Rattle.hwp_geom.specs.declared.Page.{Page}
 use Rattle.hwp_geom.specs.declared.Who.{Who}
-use Rattle.hwp_page.specs.History.{Held}
+use Rattle.hwp_page.specs.History.{BodyValue}
+use Rattle.hwp_words.specs.Frames.{is_poisoned}
 use Rattle.hwp_rule.specs.declared.FrameLock.{FrameLock}
-use Rattle.hwp_rule.specs.declared.Held.{Held as InHand}
+use Rattle.hwp_rule.specs.declared.InHand.{InHand}
 use Rattle.hwp_rule.specs.declared.Log.{Log}
 use Rattle.hwp_rule.specs.declared.PageLock.{PageLock}
 use Rattle.hwp_rule.specs.declared.Step.{Step}
@@ -20,9 +21,9 @@ use Rattle.hwp_rule.specs.Steps.{is_last}
 use Rattle.hwp_rule.specs.Views.{without, is_lock_of, is_page_lock_of, is_body_of, less_refs, refs_on, locks_on}
 use Rattle.std.specs.List.{find}
 use Rattle.hwp_rule.proofs.Lists.{same-number}
-use Rattle.hwp_step.specs.declared.turn.Turn.{Turn}
-use Rattle.hwp_step.specs.declared.turn.Turn.TheVariants.{Moved}
-use Rattle.hwp_core.specs.Calls.{log_of}
+use Rattle.hwp_step.specs.declared.Turn.{Turn}
+use Rattle.hwp_step.specs.declared.Turn.TheVariants.{Moved}
+use Rattle.hwp_rule.specs.Logs.{log_of}
 use Rattle.hwp_hold.specs.declared.release.Release.{Release}
 use Rattle.hwp_hold.specs.declared.release.ReleaseAt.{ReleaseAt}
 use Rattle.hwp_hold.specs.declared.release.ReleaseAt.TheVariants as release_at
@@ -33,8 +34,8 @@ use Rattle.hwp_step.specs.Calls.{CanMake, Steps, IsOnTurn, logs}
 use Rattle.hwp_step.specs.Hands.{Hand, hand_of, empty, putting}
 use Rattle.hwp_hold.specs.Holds.{page_lock, named, one_ref}
 use Rattle.hwp_hold.specs.Releases as releases
-use Rattle.hwp_hold.specs.Unholds.{plan, plan_at, put, put_at, bare, bare_at, next, next_at, Shows, ShowsAt, after_release, holding, HoldsAhead, releasing, IsReleasing, FitsPage, Fits, FitsAt}
-use Rattle.hwp_hold.proofs.Releasing as letting
+use Rattle.hwp_hold.specs.Unholds.{plan, plan_at, put, put_at, bare, bare_at, next, next_at, after_release, holding, HoldsAhead, releasing, IsReleasing, FitsPage, Fits, FitsAt}
+use Rattle.hwp_hold.proofs.Releasing as releasing-laws
 use Rattle.hwp_step.proofs.Stepping.{on-turn-after, hand-planned, steps-planned, can-put}
 
 -- ---- what is held after each step
@@ -52,13 +53,16 @@ emptied-freed page frame = grind arith
 
 released : (page : Page) (r : Release) (x : ReleaseAt) (found : ℕ) → r.count ≡ 1 → is_none (releases.plan_at r.frame r.count x) ≡ false
     → releases.hand_next_at r.frame r.count x found (releasing page r.frame x) ≡ releasing page r.frame (releases.next_at r.count x found)
-released page r release_at.Put found one on = by (is_last r.count found)
+released page r release_at.Put found one on = by (is_last r.count found) (is_poisoned found)
   where
-    by : (b : Bool) → record (named page r.frame (one_ref r.frame)) { refs = less_refs r.frame r.count (one_ref r.frame); hands = cond b ([] ++ r.frame ∷ []) [] } ≡ releasing page r.frame (cond b release_at.Give release_at.Back)
-    by true = grind arith
-    by false = grind arith
+    by : (b p : Bool) → record (named page r.frame (one_ref r.frame)) { refs = less_refs r.frame r.count (one_ref r.frame); hands = cond b ([] ++ (record { frame = r.frame; poisoned = p }) ∷ []) [] } ≡ releasing page r.frame (cond b (cond p release_at.Adopt release_at.Give) release_at.Back)
+    by true true = grind arith
+    by true false = grind arith
+    by false p = grind arith
 released page r release_at.Give found one on = grind arith
 released page r release_at.Unreserve found one on = grind arith
+released page r release_at.Adopt found one on = grind arith
+released page r release_at.Retire found one on = grind arith
 released page r release_at.Back found one on = absurd (both_ways true on refl)
 
 counted : (frame : Frame) → 1 + locks_on frame.0 [] ≤ refs_on frame.0 (one_ref frame)
@@ -67,8 +71,8 @@ counted frame = let same = same-number frame.0 frame.0 refl in grind arith
 -- ---- the steps can be made
 
 module _ {layout : Layout} {who : Who} {view : View} {page : Page} where
-  can-free-frame : (frame : Frame) (body : Option Held) → HoldsAhead layout who view page (Some frame) body → CanUnlockFrame layout who view frame (logs body)
-  can-free-frame frame body has = subst (λ (b : Option Held). CanUnlockFrame layout who view frame (logs b)) (sym has.given_is) (record {
+  can-free-frame : (frame : Frame) (body : Option BodyValue) → HoldsAhead layout who view page (Some frame) body → CanUnlockFrame layout who view frame (logs body)
+  can-free-frame frame body has = subst (λ (b : Option BodyValue). CanUnlockFrame layout who view frame (logs b)) (sym has.given_is) (record {
     has = record { lock = lock; listed = (0, lock, ap (λ (h : Hand). slice_get h.locks 0) has.hand_is, refl); frame_is = refl };
     named = ap (λ (p : Page). p.0 + 1) has.page_is;
     cached = λ other listed owner. ap (λ (l : PageLock). l.cache) (same_Some other (page_lock page (Some frame) (Some has.trans)) (sym listed ∙ ap (λ (h : Hand). slice_get h.pages 0) has.hand_is));
@@ -78,7 +82,7 @@ module _ {layout : Layout} {who : Who} {view : View} {page : Page} where
       lock : FrameLock
       lock = record { frame = frame; owner = page.0 + 1; handled = has.handled; poisoned = has.poisoned }
 
-  can-free-page : (body : Option Held) → FitsPage layout who view page body → CanUnlockPage layout who view page (logs body)
+  can-free-page : (body : Option BodyValue) → FitsPage layout who view page body → CanUnlockPage layout who view page (logs body)
   can-free-page None has = record {
     has = record { lock = page_lock page (Some has.frame) None; listed = ap (λ (h : Hand). slice_get h.pages 0) has.hand_is; page_is = refl };
     named = refl;
@@ -86,7 +90,7 @@ module _ {layout : Layout} {who : Who} {view : View} {page : Page} where
     no_frame = subst (λ (h : Hand). EachMember (λ (l : FrameLock). l.owner ≢ page.0 + 1) h.locks) (sym has.hand_is) (λ i x e. absurd (none-some x e));
     put = tt;
   }
-  can-free-page (Some given) has = subst (λ (b : Held). CanUnlockPage layout who view page (Some (log_of b))) (sym (same_Some given has.body has.given_is)) (record {
+  can-free-page (Some given) has = subst (λ (b : BodyValue). CanUnlockPage layout who view page (Some (log_of b))) (sym (same_Some given has.body has.given_is)) (record {
     has = record { lock = page_lock page None (Some has.trans); listed = ap (λ (h : Hand). slice_get h.pages 0) has.hand_is; page_is = refl };
     named = ap (λ (p : Page). p.0 + 1) has.page_is;
     put_away = λ none. absurd (none-some (log_of has.body) (sym none));
@@ -94,10 +98,10 @@ module _ {layout : Layout} {who : Who} {view : View} {page : Page} where
     put = has.home;
   })
 
-body-fits : (layout : Layout) (who : Who) (view : View) (page : Page) (frame : Option Frame) (body : Option Held) → HoldsAhead layout who view page frame body → (b : Held) → body ≡ Some b → b.layout ≡ layout
-body-fits layout who view page frame body has b is = ap (λ (x : Held). x.layout) (same_Some b has.body (sym is ∙ has.given_is)) ∙ has.layout_is
+body-fits : (layout : Layout) (who : Who) (view : View) (page : Page) (frame : Option Frame) (body : Option BodyValue) → HoldsAhead layout who view page frame body → (b : BodyValue) → body ≡ Some b → b.layout ≡ layout
+body-fits layout who view page frame body has b is = ap (λ (x : BodyValue). x.layout) (same_Some b has.body (sym is ∙ has.given_is)) ∙ has.layout_is
 
-page-fits : (layout : Layout) (who : Who) (view : View) (page : Page) (body : Option Held) → FitsPage layout who view page body → (b : Held) → body ≡ Some b → b.layout ≡ layout
+page-fits : (layout : Layout) (who : Who) (view : View) (page : Page) (body : Option BodyValue) → FitsPage layout who view page body → (b : BodyValue) → body ≡ Some b → b.layout ≡ layout
 page-fits layout who view page None has b is = absurd (none-some b is)
 page-fits layout who view page (Some given) has b is = body-fits layout who view page None (Some given) has b is
 
@@ -105,19 +109,19 @@ pub can : (layout : Layout) (view : View) (u : Unhold) (step : Step) → Fits la
 can layout view u step fits is = which u.at fits.at is
   where
     which : (x : UnholdAt) → FitsAt layout view u.who u.page x → plan_at u.page x ≡ Some step → CanMake layout u.who step (put_at x) view
-    which (at.UnlockFrame frame body) at e = can-put fits.on_turn e at.1 (can-free-frame frame body at.0) (body-fits layout u.who view u.page (Some frame) body at.0)
-    which (at.Release r) at e = subst (λ (w : Who). CanMake layout w step None view) at.own (letting.can layout view r step at.release e)
-    which (at.UnlockPage body) at e = can-put fits.on_turn e fits.page (can-free-page body at) (page-fits layout u.who view u.page body at)
+    which (at.UnlockFrame frame body) at e = can-put fits.on_turn e tt at.1 (can-free-frame frame body at.0) (body-fits layout u.who view u.page (Some frame) body at.0)
+    which (at.Release r) at e = subst (λ (w : Who). CanMake layout w step None view) at.own (releasing-laws.can layout view r step at.release e)
+    which (at.UnlockPage body) at e = can-put fits.on_turn e tt fits.page (can-free-page body at) (page-fits layout u.who view u.page body at)
     which at.Over at e = absurd (none-some step e)
 
 -- ---- what follows fits
 
-module _ (layout : Layout) (old new : View) (who : Who) (page : Page) (content : Option Log) (found : ℕ) (got : Option Held) (on : IsOnTurn new who) where
-  frame-let-go : (frame : Frame) (body : Option Held) → HoldsAhead layout who old page (Some frame) body → frame.0 < layout.frames → Steps layout who (steps.UnlockFrame frame) (logs body) old new content found got
+module _ (layout : Layout) (old new : View) (who : Who) (page : Page) (found : ℕ) (got : Option BodyValue) (on : IsOnTurn new who) where
+  frame-let-go : (frame : Frame) (body : Option BodyValue) → HoldsAhead layout who old page (Some frame) body → frame.0 < layout.frames → Steps layout who (steps.UnlockFrame frame) (logs body) old new found got
       → FitsAt layout new who page (at.Release (releases.begin who frame 1))
   frame-let-go frame body has inside made = record {
     hand_is = hand;
-    release = record { on_turn = on; frame = inside; at = (omega arith, subst (λ (h : Hand). 1 + locks_on frame.0 h.locks ≤ refs_on frame.0 h.refs) (sym hand) (counted frame)) };
+    release = record { on_turn = on; frame = inside; at = (omega arith, subst (λ (h : Hand). 1 + locks_on frame.0 h.locks ≤ refs_on frame.0 h.refs) (sym hand) (counted frame), subst (λ (h : Hand). length h.locks < 2) (sym hand) (omega arith)) };
     own = refl;
     count = refl;
     under_way = refl;
@@ -125,45 +129,43 @@ module _ (layout : Layout) (old new : View) (who : Who) (page : Page) (content :
     where
       hand : hand_of new ≡ named page frame (one_ref frame)
       hand = hand-planned made refl has.hand_is
-          ∙ ap (λ (c : Option Log). record (putting c (holding page (Some frame) has.trans has.taken has.handled has.poisoned)) { locks = without (is_lock_of frame) (holding page (Some frame) has.trans has.taken has.handled has.poisoned).locks }) (made.flow ∙ ap logs has.given_is)
+          ∙ ap (λ (c : Option Log). record (putting c (holding page (Some frame) has.trans has.taken has.handled has.poisoned)) { locks = without (is_lock_of frame) (holding page (Some frame) has.trans has.taken has.handled has.poisoned).locks }) (ap logs has.given_is)
           ∙ frame-freed page frame has.trans has.taken (log_of has.body) has.handled has.poisoned has.page_is has.taken_is
 
-  page-let-go : (body : Option Held) → FitsPage layout who old page body → Steps layout who (steps.UnlockPage page) (logs body) old new content found got → hand_of new ≡ empty
-  page-let-go None has made = hand-planned made refl has.hand_is
-      ∙ ap (λ (c : Option Log). record (putting c (named page has.frame [])) { pages = without (is_page_lock_of page) (named page has.frame []).pages }) made.flow ∙ emptied-freed page has.frame
+  page-let-go : (body : Option BodyValue) → FitsPage layout who old page body → Steps layout who (steps.UnlockPage page) (logs body) old new found got → hand_of new ≡ empty
+  page-let-go None has made = hand-planned made refl has.hand_is ∙ emptied-freed page has.frame
   page-let-go (Some given) has made = hand-planned made refl has.hand_is
-      ∙ ap (λ (c : Option Log). record (putting c (holding page None has.trans has.taken false false)) { pages = without (is_page_lock_of page) (holding page None has.trans has.taken false false).pages }) (made.flow ∙ ap logs has.given_is)
+      ∙ ap (λ (c : Option Log). record (putting c (holding page None has.trans has.taken false false)) { pages = without (is_page_lock_of page) (holding page None has.trans has.taken false false).pages }) (ap logs has.given_is)
       ∙ page-freed page has.trans has.taken (log_of has.body) has.page_is has.taken_is
 
-  release-moved : (r : Release) (step : Step) → IsReleasing layout old who page r → releases.plan r ≡ Some step → (made : Steps layout r.who step None old new content found got)
+  release-moved : (r : Release) (step : Step) → IsReleasing layout old who page r → releases.plan r ≡ Some step → (made : Steps layout r.who step None old new found got)
       → releases.Fits layout new (releases.next r found) → FitsAt layout new who page (after_release (releases.next r found))
-  release-moved r step has is made fits = which (releases.next_at r.count r.at found) (letting.held-after r is made (releasing page r.frame r.at) has.hand_is ∙ released page r r.at found has.count has.under_way) fits
+  release-moved r step has is made fits = which (releases.next_at r.count r.at found) (releasing-laws.held-after r is made has.release (releasing page r.frame r.at) has.hand_is ∙ released page r r.at found has.count has.under_way) fits
     where
       which : (x : ReleaseAt) → hand_of new ≡ releasing page r.frame x → releases.Fits layout new (record r { at = x }) → FitsAt layout new who page (after_release (record r { at = x }))
       which release_at.Put hand fits = record { hand_is = hand; release = fits; own = has.own; count = has.count; under_way = refl }
       which release_at.Give hand fits = record { hand_is = hand; release = fits; own = has.own; count = has.count; under_way = refl }
       which release_at.Unreserve hand fits = record { hand_is = hand; release = fits; own = has.own; count = has.count; under_way = refl }
+      which release_at.Adopt hand fits = record { hand_is = hand; release = fits; own = has.own; count = has.count; under_way = refl }
+      which release_at.Retire hand fits = record { hand_is = hand; release = fits; own = has.own; count = has.count; under_way = refl }
       which release_at.Back hand fits = record { frame = r.frame; hand_is = hand }
 
-pub stays : (layout : Layout) (old new : View) (u : Unhold) (step : Step) (content : Option Log) (found : ℕ) (got : Option Held) → Fits layout old u → plan u ≡ Some step
-    → Steps layout u.who step (logs (put u)) old new content found got → Shows (bare u) found × ((after : Unhold) (result : Turn) → (after ≡ next (bare u) found) × (result ≡ Moved) → Fits layout new after)
-stays layout old new u step content found got fits is made = (both.0, λ after result follows. subst (Fits layout new) (sym follows.0) (record { on_turn = on; page = fits.page; at = both.1 }))
+-- what follows a step fits again
+pub moved : (layout : Layout) (old new : View) (u : Unhold) (step : Step) (found : ℕ) (got : Option BodyValue) → Fits layout old u → plan u ≡ Some step → Steps layout u.who step (logs (put u)) old new found got → Fits layout new (next (bare u) found)
+moved layout old new u step found got fits is made = record { on_turn = on; page = fits.page; at = which u.at is fits.at made }
   where
     on : IsOnTurn new u.who
     on = on-turn-after fits.on_turn made
 
-    which : (x : UnholdAt) → plan_at u.page x ≡ Some step → FitsAt layout old u.who u.page x → Steps layout u.who step (logs (put_at x)) old new content found got
-        → ShowsAt (bare_at x) found × FitsAt layout new u.who u.page (next_at u.who (bare_at x) found)
-    which (at.UnlockFrame frame body) e at made = (tt, frame-let-go layout old new u.who u.page content found got on frame body at.0 at.1 (steps-planned e made))
-    which (at.Release r) e at made = (child.0, release-moved layout old new u.who u.page content found got on r step at e own (child.1 (releases.next r found) Moved (refl, refl)))
+    which : (x : UnholdAt) → plan_at u.page x ≡ Some step → FitsAt layout old u.who u.page x → Steps layout u.who step (logs (put_at x)) old new found got → FitsAt layout new u.who u.page (next_at u.who (bare_at x) found)
+    which (at.UnlockFrame frame body) e at made = frame-let-go layout old new u.who u.page found got on frame body at.0 at.1 (steps-planned e made)
+    which (at.Release r) e at made = release-moved layout old new u.who u.page found got on r step at e own (releasing-laws.moved r e own at.release)
       where
-        own : Steps layout r.who step None old new content found got
-        own = subst (λ (w : Who). Steps layout w step None old new content found got) (sym at.own) made
-
-        child : releases.Shows r found × ((after : Release) (result : Turn) → (after ≡ releases.next r found) × (result ≡ Moved) → releases.Fits layout new after)
-        child = letting.stays layout old new r step content found got at.release e own
-    which (at.UnlockPage body) e at made = (tt, page-let-go layout old new u.who u.page content found got on body at (steps-planned e made))
+        own : Steps layout r.who step None old new found got
+        own = subst (λ (w : Who). Steps layout w step None old new found got) (sym at.own) made
+    which (at.UnlockPage body) e at made = page-let-go layout old new u.who u.page found got on body at (steps-planned e made)
     which at.Over e at made = absurd (none-some step e)
 
-    both : ShowsAt (bare_at u.at) found × FitsAt layout new u.who u.page (next_at u.who (bare_at u.at) found)
-    both = which u.at is fits.at made
+pub stays : (layout : Layout) (old new : View) (u : Unhold) (step : Step) (found : ℕ) (got : Option BodyValue) → Fits layout old u → plan u ≡ Some step
+    → Steps layout u.who step (logs (put u)) old new found got → Unit {0} × ((after : Unhold) (result : Turn) → (after ≡ next (bare u) found) × (result ≡ Moved) → Fits layout new after × (after.who.cpu ≡ u.who.cpu))
+stays layout old new u step found got fits is made = (tt, λ after result follows. (subst (Fits layout new) (sym follows.0) (moved layout old new u step found got fits is made), ap (λ (x : Unhold). x.who.cpu) follows.0))

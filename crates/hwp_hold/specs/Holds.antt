@@ -4,7 +4,7 @@ use Rattle.hwp_geom.specs.declared.Frame.{Frame}
 use Rattle.hwp_geom.specs.declared.Layout.{Layout}
 use Rattle.hwp_geom.specs.declared.Page.{Page}
 use Rattle.hwp_geom.specs.declared.Who.{Who}
-use Rattle.hwp_page.specs.History.{Held}
+use Rattle.hwp_page.specs.History.{BodyValue, IsReplay}
 use Rattle.hwp_words.specs.Names.{frame_name}
 use Rattle.hwp_words.specs.Frames.{is_locked}
 use Rattle.hwp_rule.specs.declared.Log.{Log}
@@ -14,11 +14,11 @@ use Rattle.hwp_rule.specs.declared.Ref.{Ref}
 use Rattle.hwp_rule.specs.declared.Step.{Step}
 use Rattle.hwp_rule.specs.declared.Step.TheVariants as steps
 use Rattle.hwp_rule.specs.declared.View.{View}
-use Rattle.hwp_rule.specs.Logs.{state_of, fitting}
+use Rattle.hwp_rule.specs.Logs.{log_of, state_of, fitting}
 use Rattle.hwp_rule.specs.Views.{frame_in}
-use Rattle.hwp_step.specs.declared.turn.Turn.{Turn}
-use Rattle.hwp_step.specs.declared.turn.Turn.TheVariants.{Moved, Waits}
-use Rattle.hwp_core.specs.Calls.{log_of}
+use Rattle.hwp_rule.specs.Words.{Words}
+use Rattle.hwp_step.specs.declared.Turn.{Turn}
+use Rattle.hwp_step.specs.declared.Turn.TheVariants.{Moved, Waits}
 use Rattle.hwp_hold.specs.declared.hold.Hold.{Hold}
 use Rattle.hwp_hold.specs.declared.hold.HoldAt.{HoldAt}
 use Rattle.hwp_hold.specs.declared.hold.HoldAt.TheVariants as at
@@ -29,6 +29,7 @@ use Rattle.hwp_step.specs.Calls.{IsOnTurn, logs}
 use Rattle.hwp_step.specs.Hands.{Hand, hand_of, empty, body_in}
 use Rattle.hwp_hold.specs.Pins as pins
 
+-- the lock's word says that it was free
 abbrev pub is_free : ℕ → Bool
 is_free word = not (is_locked word)
 
@@ -46,7 +47,7 @@ abbrev pub plan : Hold → Option Step
 plan h = plan_at h.page h.at
 
 -- what follows a cache word that names a frame, or none
-abbrev pub named_at : Who → Option Held → Option Frame → HoldAt
+abbrev pub named_at : Who → Option BodyValue → Option Frame → HoldAt
 named_at who body (Some frame) = at.Pin (pins.begin who frame)
 named_at who None None = at.LoadCache None
 named_at who (Some body) None = at.Held None body
@@ -60,27 +61,27 @@ abbrev pub pinned : Pin → HoldAt
 pinned p = pinned_at p p.at
 
 -- the frame is locked, and this was in its slot
-abbrev pub locked_at : Frame → Option Held → HoldAt
+abbrev pub locked_at : Frame → Option BodyValue → HoldAt
 locked_at frame None = at.LockFrame frame
 locked_at frame (Some body) = at.Held (Some frame) body
 
-abbrev pub next_at : Who → HoldAt → ℕ → Option Held → HoldAt
+abbrev pub next_at : Who → HoldAt → ℕ → Option BodyValue → HoldAt
 next_at who at.LockPage found got = cond (is_free found) (at.LoadCache got) at.LockPage
 next_at who (at.LoadCache body) found got = named_at who body (frame_in found)
 next_at who (at.Pin p) found got = pinned (pins.next p found)
 next_at who (at.LockFrame frame) found got = cond (is_free found) (locked_at frame got) (at.LockFrame frame)
 next_at who (at.Held frame body) found got = at.Held frame body
 
-abbrev pub next : Hold → ℕ → Option Held → Hold
+abbrev pub next : Hold → ℕ → Option BodyValue → Hold
 next h found got = record h { at = next_at h.who h.at found got }
 
 -- the body is there where it is asked for
-abbrev pub ShowsAt : HoldAt → ℕ → Option Held → Type 0
+abbrev pub ShowsAt : HoldAt → ℕ → Option BodyValue → Type 0
 ShowsAt (at.LoadCache body) found got = frame_in found ≡ None → is_some body ≡ true
 ShowsAt (at.LockFrame frame) found got = is_free found ≡ true → is_some got ≡ true
 ShowsAt _ found got = Unit {0}
 
-abbrev pub Shows : Hold → ℕ → Option Held → Type 0
+abbrev pub Shows : Hold → ℕ → Option BodyValue → Type 0
 Shows h found got = ShowsAt h.at found got
 
 abbrev pub turn_at : HoldAt → ℕ → Turn
@@ -100,11 +101,11 @@ answer_at _ = None
 abbrev pub answer : Hold → Option (Option Frame)
 answer h = answer_at h.at
 
-abbrev pub IsBodyAt : HoldAt → Held → Type 0
+abbrev pub IsBodyAt : HoldAt → BodyValue → Type 0
 IsBodyAt (at.Held frame body) result = result ≡ body
 IsBodyAt _ result = ⊥
 
-abbrev pub IsBody : Hold → Held → Type 0
+abbrev pub IsBody : Hold → BodyValue → Type 0
 IsBody h result = IsBodyAt h.at result
 
 -- the page's lock, where the page is in this frame or in none
@@ -138,23 +139,27 @@ held layout page (Some frame) log seen handled poisoned = record empty {
 }
 
 -- the page's body, which fits that the page is in this frame or in none
-pub record IsBodyOf (layout : Layout) (page : Page) (frame : Option Frame) (body : Held) : Type 0 where
+pub record IsBodyOf (layout : Layout) (page : Page) (frame : Option Frame) (body : BodyValue) : Type 0 where
   pub page_is : body.page ≡ page
   pub layout_is : body.layout ≡ layout
   pub cached : not (frame_name frame == 0) ≡ (state_of layout (log_of body)).cached
+  pub replay : IsReplay layout page body.log body.state
 
-pub record IsLocked (layout : Layout) (view : View) (page : Page) (body : Option Held) : Type 0 where
+-- the page is locked, and what was on its shelf is the task's
+pub record IsLocked (layout : Layout) (view : View) (page : Page) (body : Option BodyValue) : Type 0 where
   pub seen : ℕ
   pub hand_is : hand_of view ≡ locked layout page (logs body) seen
-  pub body_is : (b : Held) → body ≡ Some b → IsBodyOf layout page None b
+  pub body_is : (b : BodyValue) → body ≡ Some b → IsBodyOf layout page None b
 
+-- the page is locked, and a reference to its frame is on its way
 pub record IsPinning (layout : Layout) (view : View) (who : Who) (page : Page) (p : Pin) : Type 0 where
   pub hand_is : hand_of view ≡ named page p.frame []
   pub pin : pins.Fits layout view p
   pub own : p.who ≡ who
   pub under_way : is_none (pins.plan p) ≡ false
 
-pub record HoldsPage (layout : Layout) (view : View) (page : Page) (frame : Option Frame) (body : Held) : Type 0 where
+-- the page is held: locked, with the frame that it is in, and its body in hand as it was taken
+pub record HoldsPage (layout : Layout) (view : View) (page : Page) (frame : Option Frame) (body : BodyValue) : Type 0 where
   pub seen : ℕ
   pub handled : Bool
   pub poisoned : Bool
@@ -174,3 +179,23 @@ pub record Fits (layout : Layout) (view : View) (h : Hold) : Type 0 where
   pub on_turn : IsOnTurn view h.who
   pub page : h.page.0 < length layout.pages
   pub at : FitsAt layout view h.who h.page h.at
+
+-- 2 while the page is locked, and 1 while its frame is
+abbrev pub class_at : HoldAt → ℕ
+class_at at.LockPage = 4
+class_at (at.Held (Some frame) body) = 1
+class_at _ = 2
+
+abbrev pub class : Hold → ℕ
+class h = class_at h.at
+
+-- the turns that are left
+abbrev pub cost_at : HoldAt → Words → ℕ
+cost_at at.LockPage words = 5
+cost_at (at.LoadCache body) words = 4
+cost_at (at.Pin p) words = pins.cost p words + 1
+cost_at (at.LockFrame frame) words = 1
+cost_at (at.Held frame body) words = 0
+
+abbrev pub cost : Hold → Words → ℕ
+cost h words = cost_at h.at words

@@ -1,5 +1,4 @@
 pub mod Pins
-pub mod Holds
 pub mod Releases
+pub mod Holds
 pub mod Unholds
-pub mod Ranks

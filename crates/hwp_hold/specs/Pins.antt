@@ -1,16 +1,18 @@
 -- A reference to a frame: the task's states, its steps and what they come to.
-use Rattle.std.specs.Prelude.{◌≡◌, ℕ, ◌<◌, ◌==◌, true, false, cond, Option, Some, None}
+use Rattle.std.specs.Prelude.{◌≡◌, ℕ, ◌+◌, ◌<◌, ◌==◌, ◌||◌, Bool, true, false, cond, Option, Some, None, slice_index}
 use Rattle.hwp_geom.specs.declared.Frame.{Frame}
 use Rattle.hwp_geom.specs.declared.Layout.{Layout}
 use Rattle.hwp_geom.specs.declared.Who.{Who}
+use Rattle.hwp_words.specs.Frames.{count_of, is_handled}
 use Rattle.hwp_rule.specs.declared.Place.TheVariants as places
 use Rattle.hwp_rule.specs.declared.Step.{Step}
 use Rattle.hwp_rule.specs.declared.Step.TheVariants as steps
 use Rattle.hwp_rule.specs.declared.View.{View}
 use Rattle.hwp_rule.specs.Asks.{HasRefRoom}
-use Rattle.hwp_step.specs.declared.turn.Turn.{Turn}
-use Rattle.hwp_step.specs.declared.turn.Turn.TheVariants.{Moved, Changed}
-use Rattle.hwp_core.specs.Pins.{is_gone}
+use Rattle.hwp_rule.specs.Views.{with_refs}
+use Rattle.hwp_rule.specs.Words.{Words}
+use Rattle.hwp_step.specs.declared.Turn.{Turn}
+use Rattle.hwp_step.specs.declared.Turn.TheVariants.{Moved, Changed}
 use Rattle.hwp_hold.specs.declared.pin.Pin.{Pin}
 use Rattle.hwp_hold.specs.declared.pin.PinAt.{PinAt}
 use Rattle.hwp_hold.specs.declared.pin.PinAt.TheVariants as at
@@ -18,7 +20,11 @@ use Rattle.hwp_hold.specs.declared.pin.PinAnswer.{PinAnswer}
 use Rattle.hwp_hold.specs.declared.pin.PinAnswer.TheVariants as answers
 use Rattle.hwp_step.specs.Calls.{IsOnTurn}
 use Rattle.hwp_step.specs.Hands.{Hand}
-use Rattle.hwp_rule.specs.Views.{with_refs}
+use Rattle.hwp_step.specs.Ranks.{stale}
+
+-- a frame of this word can't be referenced: it is free or in a hand, or out of use
+abbrev pub is_gone : ℕ → Bool
+is_gone word = (count_of word == 0) || is_handled word
 
 -- what is to do about a word that was shown
 abbrev pub at_word : ℕ → PinAt
@@ -80,3 +86,13 @@ hand_next_at frame _ found h = h
 
 abbrev pub hand_next : Pin → ℕ → Hand → Hand
 hand_next p found h = hand_next_at p.frame p.at found h
+
+-- the turns that are left; the word may have changed since it was seen
+abbrev pub cost_at : Frame → PinAt → Words → ℕ
+cost_at frame at.Load words = 2
+cost_at frame (at.Get seen) words = 1 + stale (slice_index words.frames frame.0 == seen)
+cost_at frame (at.Held word) words = 0
+cost_at frame (at.Gone word) words = 0
+
+abbrev pub cost : Pin → Words → ℕ
+cost p words = cost_at p.frame p.at words

@@ -1,15 +1,19 @@
 -- References given back: the task's states, its steps and what they come to.
-use Rattle.std.specs.Prelude.{◌≡◌, ℕ, ◌+◌, ◌-◌, ◌<◌, ◌≤◌, false, cond, [], ◌∷◌, ◌++◌, Option, Some, None}
+use Rattle.std.specs.Prelude.{◌≡◌, ℕ, ◌+◌, ◌-◌, ◌<◌, ◌≤◌, true, false, cond, [], ◌∷◌, ◌++◌, Option, Some, None, length}
 use Rattle.hwp_geom.specs.declared.Frame.{Frame}
 use Rattle.hwp_geom.specs.declared.Layout.{Layout}
 use Rattle.hwp_geom.specs.declared.Who.{Who}
 use Rattle.hwp_words.specs.Frames.{is_poisoned}
+use Rattle.hwp_rule.specs.declared.FrameInHand.{FrameInHand}
+use Rattle.hwp_rule.specs.declared.FrameLock.{FrameLock}
 use Rattle.hwp_rule.specs.declared.Step.{Step}
 use Rattle.hwp_rule.specs.declared.Step.TheVariants as steps
 use Rattle.hwp_rule.specs.declared.View.{View}
-use Rattle.hwp_rule.specs.Asks.{HasInHand}
+use Rattle.hwp_rule.specs.Asks.{HasInHand, CanRetire}
+use Rattle.hwp_rule.specs.Lists.{SomeMember}
 use Rattle.hwp_rule.specs.Steps.{is_last}
-use Rattle.hwp_rule.specs.Views.{refs_on, locks_on, less_refs, without, is_frame}
+use Rattle.hwp_rule.specs.Views.{refs_on, locks_on, with_refs, less_refs, without, is_hand_of, is_lock_of, hand_found}
+use Rattle.hwp_rule.specs.Words.{Words}
 use Rattle.hwp_hold.specs.declared.release.Release.{Release}
 use Rattle.hwp_hold.specs.declared.release.ReleaseAt.{ReleaseAt}
 use Rattle.hwp_hold.specs.declared.release.ReleaseAt.TheVariants as at
@@ -23,34 +27,37 @@ abbrev pub plan_at : Frame → ℕ → ReleaseAt → Option Step
 plan_at frame count at.Put = Some (steps.PutRef frame count)
 plan_at frame count at.Give = Some (steps.GiveBit frame)
 plan_at frame count at.Unreserve = Some steps.Unreserve
+plan_at frame count at.Adopt = Some (steps.Adopt frame)
+plan_at frame count at.Retire = Some (steps.Retire frame)
 plan_at frame count at.Back = None
 
 abbrev pub plan : Release → Option Step
 plan r = plan_at r.frame r.count r.at
 
--- with its last reference the frame becomes free
+-- with its last reference the frame becomes free, or is out of use where it is poisoned
 abbrev pub next_at : ℕ → ReleaseAt → ℕ → ReleaseAt
-next_at count at.Put found = cond (is_last count found) at.Give at.Back
+next_at count at.Put found = cond (is_last count found) (cond (is_poisoned found) at.Adopt at.Give) at.Back
 next_at count at.Give found = at.Unreserve
 next_at count at.Unreserve found = at.Back
+next_at count at.Adopt found = at.Retire
+next_at count at.Retire found = at.Back
 next_at count at.Back found = at.Back
 
 abbrev pub next : Release → ℕ → Release
 next r found = record r { at = next_at r.count r.at found }
 
--- the word has no poison
-abbrev pub ShowsAt : ReleaseAt → ℕ → Type 0
-ShowsAt at.Put found = is_poisoned found ≡ false
-ShowsAt _ found = Unit {0}
+-- the frame is in hand, and poisoned
+abbrev pub HasPoisoned : View → Frame → Type 0
+HasPoisoned view frame = SomeMember (λ (h : FrameInHand). (h.frame ≡ frame) × (h.poisoned ≡ true)) view.hands
 
-abbrev pub Shows : Release → ℕ → Type 0
-Shows r found = ShowsAt r.at found
-
--- the view has the references, of which each lock of the frame needs one; and then the frame, and the reservation
+-- the view has the references, of which each lock of the frame needs one, and could lock the frame; then it has the frame,
+-- and the reservation; a frame that was poisoned can be retired
 abbrev pub FitsAt : View → Frame → ℕ → ReleaseAt → Type 0
-FitsAt view frame count at.Put = (0 < count) × (count + locks_on frame.0 view.locks ≤ refs_on frame.0 view.refs)
+FitsAt view frame count at.Put = (0 < count) × (count + locks_on frame.0 view.locks ≤ refs_on frame.0 view.refs) × (length view.locks < 2)
 FitsAt view frame count at.Give = HasInHand view frame
 FitsAt view frame count at.Unreserve = 0 < view.reserved
+FitsAt view frame count at.Adopt = HasPoisoned view frame × (length view.locks < 2)
+FitsAt view frame count at.Retire = CanRetire view frame None
 FitsAt view frame count at.Back = Unit {0}
 
 pub record Fits (layout : Layout) (view : View) (r : Release) : Type 0 where
@@ -58,12 +65,40 @@ pub record Fits (layout : Layout) (view : View) (r : Release) : Type 0 where
   pub frame : r.frame.0 < layout.frames
   pub at : FitsAt view r.frame r.count r.at
 
+-- the lock of a frame that was adopted because it is poisoned
+abbrev pub poisoned_lock : Frame → FrameLock
+poisoned_lock frame = record { frame = frame; owner = 0; handled = false; poisoned = true }
+
 -- what is held after a step
 abbrev pub hand_next_at : Frame → ℕ → ReleaseAt → ℕ → Hand → Hand
-hand_next_at frame count at.Put found h = record h { refs = less_refs frame count h.refs; hands = cond (is_last count found) (h.hands ++ frame ∷ []) h.hands }
-hand_next_at frame count at.Give found h = record h { reserved = h.reserved + 1; hands = without (is_frame frame) h.hands }
+hand_next_at frame count at.Put found h = record h { refs = less_refs frame count h.refs; hands = cond (is_last count found) (h.hands ++ hand_found frame found ∷ []) h.hands }
+hand_next_at frame count at.Give found h = record h { reserved = h.reserved + 1; hands = without (is_hand_of frame) h.hands }
 hand_next_at frame count at.Unreserve found h = record h { reserved = h.reserved - 1 }
+hand_next_at frame count at.Adopt found h =
+    record h { hands = without (is_hand_of frame) h.hands; refs = with_refs frame 1 h.refs; locks = h.locks ++ poisoned_lock frame ∷ [] }
+hand_next_at frame count at.Retire found h = record h { locks = without (is_lock_of frame) h.locks; refs = less_refs frame 1 h.refs }
 hand_next_at frame count at.Back found h = h
 
 abbrev pub hand_next : Release → ℕ → Hand → Hand
 hand_next r found h = hand_next_at r.frame r.count r.at found h
+
+-- 1 while the frame is in hand, reserved or locked
+abbrev pub class_at : ReleaseAt → ℕ
+class_at at.Put = 4
+class_at at.Back = 4
+class_at _ = 1
+
+abbrev pub class : Release → ℕ
+class r = class_at r.at
+
+-- the turns that are left
+abbrev pub cost_at : ReleaseAt → ℕ
+cost_at at.Put = 3
+cost_at at.Give = 2
+cost_at at.Unreserve = 1
+cost_at at.Adopt = 2
+cost_at at.Retire = 1
+cost_at at.Back = 0
+
+abbrev pub cost : Release → Words → ℕ
+cost r words = cost_at r.at

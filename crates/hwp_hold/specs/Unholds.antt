@@ -1,16 +1,19 @@
 -- A page let go: the task's states, its steps and what they come to.
-use Rattle.std.specs.Prelude.{◌≡◌, ℕ, ◌+◌, ◌<◌, Bool, false, List, [], ◌∷◌, Option, Some, None, is_none, length}
+use Rattle.std.specs.Prelude.{◌≡◌, ℕ, ◌+◌, ◌<◌, min, Bool, true, false, List, [], ◌∷◌, Option, Some, None, is_none, length}
 use Rattle.hwp_geom.specs.declared.Frame.{Frame}
 use Rattle.hwp_geom.specs.declared.Layout.{Layout}
 use Rattle.hwp_geom.specs.declared.Page.{Page}
 use Rattle.hwp_geom.specs.declared.Who.{Who}
-use Rattle.hwp_page.specs.History.{Held}
-use Rattle.hwp_rule.specs.declared.Held.{Held as InHand}
+use Rattle.hwp_page.specs.History.{BodyValue}
+use Rattle.hwp_rule.specs.declared.InHand.{InHand}
 use Rattle.hwp_rule.specs.declared.Step.{Step}
 use Rattle.hwp_rule.specs.declared.Step.TheVariants as steps
 use Rattle.hwp_rule.specs.declared.View.{View}
 use Rattle.hwp_rule.specs.Asks.{CanGoHome}
-use Rattle.hwp_core.specs.Calls.{log_of}
+use Rattle.hwp_rule.specs.Logs.{log_of}
+use Rattle.hwp_rule.specs.Views.{unpoisoned}
+use Rattle.hwp_rule.specs.Words.{Words}
+use Rattle.hwp_hold.specs.declared.hold.Hold.{Hold}
 use Rattle.hwp_hold.specs.declared.release.Release.{Release}
 use Rattle.hwp_hold.specs.declared.release.ReleaseAt.{ReleaseAt}
 use Rattle.hwp_hold.specs.declared.release.ReleaseAt.TheVariants as release_at
@@ -19,14 +22,15 @@ use Rattle.hwp_hold.specs.declared.unhold.UnholdAt.{UnholdAt}
 use Rattle.hwp_hold.specs.declared.unhold.UnholdAt.TheVariants as at
 use Rattle.hwp_step.specs.Calls.{IsOnTurn}
 use Rattle.hwp_step.specs.Hands.{Hand, hand_of, empty}
+use Rattle.hwp_hold.specs.Holds as holds
 use Rattle.hwp_hold.specs.Holds.{page_lock, named, one_ref}
 use Rattle.hwp_hold.specs.Releases as releases
 
-abbrev pub begin_at : Option Frame → Held → UnholdAt
+abbrev pub begin_at : Option Frame → BodyValue → UnholdAt
 begin_at None body = at.UnlockPage (Some body)
 begin_at (Some frame) body = at.UnlockFrame frame (Some body)
 
-abbrev pub begin : Who → Page → Option Frame → Held → Unhold
+abbrev pub begin : Who → Page → Option Frame → BodyValue → Unhold
 begin who page frame body = record { who = who; page = page; at = begin_at frame body }
 
 abbrev pub plan_at : Page → UnholdAt → Option Step
@@ -38,12 +42,12 @@ plan_at page at.Over = None
 abbrev pub plan : Unhold → Option Step
 plan u = plan_at u.page u.at
 
-abbrev pub put_at : UnholdAt → Option Held
+abbrev pub put_at : UnholdAt → Option BodyValue
 put_at (at.UnlockFrame frame body) = body
 put_at (at.UnlockPage body) = body
 put_at _ = None
 
-abbrev pub put : Unhold → Option Held
+abbrev pub put : Unhold → Option BodyValue
 put u = put_at u.at
 
 abbrev pub bare_at : UnholdAt → UnholdAt
@@ -71,13 +75,6 @@ next_at who at.Over found = at.Over
 abbrev pub next : Unhold → ℕ → Unhold
 next u found = record u { at = next_at u.who u.at found }
 
-abbrev pub ShowsAt : UnholdAt → ℕ → Type 0
-ShowsAt (at.Release r) found = releases.Shows r found
-ShowsAt _ found = Unit {0}
-
-abbrev pub Shows : Unhold → ℕ → Type 0
-Shows u found = ShowsAt u.at found
-
 -- the page is locked with its frame, if it is in one, and its body is in hand
 abbrev pub holding : Page → Option Frame → List ℕ → InHand → Bool → Bool → Hand
 holding page None trans body handled poisoned = record empty { pages = page_lock page None (Some trans) ∷ []; bodies = body ∷ [] }
@@ -89,8 +86,8 @@ holding page (Some frame) trans body handled poisoned = record empty {
 }
 
 -- and the body, with the entries that it has now, can go home
-pub record HoldsAhead (layout : Layout) (who : Who) (view : View) (page : Page) (frame : Option Frame) (given : Option Held) : Type 0 where
-  pub body : Held
+pub record HoldsAhead (layout : Layout) (who : Who) (view : View) (page : Page) (frame : Option Frame) (given : Option BodyValue) : Type 0 where
+  pub body : BodyValue
   pub given_is : given ≡ Some body
   pub trans : List ℕ
   pub taken : InHand
@@ -105,8 +102,10 @@ pub record HoldsAhead (layout : Layout) (who : Who) (view : View) (page : Page) 
 -- what is held while the frame is released
 abbrev pub releasing : Page → Frame → ReleaseAt → Hand
 releasing page frame release_at.Put = named page frame (one_ref frame)
-releasing page frame release_at.Give = record (named page frame []) { hands = frame ∷ [] }
+releasing page frame release_at.Give = record (named page frame []) { hands = unpoisoned frame ∷ [] }
 releasing page frame release_at.Unreserve = record (named page frame []) { reserved = 1 }
+releasing page frame release_at.Adopt = record (named page frame []) { hands = record { frame = frame; poisoned = true } ∷ [] }
+releasing page frame release_at.Retire = record (named page frame (one_ref frame)) { locks = releases.poisoned_lock frame ∷ [] }
 releasing page frame release_at.Back = named page frame []
 
 pub record IsReleasing (layout : Layout) (view : View) (who : Who) (page : Page) (r : Release) : Type 0 where
@@ -121,7 +120,7 @@ pub record IsEmptied (view : View) (page : Page) : Type 0 where
   pub frame : Frame
   pub hand_is : hand_of view ≡ named page frame []
 
-abbrev pub FitsPage : Layout → Who → View → Page → Option Held → Type 0
+abbrev pub FitsPage : Layout → Who → View → Page → Option BodyValue → Type 0
 FitsPage layout who view page None = IsEmptied view page
 FitsPage layout who view page (Some body) = HoldsAhead layout who view page None (Some body)
 
@@ -135,3 +134,27 @@ pub record Fits (layout : Layout) (view : View) (u : Unhold) : Type 0 where
   pub on_turn : IsOnTurn view u.who
   pub page : u.page.0 < length layout.pages
   pub at : FitsAt layout view u.who u.page u.at
+
+-- wherever the hold fits, the page can be let go so
+abbrev pub LetsGo : Hold → Unhold → Type 0
+LetsGo h u = (layout : Layout) (view : View) → holds.Fits layout view h → Fits layout view u
+
+-- 1 while the frame is locked, in hand or reserved, and 2 while the page is locked
+abbrev pub class_at : UnholdAt → ℕ
+class_at (at.UnlockFrame frame body) = 1
+class_at (at.Release r) = min (releases.class r) 2
+class_at (at.UnlockPage body) = 2
+class_at at.Over = 4
+
+abbrev pub class : Unhold → ℕ
+class u = class_at u.at
+
+-- the turns that are left
+abbrev pub cost_at : UnholdAt → Words → ℕ
+cost_at (at.UnlockFrame frame body) words = 5
+cost_at (at.Release r) words = releases.cost r words + 1
+cost_at (at.UnlockPage body) words = 1
+cost_at at.Over words = 0
+
+abbrev pub cost : Unhold → Words → ℕ
+cost u words = cost_at u.at words

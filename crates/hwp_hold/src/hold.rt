@@ -1,12 +1,11 @@
 ghost use Rattle.std.specs.Prelude.{◌≡◌, is_some, true};
 
-use crate::machine::Machine;
 use crate::pin::{Pin, PinAnswer};
-use crate::ranked::Ranked;
-use hwp_core::{Turn, frame_in};
+use crate::unhold::Unhold;
 use hwp_geom::{Frame, Layout, Page, Who};
 use hwp_page::Body;
-use hwp_rule::{Place, Step};
+use hwp_rule::{Place, Step, frame_in};
+use hwp_step::{Machine, Ranked, Turn};
 use std::mem;
 
 /// Locks a page and, where the page is in a frame, takes a reference to that frame and locks it too; and takes the page's
@@ -29,6 +28,7 @@ enum HoldAt {
 
 impl Hold {
     ghost use Rattle.hwp_hold.specs.Holds.{begin, answer, pinned, IsBody};
+    ghost use Rattle.hwp_hold.specs.Unholds.{LetsGo};
 
     /// The command holds the page.
     pub fn new(who: Who, page: Page) -> Hold
@@ -61,6 +61,21 @@ impl Hold {
     {
         match self.at {
             HoldAt::Held { body, .. } => body,
+            HoldAt::LockPage
+            | HoldAt::LoadCache { .. }
+            | HoldAt::Pin { .. }
+            | HoldAt::LockFrame { .. } => unreachable!(),
+        }
+    }
+
+    /// Lets the page go, when the task is over, with its body as it was taken.
+    pub fn let_go(self) -> Unhold
+        requires over { is_some (answer self) ≡ true }
+        ensures { LetsGo self result }
+    {
+        let Hold { who, page, at } = self;
+        match at {
+            HoldAt::Held { frame, body } => Unhold::new(who, page, frame, body),
             HoldAt::LockPage
             | HoldAt::LoadCache { .. }
             | HoldAt::Pin { .. }
@@ -176,11 +191,16 @@ impl Machine for Hold {
 }
 
 impl Ranked for Hold {
-    ghost use Rattle.hwp_hold.specs.Ranks.{hold_class, hold_cost};
+    ghost use Rattle.std.specs.Prelude.{false, None};
+    ghost use Rattle.hwp_hold.specs.Holds.{class, cost};
 
-    ghost class_of = { λ h. hold_class h };
+    ghost class_of = { λ h. class h };
 
-    ghost cost = { λ h words. hold_cost h words };
+    ghost cost = { λ h words. cost h words };
+
+    ghost aborts = { λ h. false };
+
+    ghost claims = { λ h. None };
 
     fn class(&self) -> u8 {
         match self.at {

@@ -1,11 +1,9 @@
 ghost use Rattle.std.specs.Prelude.{◌≡◌, is_some, is_none};
 
-use crate::machine::Machine;
-use crate::ranked::Ranked;
-use hwp_core::Turn;
 use hwp_geom::{Frame, Layout, Who};
 use hwp_page::Body;
 use hwp_rule::{Place, Step};
+use hwp_step::{Machine, Ranked, Turn};
 use hwp_words::FrameWord;
 
 /// Takes one reference to a frame, where it is in use (Linux get_page_unless_zero).
@@ -139,11 +137,16 @@ impl Machine for Pin {
 }
 
 impl Ranked for Pin {
-    ghost use Rattle.hwp_hold.specs.Ranks.{pin_cost};
+    ghost use Rattle.std.specs.Prelude.{false, None};
+    ghost use Rattle.hwp_hold.specs.Pins.{cost};
 
     ghost class_of = { λ p. 4 };
 
-    ghost cost = { λ p words. pin_cost p words };
+    ghost cost = { λ p words. cost p words };
+
+    ghost aborts = { λ p. false };
+
+    ghost claims = { λ p. None };
 
     fn class(&self) -> u8 {
         4

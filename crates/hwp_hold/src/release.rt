@@ -1,13 +1,13 @@
 ghost use Rattle.std.specs.Prelude.{◌≡◌, is_some, is_none};
 
-use crate::machine::Machine;
-use hwp_core::Turn;
 use hwp_geom::{Frame, Layout, Who};
 use hwp_page::Body;
 use hwp_rule::Step;
+use hwp_step::{Machine, Ranked, Turn};
 use hwp_words::FrameWord;
 
-/// Gives references to a frame back, and the frame too where they were its last ones (Linux put_page).
+/// Gives references to a frame back. Where they were its last ones the frame becomes free, or, where it is poisoned, is
+/// retired (Linux put_page).
 #[derive(Clone, Copy, Debug, PartialEq, Eq)]
 pub struct Release {
     who: Who,
@@ -21,6 +21,8 @@ enum ReleaseAt {
     Put,
     Give,
     Unreserve,
+    Adopt,
+    Retire,
     Back,
 }
 
@@ -47,10 +49,28 @@ impl Release {
     }
 }
 
+impl Release {
+    ghost use Rattle.hwp_hold.specs.Releases.{next_at};
+    ghost use Rattle.hwp_hold.specs.declared.release.ReleaseAt.TheVariants.{Put};
+
+    fn after_put(count: u32, found: u64) -> ReleaseAt
+        ensures { result ≡ next_at count Put found }
+    {
+        let word = FrameWord::unpack(found);
+        if word.count != count {
+            ReleaseAt::Back
+        } else if word.poisoned {
+            ReleaseAt::Adopt
+        } else {
+            ReleaseAt::Give
+        }
+    }
+}
+
 impl Machine for Release {
     ghost use Rattle.std.specs.Prelude.{◌≡◌, None};
-    ghost use Rattle.hwp_step.specs.declared.turn.Turn.TheVariants.{Moved};
-    ghost use Rattle.hwp_hold.specs.Releases.{plan, next, Shows, Fits};
+    ghost use Rattle.hwp_step.specs.declared.Turn.TheVariants.{Moved};
+    ghost use Rattle.hwp_hold.specs.Releases.{plan, next, Fits};
 
     ghost who = { λ r. r.who };
 
@@ -60,7 +80,7 @@ impl Machine for Release {
 
     ghost bare = { λ r. r };
 
-    ghost shows = { λ r found got. Shows r found };
+    ghost shows = { λ r found got. Unit {0} };
 
     ghost next = { λ layout r found got after result. (after ≡ next r found) × (result ≡ Moved) };
 
@@ -78,6 +98,8 @@ impl Machine for Release {
             }),
             ReleaseAt::Give => Some(Step::GiveBit { frame: self.frame }),
             ReleaseAt::Unreserve => Some(Step::Unreserve),
+            ReleaseAt::Adopt => Some(Step::Adopt { frame: self.frame }),
+            ReleaseAt::Retire => Some(Step::Retire { frame: self.frame }),
             ReleaseAt::Back => None,
         }
     }
@@ -87,24 +109,34 @@ impl Machine for Release {
     }
 
     fn settle(&mut self, _layout: &Layout, found: u64, _body: Option<Body>) -> Turn {
-        match self.at {
-            ReleaseAt::Put => {
-                let word = FrameWord::unpack(found);
-                if word.count != self.count {
-                    self.at = ReleaseAt::Back;
-                } else if word.poisoned {
-                    unreachable!()
-                } else {
-                    self.at = ReleaseAt::Give;
-                }
-            }
-            ReleaseAt::Give => {
-                self.at = ReleaseAt::Unreserve;
-            }
-            ReleaseAt::Unreserve | ReleaseAt::Back => {
-                self.at = ReleaseAt::Back;
-            }
-        }
+        self.at = match self.at {
+            ReleaseAt::Put => Release::after_put(self.count, found),
+            ReleaseAt::Give => ReleaseAt::Unreserve,
+            ReleaseAt::Adopt => ReleaseAt::Retire,
+            ReleaseAt::Unreserve | ReleaseAt::Retire | ReleaseAt::Back => ReleaseAt::Back,
+        };
         Turn::Moved
     }
+}
+
+impl Ranked for Release {
+    ghost use Rattle.std.specs.Prelude.{false, None};
+    ghost use Rattle.hwp_hold.specs.Releases.{class, cost};
+
+    ghost class_of = { λ r. class r };
+
+    ghost cost = { λ r words. cost r words };
+
+    ghost aborts = { λ r. false };
+
+    ghost claims = { λ r. None };
+
+    fn class(&self) -> u8 {
+        match self.at {
+            ReleaseAt::Put | ReleaseAt::Back => 4,
+            ReleaseAt::Give | ReleaseAt::Unreserve | ReleaseAt::Adopt | ReleaseAt::Retire => 1,
+        }
+    }
+
+    fn ranked(&self) {}
 }

@@ -1,11 +1,11 @@
-ghost use Rattle.std.specs.Prelude.{◌≡◌, Some};
+ghost use Rattle.std.specs.Prelude.{◌≡◌, is_none};
 
-use crate::machine::Machine;
 use crate::release::Release;
-use hwp_core::Turn;
 use hwp_geom::{Frame, Layout, Page, Who};
 use hwp_page::Body;
 use hwp_rule::Step;
+use hwp_step::{Machine, Ranked, Turn};
+use std::cmp::min;
 use std::mem;
 
 /// Lets a page go: its body goes home, to the frame that it is in, which is unlocked and released, or to the page's shelf;
@@ -26,7 +26,7 @@ enum UnholdAt {
 }
 
 impl Unhold {
-    ghost use Rattle.hwp_hold.specs.Unholds.{begin, after_release};
+    ghost use Rattle.hwp_hold.specs.Unholds.{begin, plan, after_release};
 
     /// The command lets the page go, with the frame that it is in, if any, and its body.
     pub fn new(who: Who, page: Page, frame: Option<Frame>, body: Body) -> Unhold
@@ -45,6 +45,17 @@ impl Unhold {
         }
     }
 
+    /// Whether the page is let go.
+    pub fn is_over(&self) -> bool
+        ensures { result ≡ is_none (plan self.now) }
+    {
+        match self.at {
+            UnholdAt::UnlockFrame { .. } | UnholdAt::UnlockPage { .. } => false,
+            UnholdAt::Release { release } => release.is_over(),
+            UnholdAt::Over => true,
+        }
+    }
+
     fn after_release(release: Release) -> UnholdAt
         ensures { result ≡ after_release release }
     {
@@ -58,8 +69,8 @@ impl Unhold {
 
 impl Machine for Unhold {
     ghost use Rattle.std.specs.Prelude.{◌≡◌};
-    ghost use Rattle.hwp_step.specs.declared.turn.Turn.TheVariants.{Moved};
-    ghost use Rattle.hwp_hold.specs.Unholds.{plan, put, bare, next, Shows, Fits};
+    ghost use Rattle.hwp_step.specs.declared.Turn.TheVariants.{Moved};
+    ghost use Rattle.hwp_hold.specs.Unholds.{plan, put, bare, next, Fits};
 
     ghost who = { λ u. u.who };
 
@@ -69,7 +80,7 @@ impl Machine for Unhold {
 
     ghost bare = { λ u. bare u };
 
-    ghost shows = { λ u found got. Shows u found };
+    ghost shows = { λ u found got. Unit {0} };
 
     ghost next = { λ layout u found got after result. (after ≡ next u found) × (result ≡ Moved) };
 
@@ -125,4 +136,28 @@ impl Machine for Unhold {
             }
         }
     }
+}
+
+impl Ranked for Unhold {
+    ghost use Rattle.std.specs.Prelude.{false, None};
+    ghost use Rattle.hwp_hold.specs.Unholds.{class, cost};
+
+    ghost class_of = { λ u. class u };
+
+    ghost cost = { λ u words. cost u words };
+
+    ghost aborts = { λ u. false };
+
+    ghost claims = { λ u. None };
+
+    fn class(&self) -> u8 {
+        match self.at {
+            UnholdAt::UnlockFrame { .. } => 1,
+            UnholdAt::Release { release } => min(release.class(), 2),
+            UnholdAt::UnlockPage { .. } => 2,
+            UnholdAt::Over => 4,
+        }
+    }
+
+    fn ranked(&self) {}
 }

@@ -37,3 +37,4 @@ pub mod AdoptedFrames
 pub mod OpeningWords
 pub mod OpeningHolds
 pub mod LossBounds
+pub mod Meeting

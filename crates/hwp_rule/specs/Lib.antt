@@ -9,3 +9,4 @@ pub mod Rule
 pub mod Asks
 pub mod Moves
 pub mod Opening
+pub mod Served

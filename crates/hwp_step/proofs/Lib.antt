@@ -1,2 +1,3 @@
-pub mod Stepping
 pub mod Driving
+pub mod Stepping
+pub mod Ranking

@@ -1,2 +1,5 @@
 pub mod Calls
+pub mod Turns
 pub mod Hands
+pub mod Boards
+pub mod Ranks

@@ -2,12 +2,14 @@
 //! which step comes; and the one driver that makes their steps.
 #![tactic(auto)]
 
+mod board;
 mod driver;
 mod machine;
 mod ops;
 mod ranked;
 mod turn;
 
+pub use board::Board;
 pub use driver::advance;
 pub use machine::Machine;
 pub use ops::{Met, Ops};

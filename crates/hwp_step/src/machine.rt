@@ -1,40 +1,45 @@
-ghost use Rattle.std.specs.Prelude.{◌≡◌, ℕ, Option, Some};
+ghost use Rattle.std.specs.Prelude.{◌≡◌, ℕ, Option};
 ghost use Rattle.hwp_geom.specs.declared.Layout.{Layout as LayoutOf};
 ghost use Rattle.hwp_geom.specs.declared.Who.{Who as WhoOf};
-ghost use Rattle.hwp_page.specs.History.{Held};
-ghost use Rattle.hwp_rule.specs.declared.Log.{Log};
+ghost use Rattle.hwp_page.specs.History.{BodyValue};
 ghost use Rattle.hwp_rule.specs.declared.Step.{Step as StepOf};
 ghost use Rattle.hwp_rule.specs.declared.View.{View};
 ghost use Rattle.hwp_step.specs.declared.turn.Turn.{Turn as TurnOf};
-ghost use Rattle.hwp_step.specs.Calls.{CanStep, CanMake, Steps, FitsLayout, logs};
+ghost use Rattle.hwp_step.specs.Turns.{IsTask};
 
-use hwp_core::Turn;
+use crate::turn::Turn;
 use hwp_geom::{Layout, Who};
 use hwp_page::Body;
 use hwp_rule::Step;
 
 /// A task: which step comes, and what follows from the word and the body that it met. It is data; `advance` makes its steps.
 pub trait Machine {
+    /// The command that the task's steps are of.
     ghost who: { Self → WhoOf };
 
+    /// The step that comes; none where the task is over.
     ghost plan: { Self → Option StepOf };
 
-    ghost put: { Self → Option Held };
+    /// The body that goes home with that step.
+    ghost put: { Self → Option BodyValue };
 
+    /// The task once it has given that body.
     ghost bare: { Self → Self };
 
-    ghost shows: { Self → ℕ → Option Held → Type 0 };
+    /// What the word and the body met are like, where the task fitted.
+    ghost shows: { Self → ℕ → Option BodyValue → Type 0 };
 
-    ghost next: { LayoutOf → Self → ℕ → Option Held → Self → TurnOf → Type 0 };
+    /// Which task follows from the word and the body met, and which turn it was.
+    ghost next: { LayoutOf → Self → ℕ → Option BodyValue → Self → TurnOf → Type 0 };
 
+    /// What the task's steps need of what its processor knows.
     ghost fits: { LayoutOf → View → Self → Type 0 };
 
-    /// The command that the steps are of. Its clauses are the laws of the task: where it fits, its processor can make the step
-    /// that comes, and what follows fits again.
+    /// The command that the steps are of. Its clause `law` is of all tasks of this type: where a task fits, its processor
+    /// can make the step that comes, and what follows fits again.
     fn who(&self) -> Who
         ensures who { result ≡ who self.now }
-        ensures can { (layout : LayoutOf) (view : View) (step : StepOf) → fits layout view self.now → plan self.now ≡ Some step → CanMake layout (who self.now) step (put self.now) view }
-        ensures stays { (layout : LayoutOf) (old new : View) (step : StepOf) (content : Option Log) (found : ℕ) (got : Option Held) → fits layout old self.now → plan self.now ≡ Some step → Steps layout (who self.now) step (logs (put self.now)) old new content found got → shows (bare self.now) found got × ((after : Self) (turn : TurnOf) → next layout (bare self.now) found got after turn → fits layout new after) };
+        ensures law { IsTask who plan put bare shows next fits };
 
     /// The step that comes; `None` where the task is over.
     fn plan(&self) -> Option<Step>

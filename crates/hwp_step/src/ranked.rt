@@ -1,29 +1,30 @@
-ghost use Rattle.std.specs.Prelude.{◌≡◌, ℕ, ◌<◌, Bool, Option, Some, false};
-ghost use Rattle.hwp_geom.specs.declared.Layout.{Layout as LayoutOf};
-ghost use Rattle.hwp_page.specs.History.{Held};
-ghost use Rattle.hwp_rule.specs.declared.Log.{Log};
-ghost use Rattle.hwp_rule.specs.declared.State.{State};
-ghost use Rattle.hwp_rule.specs.declared.Step.{Step as StepOf};
-ghost use Rattle.hwp_rule.specs.declared.View.{View};
-ghost use Rattle.hwp_rule.specs.Words.{Words, words_of};
-ghost use Rattle.hwp_step.specs.declared.turn.Turn.{Turn as TurnOf};
-ghost use Rattle.hwp_step.specs.Calls.{logs};
-ghost use Rattle.hwp_hold.specs.Ranks.{StepsOn, waits, words_then};
+ghost use Rattle.std.specs.Prelude.{◌≡◌, ℕ, Bool, Option};
+ghost use Rattle.hwp_geom.specs.declared.Frame.{Frame};
+ghost use Rattle.hwp_rule.specs.Words.{Words};
+ghost use Rattle.hwp_step.specs.Ranks.{IsRanked, member};
 
 use crate::machine::Machine;
 
 /// A task that comes to an end: its cost falls with each turn that does not wait.
 pub trait Ranked: Machine {
+    /// The class: 1 while a frame is locked, in hand or reserved; else 2 while a page is locked; else 3 while a failure
+    /// isn't ended; else 4. A part that runs under another task tells what it takes itself.
     ghost class_of: { Self → ℕ };
 
+    /// A bound of the turns that are left, with the words as they are.
     ghost cost: { Self → Words → ℕ };
 
-    /// 1 while a frame is locked, in hand or reserved; else 2 while a page is locked; else 3 while a failure isn't ended;
-    /// else 4.
-    fn class(&self) -> u8
-        ensures class { result ≡ class_of self.now };
+    /// The task gives up what it has begun, because another processor has the frame in hand.
+    ghost aborts: { Self → Bool };
 
-    /// Its clauses are the laws of the cost. It does nothing.
+    /// The frame, and the cycle of it, whose failure the task is to end.
+    ghost claims: { Self → Option (Frame × ℕ) };
+
+    /// The class.
+    fn class(&self) -> u8
+        ensures { result ≡ class_of self.now };
+
+    /// Its clause is the law of the rank for all tasks of this type. It does nothing.
     fn ranked(&self)
-        ensures falls { (layout : LayoutOf) (old new : View) (step : StepOf) (content : Option Log) (found : ℕ) (got : Option Held) (board : State) → Self.fits layout old self.now → Self.plan self.now ≡ Some step → StepsOn layout (Self.who self.now) step (logs (Self.put self.now)) old new content found got board → (after : Self) (turn : TurnOf) → Self.next layout (Self.bare self.now) found got after turn → waits turn ≡ false → cost after (words_then layout step found board.words) < cost self.now (words_of layout board.words) };
+        ensures { IsRanked (member Self.who Self.plan Self.put Self.bare Self.next Self.fits class_of cost aborts claims) };
 }

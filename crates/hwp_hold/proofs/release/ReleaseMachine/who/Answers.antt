@@ -1,5 +1,5 @@
 use Rattle.hwp_hold.proofs.release.ReleaseMachine.who.Goals as goal
-use Rattle.hwp_hold.proofs.Releasing.{stays}
+use Rattle.hwp_hold.proofs.Releasing.{can, stays}
 
-pub returns-clause-stays : goal.returns-clause-stays
-returns-clause-stays c layout old new step = stays layout old new c.args.self.now step
+pub returns-clause-law : goal.returns-clause-law
+returns-clause-law c = record { can = can; stays = stays }

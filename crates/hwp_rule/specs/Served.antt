@@ -1,0 +1,13 @@
+-- The steps that a board can make so far: those whose kind is proved to keep the rule.
+use Rattle.hwp_rule.specs.declared.step.Step.{Step}
+use Rattle.hwp_rule.specs.declared.step.Step.TheVariants as steps
+
+-- all kinds but those by which memory fails
+abbrev pub IsServed : Step → Type 0
+IsServed (steps.Poison frame hardware) = ⊥
+IsServed (steps.CountPoison hardware) = ⊥
+IsServed steps.Uncount = ⊥
+IsServed (steps.Spoil frame line damage) = ⊥
+IsServed (steps.Kill process page body) = ⊥
+IsServed (steps.Lose file body) = ⊥
+IsServed step = Unit {0}
