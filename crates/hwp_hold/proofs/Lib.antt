@@ -3,3 +3,10 @@ pub mod Releasing
 pub mod Holding
 pub mod Unholding
 pub mod Ranking
+pub mod Making
+pub mod Freeing
+pub mod Taking
+pub mod TakeCosts
+pub mod Referring
+pub mod Bringing
+pub mod Filling
