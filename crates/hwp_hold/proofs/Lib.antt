@@ -10,3 +10,4 @@ pub mod TakeCosts
 pub mod Referring
 pub mod Bringing
 pub mod Filling
+pub mod GivingUp
