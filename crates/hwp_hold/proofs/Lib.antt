@@ -11,3 +11,4 @@ pub mod Referring
 pub mod Bringing
 pub mod Filling
 pub mod GivingUp
+pub mod FillCosts

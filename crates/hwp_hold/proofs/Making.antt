@@ -1,4 +1,4 @@
--- A step that a task made on a board: what it met, the words after it, and that it was a step of the task's part.
+-- A step that a task made on a board: what it met, and the words after it.
 use Rattle.std.proofs.Common.{◌≡◌, ℕ, ◌^◌, ◌<◌, Option, Some, slice_get, slice_index, refl, sym, ap, ◌∙◌, subst}
 use Rattle.hwp_geom.specs.declared.Layout.{Layout}
 use Rattle.hwp_geom.specs.declared.Who.{Who}
@@ -33,23 +33,6 @@ words_then layout a step found = put (place_of step) (word_after step found) (wo
 module _ {S : Type 0} {m : Member S} {layout : Layout} {seat : ℕ} {a b : State} {s t : S} {turn : Turn} (made : Made m layout seat a b s t turn) where
   pub is-met : IsMet layout a seat (view_of a seat) made.step made.found
   is-met = record { rule = made.rule; me = me made; place = made.move.asks.place; fits = made.move.fits; met = made.move.met }
-
-  -- the step was one of a part of the task
-  pub part-made : {T : Type 0} (c : Member T) (x y : T) (result : Turn) → c.fits layout (view_of a seat) x → c.plan x ≡ Some made.step → c.who x ≡ m.who s → c.put x ≡ m.put s
-      → c.next layout (c.bare x) made.found made.got y result → Made c layout seat a b x y result
-  part-made c x y result fits is own gave follows = record {
-    step = made.step;
-    found = made.found;
-    got = made.got;
-    rule = made.rule;
-    kept = made.kept;
-    fits = fits;
-    planned = is;
-    move = subst (λ (w : Who). Move layout seat (rec_of layout w made.step (logs (c.put x)) made.found made.got) a b) (sym own)
-        (subst (λ (p : Option BodyValue). Move layout seat (rec_of layout (m.who s) made.step (logs p) made.found made.got) a b) (sym gave) made.move);
-    brings = made.brings;
-    follows = follows;
-  }
 
 module _ {layout : Layout} {a : State} {seat : ℕ} {view : View} {step : Step} {found : ℕ} (on : IsMet layout a seat view step found) where
   pub read-met : read (place_of step) (words_at layout a) ≡ found

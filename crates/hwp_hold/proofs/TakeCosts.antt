@@ -1,6 +1,6 @@
 -- The cost of a take falls.
 use Rattle.std.proofs.Common.{◌≡◌, ◌≢◌, ℕ, ◌+◌, ◌-◌, ◌*◌, ◌/◌, ◌<◌, ◌≤◌, ◌==◌, nat_lt, Bool, true, false, not, cond, Option, Some, None, length, slice_get, slice_index, refl, sym, ap, ◌∙◌, subst, arith}
-use Rattle.std.proofs.lemmas.Bool.{eqb-true, eqb-false, ne_eqb, ltb-true, ltb-false}
+use Rattle.std.proofs.lemmas.Bool.{both_ways, eqb-true, eqb-false, ne_eqb, ltb-true, ltb-false}
 use Rattle.std.proofs.lemmas.Option.{none-some, same_Some}
 use Rattle.hwp_geom.specs.declared.Frame.{Frame}
 use Rattle.hwp_geom.specs.declared.Layout.{Layout}
@@ -13,13 +13,17 @@ use Rattle.hwp_rule.specs.Rule.{Holds}
 use Rattle.hwp_rule.specs.Steps.{word_after}
 use Rattle.hwp_rule.specs.Words.{Words, free_words, free_bit}
 use Rattle.hwp_rule.proofs.Lists.{same-number}
-use Rattle.hwp_step.specs.Ranks.{stale, top, words_at}
+use Rattle.hwp_step.specs.declared.Turn.TheVariants.{Moved, Changed}
+use Rattle.hwp_step.specs.Boards.{view_of}
+use Rattle.hwp_step.specs.Ranks.{Member, member, IsRanked, is_waits, stale, top, words_at}
+use Rattle.hwp_step.proofs.Ranking.{words-after, rank-of}
 use Rattle.hwp_hold.specs.declared.take.Take.{Take}
 use Rattle.hwp_hold.specs.declared.take.TakeAt.{TakeAt}
 use Rattle.hwp_hold.specs.declared.take.TakeAt.TheVariants as take_at
-use Rattle.hwp_hold.specs.Takes.{at_available, after_word, lowest_free, has_bit, plan, plan_at, next, next_at, Fits, FitsAt, class, class_at, are_empty, cost, cost_at}
+use Rattle.hwp_hold.specs.Takes.{at_available, after_word, lowest_free, has_bit, plan, plan_at, next, next_at, turn, turn_at, Fits, FitsAt, class, class_at, are_empty, cost, cost_at}
 use Rattle.hwp_hold.proofs.Freeing.{all_zero, frees-length, some-free, some-reserved, shown, lowest-shown, none-cleared, zero-on, not-zero, zero-past}
-use Rattle.hwp_hold.proofs.Making.{IsMet, words_then, read-met, words-stay}
+use Rattle.hwp_hold.proofs.Making.{IsMet, words_then, is-met, read-met, words-stay}
+use Rattle.hwp_hold.proofs.Ranking.{stale-most}
 
 -- the cost after a number of available frames that is still so
 number-cost : (w : Words) (found : ℕ) (none : Bool) → w.available ≡ found → cost_at (length w.frees) (cond none (take_at.Over None) (take_at.Reserve found)) w ≤ length w.frees + 5
@@ -132,10 +136,6 @@ module _ (layout : Layout) (a : State) (seat : ℕ) (view : View) (found : ℕ) 
       which (take_at.Adopt frame) fit e = omega arith
       which (take_at.Over frame) fit e = absurd (none-some step e)
 
-stale-most : (b : Bool) → stale b ≤ 4096
-stale-most true = omega arith
-stale-most false = omega arith
-
 -- costs are small
 pub small : (layout : Layout) (a : State) (t : Take) → Holds layout a → cost t (words_at layout a) ≤ 8204
 small layout a t rule = which t.at
@@ -153,3 +153,40 @@ small layout a t rule = which t.at
         omega (arith, one, two)
     which (take_at.Adopt frame) = omega arith
     which (take_at.Over frame) = omega arith
+
+class-within : (t : Take) → (1 ≤ class t) × (class t ≤ 4)
+class-within t = which t.at
+  where
+    which : (x : TakeAt) → (1 ≤ class_at x) × (class_at x ≤ 4)
+    which take_at.LoadAvailable = (omega arith, omega arith)
+    which (take_at.Reserve seen) = (omega arith, omega arith)
+    which (take_at.LoadFree number) = (omega arith, omega arith)
+    which (take_at.TakeBit frame) = (omega arith, omega arith)
+    which (take_at.Adopt frame) = (omega arith, omega arith)
+    which (take_at.Over None) = (omega arith, omega arith)
+    which (take_at.Over (Some frame)) = (omega arith, omega arith)
+
+-- it never waits
+pub goes-on : (t : Take) (found : ℕ) → is_waits (turn t found) ≡ false
+goes-on t found = which t.at
+  where
+    by : (b : Bool) → is_waits (cond b Moved (Changed found)) ≡ false
+    by true = refl
+    by false = refl
+
+    which : (x : TakeAt) → is_waits (turn_at x found) ≡ false
+    which take_at.LoadAvailable = refl
+    which (take_at.Reserve seen) = by (found == seen)
+    which (take_at.LoadFree number) = refl
+    which (take_at.TakeBit frame) = by (has_bit frame found)
+    which (take_at.Adopt frame) = refl
+    which (take_at.Over frame) = refl
+
+abbrev take-member : Member Take
+take-member = member (λ t. t.who) plan (λ t. None) (λ t. t) (λ layout t found got after result. (after ≡ next layout t found) × (result ≡ turn t found)) Fits class cost (λ t. false) (λ t. None)
+
+pub ranked : IsRanked take-member
+ranked = rank-of take-member (λ s. refl) class-within (λ layout a seat s rule fits. let few : cost s (words_at layout a) ≤ 8204 = small layout a s rule in omega arith)
+    (λ layout seat a b s t turned made goes. subst (λ (x : Take). cost x (words_at layout b) < cost s (words_at layout a)) (sym made.follows.0)
+    (subst (λ (w : Words). cost (next layout s made.found) w < cost s (words_at layout a)) (sym (words-after made)) (falls layout a seat (view_of a seat) made.found s made.step (is-met made) made.fits made.planned)))
+    (λ layout seat a b s t turned made is quiet. absurd (both_ways true (sym is ∙ ap is_waits made.follows.1 ∙ goes-on s made.found) refl))
