@@ -197,6 +197,8 @@ give-up-release r w = which r.at
     which release_at.Put = refl
     which release_at.Give = refl
     which release_at.Unreserve = refl
+    which release_at.Adopt = refl
+    which release_at.Retire = refl
     which release_at.Back = refl
 
 pub give-up-falls : (w now : Words) (g : GiveUp) (step : Step) (found : ℕ) → give_ups.plan g ≡ Some step → give_ups.cost (give_ups.next (give_ups.bare g) found) now < give_ups.cost g w

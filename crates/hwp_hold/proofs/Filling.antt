@@ -17,7 +17,7 @@ use Rattle.hwp_rule.specs.declared.Step.TheVariants as steps
 use Rattle.hwp_rule.specs.declared.View.{View}
 use Rattle.hwp_rule.specs.Asks.{HasLock, HasPage, CanName}
 use Rattle.hwp_rule.specs.Logs.{log_of}
-use Rattle.hwp_rule.specs.Views.{refs_on, is_body_of, frame_in, with_named, less_refs, less_named}
+use Rattle.hwp_rule.specs.Views.{unpoisoned, refs_on, is_body_of, frame_in, with_named, less_refs, less_named}
 use Rattle.hwp_rule.specs.Words.{words_of}
 use Rattle.hwp_rule.specs.parts.Fits.{KnowsWords}
 use Rattle.hwp_rule.proofs.Lists.{same-number}
@@ -78,12 +78,12 @@ take-on layout page body seen (take_at.LoadFree number) found on = by (found == 
     by false = refl
 take-on layout page body seen (take_at.TakeBit frame) found on = by (takes.has_bit frame found)
   where
-    by : (b : Bool) → cond b (record (base layout page body seen) { reserved = 1 - 1; hands = [] ++ frame ∷ [] }) (record (base layout page body seen) { reserved = 1 })
+    by : (b : Bool) → cond b (record (base layout page body seen) { reserved = 1 - 1; hands = [] ++ unpoisoned frame ∷ [] }) (record (base layout page body seen) { reserved = 1 })
         ≡ with_take (cond b (take_at.Adopt frame) (take_at.LoadFree (frame.0 / 64))) (base layout page body seen)
     by true = refl
     by false = refl
 take-on layout page body seen (take_at.Adopt frame) found on =
-    ap (λ (b : Bool). record (base layout page body seen) { hands = cond b [] (frame ∷ []); refs = one_ref frame; locks = new_lock frame ∷ [] }) (same-number frame.0 frame.0 refl)
+    ap (λ (b : Bool). record (base layout page body seen) { hands = cond b [] (unpoisoned frame ∷ []); refs = one_ref frame; locks = new_lock frame ∷ [] }) (same-number frame.0 frame.0 refl)
 take-on layout page body seen (take_at.Over frame) found on = absurd (both_ways true on refl)
 
 -- the references, before and after the second one was taken
@@ -251,7 +251,7 @@ both layout old new f step found got fits is made = (all.0, record { on_turn = o
             → hand_of new ≡ with_frame r.frame (f.page.0 + 1) (count_at (refers.next_at r.at found)) (base layout f.page f.body has.both.seen)
         referred r e has own = referring.held-after r e own (with_frame r.frame (f.page.0 + 1) 1 (base layout f.page f.body has.both.seen)) has.both.hand_is
             ∙ subst (λ (c : ℕ). refers.hand_next_at r.frame c r.at found (with_frame r.frame (f.page.0 + 1) 1 (base layout f.page f.body has.both.seen)) ≡ with_frame r.frame (f.page.0 + 1) (count_at (refers.next_at r.at found)) (base layout f.page f.body has.both.seen))
-                (sym has.count) (refer-on r.frame (f.page.0 + 1) (base layout f.page f.body has.both.seen) r.at found (subst (λ (c : ℕ). is_none (refers.plan_at r.frame c r.at) ≡ false) has.count has.under_way))
+            (sym has.count) (refer-on r.frame (f.page.0 + 1) (base layout f.page f.body has.both.seen) r.at found (subst (λ (c : ℕ). is_none (refers.plan_at r.frame c r.at) ≡ false) has.count has.under_way))
     which (at.SetCache frame) e has = (has.entry.room, cache-set on frame fits.page has (steps-planned e made))
     which (at.Over frame) e has = absurd (none-some step e)
 

@@ -23,7 +23,7 @@ use Rattle.hwp_rule.proofs.Counting.{below-zero}
 use Rattle.hwp_rule.proofs.Lists.{at_map, term-le}
 use Rattle.hwp_rule.proofs.Meeting.{free-within}
 use Rattle.hwp_rule.proofs.Moving.{shaped}
-use Rattle.hwp_rule.proofs.Split.{words-read}
+use Rattle.hwp_rule.proofs.WordsByKind.{words-read}
 
 -- the lowest bit of a word is where its low zeros end
 pub lowest-is : (word k : ℕ) → 0 < word → word < 2 ^ 64 → IsLowestBit word k → k ≡ trailing_zeros w64 word

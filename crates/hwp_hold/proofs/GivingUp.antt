@@ -7,6 +7,7 @@ use Rattle.hwp_geom.specs.declared.Layout.{Layout}
 use Rattle.hwp_geom.specs.declared.Page.{Page}
 use Rattle.hwp_geom.specs.declared.Who.{Who}
 use Rattle.hwp_page.specs.History.{BodyValue}
+use Rattle.hwp_words.specs.Frames.{is_poisoned}
 use Rattle.hwp_rule.specs.declared.FrameLock.{FrameLock}
 use Rattle.hwp_rule.specs.declared.InHand.{InHand}
 use Rattle.hwp_rule.specs.declared.Log.{Log}
@@ -34,7 +35,7 @@ use Rattle.hwp_hold.specs.declared.unhold.UnholdAt.TheVariants as unhold_at
 use Rattle.hwp_hold.specs.Holds.{one_ref}
 use Rattle.hwp_hold.specs.Releases as releases
 use Rattle.hwp_hold.specs.Unholds as unholds
-use Rattle.hwp_hold.specs.GiveUps.{with_page, with_frame, plan, plan_at, put, put_at, bare, bare_at, after_unhold, after_release, next, next_at, turn, ShowsAt, Shows, IsLettingGo, holding, HoldsFrame, releasing, IsReleasing, Fits, FitsAt}
+use Rattle.hwp_hold.specs.GiveUps.{with_page, with_frame, plan, plan_at, put, put_at, bare, bare_at, after_unhold, after_release, next, next_at, turn, IsLettingGo, holding, HoldsFrame, releasing, IsReleasing, Fits, FitsAt}
 use Rattle.hwp_hold.proofs.Releasing as releasing_laws
 use Rattle.hwp_hold.proofs.Unholding as unholding_laws
 
@@ -46,13 +47,17 @@ frame-freed frame page taken log handled poisoned of_log of_taken = grind arith
 
 released : (r : Release) (x : ReleaseAt) (found : ℕ) → r.count ≡ 1 → is_none (releases.plan_at r.frame r.count x) ≡ false
     → releases.hand_next_at r.frame r.count x found (releasing r.frame x) ≡ releasing r.frame (releases.next_at r.count x found)
-released r release_at.Put found one on = by (is_last r.count found)
+released r release_at.Put found one on = by (is_last r.count found) (is_poisoned found)
   where
-    by : (b : Bool) → record (releasing r.frame release_at.Put) { refs = less_refs r.frame r.count (one_ref r.frame); hands = cond b ([] ++ r.frame ∷ []) [] } ≡ releasing r.frame (cond b release_at.Give release_at.Back)
-    by true = grind arith
-    by false = grind arith
+    by : (b p : Bool) → record (releasing r.frame release_at.Put) { refs = less_refs r.frame r.count (one_ref r.frame); hands = cond b ([] ++ (record { frame = r.frame; poisoned = p }) ∷ []) [] }
+        ≡ releasing r.frame (cond b (cond p release_at.Adopt release_at.Give) release_at.Back)
+    by true true = grind arith
+    by true false = grind arith
+    by false p = grind arith
 released r release_at.Give found one on = grind arith
 released r release_at.Unreserve found one on = grind arith
+released r release_at.Adopt found one on = grind arith
+released r release_at.Retire found one on = grind arith
 released r release_at.Back found one on = absurd (both_ways true on refl)
 
 counted : (frame : Frame) → 1 + locks_on frame.0 [] ≤ refs_on frame.0 (one_ref frame)
@@ -109,7 +114,7 @@ module _ (layout : Layout) (old new : View) (who : Who) (found : ℕ) (got : Opt
       → FitsAt layout new who (at.Release (releases.begin who frame 1))
   frame-let-go frame body on has made = record {
     hand_is = hand;
-    release = record { on_turn = on; frame = has.within; at = (omega arith, subst (λ (h : Hand). 1 + locks_on frame.0 h.locks ≤ refs_on frame.0 h.refs) (sym hand) (counted frame)) };
+    release = record { on_turn = on; frame = has.within; at = (omega arith, subst (λ (h : Hand). 1 + locks_on frame.0 h.locks ≤ refs_on frame.0 h.refs) (sym hand) (counted frame), subst (λ (h : Hand). length h.locks < 2) (sym hand) (omega arith)) };
     own = refl;
     count = refl;
     under_way = refl;
@@ -122,42 +127,38 @@ module _ (layout : Layout) (old new : View) (who : Who) (found : ℕ) (got : Opt
 
   release-moved : (r : Release) (step : Step) → IsReleasing layout old who r → releases.plan r ≡ Some step → (made : Steps layout r.who step None old new found got) → releases.Fits layout new (releases.next r found)
       → FitsAt layout new who (after_release (releases.next r found))
-  release-moved r step has is made fits = which (releases.next_at r.count r.at found) (releasing_laws.held-after r is made (releasing r.frame r.at) has.hand_is ∙ released r r.at found has.count has.under_way) fits
+  release-moved r step has is made fits = which (releases.next_at r.count r.at found) (releasing_laws.held-after r is made has.release (releasing r.frame r.at) has.hand_is ∙ released r r.at found has.count has.under_way) fits
     where
       which : (x : ReleaseAt) → hand_of new ≡ releasing r.frame x → releases.Fits layout new (record r { at = x }) → FitsAt layout new who (after_release (record r { at = x }))
       which release_at.Put hand fits = record { hand_is = hand; release = fits; own = has.own; count = has.count; under_way = refl }
       which release_at.Give hand fits = record { hand_is = hand; release = fits; own = has.own; count = has.count; under_way = refl }
       which release_at.Unreserve hand fits = record { hand_is = hand; release = fits; own = has.own; count = has.count; under_way = refl }
+      which release_at.Adopt hand fits = record { hand_is = hand; release = fits; own = has.own; count = has.count; under_way = refl }
+      which release_at.Retire hand fits = record { hand_is = hand; release = fits; own = has.own; count = has.count; under_way = refl }
       which release_at.Back hand fits = hand
 
--- a step shows what is needed, and what follows fits again
-pub both : (layout : Layout) (old new : View) (g : GiveUp) (step : Step) (found : ℕ) (got : Option BodyValue) → Fits layout old g → plan g ≡ Some step → Steps layout g.who step (logs (put g)) old new found got
-    → Shows (bare g) found × Fits layout new (next (bare g) found)
-both layout old new g step found got fits is made = let all = which g.at is fits.at made in (all.0, record { on_turn = on; at = all.1 })
+-- what follows a step fits again
+pub moved : (layout : Layout) (old new : View) (g : GiveUp) (step : Step) (found : ℕ) (got : Option BodyValue) → Fits layout old g → plan g ≡ Some step → Steps layout g.who step (logs (put g)) old new found got → Fits layout new (next (bare g) found)
+moved layout old new g step found got fits is made = record { on_turn = on; at = which g.at is fits.at made }
   where
     on : IsOnTurn new g.who
     on = on-turn-after fits.on_turn made
 
-    which : (x : GiveUpAt) → plan_at x ≡ Some step → FitsAt layout old g.who x → Steps layout g.who step (logs (put_at x)) old new found got → ShowsAt (bare_at x) found × FitsAt layout new g.who (next_at g.who (bare_at x) found)
-    which (at.Unhold u) e has made = (child.0, unhold-moved layout old new g.who found got (unholds.next (unholds.bare u) found) has.own child.1)
-      where
-        child : unholds.Shows (unholds.bare u) found × unholds.Fits layout new (unholds.next (unholds.bare u) found)
-        child = unholding_laws.both layout old new u step found got has.unhold e (subst (λ (w : Who). Steps layout w step (logs (unholds.put u)) old new found got) (sym has.own) made)
-    which (at.UnlockFrame frame body) e has made = (tt, frame-let-go layout old new g.who found got frame body on has (steps-planned e made))
-    which (at.Release r) e has made = (child.0, release-moved layout old new g.who found got r step has e own child.1)
+    which : (x : GiveUpAt) → plan_at x ≡ Some step → FitsAt layout old g.who x → Steps layout g.who step (logs (put_at x)) old new found got → FitsAt layout new g.who (next_at g.who (bare_at x) found)
+    which (at.Unhold u) e has made = unhold-moved layout old new g.who found got (unholds.next (unholds.bare u) found) has.own
+        (unholding_laws.moved layout old new u step found got has.unhold e (subst (λ (w : Who). Steps layout w step (logs (unholds.put u)) old new found got) (sym has.own) made))
+    which (at.UnlockFrame frame body) e has made = frame-let-go layout old new g.who found got frame body on has (steps-planned e made)
+    which (at.Release r) e has made = release-moved layout old new g.who found got r step has e own (releasing_laws.moved r e own has.release)
       where
         own : Steps layout r.who step None old new found got
         own = subst (λ (w : Who). Steps layout w step None old new found got) (sym has.own) made
-
-        child : releases.Shows r found × releases.Fits layout new (releases.next r found)
-        child = releasing_laws.both layout old new r step found got has.release e own
-    which at.GiveUp e has made = (tt, hand-planned made e has)
+    which at.GiveUp e has made = hand-planned made e has
     which at.Over e has made = absurd (none-some step e)
 
 pub stays : (layout : Layout) (old new : View) (g : GiveUp) (step : Step) (found : ℕ) (got : Option BodyValue) → Fits layout old g → plan g ≡ Some step → Steps layout g.who step (logs (put g)) old new found got
-    → Shows (bare g) found × ((after : GiveUp) (result : Turn) → (after ≡ next (bare g) found) × (result ≡ turn (bare g)) → Fits layout new after × (after.who.cpu ≡ g.who.cpu))
-stays layout old new g step found got fits is made = let all = both layout old new g step found got fits is made in
-    (all.0, λ after result follows. (subst (Fits layout new) (sym follows.0) all.1, ap (λ (x : GiveUp). x.who.cpu) follows.0))
+    → Unit {0} × ((after : GiveUp) (result : Turn) → (after ≡ next (bare g) found) × (result ≡ turn (bare g)) → Fits layout new after × (after.who.cpu ≡ g.who.cpu))
+stays layout old new g step found got fits is made =
+    (tt, λ after result follows. (subst (Fits layout new) (sym follows.0) (moved layout old new g step found got fits is made), ap (λ (x : GiveUp). x.who.cpu) follows.0))
 
 -- ---- before it
 

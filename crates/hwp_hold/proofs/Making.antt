@@ -11,7 +11,7 @@ use Rattle.hwp_rule.specs.Moves.{Move}
 use Rattle.hwp_rule.specs.Rule.{Holds}
 use Rattle.hwp_rule.specs.Steps.{place_of, word_after}
 use Rattle.hwp_rule.specs.Words.{Words, put, read, index, IsPlace}
-use Rattle.hwp_rule.proofs.Split.{words-read, same-put}
+use Rattle.hwp_rule.proofs.WordsByKind.{words-read, same-put}
 use Rattle.hwp_step.specs.declared.Turn.{Turn}
 use Rattle.hwp_step.specs.Boards.{view_of}
 use Rattle.hwp_step.specs.Calls.{logs, rec_of}

@@ -8,6 +8,7 @@ use Rattle.hwp_geom.specs.declared.Layout.{Layout}
 use Rattle.hwp_geom.specs.declared.Who.{Who}
 use Rattle.hwp_page.specs.History.{BodyValue}
 use Rattle.hwp_words.specs.Frames.{is_handled, is_poisoned}
+use Rattle.hwp_rule.specs.declared.FrameInHand.{FrameInHand}
 use Rattle.hwp_rule.specs.declared.FrameLock.{FrameLock}
 use Rattle.hwp_rule.specs.declared.Place.TheVariants as places
 use Rattle.hwp_rule.specs.declared.State.{State}
@@ -17,7 +18,8 @@ use Rattle.hwp_rule.specs.declared.View.{View}
 use Rattle.hwp_rule.specs.Asks.{HasInHand, HasRoom}
 use Rattle.hwp_rule.specs.Lists.{SomeMember}
 use Rattle.hwp_rule.specs.Rule.{Holds}
-use Rattle.hwp_rule.specs.Views.{lock_found, with_refs, without, is_frame}
+use Rattle.hwp_rule.specs.Views.{lock_found, with_refs, without, is_hand_of}
+use Rattle.hwp_rule.specs.Views as views
 use Rattle.hwp_rule.specs.Words.{words_of, index, free_words}
 use Rattle.hwp_rule.specs.Steps.{place_of}
 use Rattle.hwp_rule.specs.parts.Places.{IsBare, in_hand}
@@ -42,7 +44,7 @@ can layout view t step fits is = which t.at fits.at is
     which at.LoadAvailable at e = can-make fits.on_turn e tt tt tt
     which (at.Reserve seen) at e = can-make fits.on_turn e tt tt (at.0, at.1.0)
     which (at.LoadFree number) at e = can-make fits.on_turn e tt at.0 tt
-    which (at.TakeBit frame) at e = can-make fits.on_turn e tt (let inside : frame.0 < layout.frames = at.0 in omega arith) at.1.0
+    which (at.TakeBit frame) at e = can-make fits.on_turn e tt (let inside : frame.0 < layout.frames = at.0 in omega arith) (at.0, at.1.0)
     which (at.Adopt frame) at e = can-make fits.on_turn e tt at.0 (at.1.0, at.1.1)
     which (at.Over frame) at e = absurd (none-some step e)
 
@@ -87,7 +89,7 @@ module _ {layout : Layout} {old new : View} {step : Step} {found : ℕ} {got : O
       which (at.LoadFree number) e at = hand-planned made e has
       which (at.TakeBit frame) e at = hand-planned made e has
       which (at.Adopt frame) e at = hand-planned made e has
-          ∙ ap (λ (l : FrameLock). record h { hands = without (is_frame frame) h.hands; refs = with_refs frame 1 h.refs; locks = h.locks ++ l ∷ [] }) (lock-bare frame e at).1
+          ∙ ap (λ (l : FrameLock). record h { hands = without (is_hand_of frame) h.hands; refs = with_refs frame 1 h.refs; locks = h.locks ++ l ∷ [] }) (lock-bare frame e at).1
       which (at.Over frame) e at = absurd (none-some step e)
 
   moved : (x : TakeAt) → plan_at x ≡ Some step → FitsAt layout old x → hand_of new ≡ hand_next_at x found (hand_of old) → ShowsAt x found × FitsAt layout new (next_at layout x found)
@@ -121,8 +123,8 @@ module _ {layout : Layout} {old new : View} {step : Step} {found : ℕ} {got : O
       by false some = ((lowest-shown layout own.told.board own.told.rule number found fit.0 own.told.met (omega (arith, eqb-false found 0 some)) own.told.fits).0, room)
   moved (at.TakeBit frame) e fit hand = (tt, by (has_bit frame found) hand)
     where
-      by : (b : Bool) → hand_of new ≡ cond b (record (hand_of old) { reserved = old.reserved - 1; hands = old.hands ++ frame ∷ [] }) (hand_of old) → FitsAt layout new (cond b (at.Adopt frame) (at.LoadFree (frame.0 / 64)))
-      by true hand = (fit.0, (subst (λ (h : Hand). SomeMember (λ (f : Frame). f ≡ frame) h.hands) (sym hand) (some-last (λ (f : Frame). f ≡ frame) old.hands frame refl), subst LockRoomIn (sym hand) fit.1.1))
+      by : (b : Bool) → hand_of new ≡ cond b (record (hand_of old) { reserved = old.reserved - 1; hands = old.hands ++ views.unpoisoned frame ∷ [] }) (hand_of old) → FitsAt layout new (cond b (at.Adopt frame) (at.LoadFree (frame.0 / 64)))
+      by true hand = (fit.0, (subst (λ (h : Hand). SomeMember (λ (f : FrameInHand). f.frame ≡ frame) h.hands) (sym hand) (some-last (λ (f : FrameInHand). f.frame ≡ frame) old.hands (views.unpoisoned frame) refl), subst LockRoomIn (sym hand) fit.1.1))
       by false hand =
           let inside : frame.0 < layout.frames = fit.0 in
           let within : frame.0 / 64 < free_words layout = omega arith in

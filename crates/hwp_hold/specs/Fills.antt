@@ -11,6 +11,7 @@ use Rattle.hwp_rule.specs.declared.Step.{Step}
 use Rattle.hwp_rule.specs.declared.Step.TheVariants as steps
 use Rattle.hwp_rule.specs.declared.View.{View}
 use Rattle.hwp_rule.specs.Logs.{log_of}
+use Rattle.hwp_rule.specs.Views.{unpoisoned}
 use Rattle.hwp_rule.specs.Words.{Words}
 use Rattle.hwp_step.specs.declared.Turn.{Turn}
 use Rattle.hwp_step.specs.declared.Turn.TheVariants.{Moved}
@@ -117,7 +118,7 @@ answer f = answer_at f.at
 abbrev pub with_take : TakeAt → Hand → Hand
 with_take (take_at.LoadFree number) h = record h { reserved = 1 }
 with_take (take_at.TakeBit frame) h = record h { reserved = 1 }
-with_take (take_at.Adopt frame) h = record h { hands = frame ∷ [] }
+with_take (take_at.Adopt frame) h = record h { hands = unpoisoned frame ∷ [] }
 with_take (take_at.Over (Some frame)) h = record h { locks = new_lock frame ∷ []; refs = one_ref frame }
 with_take _ h = h
 

@@ -1,5 +1,5 @@
 -- A command given up for want of memory: the task's states, its steps and what they come to.
-use Rattle.std.specs.Prelude.{◌≡◌, ℕ, ◌+◌, ◌<◌, Bool, false, cond, [], ◌∷◌, Option, Some, None, is_none}
+use Rattle.std.specs.Prelude.{◌≡◌, ℕ, ◌+◌, ◌<◌, Bool, true, false, cond, [], ◌∷◌, Option, Some, None, is_none}
 use Rattle.hwp_geom.specs.declared.Frame.{Frame}
 use Rattle.hwp_geom.specs.declared.Layout.{Layout}
 use Rattle.hwp_geom.specs.declared.Page.{Page}
@@ -11,6 +11,7 @@ use Rattle.hwp_rule.specs.declared.Step.TheVariants as steps
 use Rattle.hwp_rule.specs.declared.View.{View}
 use Rattle.hwp_rule.specs.Asks.{CanGoHome}
 use Rattle.hwp_rule.specs.Logs.{log_of}
+use Rattle.hwp_rule.specs.Views.{unpoisoned}
 use Rattle.hwp_rule.specs.Words.{Words}
 use Rattle.hwp_step.specs.declared.Turn.{Turn}
 use Rattle.hwp_step.specs.declared.Turn.TheVariants.{Moved, NoMemory}
@@ -90,14 +91,6 @@ turn_at _ = Moved
 abbrev pub turn : GiveUp → Turn
 turn g = turn_at g.at
 
-abbrev pub ShowsAt : GiveUpAt → ℕ → Type 0
-ShowsAt (at.Unhold u) found = unholds.Shows u found
-ShowsAt (at.Release r) found = releases.Shows r found
-ShowsAt _ found = Unit {0}
-
-abbrev pub Shows : GiveUp → ℕ → Type 0
-Shows g found = ShowsAt g.at found
-
 -- the page is being let go
 pub record IsLettingGo (layout : Layout) (view : View) (who : Who) (u : Unhold) : Type 0 where
   pub unhold : unholds.Fits layout view u
@@ -128,8 +121,10 @@ pub record HoldsFrame (layout : Layout) (who : Who) (view : View) (frame : Frame
 -- what is held while the frame is released
 abbrev pub releasing : Frame → ReleaseAt → Hand
 releasing frame release_at.Put = record empty { refs = one_ref frame }
-releasing frame release_at.Give = record empty { hands = frame ∷ [] }
+releasing frame release_at.Give = record empty { hands = unpoisoned frame ∷ [] }
 releasing frame release_at.Unreserve = record empty { reserved = 1 }
+releasing frame release_at.Adopt = record empty { hands = record { frame = frame; poisoned = true } ∷ [] }
+releasing frame release_at.Retire = record empty { refs = one_ref frame; locks = releases.poisoned_lock frame ∷ [] }
 releasing frame release_at.Back = empty
 
 pub record IsReleasing (layout : Layout) (view : View) (who : Who) (r : Release) : Type 0 where

@@ -13,7 +13,7 @@ use Rattle.hwp_rule.specs.declared.Step.TheVariants as steps
 use Rattle.hwp_rule.specs.declared.View.{View}
 use Rattle.hwp_rule.specs.Asks.{HasInHand, HasRoom}
 use Rattle.hwp_rule.specs.Steps.{goes}
-use Rattle.hwp_rule.specs.Views.{with_refs, without, is_frame}
+use Rattle.hwp_rule.specs.Views.{with_refs, without, is_hand_of, unpoisoned}
 use Rattle.hwp_rule.specs.Words.{Words, free_words, free_bit}
 use Rattle.hwp_step.specs.declared.Turn.{Turn}
 use Rattle.hwp_step.specs.declared.Turn.TheVariants.{Moved, Changed}
@@ -124,9 +124,9 @@ new_lock frame = record { frame = frame; owner = 0; handled = false; poisoned = 
 -- what is held after a step: a reservation, then the frame in hand, then its lock and one reference
 abbrev pub hand_next_at : TakeAt → ℕ → Hand → Hand
 hand_next_at (at.Reserve seen) found h = cond (found == seen) (record h { reserved = h.reserved + 1 }) h
-hand_next_at (at.TakeBit frame) found h = cond (has_bit frame found) (record h { reserved = h.reserved - 1; hands = h.hands ++ frame ∷ [] }) h
+hand_next_at (at.TakeBit frame) found h = cond (has_bit frame found) (record h { reserved = h.reserved - 1; hands = h.hands ++ unpoisoned frame ∷ [] }) h
 hand_next_at (at.Adopt frame) found h =
-    record h { hands = without (is_frame frame) h.hands; refs = with_refs frame 1 h.refs; locks = h.locks ++ new_lock frame ∷ [] }
+    record h { hands = without (is_hand_of frame) h.hands; refs = with_refs frame 1 h.refs; locks = h.locks ++ new_lock frame ∷ [] }
 hand_next_at _ found h = h
 
 abbrev pub hand_next : Take → ℕ → Hand → Hand

@@ -193,13 +193,7 @@ impl Ranked for Fill {
 
     fn class(&self) -> u8 {
         match self.at {
-            FillAt::Take { take } => {
-                if take.class() == 1 {
-                    1
-                } else {
-                    2
-                }
-            }
+            FillAt::Take { take } => { if take.class() == 1 { 1 } else { 2 } }
             FillAt::SetOwner { .. }
             | FillAt::Refer { .. }
             | FillAt::SetCache { .. }

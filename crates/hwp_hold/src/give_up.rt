@@ -88,7 +88,7 @@ impl GiveUp {
 
 impl Machine for GiveUp {
     ghost use Rattle.std.specs.Prelude.{◌≡◌};
-    ghost use Rattle.hwp_hold.specs.GiveUps.{plan, put, bare, next, turn, Shows, Fits};
+    ghost use Rattle.hwp_hold.specs.GiveUps.{plan, put, bare, next, turn, Fits};
 
     ghost who = { λ g. g.who };
 
@@ -98,7 +98,7 @@ impl Machine for GiveUp {
 
     ghost bare = { λ g. bare g };
 
-    ghost shows = { λ g found got. Shows g found };
+    ghost shows = { λ g found got. Unit {0} };
 
     ghost next = { λ layout g found got after result. (after ≡ next g found) × (result ≡ turn g) };
 
