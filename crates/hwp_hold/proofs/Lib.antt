@@ -4,3 +4,12 @@ pub mod Holding
 pub mod Unholding
 pub mod Linking
 pub mod Ranking
+pub mod Making
+pub mod Freeing
+pub mod Taking
+pub mod TakeCosts
+pub mod Referring
+pub mod Bringing
+pub mod Filling
+pub mod GivingUp
+pub mod FillCosts

@@ -49,10 +49,10 @@ fresh frame found w true met = omega arith
 fresh frame found w false met = let same : stale (slice_index w.frames frame.0 == found) ≡ 0 = ap stale (same-number (slice_index w.frames frame.0) found met) in omega arith
 
 -- of the step that was planned
-met-own : {step other : Step} (w : Words) (found : ℕ) → Some other ≡ Some step → read (place_of step) w ≡ found → read (place_of other) w ≡ found
+pub met-own : {step other : Step} (w : Words) (found : ℕ) → Some other ≡ Some step → read (place_of step) w ≡ found → read (place_of other) w ≡ found
 met-own {step} {other} w found is met = subst (λ (s : Step). read (place_of s) w ≡ found) (sym (same_Some other step is)) met
 
-left-own : {step other : Step} (w now : Words) (found : ℕ) → Some other ≡ Some step → (word_after step found ≡ found → now ≡ w) → word_after other found ≡ found → now ≡ w
+pub left-own : {step other : Step} (w now : Words) (found : ℕ) → Some other ≡ Some step → (word_after step found ≡ found → now ≡ w) → word_after other found ≡ found → now ≡ w
 left-own {step} {other} w now found is kept = subst (λ (s : Step). word_after s found ≡ found → now ≡ w) (sym (same_Some other step is)) kept
 
 -- once the word was shown, at most one turn is left of it
@@ -76,7 +76,7 @@ pin-falls w now p step found is met kept = which p.at is
     which (pin_at.Held word) e = absurd (none-some step e)
     which (pin_at.Gone word) e = absurd (none-some step e)
 
-stale-most : (b : Bool) → stale b ≤ 4096
+pub stale-most : (b : Bool) → stale b ≤ 4096
 stale-most true = omega arith
 stale-most false = omega arith
 

@@ -1,0 +1,192 @@
+-- The entry that a page was brought into a frame: no translation was in use before, so the words that fitted the page's
+-- state fit it still.
+use Rattle.std.proofs.Common.{◌≡◌, ℕ, zero, suc, ◌+◌, ◌==◌, Bool, true, false, not, cond, List, [], ◌∷◌, ◌++◌, Option, Some, None, length, drop, slice_get, refl, sym, ap, ◌∙◌, subst, arith}
+use Rattle.std.proofs.Math.Seq.{drop-append_seam}
+use Rattle.std.proofs.lemmas.Bool.{both_ways, ne_eqb}
+use Rattle.std.proofs.lemmas.List.Sums.{fold-append, sum_by-cons}
+use Rattle.std.proofs.lemmas.Option.{none-some, same_Some}
+use Rattle.std.specs.FinSet as set
+use Rattle.std.specs.Int.{from_bool}
+use Rattle.std.specs.List.{find}
+use Rattle.std.specs.Ordering.{nat_cmp}
+use Rattle.hwp_geom.specs.declared.Frame.{Frame}
+use Rattle.hwp_geom.specs.declared.Layout.{Layout}
+use Rattle.hwp_geom.specs.declared.Page.{Page}
+use Rattle.hwp_geom.specs.declared.PageKind.{PageKind}
+use Rattle.hwp_geom.specs.declared.Proc.{Proc}
+use Rattle.hwp_geom.specs.declared.Who.{Who}
+use Rattle.hwp_page.specs.declared.Entry.{Entry}
+use Rattle.hwp_page.specs.declared.Met.TheVariants.{Word, Sigbus}
+use Rattle.hwp_page.specs.declared.PageState.{PageState}
+use Rattle.hwp_page.specs.declared.Situation.{Situation}
+use Rattle.hwp_page.specs.declared.Situation.TheVariants as situations
+use Rattle.hwp_page.specs.declared.What.{What}
+use Rattle.hwp_page.specs.declared.What.TheVariants as entries
+use Rattle.hwp_page.specs.Actions.{acted}
+use Rattle.hwp_page.specs.History.{BodyValue, IsReplay, Leads, state_after}
+use Rattle.hwp_page.specs.Step.{Allowed, after, opening_of}
+use Rattle.hwp_words.specs.Names.{frame_name}
+use Rattle.hwp_words.specs.Translations.{pte_word}
+use Rattle.hwp_words.specs.declared.Pte.TheVariants as ptes
+use Rattle.hwp_rule.specs.declared.InHand.{InHand}
+use Rattle.hwp_rule.specs.declared.Log.{Log}
+use Rattle.hwp_rule.specs.declared.PageLock.{PageLock}
+use Rattle.hwp_rule.specs.declared.Sight.{Sight}
+use Rattle.hwp_rule.specs.declared.View.{View}
+use Rattle.hwp_rule.specs.Asks.{HasPageLock, Extends, PutFits, CanGoHome}
+use Rattle.hwp_rule.specs.Lists.{EachMember}
+use Rattle.hwp_rule.specs.Logs.{log_of, opening_at, state_of, has_ending, fitting, fitting_word}
+use Rattle.hwp_rule.specs.Views.{is_body_of, more_of, page_locks_on}
+use Rattle.hwp_rule.specs.parts.Entries.{HasSeen}
+use Rattle.hwp_rule.specs.parts.Fits.{FitsWords}
+use Rattle.hwp_rule.specs.parts.Unpoisoned.{is_failure}
+use Rattle.hwp_rule.proofs.FittingWords.{fitting-at}
+use Rattle.hwp_rule.proofs.Lists.{same-number}
+use Rattle.hwp_step.specs.Hands.{Hand, hand_of, body_in}
+use Rattle.hwp_hold.specs.Fills.{CanBring, brought}
+use Rattle.hwp_hold.specs.Holds.{page_lock}
+use Rattle.hwp_hold.specs.Unholds.{holding}
+
+-- where the page is in no frame, no translation is in use
+abbrev IsUnused : PageState → Type 0
+IsUnused s = s.cached ≡ false → s.maps ≡ set.empty
+
+unused-acted : (s : PageState) (situation : Situation) → IsUnused s → IsUnused (acted s situation)
+unused-acted s situations.Free was = was
+unused-acted s situations.Kernel was = was
+unused-acted s situations.FileClean was = λ none. refl
+unused-acted s situations.FileDirty was = λ none. refl
+unused-acted s situations.AnonOnly was = λ none. refl
+unused-acted s situations.SwapClean was = λ none. refl
+unused-acted s situations.SwapDirty was = λ none. refl
+
+unused-after : (layout : Layout) (page : Page) (s : PageState) (what : What) → IsUnused s → Allowed layout page s what → IsUnused (after s what)
+unused-after layout page s (entries.Load slot line met) was allowed = was
+unused-after layout page s (entries.Store slot line (Word mask word)) was allowed = was
+unused-after layout page s (entries.Store slot line (Sigbus thread)) was allowed = was
+unused-after layout page s entries.FaultIn was allowed = λ none. absurd (both_ways true none refl)
+unused-after layout page s (entries.Map slot) was allowed = λ none. absurd (both_ways s.cached none allowed.0)
+unused-after layout page s (entries.Free slot) was allowed = λ none. absurd (both_ways (set.contains s.maps slot.0) (ap (λ m. set.contains m slot.0) (was none) ∙ set.contains-empty nat_cmp slot.0) allowed)
+unused-after layout page s entries.Drop was allowed = λ none. allowed.unused
+unused-after layout page s entries.Sync was allowed = was
+unused-after layout page s entries.Out was allowed = λ none. refl
+unused-after layout page s (entries.Mce slot line mask) was allowed = was
+unused-after layout page s (entries.Fail situation required seen signals) was allowed = unused-acted s situation was
+unused-after layout page s entries.Soft was allowed = was
+
+unused-led : (layout : Layout) (page : Page) (s t : PageState) (list : List Entry) → Leads layout page s list t → IsUnused s → IsUnused t
+unused-led layout page s t [] leads was = subst IsUnused leads was
+unused-led layout page s t (e ∷ es) leads was = unused-led layout page (after s e.what) t es leads.1 (unused-after layout page s e.what was leads.0)
+
+led-state : (layout : Layout) (page : Page) (s t : PageState) (list : List Entry) → Leads layout page s list t → state_after s list ≡ t
+led-state layout page s t [] leads = leads
+led-state layout page s t (e ∷ es) leads = led-state layout page (after s e.what) t es leads.1
+
+module _ {layout : Layout} {page : Page} {list : List Entry} {state : PageState} (replay : IsReplay layout page list state) where
+  -- a body's state is that of its history
+  pub replay-state : state_of layout (record { page = page; entries = list }) ≡ state
+  replay-state = ap (λ (k : Option PageKind). state_after (opening_at k) list) replay.declared ∙ led-state layout page (opening_of replay.kind) state list replay.leads
+
+  -- a page that is in no frame has no translation in use
+  pub replay-unused : state.cached ≡ false → state.maps ≡ set.empty
+  replay-unused = unused-led layout page (opening_of replay.kind) state list replay.leads (λ none. refl)
+
+-- the one member of a list
+only-member : {A : Type 0} (P : A → Type 0) (l : List A) (a : A) → l ≡ a ∷ [] → P a → EachMember P l
+only-member P l a one here i x e = which i (sym (ap (λ m. slice_get m i) one) ∙ e)
+  where
+    which : (j : ℕ) → slice_get (a ∷ []) j ≡ Some x → P x
+    which zero at = subst P (same_Some a x at) here
+    which (suc j) at = absurd (none-some x at)
+
+-- the words that fit a body of a page in no frame
+abbrev pub trans : Layout → BodyValue → List ℕ
+trans layout body = fitting layout body.page (state_of layout (log_of body)) (frame_name None)
+
+module _ {layout : Layout} {page : Page} {body : BodyValue} (who : Who) (frame : Frame) (seen : ℕ) (has : CanBring layout page body) where
+  -- the entry, the body as it was taken, and its history with the entry
+  abbrev entry : Entry
+  entry = record { who = who; what = entries.FaultIn }
+
+  abbrev taken : InHand
+  taken = body_in None (log_of body) seen
+
+  abbrev more : Log
+  more = log_of (brought who body)
+
+  abbrev state : PageState
+  state = state_of layout (log_of body)
+
+  replay : IsReplay layout body.page body.log body.state
+  replay = subst (λ (p : Page). IsReplay layout p body.log body.state) (sym has.body_is.page_is) has.body_is.replay
+
+  allowed : Allowed layout body.page state entries.FaultIn
+  allowed = subst (λ (s : PageState). Allowed layout body.page s entries.FaultIn) (sym (replay-state replay)) has.room.allowed
+
+  state-is : after state entries.FaultIn ≡ state_of layout more
+  state-is = sym (fold-append (λ (t : PageState) (e : Entry). after t e.what) (opening_at (slice_get layout.pages body.page.0)) body.log (entry ∷ []))
+
+  one-more : more_of taken more ≡ entry ∷ []
+  one-more = drop-append_seam body.log (entry ∷ [])
+
+  -- what holds of the entry holds of all that are more
+  of-entry : (P : Entry → Type 0) → P entry → EachMember P (more_of taken more)
+  of-entry P is = only-member P (more_of taken more) entry one-more is
+
+  extends : (sights : List Sight) → Extends layout who sights taken more
+  extends sights = record {
+    page_is = refl;
+    longer = ap (λ (list : List Entry). body.log ++ list) (sym one-more);
+    leads = subst (λ (list : List Entry). Leads layout body.page state list (state_of layout more)) (sym one-more) (allowed, state-is);
+    own = of-entry (λ (e : Entry). e.who ≡ who) refl;
+    seen = of-entry (λ (e : Entry). HasSeen (drop seen sights) who None e.what) tt;
+    sound = of-entry (λ (e : Entry). is_failure e.what ≡ false) refl;
+  }
+
+  -- no translation is in use, so none names the frame
+  same-word : (slot : ℕ) → fitting_word state 0 slot ≡ fitting_word (state_of layout more) (frame.0 + 1) slot
+  same-word slot =
+      ap (λ (b : Bool). cond b 0 (cond (set.contains state.bar slot) (pte_word ptes.Poison) 0)) none
+      ∙ sym (ap (λ (b : Bool). cond b (frame.0 + 1) (cond (set.contains state.bar slot) (pte_word ptes.Poison) 0)) none)
+      ∙ ap (λ (s : PageState). fitting_word s (frame.0 + 1) slot) state-is
+    where
+      none : set.contains state.maps slot ≡ false
+      none = ap (λ m. set.contains m slot) (ap (λ (s : PageState). s.maps) (replay-state replay) ∙ replay-unused replay has.room.allowed.0) ∙ set.contains-empty nat_cmp slot
+
+  fits-words : FitsWords layout more (frame_name (Some frame)) (trans layout body)
+  fits-words = record {
+    cached = ap not (ne_eqb (frame.0 + 1) 0 (λ e. omega (arith, e))) ∙ ap (λ (s : PageState). s.cached) state-is;
+    used = λ slot word decl declared own there.
+        same_Some word (fitting_word state 0 slot)
+        (sym there ∙ fitting-at body.page state 0 0 layout.trans slot decl declared own ∙ ap (λ (n : ℕ). Some (fitting_word state 0 n)) (let first : 0 + slot ≡ slot = omega arith in first))
+        ∙ same-word slot;
+  }
+
+  -- the body can go home with the entry, to the frame
+  module _ (view : View) (handled poisoned : Bool) (hand : hand_of view ≡ holding page (Some frame) (trans layout body) taken handled poisoned) where
+    abbrev lock : PageLock
+    lock = page_lock page (Some frame) (Some (trans layout body))
+
+    lock-at : slice_get view.pages 0 ≡ Some lock
+    lock-at = ap (λ (h : Hand). slice_get h.pages 0) hand
+
+    put-fits : PutFits layout view taken more
+    put-fits = record {
+      unlocked = λ none.
+          let one : page_locks_on body.page.0 view.pages ≡ from_bool (page.0 == body.page.0) + page_locks_on body.page.0 [] = ap (λ (h : Hand). page_locks_on body.page.0 h.pages) hand ∙ sum_by-cons (λ (l : PageLock). from_bool (l.page.0 == body.page.0)) lock [] in
+          let this : from_bool (page.0 == body.page.0) ≡ 1 = ap from_bool (same-number page.0 body.page.0 (ap (λ (p : Page). p.0) (sym has.body_is.page_is))) in
+          absurd (omega (arith, none, one, this));
+      locked = λ other cache words at own cache_is trans_is.
+          let same : lock ≡ other = same_Some lock other (sym lock-at ∙ at) in
+          subst (λ (c : ℕ). FitsWords layout more c words) (same_Some (frame_name (Some frame)) cache (ap (λ (l : PageLock). l.cache) same ∙ cache_is))
+          (subst (λ (ws : List ℕ). FitsWords layout more (frame_name (Some frame)) ws) (same_Some (trans layout body) words (ap (λ (l : PageLock). l.trans) same ∙ trans_is)) fits-words);
+    }
+
+    pub goes-home : CanGoHome layout who view more
+    goes-home = record {
+      body = taken;
+      body_is = ap (λ (h : Hand). find (is_body_of body.page) h.bodies) hand ∙ ap (λ (b : Bool). cond b (Some taken) None) (same-number body.page.0 body.page.0 refl);
+      extends = extends view.sights;
+      fits = put-fits;
+      killed = λ process ended. absurd (both_ways (has_ending layout process (drop (length body.log) more.entries)) (ap (has_ending layout process) (drop-append_seam body.log (entry ∷ []))) ended);
+    }

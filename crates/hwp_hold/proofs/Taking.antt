@@ -1,0 +1,180 @@
+-- The laws of `Take`.
+use Rattle.std.proofs.Common.{◌≡◌, ◌≢◌, ℕ, ◌+◌, ◌-◌, ◌*◌, ◌/◌, ◌^◌, ◌<◌, ◌≤◌, ◌==◌, nat_lt, Bool, true, false, not, cond, List, [], ◌∷◌, ◌++◌, Option, Some, None, is_none, map, length, slice_get, slice_index, refl, sym, ap, ◌∙◌, subst, arith}
+use Rattle.std.proofs.lemmas.Bool.{both_ways, ltb-true, eqb-true, eqb-false}
+use Rattle.std.proofs.lemmas.Option.{none-some, same_Some, slice_get-get_or}
+use Rattle.std.specs.Int.{w64, trailing_zeros}
+use Rattle.hwp_geom.specs.declared.Frame.{Frame}
+use Rattle.hwp_geom.specs.declared.Layout.{Layout}
+use Rattle.hwp_geom.specs.declared.Who.{Who}
+use Rattle.hwp_page.specs.History.{BodyValue}
+use Rattle.hwp_words.specs.Frames.{is_handled, is_poisoned}
+use Rattle.hwp_rule.specs.declared.FrameInHand.{FrameInHand}
+use Rattle.hwp_rule.specs.declared.FrameLock.{FrameLock}
+use Rattle.hwp_rule.specs.declared.Place.TheVariants as places
+use Rattle.hwp_rule.specs.declared.State.{State}
+use Rattle.hwp_rule.specs.declared.Step.{Step}
+use Rattle.hwp_rule.specs.declared.Step.TheVariants as steps
+use Rattle.hwp_rule.specs.declared.View.{View}
+use Rattle.hwp_rule.specs.Asks.{HasInHand, HasRoom}
+use Rattle.hwp_rule.specs.Lists.{SomeMember}
+use Rattle.hwp_rule.specs.Rule.{Holds}
+use Rattle.hwp_rule.specs.Views.{lock_found, with_refs, without, is_hand_of}
+use Rattle.hwp_rule.specs.Views as views
+use Rattle.hwp_rule.specs.Words.{words_of, index, free_words}
+use Rattle.hwp_rule.specs.Steps.{place_of}
+use Rattle.hwp_rule.specs.parts.Places.{IsBare, in_hand}
+use Rattle.hwp_rule.proofs.Lists.{some-last}
+use Rattle.hwp_rule.proofs.Meeting.{unpoisoned, hand-bare}
+use Rattle.hwp_step.specs.declared.Turn.{Turn}
+use Rattle.hwp_step.specs.Calls.{CanMake, Steps}
+use Rattle.hwp_step.specs.Hands.{Hand, hand_of}
+use Rattle.hwp_step.proofs.Stepping.{on-turn-after, hand-planned, steps-planned, can-make}
+use Rattle.hwp_hold.specs.declared.take.Take.{Take}
+use Rattle.hwp_hold.specs.declared.take.TakeAt.{TakeAt}
+use Rattle.hwp_hold.specs.declared.take.TakeAt.TheVariants as at
+use Rattle.hwp_hold.specs.declared.take.TakeAnswer.{TakeAnswer}
+use Rattle.hwp_hold.specs.declared.take.TakeAnswer.TheVariants as answers
+use Rattle.hwp_hold.specs.Takes.{answer, answer_at, at_available, after_word, lowest_free, at_free, has_bit, plan, plan_at, next, next_at, turn, ShowsAt, Shows, HasLockRoom, Fits, FitsAt, new_lock, hand_next, hand_next_at}
+use Rattle.hwp_hold.proofs.Freeing.{lowest-shown}
+
+pub can : (layout : Layout) (view : View) (t : Take) (step : Step) → Fits layout view t → plan t ≡ Some step → CanMake layout t.who step None view
+can layout view t step fits is = which t.at fits.at is
+  where
+    which : (x : TakeAt) → FitsAt layout view x → plan_at x ≡ Some step → CanMake layout t.who step None view
+    which at.LoadAvailable at e = can-make fits.on_turn e tt tt tt
+    which (at.Reserve seen) at e = can-make fits.on_turn e tt tt (at.0, at.1.0)
+    which (at.LoadFree number) at e = can-make fits.on_turn e tt at.0 tt
+    which (at.TakeBit frame) at e = can-make fits.on_turn e tt (let inside : frame.0 < layout.frames = at.0 in omega arith) (at.0, at.1.0)
+    which (at.Adopt frame) at e = can-make fits.on_turn e tt at.0 (at.1.0, at.1.1)
+    which (at.Over frame) at e = absurd (none-some step e)
+
+-- room is read of what is held
+abbrev RoomIn : Hand → Type 0
+RoomIn h = h.reserved + length h.hands + length h.refs + 1 ≤ 2
+
+abbrev LockRoomIn : Hand → Type 0
+LockRoomIn h = length h.locks < 2
+
+same-room : (old new : View) → hand_of new ≡ hand_of old → HasRoom old × HasLockRoom old → HasRoom new × HasLockRoom new
+same-room old new same room = (subst RoomIn (sym same) room.0, subst LockRoomIn (sym same) room.1)
+
+number-shown : (layout : Layout) (view : View) (word : ℕ) (none : Bool) → (word == 0) ≡ none → HasRoom view × HasLockRoom view → FitsAt layout view (cond none (at.Over None) (at.Reserve word))
+number-shown layout view word true is room = tt
+number-shown layout view word false is room = (omega (arith, eqb-false word 0 is), room)
+
+module _ {layout : Layout} {old new : View} {step : Step} {found : ℕ} {got : Option BodyValue} (t : Take) (is : plan t ≡ Some step) (made : Steps layout t.who step None old new found got) where
+  -- the lock of a frame that was in hand
+  lock-bare : (frame : Frame) → Some (steps.Adopt frame) ≡ Some step → FitsAt layout old (at.Adopt frame) → (is_poisoned found ≡ false) × (lock_found frame found ≡ new_lock frame)
+  lock-bare frame e at = (clean, λ i. record { frame = frame; owner = bare.unowned i; handled = unhandled i; poisoned = clean i })
+    where
+      own : Steps layout t.who (steps.Adopt frame) None old new found got
+      own = steps-planned e made
+
+      bare : IsBare found
+      bare = hand-bare layout own.told.board own.told.rule own.told.seat old frame found own.told.me at.1.0 at.0 own.told.met
+
+      unhandled : is_handled found ≡ false
+      unhandled = ap (λ (n : ℕ). n == 1) bare.unhandled
+
+      clean : is_poisoned found ≡ false
+      clean = unpoisoned layout own.told.board own.told.rule frame found at.0 own.told.met
+
+  -- what a step leaves of what is held
+  pub held-after : (h : Hand) → Fits layout old t → hand_of old ≡ h → hand_of new ≡ hand_next t found h
+  held-after h fits has = which t.at is fits.at
+    where
+      which : (x : TakeAt) → plan_at x ≡ Some step → FitsAt layout old x → hand_of new ≡ hand_next_at x found h
+      which at.LoadAvailable e at = hand-planned made e has
+      which (at.Reserve seen) e at = hand-planned made e has
+      which (at.LoadFree number) e at = hand-planned made e has
+      which (at.TakeBit frame) e at = hand-planned made e has
+      which (at.Adopt frame) e at = hand-planned made e has
+          ∙ ap (λ (l : FrameLock). record h { hands = without (is_hand_of frame) h.hands; refs = with_refs frame 1 h.refs; locks = h.locks ++ l ∷ [] }) (lock-bare frame e at).1
+      which (at.Over frame) e at = absurd (none-some step e)
+
+  moved : (x : TakeAt) → plan_at x ≡ Some step → FitsAt layout old x → hand_of new ≡ hand_next_at x found (hand_of old) → ShowsAt x found × FitsAt layout new (next_at layout x found)
+  moved at.LoadAvailable e fit hand = (tt, number-shown layout new found (found == 0) refl (same-room old new hand fit))
+  moved (at.Reserve seen) e fit hand = (tt, by (found == seen) hand)
+    where
+      by : (b : Bool) → hand_of new ≡ cond b (record (hand_of old) { reserved = old.reserved + 1 }) (hand_of old) → FitsAt layout new (cond b (at.LoadFree 0) (at_available found))
+      by true hand =
+          let frames : 1 ≤ layout.frames = made.told.rule.sound.some_frame in
+          let some : 0 < free_words layout = omega arith in
+          let more : new.reserved ≡ old.reserved + 1 = ap (λ (h : Hand). h.reserved) hand in
+          (some, (omega (arith, more), subst LockRoomIn (sym hand) fit.1.1))
+      by false hand = number-shown layout new found (found == 0) refl (same-room old new hand fit.1)
+  moved (at.LoadFree number) e fit hand = (small, by (found == 0) refl)
+    where
+      own : Steps layout t.who (steps.Load (places.Free number)) None old new found got
+      own = steps-planned e made
+
+      small : number < 2 ^ 10
+      small = let few : layout.frames ≤ 256 = own.told.rule.sound.frames in let inside : number < free_words layout = fit.0 in omega (arith, few, inside)
+
+      room : (0 < new.reserved) × HasLockRoom new
+      room = (subst (λ (h : Hand). 0 < h.reserved) (sym hand) fit.1.0, subst LockRoomIn (sym hand) fit.1.1)
+
+      after-within : (less : Bool) → nat_lt (number + 1) (free_words layout) ≡ less → cond less (number + 1) 0 < free_words layout
+      after-within true less = ltb-true (number + 1) (free_words layout) less
+      after-within false less = let inside : number < free_words layout = fit.0 in omega (arith, inside)
+
+      by : (none : Bool) → (found == 0) ≡ none → FitsAt layout new (cond none (at.LoadFree (after_word layout number)) (at.TakeBit (lowest_free number found)))
+      by true none = (after-within (nat_lt (number + 1) (free_words layout)) refl, room)
+      by false some = ((lowest-shown layout own.told.board own.told.rule number found fit.0 own.told.met (omega (arith, eqb-false found 0 some)) own.told.fits).0, room)
+  moved (at.TakeBit frame) e fit hand = (tt, by (has_bit frame found) hand)
+    where
+      by : (b : Bool) → hand_of new ≡ cond b (record (hand_of old) { reserved = old.reserved - 1; hands = old.hands ++ views.unpoisoned frame ∷ [] }) (hand_of old) → FitsAt layout new (cond b (at.Adopt frame) (at.LoadFree (frame.0 / 64)))
+      by true hand = (fit.0, (subst (λ (h : Hand). SomeMember (λ (f : FrameInHand). f.frame ≡ frame) h.hands) (sym hand) (some-last (λ (f : FrameInHand). f.frame ≡ frame) old.hands (views.unpoisoned frame) refl), subst LockRoomIn (sym hand) fit.1.1))
+      by false hand =
+          let inside : frame.0 < layout.frames = fit.0 in
+          let within : frame.0 / 64 < free_words layout = omega arith in
+          (within, (subst (λ (h : Hand). 0 < h.reserved) (sym hand) fit.1.0, subst LockRoomIn (sym hand) fit.1.1))
+  moved (at.Adopt frame) e fit hand = ((lock-bare frame e fit).0, fit.0)
+  moved (at.Over frame) e fit hand = absurd (none-some step e)
+
+-- a step shows what is needed, and what follows fits again
+pub both : (layout : Layout) (old new : View) (t : Take) (step : Step) (found : ℕ) (got : Option BodyValue) → Fits layout old t → plan t ≡ Some step → Steps layout t.who step None old new found got → Shows t found × Fits layout new (next layout t found)
+both layout old new t step found got fits is made =
+    let all : ShowsAt t.at found × FitsAt layout new (next_at layout t.at found) = moved t is made t.at is fits.at (held-after t is made (hand_of old) fits refl) in
+    (all.0, record { on_turn = on-turn-after fits.on_turn made; at = all.1 })
+
+pub stays : (layout : Layout) (old new : View) (t : Take) (step : Step) (found : ℕ) (got : Option BodyValue) → Fits layout old t → plan t ≡ Some step → Steps layout t.who step None old new found got
+    → Shows t found × ((after : Take) (result : Turn) → (after ≡ next layout t found) × (result ≡ turn t found) → Fits layout new after × (after.who.cpu ≡ t.who.cpu))
+stays layout old new t step found got fits is made =
+    let all = both layout old new t step found got fits is made in
+    (all.0, λ after result follows. (subst (Fits layout new) (sym follows.0) all.1, ap (λ (x : Take). x.who.cpu) follows.0))
+
+abbrev is-taken : Option TakeAnswer → Bool
+is-taken (Some (answers.Taken frame)) = true
+is-taken _ = false
+
+-- no frame was available only where the available word that the step met was 0
+pub none-available : (layout : Layout) (t : Take) (found : ℕ) → is_none (plan t) ≡ false → answer (next layout t found) ≡ Some answers.NoFrame → (found ≡ 0) × ((step : Step) → plan t ≡ Some step → place_of step ≡ places.Available)
+none-available layout t found on over = which t.at on over
+  where
+    none-shown : (none : Bool) → (found == 0) ≡ none → answer_at (cond none (at.Over None) (at.Reserve found)) ≡ Some answers.NoFrame → found ≡ 0
+    none-shown true is over = eqb-true found 0 is
+    none-shown false is over = absurd (none-some answers.NoFrame over)
+
+    of : (step other : Step) → Some step ≡ Some other → place_of step ≡ places.Available → place_of other ≡ places.Available
+    of step other e is = ap place_of (sym (same_Some step other e)) ∙ is
+
+    which : (x : TakeAt) → is_none (plan_at x) ≡ false → answer_at (next_at layout x found) ≡ Some answers.NoFrame → (found ≡ 0) × ((step : Step) → plan_at x ≡ Some step → place_of step ≡ places.Available)
+    which at.LoadAvailable on over = (none-shown (found == 0) refl over, λ step e. of (steps.Load places.Available) step e refl)
+    which (at.Reserve seen) on over = (by (found == seen) over, λ step e. of (steps.Reserve seen) step e refl)
+      where
+        by : (b : Bool) → answer_at (cond b (at.LoadFree 0) (at_available found)) ≡ Some answers.NoFrame → found ≡ 0
+        by true over = absurd (none-some answers.NoFrame over)
+        by false over = none-shown (found == 0) refl over
+    which (at.LoadFree number) on over = absurd (none-some answers.NoFrame (unanswered (found == 0) over))
+      where
+        unanswered : (b : Bool) → answer_at (cond b (at.LoadFree (after_word layout number)) (at.TakeBit (lowest_free number found))) ≡ Some answers.NoFrame → None ≡ Some answers.NoFrame
+        unanswered true e = e
+        unanswered false e = e
+    which (at.TakeBit frame) on over = absurd (none-some answers.NoFrame (unanswered (has_bit frame found) over))
+      where
+        unanswered : (b : Bool) → answer_at (cond b (at.Adopt frame) (at.LoadFree (frame.0 / 64))) ≡ Some answers.NoFrame → None ≡ Some answers.NoFrame
+        unanswered true e = e
+        unanswered false e = e
+    which (at.Adopt frame) on over = absurd (both_ways true (ap is-taken over) refl)
+    which (at.Over frame) on over = absurd (both_ways true on refl)

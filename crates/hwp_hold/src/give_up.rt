@@ -1,0 +1,190 @@
+ghost use Rattle.std.specs.Prelude.{◌≡◌, Option, is_none};
+
+use crate::release::Release;
+use crate::unhold::Unhold;
+use hwp_geom::{Frame, Layout, Page, Who};
+use hwp_page::Body;
+use hwp_rule::Step;
+use hwp_step::{Machine, Ranked, Turn};
+use std::mem;
+
+/// Ends a command for which memory was refused: its body goes home, what it holds is let go, and the processors are told to
+/// stop. The last turn is `NoMemory` (this project's rule).
+#[derive(Drop)]
+pub struct GiveUp {
+    who: Who,
+    at: GiveUpAt,
+}
+
+#[derive(Drop)]
+enum GiveUpAt {
+    Unhold { unhold: Unhold },
+    UnlockFrame { frame: Frame, body: Option<Body> },
+    Release { release: Release },
+    GiveUp,
+    Over,
+}
+
+impl GiveUp {
+    ghost use Rattle.hwp_hold.specs.GiveUps.{with_page, with_frame, plan, after_unhold, after_release};
+
+    /// The command holds the page, with the frame that it is in, if any, and its body.
+    pub fn with_page(who: Who, page: Page, frame: Option<Frame>, body: Body) -> GiveUp
+        ensures { result ≡ with_page who page frame body }
+    {
+        GiveUp {
+            who,
+            at: GiveUpAt::Unhold {
+                unhold: Unhold::new(who, page, frame, body),
+            },
+        }
+    }
+
+    /// The command has the frame's lock, one reference to it and the body that was in it, but not the page's lock.
+    pub fn with_frame(who: Who, frame: Frame, body: Body) -> GiveUp
+        ensures { result ≡ with_frame who frame body }
+    {
+        GiveUp {
+            who,
+            at: GiveUpAt::UnlockFrame {
+                frame,
+                body: Some(body),
+            },
+        }
+    }
+
+    /// Whether the command has ended.
+    pub fn is_over(&self) -> bool
+        ensures { result ≡ is_none (plan self.now) }
+    {
+        match &self.at {
+            GiveUpAt::Unhold { unhold } => unhold.is_over(),
+            GiveUpAt::Release { release } => release.is_over(),
+            GiveUpAt::UnlockFrame { .. } | GiveUpAt::GiveUp => false,
+            GiveUpAt::Over => true,
+        }
+    }
+
+    fn after_unhold(unhold: Unhold) -> GiveUpAt
+        ensures { result ≡ after_unhold unhold }
+    {
+        if unhold.is_over() {
+            GiveUpAt::GiveUp
+        } else {
+            GiveUpAt::Unhold { unhold }
+        }
+    }
+
+    fn after_release(release: Release) -> GiveUpAt
+        ensures { result ≡ after_release release }
+    {
+        if release.is_over() {
+            GiveUpAt::GiveUp
+        } else {
+            GiveUpAt::Release { release }
+        }
+    }
+}
+
+impl Machine for GiveUp {
+    ghost use Rattle.std.specs.Prelude.{◌≡◌};
+    ghost use Rattle.hwp_hold.specs.GiveUps.{plan, put, bare, next, turn, Fits};
+
+    ghost who = { λ g. g.who };
+
+    ghost plan = { λ g. plan g };
+
+    ghost put = { λ g. put g };
+
+    ghost bare = { λ g. bare g };
+
+    ghost shows = { λ g found got. Unit {0} };
+
+    ghost next = { λ layout g found got after result. (after ≡ next g found) × (result ≡ turn g) };
+
+    ghost fits = { λ layout view g. Fits layout view g };
+
+    fn who(&self) -> Who {
+        self.who
+    }
+
+    fn plan(&self) -> Option<Step> {
+        match &self.at {
+            GiveUpAt::Unhold { unhold } => unhold.plan(),
+            GiveUpAt::UnlockFrame { frame, .. } => Some(Step::UnlockFrame { frame: *frame }),
+            GiveUpAt::Release { release } => release.plan(),
+            GiveUpAt::GiveUp => Some(Step::GiveUp),
+            GiveUpAt::Over => None,
+        }
+    }
+
+    fn give(&mut self) -> Option<Body> {
+        match mem::replace(&mut self.at, GiveUpAt::Over) {
+            GiveUpAt::Unhold { mut unhold } => {
+                let body = unhold.give();
+                self.at = GiveUpAt::Unhold { unhold };
+                body
+            }
+            GiveUpAt::UnlockFrame { frame, body } => {
+                self.at = GiveUpAt::UnlockFrame { frame, body: None };
+                body
+            }
+            GiveUpAt::Release { release } => {
+                self.at = GiveUpAt::Release { release };
+                None
+            }
+            GiveUpAt::GiveUp => {
+                self.at = GiveUpAt::GiveUp;
+                None
+            }
+            GiveUpAt::Over => None,
+        }
+    }
+
+    fn settle(&mut self, layout: &Layout, found: u64, body: Option<Body>) -> Turn {
+        match mem::replace(&mut self.at, GiveUpAt::Over) {
+            GiveUpAt::Unhold { mut unhold } => {
+                let turn = unhold.settle(layout, found, body);
+                self.at = GiveUp::after_unhold(unhold);
+                turn
+            }
+            GiveUpAt::UnlockFrame { frame, .. } => {
+                self.at = GiveUpAt::Release {
+                    release: Release::new(self.who, frame, 1),
+                };
+                Turn::Moved
+            }
+            GiveUpAt::Release { mut release } => {
+                let turn = release.settle(layout, found, body);
+                self.at = GiveUp::after_release(release);
+                turn
+            }
+            GiveUpAt::GiveUp => Turn::NoMemory,
+            GiveUpAt::Over => Turn::Moved,
+        }
+    }
+}
+
+impl Ranked for GiveUp {
+    ghost use Rattle.std.specs.Prelude.{false, None};
+    ghost use Rattle.hwp_hold.specs.GiveUps.{class, cost};
+
+    ghost class_of = { λ g. class g };
+
+    ghost cost = { λ g words. cost g words };
+
+    ghost aborts = { λ g. false };
+
+    ghost claims = { λ g. None };
+
+    fn class(&self) -> u8 {
+        match &self.at {
+            GiveUpAt::Unhold { unhold } => unhold.class(),
+            GiveUpAt::UnlockFrame { .. } => 1,
+            GiveUpAt::Release { release } => release.class(),
+            GiveUpAt::GiveUp | GiveUpAt::Over => 4,
+        }
+    }
+
+    fn ranked(&self) {}
+}
