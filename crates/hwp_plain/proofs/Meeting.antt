@@ -1,5 +1,5 @@
 -- What a step meets on a board that keeps the rule: the slot of a lock that it takes is at home.
-use Rattle.std.proofs.Common.{◌≡◌, ℕ, ◌+◌, ◌<◌, ◌==◌, Bool, true, false, not, cond, Option, Some, length, slice_get, slice_index, refl, arith, subst, sym}
+use Rattle.std.proofs.Common.{◌≡◌, ℕ, ◌+◌, ◌<◌, Bool, true, false, not, Option, Some, length, slice_get, slice_index, refl, arith, subst, sym}
 use Rattle.std.proofs.lemmas.Bool.{false≢true}
 use Rattle.std.proofs.lemmas.Option.{slice_get-get_or}
 use Rattle.hwp_geom.specs.declared.Frame.{Frame}

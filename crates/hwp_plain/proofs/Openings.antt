@@ -1,18 +1,16 @@
 -- Lists that grow by the next number, and bits of the frames.
-use Rattle.std.proofs.Common.{◌≡◌, ℕ, suc, ◌+◌, ◌*◌, ◌<◌, Bool, false, true≢false, not, List, [], ◌∷◌, ◌++◌, Option, Some, None, map, length, drop, replicate, get_or, slice_get, refl, sym, ap, ◌∙◌, subst, arith}
+use Rattle.std.proofs.Common.{◌≡◌, ℕ, suc, ◌+◌, ◌*◌, ◌<◌, Bool, not, List, [], ◌∷◌, ◌++◌, Option, Some, None, map, length, drop, replicate, get_or, refl, sym, ap, ◌∙◌, subst, arith}
 use Rattle.std.specs.Int.{from_bool}
-use Rattle.std.proofs.lemmas.List.{append_assoc, append-nil, map-append, drop_more, length-map, replicate_more}
-use Rattle.std.proofs.lemmas.Option.{none-some, same_Some, slice_get_within}
+use Rattle.std.proofs.lemmas.List.{append_assoc, append-nil, map-append, drop_more, replicate_more}
+use Rattle.std.proofs.lemmas.Option.{none-some, same_Some}
 use Rattle.hwp_geom.specs.declared.Layout.{Layout}
 use Rattle.hwp_geom.specs.Layout.{IsSound}
 use Rattle.hwp_page.specs.History.{BodyValue, IsFresh}
 use Rattle.hwp_rule.specs.declared.Log.{Log}
-use Rattle.hwp_rule.specs.Lists.{EachMember}
 use Rattle.hwp_rule.specs.Opening.{below, free_bits, opening_words, opening_homes, opening_log, opening_view, opening}
 use Rattle.hwp_rule.specs.Rule.{Holds}
-use Rattle.hwp_rule.proofs.Lists.{map-was, each-push}
+use Rattle.hwp_rule.proofs.Lists.{each-push}
 use Rattle.hwp_rule.proofs.OpeningHolds.{opening-holds}
-use Rattle.hwp_rule.proofs.OpeningWords.{length-below, below-at}
 use Rattle.hwp_plain.specs.declared.slot.Slot.{Slot}
 use Rattle.hwp_plain.specs.declared.slot.Slot.TheVariants.{Home}
 use Rattle.hwp_plain.specs.declared.trail.Trail.TheVariants.{Opening}

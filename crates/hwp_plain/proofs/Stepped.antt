@@ -14,8 +14,7 @@ use Rattle.hwp_rule.specs.declared.SlotMove.{SlotMove}
 use Rattle.hwp_rule.specs.declared.State.{State}
 use Rattle.hwp_rule.specs.declared.Step.{Step}
 use Rattle.hwp_rule.specs.declared.View.{View}
-use Rattle.hwp_rule.specs.Asks.{Asks, AsksOf}
-use Rattle.hwp_rule.specs.Lists.{Homes}
+use Rattle.hwp_rule.specs.Asks.{AsksOf}
 use Rattle.hwp_rule.specs.Logs.{log_of}
 use Rattle.hwp_rule.specs.Moves.{Move, Told}
 use Rattle.hwp_rule.specs.Opening.{opening_view}
@@ -29,7 +28,7 @@ use Rattle.hwp_geom.specs.declared.Kind.{Kind}
 use Rattle.hwp_step.specs.declared.Turn.{Turn}
 use Rattle.hwp_step.specs.declared.Turn.TheVariants as turns
 use Rattle.hwp_step.specs.Boards.{Played}
-use Rattle.hwp_step.specs.Calls.{Brings, CanMake, FitsLayout, Steps, logs, rec_of}
+use Rattle.hwp_step.specs.Calls.{CanMake, FitsLayout, Steps, logs, rec_of}
 use Rattle.hwp_plain.specs.declared.slot.Slot.{Slot}
 use Rattle.hwp_plain.specs.declared.trail.Trail.{Trail}
 use Rattle.hwp_plain.specs.declared.trail.Trail.TheViews.{Made}
@@ -168,11 +167,11 @@ module _ (layout : Layout) (words : List ℕ) (slots : List Slot) (trail : Trail
   home-now = subst (λ (t : SlotMove). IsAtHome t (map home_of slots)) (sym is.to_is) (at-home layout words slots trail seat.0 kept who step put is.can found is.met)
 
   module _ (fits : found < 2 ^ 64) (word-is : word ≡ word_after step found)
-    (slots_now : List Slot) (content : Snapshot (Option BodyValue)) (got : Option BodyValue)
-    (homes-to : map home_of slots_now ≡ homes_moved to (option_map log_of content.value) (map home_of slots))
-    (met-to : MeetsSlot to (map home_of slots) (option_map log_of content.value))
-    (flow-to : content.value ≡ cond (is_out to) got put)
-    (before : Snapshot Trail) (before-is : before.value ≡ trail) (of : Snapshot Step) (of-is : of.value ≡ step) where
+      (slots_now : List Slot) (content : Snapshot (Option BodyValue)) (got : Option BodyValue)
+      (homes-to : map home_of slots_now ≡ homes_moved to (option_map log_of content.value) (map home_of slots))
+      (met-to : MeetsSlot to (map home_of slots) (option_map log_of content.value))
+      (flow-to : content.value ≡ cond (is_out to) got put)
+      (before : Snapshot Trail) (before-is : before.value ≡ trail) (of : Snapshot Step) (of-is : of.value ≡ step) where
     homes : map home_of slots_now ≡ homes_moved (slot_move layout step found) (option_map log_of content.value) (map home_of slots)
     homes = homes-to ∙ ap (λ (t : SlotMove). homes_moved t (option_map log_of content.value) (map home_of slots)) is.to_is
 

@@ -1,5 +1,5 @@
 -- The views after the moves of a trail.
-use Rattle.std.proofs.Common.{◌≡◌, ◌≢◌, ◌⊎◌, inl, inr, ℕ, ◌<◌, List, [], ◌∷◌, Option, Some, map, set, length, slice_get, get_or, refl, sym, ap, ◌∙◌, subst}
+use Rattle.std.proofs.Common.{◌≡◌, ◌≢◌, ◌⊎◌, inl, inr, ℕ, ◌<◌, List, Some, map, set, length, slice_get, get_or, refl, sym, ◌∙◌, subst}
 use Rattle.std.proofs.lemmas.List.{length-map, length-set, get_or-set_same, get_or-set_other}
 use Rattle.std.proofs.lemmas.Option.{slice_get-get_or, get_or_from_slice_get}
 use Rattle.hwp_geom.specs.declared.Cpu.{Cpu}
@@ -14,7 +14,6 @@ use Rattle.hwp_rule.proofs.KeptTurns.{part-after}
 use Rattle.hwp_rule.proofs.Lists.{at_map, same-or}
 use Rattle.hwp_rule.proofs.OpeningWords.{length-below, below-at}
 use Rattle.hwp_step.specs.declared.Turn.{Turn}
-use Rattle.hwp_step.specs.Boards.{Played}
 use Rattle.hwp_plain.specs.declared.trail.Trail.{Trail, Opening, Made'}
 use Rattle.hwp_plain.specs.Boards.{with_turn}
 use Rattle.hwp_plain.specs.Trails.{made_of, played, told, views_of}

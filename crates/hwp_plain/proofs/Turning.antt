@@ -1,5 +1,5 @@
 -- A turn of a task on the plain board.
-use Rattle.std.proofs.Common.{◌≡◌, ℕ, ◌<◌, Bool, true, false, cond, ◌∷◌, List, Option, Some, None, get_or, sym, ap, subst}
+use Rattle.std.proofs.Common.{◌≡◌, ℕ, true, false, cond, List, Option, Some, None, sym, ap, subst}
 use Rattle.hwp_geom.specs.declared.Cpu.{Cpu}
 use Rattle.hwp_geom.specs.declared.Kind.{Kind}
 use Rattle.hwp_geom.specs.declared.Layout.{Layout}
@@ -8,8 +8,7 @@ use Rattle.hwp_page.specs.History.{BodyValue}
 use Rattle.hwp_rule.specs.declared.Rec.{Rec}
 use Rattle.hwp_rule.specs.declared.Step.{Step}
 use Rattle.hwp_step.specs.declared.Turn.{Turn}
-use Rattle.hwp_step.specs.Boards.{AreSeated, TakesTurn, TurnMade, NoTurn}
-use Rattle.hwp_step.specs.Calls.{logs, rec_of}
+use Rattle.hwp_step.specs.Boards.{AreSeated, TakesTurn}
 use Rattle.hwp_step.specs.Turns.{Advances}
 use Rattle.hwp_plain.specs.declared.slot.Slot.{Slot}
 use Rattle.hwp_plain.specs.declared.trail.Trail.{Trail}

@@ -35,7 +35,6 @@ impl Model for PlainBoard {
     ghost use Rattle.std.specs.Arc.{arc_value};
     ghost use Rattle.hwp_plain.specs.Boards.{Board, IsBoard, state_of};
     ghost use Rattle.hwp_plain.specs.Trails.{played};
-
     ghost use Rattle.hwp_kill.specs.contracts.Slots as sets;
     ghost use Rattle.std.specs.Coded.{codes};
 

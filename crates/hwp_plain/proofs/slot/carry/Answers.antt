@@ -1,4 +1,4 @@
-use Rattle.std.proofs.Common.{◌≡◌, ◌<◌, length, sym, ◌∙◌, subst}
+use Rattle.std.proofs.Common.{◌<◌, length, sym, ◌∙◌, subst}
 use Rattle.std.proofs.lemmas.Option.{none-some}
 use Rattle.hwp_rule.specs.declared.SlotMove.{SlotMove}
 use Rattle.hwp_plain.specs.Slots.{IsWithin}
