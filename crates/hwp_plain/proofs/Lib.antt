@@ -1,10 +1,6 @@
-mod Beginning
-mod Carried
-mod Handed
-mod Handing
-mod Homes
-mod Kept
 mod Openings
-mod Served
+mod Carried
+mod Meeting
+mod Trailing
 mod Stepped
 mod Turning

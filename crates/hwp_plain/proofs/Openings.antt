@@ -1,23 +1,21 @@
 -- Lists that grow by the next number, and bits of the frames.
-use Rattle.std.proofs.Common.{◌≡◌, ℕ, suc, ◌+◌, ◌*◌, ◌<◌, Bool, false, true≢false, not, List, [], ◌∷◌, ◌++◌, Option, Some, None, map, length, drop, replicate, get_or, slice_get, refl, sym, ap, ◌∙◌, subst, arith}
+use Rattle.std.proofs.Common.{◌≡◌, ℕ, suc, ◌+◌, ◌*◌, ◌<◌, Bool, not, List, [], ◌∷◌, ◌++◌, Option, Some, None, map, length, drop, replicate, get_or, refl, sym, ap, ◌∙◌, subst, arith}
 use Rattle.std.specs.Int.{from_bool}
-use Rattle.std.proofs.lemmas.List.{append_assoc, append-nil, map-append, drop_more, length-map, replicate_more}
-use Rattle.std.proofs.lemmas.Option.{none-some, same_Some, slice_get_within}
+use Rattle.std.proofs.lemmas.List.{append_assoc, append-nil, map-append, drop_more, replicate_more}
+use Rattle.std.proofs.lemmas.Option.{none-some, same_Some}
 use Rattle.hwp_geom.specs.declared.Layout.{Layout}
 use Rattle.hwp_geom.specs.Layout.{IsSound}
-use Rattle.hwp_page.specs.History.{Held, IsFresh}
+use Rattle.hwp_page.specs.History.{BodyValue, IsFresh}
 use Rattle.hwp_rule.specs.declared.Log.{Log}
-use Rattle.hwp_rule.specs.Lists.{EachMember}
 use Rattle.hwp_rule.specs.Opening.{below, free_bits, opening_words, opening_homes, opening_log, opening_view, opening}
 use Rattle.hwp_rule.specs.Rule.{Holds}
-use Rattle.hwp_rule.proofs.Lists.{map-was, each-push}
-use Rattle.hwp_rule.proofs.Opened.{opening-holds}
-use Rattle.hwp_rule.proofs.Opening.{length-below, below-at}
+use Rattle.hwp_rule.proofs.Lists.{each-push}
+use Rattle.hwp_rule.proofs.OpeningHolds.{opening-holds}
 use Rattle.hwp_plain.specs.declared.slot.Slot.{Slot}
-use Rattle.hwp_plain.specs.Boards.{IsBoard, IsLedger, IsOfLayout, state_of}
-use Rattle.hwp_plain.specs.Openings.{sheet_of, opening_sheets}
-use Rattle.hwp_ledger.specs.Sheets.{Sheet, view_of}
-use Rattle.hwp_plain.specs.Slots.{home_of, body_of}
+use Rattle.hwp_plain.specs.declared.slot.Slot.TheVariants.{Home}
+use Rattle.hwp_plain.specs.declared.trail.Trail.TheVariants.{Opening}
+use Rattle.hwp_plain.specs.Boards.{IsBoard, state_of}
+use Rattle.hwp_plain.specs.Slots.{home_of, IsSlotOf, AreOfLayout}
 
 -- one number more
 pub below-more : (n : ℕ) → below n ++ n ∷ [] ≡ below (n + 1)
@@ -41,10 +39,10 @@ bits-more kernel i j d less is =
 -- ---- the slots at opening
 
 abbrev pub empty_slot : Slot
-empty_slot = record { out = false; body = None }
+empty_slot = Home None
 
-abbrev pub shelf_with : Held → Slot
-shelf_with body = record { out = false; body = Some body }
+abbrev pub shelf_with : BodyValue → Slot
+shelf_with body = Home (Some body)
 
 abbrev pub opening_shelf : ℕ → Option (Option Log)
 opening_shelf q = Some (Some (opening_log q))
@@ -53,13 +51,9 @@ opening_shelf q = Some (Some (opening_log q))
 abbrev pub slots_open : ℕ → ℕ → List (Option (Option Log))
 slots_open frames pages = replicate frames (Some None) ++ map opening_shelf (below pages)
 
--- the bodies in slots are of the layout
-abbrev pub AreOfLayout : Layout → List Slot → Type 0
-AreOfLayout layout slots = EachMember (IsOfLayout layout) (map body_of slots)
-
 module _ (layout : Layout) (slots : List Slot) where
-  more-bodies : (x : Slot) → IsOfLayout layout (body_of x) → AreOfLayout layout slots → AreOfLayout layout (slots ++ x ∷ [])
-  more-bodies x here each = subst (EachMember (IsOfLayout layout)) (sym (map-append body_of slots (x ∷ []))) (each-push (IsOfLayout layout) (map body_of slots) (body_of x) here each)
+  more-bodies : (x : Slot) → IsSlotOf layout x → AreOfLayout layout slots → AreOfLayout layout (slots ++ x ∷ [])
+  more-bodies x here each = each-push (IsSlotOf layout) slots x here each
 
   pub frame-more : (n : ℕ) → map home_of slots ≡ replicate n (Some None) → AreOfLayout layout slots
       → (map home_of (slots ++ empty_slot ∷ []) ≡ replicate (n + 1) (Some None)) × AreOfLayout layout (slots ++ empty_slot ∷ [])
@@ -71,13 +65,13 @@ module _ (layout : Layout) (slots : List Slot) where
   pub no-shelf : (n frames : ℕ) → n ≡ frames → map home_of slots ≡ replicate n (Some None) → map home_of slots ≡ slots_open frames 0
   no-shelf n frames same is = is ∙ ap (λ (m : ℕ). replicate m (Some None)) same ∙ sym (append-nil (replicate frames (Some None)))
 
-  pub shelf-more : (frames q : ℕ) (body : Held) → IsFresh layout (record { 0 = q }) body → map home_of slots ≡ slots_open frames q → AreOfLayout layout slots
+  pub shelf-more : (frames q : ℕ) (body : BodyValue) → IsFresh layout (record { 0 = q }) body → map home_of slots ≡ slots_open frames q → AreOfLayout layout slots
       → (map home_of (slots ++ shelf_with body ∷ []) ≡ slots_open frames (q + 1)) × AreOfLayout layout (slots ++ shelf_with body ∷ [])
   shelf-more frames q body fresh is each = (
     map-append home_of slots (shelf_with body ∷ []) ∙ (λ i. is i ++ shelf i ∷ [])
         ∙ append_assoc (replicate frames (Some None)) (map opening_shelf (below q)) (opening_shelf q ∷ [])
         ∙ ap (λ (l : List (Option (Option Log))). replicate frames (Some None) ++ l) (map-more opening_shelf (map opening_shelf (below q)) q refl),
-    more-bodies (shelf_with body) (λ b e. ap (λ (c : Held). c.layout) (sym (same_Some body b e)) ∙ fresh.layout_is) each,
+    more-bodies (shelf_with body) (λ b e. ap (λ (c : BodyValue). c.layout) (sym (same_Some body b e)) ∙ fresh.layout_is) each,
   )
     where
       shelf : home_of (shelf_with body) ≡ opening_shelf q
@@ -85,28 +79,14 @@ module _ (layout : Layout) (slots : List Slot) where
 
 -- ---- the board at opening
 
-views-open : (layout : Layout) (numbers : List ℕ) → map view_of (map (sheet_of layout) numbers) ≡ map opening_view numbers
-views-open layout [] = refl
-views-open layout (c ∷ cs) = ap (λ l. opening_view c ∷ l) (views-open layout cs)
+module _ (layout : Layout) (words : List ℕ) (slots : List Slot) (sound : IsSound layout)
+    (words-are : words ≡ opening_words layout) (homes-are : map home_of slots ≡ opening_homes layout) (bodies : AreOfLayout layout slots) where
+  pub state-open : state_of layout words slots Opening ≡ opening layout
+  state-open = λ i. record { words = words-are i; homes = homes-are i; views = map opening_view (below layout.cpus) }
 
-module _ (layout : Layout) (words : List ℕ) (slots : List Slot) (ledgers : List Sheet) (sound : IsSound layout)
-    (words-are : words ≡ opening_words layout) (homes-are : map home_of slots ≡ opening_homes layout) (bodies : AreOfLayout layout slots) (ledgers-are : ledgers ≡ opening_sheets layout) where
-  pub state-open : state_of words slots ledgers ≡ opening layout
-  state-open = λ i. record { words = words-are i; homes = homes-are i; views = (ap (map view_of) ledgers-are ∙ views-open layout (below layout.cpus)) i }
-
-  own-open : (i : ℕ) (s : Sheet) → slice_get ledgers i ≡ Some s → IsLedger layout i s
-  own-open i s at =
-      let listed = map-was (sheet_of layout) (below layout.cpus) i s (sym (ap (λ (l : List Sheet). slice_get l i) ledgers-are) ∙ at) in
-      let less : i < layout.cpus = subst (λ (n : ℕ). i < n) (length-below layout.cpus) (slice_get_within (below layout.cpus) i listed.0 listed.1) in
-      let number : listed.0 ≡ i = same_Some listed.0 i (sym listed.1 ∙ below-at layout.cpus i less) in
-      record { own = ap (λ (x : Sheet). x.cpu.0) (sym listed.2) ∙ number; layout_is = ap (λ (x : Sheet). x.paged.layout) (sym listed.2) }
-
-  pub board-open : IsBoard layout words slots ledgers (record { cpu = record { 0 = 0 }; seq = 0 }) false
+  pub board-open : IsBoard layout words slots Opening 0
   board-open = record {
-    holds = subst (Holds layout) (sym state-open) (opening-holds layout sound);
+    reached = record { run = state-open; holds = subst (Holds layout) (sym state-open) (opening-holds layout sound) };
     bodies = bodies;
-    cpus = ap (λ (l : List Sheet). length l) ledgers-are ∙ length-map (below layout.cpus) (sheet_of layout) ∙ length-below layout.cpus;
-    cpu = sound.some_cpu;
-    own = own-open;
-    roomy = λ e. absurd (true≢false (sym e));
+    seated = sound.some_cpu;
   }

@@ -1,3 +1,4 @@
-pub mod Boards
-pub mod Openings
 pub mod Slots
+pub mod Openings
+pub mod Trails
+pub mod Boards

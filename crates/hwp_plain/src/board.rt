@@ -1,56 +1,57 @@
-ghost use Rattle.std.specs.Prelude.{◌≡◌, ◌+◌, ◌<◌, true, false, None, Some, length, slice_set, OnOk, OnErr, IfOk};
+ghost use Rattle.std.specs.Prelude.{◌≡◌, ◌<◌, true, false, [], cond, None, IfOk};
 ghost use Rattle.hwp_geom.specs.Layout.{IsSound};
 ghost use Rattle.hwp_rule.specs.Opening.{opening};
-ghost use Rattle.hwp_rule.specs.Rule.{Holds};
-ghost use Rattle.hwp_rule.specs.Steps.{kind_of};
 ghost use Rattle.hwp_rule.specs.Words.{IsPlace, read, words_of};
-ghost use Rattle.hwp_core.specs.Calls.{Steps, HasBody, log_of};
-ghost use Rattle.hwp_plain.specs.Boards.{Board, own_view, own_slots, CanStep, Moves};
-ghost use Rattle.hwp_ledger.specs.Served.{IsServed};
+ghost use Rattle.hwp_step.specs.Calls.{CanMake, Steps, logs, rec_of};
+ghost use Rattle.hwp_plain.specs.Boards.{IsReached, Moves, own_view, with_turn};
+ghost use Rattle.hwp_step.specs.Boards.{AreSeated};
 
-use crate::opening::{opening_ledgers, opening_slots, opening_words};
-use crate::places::index;
-use crate::slot::Slot;
-use crate::slots::{body_in, carries, carry, slot_of};
+use crate::opening::{opening_slots, opening_words};
+use crate::slot::{Slot, carry};
+use crate::trail::{Trail, tell};
 use hwp_geom::{Cpu, Kind, Layout, OutOfMemory, Who};
-use hwp_ledger::{Ledger, kind_of, place_of, word_after};
 use hwp_page::Body;
-use hwp_rule::{Place, Step};
+use hwp_rule::{Place, Step, index};
+use hwp_step::{Met, Turn};
 use std::alloc::Global;
 use std::marker::Model;
+use std::snapshot::Snapshot;
 use std::sync::Arc;
 
-/// The machine in plain vectors: all words, the page bodies on their shelves, and what each processor knows. It keeps the
-/// frame rule.
+/// The machine in plain vectors: its words, the page bodies that no lock's holder has, and the trail of its moves. It was
+/// reached by those moves, and keeps the frame rule.
 #[derive(Drop)]
 pub struct PlainBoard {
     layout: Arc<Layout, Global>,
     words: Vec<u64>,
     slots: Vec<Slot>,
-    ledgers: Vec<Ledger>,
-    who: Who,
+    trail: Trail,
+    seat: Cpu,
     ready: bool,
     made: Option<Kind>,
 }
 
 impl Model for PlainBoard {
-    ghost use Rattle.std.specs.Prelude.{map};
     ghost use Rattle.std.specs.Arc.{arc_value};
-    ghost use Rattle.hwp_plain.specs.Boards.{Board, state_of, IsBoard};
-    ghost use Rattle.hwp_plain.specs.Slots.{content_of};
+    ghost use Rattle.hwp_plain.specs.Boards.{Board, IsBoard, state_of};
+    ghost use Rattle.hwp_plain.specs.Trails.{played};
+    ghost use Rattle.hwp_kill.specs.contracts.Slots as sets;
+    ghost use Rattle.std.specs.Coded.{codes};
 
     ghost Value = { Board };
 
+    ghost coded = { Prim.hlevel (codes, sets.the_row.coded) };
+
     ghost view = { λ b. record {
       layout = arc_value b.layout;
-      state = state_of b.words.items b.slots.items b.ledgers.items;
-      contents = map content_of b.slots.items;
-      who = b.who;
+      state = state_of (arc_value b.layout) b.words.items b.slots.items b.trail;
+      log = played b.trail;
+      seat = b.seat.0;
       ready = b.ready;
       made = b.made;
     } };
 
-    ghost invariant = { λ b. IsBoard (arc_value b.layout) b.words.items b.slots.items b.ledgers.items b.who b.ready };
+    ghost invariant = { λ b. IsBoard (arc_value b.layout) b.words.items b.slots.items b.trail b.seat.0 };
 }
 
 impl PlainBoard {
@@ -59,20 +60,17 @@ impl PlainBoard {
         requires sound { IsSound layout.now }
         ensures layout { IfOk result (λ board. board.layout ≡ layout.now) }
         ensures state { IfOk result (λ board. board.state ≡ opening layout.now) }
+        ensures log { IfOk result (λ board. board.log ≡ []) }
     {
         let words = opening_words(alloc, layout)?;
-        let ledgers = opening_ledgers(alloc, layout)?;
         let layout = Arc::new(alloc, layout.copy(alloc)?)?;
         let slots = opening_slots(alloc, &layout)?;
         Ok(PlainBoard {
             layout,
             words,
             slots,
-            ledgers,
-            who: Who {
-                cpu: Cpu(0),
-                seq: 0,
-            },
+            trail: Trail::Opening,
+            seat: Cpu(0),
             ready: false,
             made: None,
         })
@@ -93,75 +91,33 @@ impl PlainBoard {
         self.words[index(&self.layout, place)]
     }
 
-    /// The steps that follow are of this command of the processor.
-    pub(crate) fn come_to(&mut self, seq: u32)
-        ensures { self.new ≡ record self.old { who = record self.old.who { seq = seq } } }
-    {
-        self.who.seq = seq;
-    }
-
-    /// Makes room for one step of the processor, and is then ready for it. A refusal changes nothing of the machine.
-    pub(crate) fn prepare(&mut self, cpu: Cpu) -> Result<(), OutOfMemory>
-        requires { cpu.0 < self.old.layout.cpus }
-        ensures ok { OnOk result (self.new ≡ record self.old { who = record self.old.who { cpu = cpu }; ready = true; made = None }) }
-        ensures err { OnErr result (self.new ≡ record self.old { who = record self.old.who { cpu = cpu }; ready = false; made = None }) }
-    {
-        self.who.cpu = cpu;
-        self.ready = false;
-        self.made = None;
-        self.ledgers[usize::from(cpu.0)].room()?;
-        self.ready = true;
-        Ok(())
-    }
-
-    /// Makes one step of the processor, and answers the word that it met. It takes no memory.
-    pub(crate) fn step(&mut self, step: &Step) -> u64
-        requires ready { self.old.ready ≡ true }
-        requires served { IsServed step.now }
-        requires asks { CanStep self.old.layout self.old.who step.now (own_view self.old) (own_slots self.old) }
-        ensures same { (self.new.layout ≡ self.old.layout) × (self.new.who ≡ self.old.who) }
-        ensures step { Steps self.old.layout self.old.who step.now (own_view self.old) (own_view self.new) (own_slots self.old) (own_slots self.new) (λ r c. Moves self.old r self.new) result }
-    {
-        let at = index(&self.layout, place_of(step));
-        let found = self.words[at];
-        self.words[at] = word_after(step, found);
-        let slot = slot_of(&self.layout, step);
-        carry(&mut self.slots, slot, carries(step, found));
-        let content = body_in(self.slots.as_slice(), slot);
-        self.ledgers[usize::from(self.who.cpu.0)].step(self.who, step, found, content);
-        self.ready = false;
-        self.made = kind_of(step);
-        found
-    }
-
-    /// Takes the body out of a slot that the processor carries.
-    pub(crate) fn take_out(&mut self, slot: usize) -> Body
-        requires carried { HasBody (own_slots self.old) slot }
-        ensures body { own_slots self.old slot ≡ Some (Some (log_of result)) }
-        ensures layout { result.layout ≡ self.old.layout }
-        ensures board { self.new ≡ record self.old { contents = slice_set self.old.contents slot None } }
-    {
-        match self.slots[slot].body.take() {
-            Some(body) => body,
-            None => unreachable!(),
-        }
-    }
-
-    /// Puts a body into an empty slot that the processor carries.
-    pub(crate) fn put_in(&mut self, slot: usize, body: Body)
-        requires empty { own_slots self.old slot ≡ Some None }
-        requires layout { body.layout ≡ self.old.layout }
-        ensures { self.new ≡ record self.old { contents = slice_set self.old.contents slot (Some (log_of body)) } }
-    {
-        self.slots[slot].body = Some(body);
-    }
-
-    /// The board keeps the frame rule, and has all its slots.
-    pub(crate) fn keeps(&self)
-        ensures rule { Holds self.now.layout self.now.state }
-        ensures slots { length self.now.contents ≡ self.now.layout.frames + length self.now.layout.pages }
+    /// The moves of the log led from the opening to the board as it is, the frame rule holds of it, and each processor has
+    /// the seat of its number. It does nothing.
+    pub fn reached(&self)
+        ensures reached { IsReached self.now.layout self.now.log self.now.state }
+        ensures seats { AreSeated self.now.layout self.now.state (λ cpu. cpu.0) }
     {
         let _layout = &self.layout;
+    }
+
+    /// It is the processor's turn, which can make one step.
+    pub(crate) fn begin(&mut self, cpu: Cpu)
+        requires { cpu.0 < self.old.layout.cpus }
+        ensures { self.new ≡ record self.old { seat = cpu.0; ready = true; made = None } }
+    {
+        self.seat = cpu;
+        self.ready = true;
+        self.made = None;
+    }
+
+    /// The turn is over. Where it made a step, the log tells which turn it was.
+    pub(crate) fn end(&mut self, turn: Turn)
+        ensures { self.new ≡ record self.old { log = cond self.old.ready self.old.log (with_turn turn self.old.log); ready = false } }
+    {
+        if !self.ready {
+            tell(&mut self.trail, turn);
+        }
+        self.ready = false;
     }
 
     /// The kind of the step that this turn made.
@@ -170,7 +126,34 @@ impl PlainBoard {
     {
         self.made
     }
-}
 
-#[cfg(test)]
-pub mod tests;
+    /// Makes one step of the seat whose turn it is, with the body that goes home. It answers the word that it met, and the
+    /// body of the slot whose lock it took. It takes no memory.
+    pub(crate) fn make(&mut self, who: Who, step: &Step, body: Option<Body>) -> Met
+        requires can { CanMake self.old.layout who step.now body (own_view self.old) }
+        ensures same { (self.new.layout ≡ self.old.layout) × (self.new.seat ≡ self.old.seat) × (self.new.ready ≡ false) }
+        ensures told { Steps self.old.layout who step.now (logs body) (own_view self.old) (own_view self.new) result.found result.body }
+        ensures moved { Moves self.old (rec_of self.old.layout who step.now (logs body) result.found result.body) self.new }
+    {
+        let at = index(&self.layout, step.place());
+        let found = self.words[at];
+        self.words[at] = step.word_after(found);
+        let carried = carry(&mut self.slots, step.slot_move(&self.layout, found), body);
+        let before = Snapshot::of(&self.trail);
+        self.trail = Trail::Made {
+            before,
+            seat: self.seat,
+            who,
+            step: Snapshot::of(step),
+            found,
+            content: carried.content,
+            turn: Turn::Moved,
+        };
+        self.ready = false;
+        self.made = step.kind();
+        Met {
+            found,
+            body: carried.body,
+        }
+    }
+}

@@ -1,18 +1,13 @@
-//! The machine in plain vectors: words, page bodies and what each processor knows, changed by one step at a time. The
-//! board keeps the frame rule in its type.
+//! The machine in plain vectors: words, page bodies, and a trail of the moves that brought them about, which clauses alone
+//! read. Tasks advance on it turn by turn. That the board was reached by these moves, and that the frame rule holds of it,
+//! stands in its type.
 #![tactic(auto)]
 
 mod board;
 mod opening;
 mod ops;
-mod places;
 mod slot;
-mod slots;
+mod trail;
 mod turns;
 
 pub use board::PlainBoard;
-
-#[cfg(test)]
-mod checks;
-#[cfg(test)]
-mod tests;

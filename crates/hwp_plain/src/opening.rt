@@ -3,14 +3,11 @@ ghost use Rattle.std.specs.Arc.{arc_value};
 ghost use Rattle.hwp_geom.specs.Layout.{IsSound};
 ghost use Rattle.hwp_rule.specs.Opening.{below, opening_frame, free_bits, opening_free, opening_homes, opening_words};
 ghost use Rattle.hwp_rule.specs.Words.{free_words};
-ghost use Rattle.hwp_plain.specs.Openings.{opening_sheets, usable_in};
-ghost use Rattle.hwp_rule.specs.Lists.{EachMember};
-ghost use Rattle.hwp_plain.specs.Boards.{IsOfLayout};
-ghost use Rattle.hwp_plain.specs.Slots.{home_of, body_of};
+ghost use Rattle.hwp_plain.specs.Openings.{usable_in};
+ghost use Rattle.hwp_plain.specs.Slots.{home_of, AreOfLayout};
 
 use crate::slot::Slot;
-use hwp_geom::{Cpu, Layout, OutOfMemory, Page};
-use hwp_ledger::Ledger;
+use hwp_geom::{Layout, OutOfMemory, Page};
 use hwp_page::Body;
 use std::alloc::Global;
 use std::sync::Arc;
@@ -105,37 +102,20 @@ fn available(kernel: &[bool]) -> u64
     count
 }
 
-/// The ledgers of the processors, in their order.
-pub fn opening_ledgers(alloc: Global, layout: &Layout) -> Result<Vec<Ledger>, OutOfMemory>
-    ensures { IfOk result (λ ledgers. ledgers.items ≡ opening_sheets layout.now) }
-{
-    let mut ledgers = Vec::new(alloc);
-    for cpu in 0..layout.cpus {
-        ledgers.push(Ledger::new(alloc, layout, Cpu(cpu)))?;
-    }
-    Ok(ledgers)
-}
-
 /// The slots of the frames, which are empty, and then the shelves of the pages, with the bodies at opening.
 pub fn opening_slots(alloc: Global, layout: &Arc<Layout, Global>) -> Result<Vec<Slot>, OutOfMemory>
     requires sound { IsSound (arc_value layout.now) }
     ensures homes { IfOk result (λ slots. map home_of slots.items ≡ opening_homes (arc_value layout.now)) }
-    ensures bodies { IfOk result (λ slots. EachMember (IsOfLayout (arc_value layout.now)) (map body_of slots.items)) }
+    ensures bodies { IfOk result (λ slots. AreOfLayout (arc_value layout.now) slots.items) }
 {
     let mut slots = Vec::new(alloc);
     let declared: &Layout = layout;
     for _frame in 0..declared.frames {
-        slots.push(Slot {
-            out: false,
-            body: None,
-        })?;
+        slots.push(Slot::Home(None))?;
     }
     for page in 0..declared.pages.len() as u16 {
         let body = Body::new(alloc, layout, Page(page))?;
-        slots.push(Slot {
-            out: false,
-            body: Some(body),
-        })?;
+        slots.push(Slot::Home(Some(body)))?;
     }
     Ok(slots)
 }

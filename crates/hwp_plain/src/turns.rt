@@ -1,30 +1,25 @@
 use crate::board::PlainBoard;
-use hwp_core::{Board, Task, Turn};
 use hwp_geom::{Cpu, Kind};
+use hwp_step::{Board, Machine, Turn, advance};
 
 impl Board for PlainBoard {
-    ghost use Rattle.hwp_plain.specs.Boards.{view_at, slots_at};
-
     ghost machine = { λ b. b.layout };
 
     ghost state = { λ b. b.state };
 
-    ghost view = { λ b c. view_at c b.state };
+    ghost seat = { λ b cpu. cpu.0 };
 
-    ghost slots = { λ b c. slots_at c b };
+    ghost log = { λ b. b.log };
 
-    fn advance<T: Task>(&mut self, cpu: Cpu, task: &mut T) -> (Turn, Option<Kind>) {
+    fn keeps(&self) {
+        self.reached();
+    }
+
+    fn advance<M: Machine>(&mut self, cpu: Cpu, task: &mut M) -> (Turn, Option<Kind>) {
+        self.begin(cpu);
+        let turn = advance(task, self);
+        self.end(turn);
         self.keeps();
-        match self.prepare(cpu) {
-            Ok(()) => {
-                let turn = task.advance(self);
-                self.keeps();
-                (turn, self.made())
-            }
-            Err(_) => {
-                self.keeps();
-                (Turn::NoMemory, None)
-            }
-        }
+        (turn, self.made())
     }
 }

@@ -104,3 +104,8 @@ pub none-later-after : (layout : Layout) (r : Rec) (v : View) (cpu : Cpu) (seq :
 none-later-after layout r v cpu seq now each = subst (EachMember (λ (p : Part). p.cpu ≡ cpu → p.latest ≤ seq))
     (sym (by-step layout r.who r.step r.found r.content (noted r.who v)))
     (each-changed (λ (p : Part). p.cpu ≡ cpu → p.latest ≤ seq) (is_part r.who) (later r.who) v.parts (λ p is h same. let below : p.latest ≤ seq = h same in omega arith) each)
+
+-- a processor of the view is one of it, also after a step
+pub part-after : (layout : Layout) (r : Rec) (v : View) (cpu : Cpu) → SomeMember (λ (p : Part). p.cpu ≡ cpu) v.parts → SomeMember (λ (p : Part). p.cpu ≡ cpu) (view_after layout r v).parts
+part-after layout r v cpu some = subst (SomeMember (λ (p : Part). p.cpu ≡ cpu)) (sym (by-step layout r.who r.step r.found r.content (noted r.who v)))
+    (some-changed (λ (p : Part). p.cpu ≡ cpu) (is_part r.who) (later r.who) v.parts (λ p is h. h) some)

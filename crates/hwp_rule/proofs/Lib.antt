@@ -38,3 +38,4 @@ pub mod OpeningWords
 pub mod OpeningHolds
 pub mod LossBounds
 pub mod Meeting
+pub mod Served

@@ -2,8 +2,8 @@ use Rattle.std.proofs.Common.{◌≡◌, ◌+◌, List, Some, None, map, replica
 use Rattle.std.specs.Arc.{arc_value}
 use Rattle.hwp_geom.specs.declared.Layout.{Layout}
 use Rattle.hwp_plain.specs.declared.slot.Slot.{Slot}
-use Rattle.hwp_plain.specs.Slots.{home_of}
-use Rattle.hwp_plain.proofs.Openings.{AreOfLayout, slots_open, no-shelf, frame-more, shelf-more}
+use Rattle.hwp_plain.specs.Slots.{home_of, AreOfLayout}
+use Rattle.hwp_plain.proofs.Openings.{slots_open, no-shelf, frame-more, shelf-more}
 use Rattle.hwp_plain.proofs.opening.opening_slots.Goals as goal
 
 pub loop-frame-preserved : goal.loop-frame-preserved

@@ -1,7 +1,7 @@
 use Rattle.std.proofs.Common.{◌≡◌, Some, None, map, replicate}
 use Rattle.std.specs.Arc.{arc_value}
-use Rattle.hwp_plain.specs.Slots.{home_of}
-use Rattle.hwp_plain.proofs.Openings.{AreOfLayout, slots_open}
+use Rattle.hwp_plain.specs.Slots.{home_of, AreOfLayout}
+use Rattle.hwp_plain.proofs.Openings.{slots_open}
 use Rattle.hwp_plain.proofs.opening.opening_slots.Given as goal
 
 abbrev pub invariant-loop-frame : goal.invariant-loop-frame
