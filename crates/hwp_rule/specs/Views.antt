@@ -220,8 +220,8 @@ abbrev pub lost_by : Layout → Who → FileNo → Log → View → View
 lost_by layout who file log v =
     record (listed layout who log v) { owed = record (listed layout who log v).owed { losses = without (λ (n : FileNo). n.0 == file.0) (listed layout who log v).owed.losses } }
 
--- what its own kind of step makes of a seat's view, when the step is noted: `found` is the word that it met, and `content` what was in
--- the slot that it took, or what it put there
+-- what its own kind of step makes of a seat's view, when the step is noted: `found` is the word that it met, and
+-- `content` what was in the slot that it took, or what it put there
 abbrev pub view_by : Layout → Who → Step → ℕ → Option Log → View → View
 view_by layout who (steps.Load place) found content v = loaded who place found v
 view_by layout who (steps.Reserve seen) found content v =

@@ -49,8 +49,8 @@ abbrev pub HasPolicy : List Sight → Who → Option Frame → Seen → Type 0
 HasPolicy sights who None seen = ⊥
 HasPolicy sights who (Some frame) seen = SomeMember (Shows who frame (places.Policy seen.thread) (policy_at seen.n seen.policy)) sights
 
--- the command has seen, under the lock of the frame that the body was in, what an entry says that it saw: the bad lines of a load, a store or a machine check, no bad line
--- for one that copies the content, and the policies of a failure
+-- the command has seen, under the lock of the frame that the body was in, what an entry says that it saw: the bad lines
+-- of a load, a store or a machine check, no bad line for one that copies the content, and the policies of a failure
 abbrev pub HasSeen : List Sight → Who → Option Frame → What → Type 0
 HasSeen sights who frame (entries.Load slot line (Word mask word)) = HasMask sights who frame mask.0
 HasSeen sights who frame (entries.Store slot line (Word mask word)) = HasMask sights who frame mask.0
@@ -69,10 +69,11 @@ AreInOrder list = (i j : ℕ) (e f : Entry) → i < j → slice_get list i ≡ S
 abbrev pub Reaches : Length → Log → Type 0
 Reaches l log = log.page ≡ l.log.page → StartsWith l.log.entries log.entries
 
--- The entries of the bodies are those that the views list, each at its place: whatever is summed over the ones is the same
--- over the others. In each history the commands of one processor do not fall. A view has the sights that its entries need,
--- and each history begins with what a view has seen of it. Broken by: an entry appended and not listed; an entry of an earlier command; an older copy of a body put back; a load listed
--- without the mask that was shown, or with one that was shown before the frame was locked.
+-- The entries of the bodies are those that the views list, each at its place: whatever is summed over the ones is the
+-- same over the others. In each history the commands of one processor do not fall. A view has the sights that its
+-- entries need, and each history begins with what a view has seen of it. Broken by: an entry appended and not listed;
+-- an entry of an earlier command; an older copy of a body put back; a load listed without the mask that was shown, or
+-- with one that was shown before the frame was locked.
 pub record EntriesListed (homes : Homes) (bodies : List (List InHand)) (made : List (List Made × List Sight)) (lengths : List (List Length)) : Type 0 where
   pub balance : (f : Page → ℕ → Entry → ℕ) → sum_bodies (weigh f) homes bodies ≡ sum_by (λ (v : List Made × List Sight). sum_by (λ (m : Made). f m.page m.place m.entry) v.0) made
   pub ordered : EachBody (λ (log : Log). AreInOrder log.entries) homes bodies

@@ -28,9 +28,10 @@ pub record IsBefore (word : ℕ) (s : Sight) : Type 0 where
   pub cycle : cycle_of s.word ≤ cycle_of word
   pub poison : cycle_of s.word ≡ cycle_of word → poison_of s.word ≤ poison_of word
 
--- Of each cycle below a frame's CYCLE the views list one poisoning and one unpoisoning; of its CYCLE one poisoning where
--- POISON is set; and no others, nor any of a frame that the board lacks. No processor lists more than 4,096 unpoisonings. Broken by: a poison that found the bit set
--- and marks all the same; a `revive` that leaves the cycle as it was.
+-- Of each cycle below a frame's CYCLE the views list one poisoning and one unpoisoning; of its CYCLE one poisoning
+-- where POISON is set; and no others, nor any of a frame that the board lacks. No processor lists more than 4,096
+-- unpoisonings. Broken by: a poison that found the bit set and marks all the same; a `revive` that leaves the cycle as
+-- it was.
 pub record MarksAlternate (frames : List ℕ) (marks : List (List Mark)) (sights : List (List Sight)) : Type 0 where
   pub poisoned : (f w cycle : ℕ) → slice_get frames f ≡ Some w → poisonings f cycle marks ≡ cond (nat_lt cycle (cycle_of w)) 1 (cond (cycle == cycle_of w) (poison_of w) 0)
   pub revived : (f w cycle : ℕ) → slice_get frames f ≡ Some w → revivals f cycle marks ≡ from_bool (nat_lt cycle (cycle_of w))

@@ -29,11 +29,10 @@ pub record IsApart (frees : List ℕ) (hands : List (List FrameInHand)) (f word 
   pub taken : free_bit frees f ≡ 0
   pub unhanded : in_hand f hands ≡ 0
 
--- A frame that is not the kernel's is in exactly one of three places: its free bit is set, it is in the hand of one view,
--- or its count is above 0. In the first two it is bare. A hand that says of its frame that it is poisoned is right. Broken
--- by: `give_bit`
--- of a frame that is not in hand; `put_ref` of the last reference that doesn't take the frame in hand; a reference to a
--- free frame.
+-- A frame that is not the kernel's is in exactly one of three places: its free bit is set, it is in the hand of one
+-- view, or its count is above 0. In the first two it is bare. A hand that says of its frame that it is poisoned is
+-- right. Broken by: `give_bit` of a frame that is not in hand; `put_ref` of the last reference that doesn't take the
+-- frame in hand; a reference to a free frame.
 pub record HasOnePlace (kernel : List Bool) (frames frees : List ℕ) (hands : List (List FrameInHand)) : Type 0 where
   pub declared : (f w : ℕ) (k : Bool) → slice_get frames f ≡ Some w → slice_get kernel f ≡ Some k → is_kernel w ≡ k
   pub placed : (f w : ℕ) → slice_get frames f ≡ Some w → is_kernel w ≡ false → free_bit frees f + in_hand f hands + min (count_of w) 1 ≡ 1
