@@ -13,7 +13,6 @@ use Rattle.hwp_geom.specs.declared.Frame.{Frame}
 use Rattle.hwp_geom.specs.declared.Layout.{Layout}
 use Rattle.hwp_geom.specs.declared.Page.{Page}
 use Rattle.hwp_geom.specs.declared.PageKind.{PageKind}
-use Rattle.hwp_geom.specs.declared.Proc.{Proc}
 use Rattle.hwp_geom.specs.declared.Who.{Who}
 use Rattle.hwp_page.specs.declared.Entry.{Entry}
 use Rattle.hwp_page.specs.declared.Met.TheVariants.{Word, Sigbus}
@@ -33,7 +32,7 @@ use Rattle.hwp_rule.specs.declared.Log.{Log}
 use Rattle.hwp_rule.specs.declared.PageLock.{PageLock}
 use Rattle.hwp_rule.specs.declared.Sight.{Sight}
 use Rattle.hwp_rule.specs.declared.View.{View}
-use Rattle.hwp_rule.specs.Asks.{HasPageLock, Extends, PutFits, CanGoHome}
+use Rattle.hwp_rule.specs.Asks.{Extends, PutFits, CanGoHome}
 use Rattle.hwp_rule.specs.Lists.{EachMember}
 use Rattle.hwp_rule.specs.Logs.{log_of, opening_at, state_of, has_ending, fitting, fitting_word}
 use Rattle.hwp_rule.specs.Views.{is_body_of, more_of, page_locks_on}

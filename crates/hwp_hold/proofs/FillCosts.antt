@@ -1,5 +1,5 @@
 -- The costs of more references, of a fill and of a command given up fall.
-use Rattle.std.proofs.Common.{◌≡◌, ℕ, ◌+◌, ◌*◌, ◌%◌, ◌^◌, ◌<◌, ◌≤◌, ◌==◌, min, Bool, true, false, cond, Option, Some, None, is_none, slice_index, refl, sym, ap, ◌∙◌, subst, arith}
+use Rattle.std.proofs.Common.{◌≡◌, ℕ, ◌+◌, ◌*◌, ◌%◌, ◌^◌, ◌<◌, ◌≤◌, ◌==◌, Bool, true, false, cond, Some, None, is_none, slice_index, refl, sym, ap, ◌∙◌, subst, arith}
 use Rattle.std.proofs.lemmas.Bool.{both_ways}
 use Rattle.std.proofs.lemmas.Option.{none-some}
 use Rattle.hwp_geom.specs.declared.Frame.{Frame}
@@ -11,9 +11,9 @@ use Rattle.hwp_rule.specs.Rule.{Holds}
 use Rattle.hwp_rule.specs.Steps.{place_of, word_after}
 use Rattle.hwp_rule.specs.Words.{Words, read}
 use Rattle.hwp_rule.proofs.Lists.{same-number}
-use Rattle.hwp_step.specs.declared.Turn.TheVariants.{Moved, Changed, NoMemory}
+use Rattle.hwp_step.specs.declared.Turn.TheVariants.{Moved, Changed}
 use Rattle.hwp_step.specs.Boards.{view_of}
-use Rattle.hwp_step.specs.Ranks.{Member, member, IsRanked, is_waits, stale, top, words_at}
+use Rattle.hwp_step.specs.Ranks.{Member, member, IsRanked, is_waits, stale, words_at}
 use Rattle.hwp_step.proofs.Ranking.{met, words-after, words-kept, rank-of}
 use Rattle.hwp_hold.specs.declared.fill.Fill.{Fill}
 use Rattle.hwp_hold.specs.declared.fill.FillAt.{FillAt}

@@ -8,18 +8,13 @@ use Rattle.hwp_geom.specs.declared.Layout.{Layout}
 use Rattle.hwp_geom.specs.declared.Page.{Page}
 use Rattle.hwp_geom.specs.declared.Who.{Who}
 use Rattle.hwp_page.specs.History.{BodyValue}
-use Rattle.hwp_rule.specs.declared.FrameLock.{FrameLock}
-use Rattle.hwp_rule.specs.declared.InHand.{InHand}
-use Rattle.hwp_rule.specs.declared.PageLock.{PageLock}
 use Rattle.hwp_rule.specs.declared.Ref.{Ref}
 use Rattle.hwp_rule.specs.declared.Step.{Step}
 use Rattle.hwp_rule.specs.declared.Step.TheVariants as steps
 use Rattle.hwp_rule.specs.declared.View.{View}
 use Rattle.hwp_rule.specs.Asks.{HasLock, HasPage, CanName}
 use Rattle.hwp_rule.specs.Logs.{log_of}
-use Rattle.hwp_rule.specs.Views.{unpoisoned, refs_on, is_body_of, frame_in, with_named, less_refs, less_named}
-use Rattle.hwp_rule.specs.Words.{words_of}
-use Rattle.hwp_rule.specs.parts.Fits.{KnowsWords}
+use Rattle.hwp_rule.specs.Views.{unpoisoned, refs_on, is_body_of, frame_in, with_named, less_refs}
 use Rattle.hwp_rule.proofs.Lists.{same-number}
 use Rattle.hwp_rule.proofs.Meeting.{cache-word, lock-knows}
 use Rattle.hwp_rule.proofs.Refs.{refs-cons}
@@ -36,12 +31,12 @@ use Rattle.hwp_hold.specs.declared.refer.ReferAt.TheVariants as refer_at
 use Rattle.hwp_hold.specs.declared.take.Take.{Take}
 use Rattle.hwp_hold.specs.declared.take.TakeAt.{TakeAt}
 use Rattle.hwp_hold.specs.declared.take.TakeAt.TheVariants as take_at
-use Rattle.hwp_hold.specs.Fills.{begin, plan, plan_at, after_take, after_refer, next, next_at, brought, body_next, turn, ShowsAt, Shows, HasRoomFor, CanBring, with_take, with_frame, IsTaking, HoldsBoth, IsReferring, Fits, FitsAt}
+use Rattle.hwp_hold.specs.Fills.{begin, plan, plan_at, after_take, after_refer, next, next_at, brought, body_next, turn, ShowsAt, Shows, HasRoomFor, CanBring, with_take, with_frame, HoldsBoth, IsReferring, Fits, FitsAt}
 use Rattle.hwp_hold.specs.Holds.{locked, page_lock, one_ref, HoldsPage}
 use Rattle.hwp_hold.specs.Refers as refers
 use Rattle.hwp_hold.specs.Takes as takes
 use Rattle.hwp_hold.specs.Takes.{new_lock}
-use Rattle.hwp_hold.specs.Unholds.{holding, HoldsAhead}
+use Rattle.hwp_hold.specs.Unholds.{holding}
 use Rattle.hwp_hold.proofs.Bringing.{trans, goes-home}
 use Rattle.hwp_hold.proofs.Referring as referring
 use Rattle.hwp_hold.proofs.Taking as taking

@@ -1,16 +1,15 @@
 -- The free words: where a bit is to be found, they aren't all 0; and what one of them that was shown says.
-use Rattle.std.proofs.Common.{◌≡◌, ◌≢◌, ℕ, zero, suc, ◌+◌, ◌*◌, ◌/◌, ◌%◌, ◌^◌, ◌<◌, ◌≤◌, ◌==◌, ◌&&◌, ◌⊎◌, Bool, true, false, List, [], ◌∷◌, Option, Some, map, length, drop, set, slice_get, slice_index, inl, inr, refl, sym, ap, ◌∙◌, subst, arith, add-one}
+use Rattle.std.proofs.Common.{◌≡◌, ◌≢◌, ℕ, zero, suc, ◌+◌, ◌*◌, ◌/◌, ◌%◌, ◌^◌, ◌<◌, ◌≤◌, ◌==◌, ◌&&◌, Bool, true, false, List, [], ◌∷◌, Some, map, length, drop, set, slice_get, slice_index, inl, inr, refl, sym, ap, ◌∙◌, subst, arith, add-one}
 use Rattle.std.proofs.Math.Nat.{zero-div}
 use Rattle.std.proofs.Math.Seq.{drop-cons}
 use Rattle.std.proofs.lemmas.Bool.{both_ways, cases_lt, eqb-true, ne_eqb}
 use Rattle.std.proofs.lemmas.List.{drop_all}
 use Rattle.std.proofs.lemmas.Nat.Bits.{bit_at-trailing_zeros}
-use Rattle.std.proofs.lemmas.Option.{slice_get-get_or}
 use Rattle.std.specs.Int.{w64, trailing_zeros}
 use Rattle.std.specs.List.{list_all, sum_by}
+use Rattle.hwp_geom.specs.Bits.{IsLowestBit}
 use Rattle.hwp_geom.specs.declared.Frame.{Frame}
 use Rattle.hwp_geom.specs.declared.Layout.{Layout}
-use Rattle.hwp_words.specs.Fields.{IsLowestBit}
 use Rattle.hwp_rule.specs.declared.Place.TheVariants as places
 use Rattle.hwp_rule.specs.declared.State.{State}
 use Rattle.hwp_rule.specs.declared.Step.TheVariants as steps
@@ -26,17 +25,17 @@ use Rattle.hwp_rule.proofs.Moving.{shaped}
 use Rattle.hwp_rule.proofs.WordsByKind.{words-read}
 
 -- the lowest bit of a word is where its low zeros end
-pub lowest-is : (word k : ℕ) → 0 < word → word < 2 ^ 64 → IsLowestBit word k → k ≡ trailing_zeros w64 word
+pub lowest-is : (word k : ℕ) → 0 < word → word < 2 ^ 64 → IsLowestBit word 0 k → k ≡ trailing_zeros w64 word
 lowest-is word k some fits is = elim (cases_lt k (trailing_zeros w64 word)) [
-  | inl less ↦ let none : word / 2 ^ k % 2 ≡ 0 = lowest.2 k less in let set : word / 2 ^ k % 2 ≡ 1 = is.set in absurd (omega (arith, none, set))
+  | inl less ↦ let none : word / 2 ^ k % 2 ≡ 0 = zeros.2 k less in let set : word / 2 ^ k % 2 ≡ 1 = is.is_set in absurd (omega (arith, none, set))
   | inr most ↦ elim (cases_lt (trailing_zeros w64 word) k) [
-    | inl less ↦ let none : word / 2 ^ trailing_zeros w64 word % 2 ≡ 0 = is.below (trailing_zeros w64 word) less in let set : word / 2 ^ trailing_zeros w64 word % 2 ≡ 1 = lowest.1 in absurd (omega (arith, none, set))
+    | inl less ↦ let none : word / 2 ^ trailing_zeros w64 word % 2 ≡ 0 = is.lowest (trailing_zeros w64 word) (omega arith) less in let set : word / 2 ^ trailing_zeros w64 word % 2 ≡ 1 = zeros.1 in absurd (omega (arith, none, set))
     | inr least ↦ omega arith
   ]
 ]
   where
-    lowest : (trailing_zeros w64 word < 64) × (word / 2 ^ trailing_zeros w64 word % 2 ≡ 1) × ((i : ℕ) → i < trailing_zeros w64 word → word / 2 ^ i % 2 ≡ 0)
-    lowest = bit_at-trailing_zeros w64 word some fits
+    zeros : (trailing_zeros w64 word < 64) × (word / 2 ^ trailing_zeros w64 word % 2 ≡ 1) × ((i : ℕ) → i < trailing_zeros w64 word → word / 2 ^ i % 2 ≡ 0)
+    zeros = bit_at-trailing_zeros w64 word some fits
 
 abbrev pub all_zero : List ℕ → Bool
 all_zero words = list_all (λ (w : ℕ). w == 0) words

@@ -1,5 +1,5 @@
 -- The laws of `GiveUp`, and the states that it begins in.
-use Rattle.std.proofs.Common.{◌≡◌, ℕ, ◌+◌, ◌<◌, ◌≤◌, ◌==◌, Bool, true, false, cond, [], ◌∷◌, ◌++◌, Option, Some, None, is_none, length, slice_get, refl, sym, ap, ◌∙◌, subst, arith}
+use Rattle.std.proofs.Common.{◌≡◌, ℕ, ◌+◌, ◌<◌, ◌≤◌, Bool, true, false, cond, [], ◌∷◌, ◌++◌, Option, Some, None, is_none, length, slice_get, refl, sym, ap, ◌∙◌, subst, arith}
 use Rattle.std.proofs.lemmas.Bool.{both_ways}
 use Rattle.std.proofs.lemmas.Option.{none-some, same_Some}
 use Rattle.hwp_geom.specs.declared.Frame.{Frame}
@@ -35,7 +35,7 @@ use Rattle.hwp_hold.specs.declared.unhold.UnholdAt.TheVariants as unhold_at
 use Rattle.hwp_hold.specs.Holds.{one_ref}
 use Rattle.hwp_hold.specs.Releases as releases
 use Rattle.hwp_hold.specs.Unholds as unholds
-use Rattle.hwp_hold.specs.GiveUps.{with_page, with_frame, plan, plan_at, put, put_at, bare, bare_at, after_unhold, after_release, next, next_at, turn, IsLettingGo, holding, HoldsFrame, releasing, IsReleasing, Fits, FitsAt}
+use Rattle.hwp_hold.specs.GiveUps.{with_page, with_frame, plan, plan_at, put, put_at, bare, bare_at, after_unhold, after_release, next, next_at, turn, holding, HoldsFrame, releasing, IsReleasing, Fits, FitsAt}
 use Rattle.hwp_hold.proofs.Releasing as releasing_laws
 use Rattle.hwp_hold.proofs.Unholding as unholding_laws
 

@@ -1,20 +1,15 @@
 -- A step that a task made on a board: what it met, and the words after it.
-use Rattle.std.proofs.Common.{◌≡◌, ℕ, ◌^◌, ◌<◌, Option, Some, slice_get, slice_index, refl, sym, ap, ◌∙◌, subst}
+use Rattle.std.proofs.Common.{◌≡◌, ℕ, ◌^◌, ◌<◌, Some, slice_get, slice_index, sym, ap, ◌∙◌}
 use Rattle.hwp_geom.specs.declared.Layout.{Layout}
-use Rattle.hwp_geom.specs.declared.Who.{Who}
-use Rattle.hwp_page.specs.History.{BodyValue}
-use Rattle.hwp_rule.specs.declared.Log.{Log}
 use Rattle.hwp_rule.specs.declared.State.{State}
 use Rattle.hwp_rule.specs.declared.Step.{Step}
 use Rattle.hwp_rule.specs.declared.View.{View}
-use Rattle.hwp_rule.specs.Moves.{Move}
 use Rattle.hwp_rule.specs.Rule.{Holds}
 use Rattle.hwp_rule.specs.Steps.{place_of, word_after}
 use Rattle.hwp_rule.specs.Words.{Words, put, read, index, IsPlace}
 use Rattle.hwp_rule.proofs.WordsByKind.{words-read, same-put}
 use Rattle.hwp_step.specs.declared.Turn.{Turn}
 use Rattle.hwp_step.specs.Boards.{view_of}
-use Rattle.hwp_step.specs.Calls.{logs, rec_of}
 use Rattle.hwp_step.specs.Ranks.{Member, Made, words_at}
 use Rattle.hwp_step.proofs.Ranking.{me}
 

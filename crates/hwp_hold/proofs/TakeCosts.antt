@@ -1,6 +1,6 @@
 -- The cost of a take falls.
-use Rattle.std.proofs.Common.{◌≡◌, ◌≢◌, ℕ, ◌+◌, ◌-◌, ◌*◌, ◌/◌, ◌<◌, ◌≤◌, ◌==◌, nat_lt, Bool, true, false, not, cond, Option, Some, None, length, slice_get, slice_index, refl, sym, ap, ◌∙◌, subst, arith}
-use Rattle.std.proofs.lemmas.Bool.{both_ways, eqb-true, eqb-false, ne_eqb, ltb-true, ltb-false}
+use Rattle.std.proofs.Common.{◌≡◌, ℕ, ◌+◌, ◌-◌, ◌/◌, ◌<◌, ◌≤◌, ◌==◌, nat_lt, Bool, true, false, not, cond, Some, None, length, slice_index, refl, sym, ap, ◌∙◌, subst, arith}
+use Rattle.std.proofs.lemmas.Bool.{both_ways, eqb-true, eqb-false, ne_eqb, ltb-false}
 use Rattle.std.proofs.lemmas.Option.{none-some, same_Some}
 use Rattle.hwp_geom.specs.declared.Frame.{Frame}
 use Rattle.hwp_geom.specs.declared.Layout.{Layout}
@@ -10,12 +10,11 @@ use Rattle.hwp_rule.specs.declared.Step.{Step}
 use Rattle.hwp_rule.specs.declared.Step.TheVariants as steps
 use Rattle.hwp_rule.specs.declared.View.{View}
 use Rattle.hwp_rule.specs.Rule.{Holds}
-use Rattle.hwp_rule.specs.Steps.{word_after}
 use Rattle.hwp_rule.specs.Words.{Words, free_words, free_bit}
 use Rattle.hwp_rule.proofs.Lists.{same-number}
 use Rattle.hwp_step.specs.declared.Turn.TheVariants.{Moved, Changed}
 use Rattle.hwp_step.specs.Boards.{view_of}
-use Rattle.hwp_step.specs.Ranks.{Member, member, IsRanked, is_waits, stale, top, words_at}
+use Rattle.hwp_step.specs.Ranks.{Member, member, IsRanked, is_waits, stale, words_at}
 use Rattle.hwp_step.proofs.Ranking.{words-after, rank-of}
 use Rattle.hwp_hold.specs.declared.take.Take.{Take}
 use Rattle.hwp_hold.specs.declared.take.TakeAt.{TakeAt}

@@ -1,28 +1,24 @@
 -- The laws of `Take`.
-use Rattle.std.proofs.Common.{◌≡◌, ◌≢◌, ℕ, ◌+◌, ◌-◌, ◌*◌, ◌/◌, ◌^◌, ◌<◌, ◌≤◌, ◌==◌, nat_lt, Bool, true, false, not, cond, List, [], ◌∷◌, ◌++◌, Option, Some, None, is_none, map, length, slice_get, slice_index, refl, sym, ap, ◌∙◌, subst, arith}
+use Rattle.std.proofs.Common.{◌≡◌, ℕ, ◌+◌, ◌-◌, ◌/◌, ◌^◌, ◌<◌, ◌≤◌, ◌==◌, nat_lt, Bool, true, false, cond, [], ◌∷◌, ◌++◌, Option, Some, None, is_none, length, refl, sym, ap, ◌∙◌, subst, arith}
 use Rattle.std.proofs.lemmas.Bool.{both_ways, ltb-true, eqb-true, eqb-false}
-use Rattle.std.proofs.lemmas.Option.{none-some, same_Some, slice_get-get_or}
-use Rattle.std.specs.Int.{w64, trailing_zeros}
+use Rattle.std.proofs.lemmas.Option.{none-some, same_Some}
 use Rattle.hwp_geom.specs.declared.Frame.{Frame}
 use Rattle.hwp_geom.specs.declared.Layout.{Layout}
-use Rattle.hwp_geom.specs.declared.Who.{Who}
 use Rattle.hwp_page.specs.History.{BodyValue}
 use Rattle.hwp_words.specs.Frames.{is_handled, is_poisoned}
 use Rattle.hwp_rule.specs.declared.FrameInHand.{FrameInHand}
 use Rattle.hwp_rule.specs.declared.FrameLock.{FrameLock}
 use Rattle.hwp_rule.specs.declared.Place.TheVariants as places
-use Rattle.hwp_rule.specs.declared.State.{State}
 use Rattle.hwp_rule.specs.declared.Step.{Step}
 use Rattle.hwp_rule.specs.declared.Step.TheVariants as steps
 use Rattle.hwp_rule.specs.declared.View.{View}
-use Rattle.hwp_rule.specs.Asks.{HasInHand, HasRoom}
+use Rattle.hwp_rule.specs.Asks.{HasRoom}
 use Rattle.hwp_rule.specs.Lists.{SomeMember}
-use Rattle.hwp_rule.specs.Rule.{Holds}
 use Rattle.hwp_rule.specs.Views.{lock_found, with_refs, without, is_hand_of}
 use Rattle.hwp_rule.specs.Views as views
-use Rattle.hwp_rule.specs.Words.{words_of, index, free_words}
+use Rattle.hwp_rule.specs.Words.{free_words}
 use Rattle.hwp_rule.specs.Steps.{place_of}
-use Rattle.hwp_rule.specs.parts.Places.{IsBare, in_hand}
+use Rattle.hwp_rule.specs.parts.Places.{IsBare}
 use Rattle.hwp_rule.proofs.Lists.{some-last}
 use Rattle.hwp_rule.proofs.Meeting.{unpoisoned, hand-bare}
 use Rattle.hwp_step.specs.declared.Turn.{Turn}
@@ -34,7 +30,7 @@ use Rattle.hwp_hold.specs.declared.take.TakeAt.{TakeAt}
 use Rattle.hwp_hold.specs.declared.take.TakeAt.TheVariants as at
 use Rattle.hwp_hold.specs.declared.take.TakeAnswer.{TakeAnswer}
 use Rattle.hwp_hold.specs.declared.take.TakeAnswer.TheVariants as answers
-use Rattle.hwp_hold.specs.Takes.{answer, answer_at, at_available, after_word, lowest_free, at_free, has_bit, plan, plan_at, next, next_at, turn, ShowsAt, Shows, HasLockRoom, Fits, FitsAt, new_lock, hand_next, hand_next_at}
+use Rattle.hwp_hold.specs.Takes.{answer, answer_at, at_available, after_word, lowest_free, has_bit, plan, plan_at, next, next_at, turn, ShowsAt, Shows, HasLockRoom, Fits, FitsAt, new_lock, hand_next, hand_next_at}
 use Rattle.hwp_hold.proofs.Freeing.{lowest-shown}
 
 pub can : (layout : Layout) (view : View) (t : Take) (step : Step) → Fits layout view t → plan t ≡ Some step → CanMake layout t.who step None view
