@@ -76,92 +76,156 @@ fn met(bad: u64, word: u64) -> Met {
     }
 }
 
-#[test]
-fn what_a_state_allows(rt: HostRuntime) -> Result<(), Fail> {
-    let layout = two_pages(rt.alloc())?;
-    let line = Line::new(2).ok_or("a line")?;
-    let sigbus = |slot, thread| What::Load {
-        slot: VSlot(slot),
-        line,
-        met: Met::Sigbus {
-            thread: Thread(thread),
-        },
-    };
-    let load = |slot, met| What::Load {
-        slot: VSlot(slot),
-        line,
-        met,
-    };
-    let store = |slot, met| What::Store {
-        slot: VSlot(slot),
-        line,
-        met,
-    };
-    let map = |slot| What::Map { slot: VSlot(slot) };
-    let mce = |slot, bad| What::Mce {
-        slot: VSlot(slot),
-        line,
-        mask: Mask(bad),
-    };
+/// Page 0 in a frame, with 70 on line 2, translation 0 in use, and a poison entry at translation 2.
+fn mapped_state(line: Line) -> PageState {
     let mut state = PageState::opening(PageKind::Anon);
-    assert!(rt;
-        state.allows(&layout, Page(0), &What::FaultIn),
-        "a page that is not cached"
-    );
-    assert!(rt;
-        !state.allows(&layout, Page(0), &map(0)),
-        "a map of a page that is not cached"
-    );
     state.step(&What::FaultIn);
-    state.step(&map(0));
+    state.step(&What::Map { slot: VSlot(0) });
     state.bar.insert(VSlot(2));
     state.val.set(line, 70);
-    let table = [
-        (load(0, met(0, 70)), true, "load"),
-        (load(0, met(0xb, 70)), true, "load beside bad lines"),
-        (load(0, met(4, 70)), false, "load of a bad line"),
-        (load(0, met(0, 0)), false, "load of another word"),
-        (load(2, met(0, 70)), false, "load, not mapped"),
-        (store(0, met(0, 71)), true, "store"),
-        (store(0, met(4, 71)), false, "store to a bad line"),
-        (store(2, met(0, 71)), false, "store, not mapped"),
-        (What::FaultIn, false, "fault-in of a cached page"),
-        (map(0), false, "map, mapped"),
-        (map(1), false, "map of another page's"),
-        (map(2), false, "map, poison entry"),
-        (map(3), false, "map of none declared"),
-        (sigbus(0, 0), false, "sigbus, no poison entry"),
-        (sigbus(2, 1), true, "sigbus, poison entry"),
-        (sigbus(2, 0), false, "sigbus to another process"),
-        (What::Free { slot: VSlot(0) }, true, "free"),
-        (What::Free { slot: VSlot(2) }, false, "free, not mapped"),
-        (mce(0, 0xc), true, "mce"),
-        (mce(0, 8), false, "mce at a line that is not bad"),
-        (mce(2, 4), false, "mce, not mapped"),
-        (What::Drop, false, "drop of a page without backing"),
-        (What::Sync, false, "sync of an anonymous page"),
-        (What::Out, true, "out"),
-        (What::Soft, true, "soft"),
-    ];
-    for (what, want, name) in &table {
-        assert_eq!(rt; state.allows(&layout, Page(0), what), *want, "{name}");
-    }
-    state.lost = true;
-    state.cached = false;
-    assert!(rt;
-        !state.allows(&layout, Page(0), &What::FaultIn),
-        "fault-in of a lost page"
-    );
-    assert!(rt;
-        state.allows(&layout, Page(0), &sigbus(0, 0)),
-        "sigbus of a lost page"
-    );
-    for what in [What::Out, What::Soft] {
-        assert!(rt;
-            !state.allows(&layout, Page(0), &what),
-            "a page that is not cached"
+    state
+}
+
+#[test]
+fn which_accesses_a_state_allows(rt: HostRuntime) -> Result<(), Fail> {
+    let layout = two_pages(rt.alloc())?;
+    let line = Line::new(2).ok_or("a line")?;
+    let state = mapped_state(line);
+    for (slot, bad, word, loads, stores) in [
+        (0, 0, 70, true, true),
+        (0, 0xb, 70, true, true),
+        (0, 4, 70, false, false),
+        (0, 0, 71, false, true),
+        (2, 0, 70, false, false),
+    ] {
+        let slot = VSlot(slot);
+        let met = met(bad, word);
+        let load = What::Load { slot, line, met };
+        assert_eq!(rt;
+            state.allows(&layout, Page(0), &load),
+            loads,
+            "load {slot:?} {bad} {word}"
+        );
+        let store = What::Store { slot, line, met };
+        assert_eq!(rt;
+            state.allows(&layout, Page(0), &store),
+            stores,
+            "store {slot:?} {bad} {word}"
         );
     }
+    for (slot, bad, want) in [(0, 0xc, true), (0, 8, false), (2, 4, false)] {
+        let slot = VSlot(slot);
+        let mce = What::Mce {
+            slot,
+            line,
+            mask: Mask(bad),
+        };
+        assert_eq!(rt;
+            state.allows(&layout, Page(0), &mce),
+            want,
+            "mce {slot:?} {bad}"
+        );
+    }
+    Ok(())
+}
+
+#[test]
+fn which_translations_come_and_go(rt: HostRuntime) -> Result<(), Fail> {
+    let layout = two_pages(rt.alloc())?;
+    let mut state = mapped_state(Line::new(2).ok_or("a line")?);
+    state.step(&What::Free { slot: VSlot(0) });
+    // free; in use; another page's; with a poison entry; not declared
+    for (slot, used, map, free) in [
+        (0, false, true, false),
+        (0, true, false, true),
+        (1, false, false, false),
+        (2, false, false, false),
+        (3, false, false, false),
+    ] {
+        let slot = VSlot(slot);
+        if used {
+            state.maps.insert(slot);
+        }
+        assert_eq!(rt;
+            state.allows(&layout, Page(0), &What::Map { slot }),
+            map,
+            "map {slot:?}"
+        );
+        assert_eq!(rt;
+            state.allows(&layout, Page(0), &What::Free { slot }),
+            free,
+            "free {slot:?}"
+        );
+    }
+    Ok(())
+}
+
+#[test]
+fn whom_a_sigbus_reaches(rt: HostRuntime) -> Result<(), Fail> {
+    let layout = two_pages(rt.alloc())?;
+    let line = Line::new(2).ok_or("a line")?;
+    let mut state = mapped_state(line);
+    for (lost, slot, thread, want) in [
+        (false, 0, 0, false),
+        (false, 2, 1, true),
+        (false, 2, 0, false),
+        (true, 0, 0, true),
+    ] {
+        state.lost = lost;
+        let slot = VSlot(slot);
+        let met = Met::Sigbus {
+            thread: Thread(thread),
+        };
+        let load = What::Load { slot, line, met };
+        assert_eq!(rt;
+            state.allows(&layout, Page(0), &load),
+            want,
+            "{slot:?} {thread} {lost}"
+        );
+    }
+    Ok(())
+}
+
+#[test]
+fn when_an_anonymous_page_comes_and_goes(rt: HostRuntime) -> Result<(), Fail> {
+    let layout = two_pages(rt.alloc())?;
+    let mut state = mapped_state(Line::new(2).ok_or("a line")?);
+    for (cached, lost, comes) in [
+        (true, false, false),
+        (false, false, true),
+        (false, true, false),
+    ] {
+        state.cached = cached;
+        state.lost = lost;
+        assert_eq!(rt;
+            state.allows(&layout, Page(0), &What::FaultIn),
+            comes,
+            "in {cached} {lost}"
+        );
+        assert_eq!(rt;
+            state.allows(&layout, Page(0), &What::Out),
+            cached,
+            "out {cached}"
+        );
+        assert_eq!(rt;
+            state.allows(&layout, Page(0), &What::Soft),
+            cached,
+            "soft {cached}"
+        );
+        assert!(rt;
+            !state.allows(&layout, Page(0), &What::Drop),
+            "a drop without backing"
+        );
+        assert!(rt;
+            !state.allows(&layout, Page(0), &What::Sync),
+            "a sync without a file"
+        );
+    }
+    state.maps.remove(VSlot(0));
+    assert!(rt;
+        !state.allows(&layout, Page(0), &What::Map { slot: VSlot(0) }),
+        "a map without a frame"
+    );
     Ok(())
 }
 
@@ -507,85 +571,90 @@ fn what_a_frame_without_a_page_brings(rt: HostRuntime) {
     assert!(rt; !Situation::Free.signals() && !Situation::Kernel.signals());
 }
 
-#[test]
-fn which_policies_and_signals_a_failure_has(rt: HostRuntime) -> Result<(), Fail> {
-    let alloc = rt.alloc();
+/// Page 0 with translations 0 and 2 in use, one of each process, and a word stored.
+fn used_by_two(rt: &impl Abort, alloc: Global) -> Result<Body, Fail> {
     let layout = Arc::new(alloc, two_pages(alloc)?)?;
     let line = Line::new(2).ok_or("a line")?;
     let mut body = Body::new(alloc, &layout, Page(0))?;
-    add(&rt, alloc, &mut body, &stored(0, line, 70))?;
-    add(&rt, alloc, &mut body, &[What::Map { slot: VSlot(2) }])?;
-    let seen = |number, policy| Seen {
+    add(rt, alloc, &mut body, &stored(0, line, 70))?;
+    add(rt, alloc, &mut body, &[What::Map { slot: VSlot(2) }])?;
+    Ok(body)
+}
+
+/// Whether the page may fail with these policies read and these signals.
+fn may_fail(alloc: Global, body: &Body, seen: &[Seen], signals: SignalList) -> Result<bool, Fail> {
+    let entry = Entry {
+        who: Who {
+            cpu: Cpu(0),
+            seq: 1,
+        },
+        what: What::Fail {
+            situation: Situation::AnonOnly,
+            required: None,
+            seen: List::from_vec(seen.to_vec(alloc)?),
+            signals,
+        },
+    };
+    Ok(body.allowed(&entry))
+}
+
+/// The policy of a thread, after one setting.
+fn read(number: u8, policy: Policy) -> Seen {
+    Seen {
         thread: Thread(number),
         policy,
         n: 1,
-    };
-    let late = seen(0, Policy::Late);
-    let early = seen(1, Policy::Early);
-    let default = seen(1, Policy::Default);
-    let to_first = signal(0, Code::Ao, 0);
-    let to_second = signal(1, Code::Ao, 2);
-    let one = || one_signal(to_second);
-    let cases = [
-        (vec![in alloc; late, early]?, one(), true, "late and early"),
-        (
-            vec![in alloc; late, default]?,
-            SignalList::new(),
-            true,
-            "late by default",
-        ),
-        (
-            vec![in alloc; late, default]?,
-            one(),
-            false,
-            "a signal too many",
-        ),
-        (
-            vec![in alloc; late, early]?,
-            SignalList::new(),
-            false,
-            "a signal left out",
-        ),
-        (
-            vec![in alloc; late, early]?,
-            two_signals(to_first, to_second),
-            false,
-            "late signalled",
-        ),
-        (
-            vec![in alloc; late]?,
-            SignalList::new(),
-            false,
-            "a seen list cut short",
-        ),
-        (
-            vec![in alloc; early]?,
-            one(),
-            false,
-            "the first thread left out",
-        ),
-        (vec![in alloc; early, late]?, one(), false, "processes fall"),
-        (
-            vec![in alloc; late, late, early]?,
-            one(),
-            false,
-            "a thread read twice",
-        ),
-    ];
-    for (list, signals, want, name) in cases {
-        let entry = Entry {
-            who: Who {
-                cpu: Cpu(0),
-                seq: 1,
-            },
-            what: What::Fail {
-                situation: Situation::AnonOnly,
-                required: None,
-                seen: List::from_vec(list),
-                signals,
-            },
-        };
-        assert_eq!(rt; body.allowed(&entry), want, "{name}");
     }
+}
+
+#[test]
+fn which_signals_a_failure_has(rt: HostRuntime) -> Result<(), Fail> {
+    let alloc = rt.alloc();
+    let body = used_by_two(&rt, alloc)?;
+    let early = [read(0, Policy::Late), read(1, Policy::Early)];
+    let default = [read(0, Policy::Late), read(1, Policy::Default)];
+    let first = signal(0, Code::Ao, 0);
+    let second = signal(1, Code::Ao, 2);
+    assert!(rt; may_fail(alloc, &body, &early, one_signal(second))?);
+    assert!(rt; may_fail(alloc, &body, &default, SignalList::new())?);
+    assert!(rt;
+        !may_fail(alloc, &body, &default, one_signal(second))?,
+        "one too many"
+    );
+    assert!(rt;
+        !may_fail(alloc, &body, &early, SignalList::new())?,
+        "one left out"
+    );
+    assert!(rt;
+        !may_fail(alloc, &body, &early, two_signals(first, second))?,
+        "late signalled"
+    );
+    Ok(())
+}
+
+#[test]
+fn which_policies_a_failure_reads(rt: HostRuntime) -> Result<(), Fail> {
+    let alloc = rt.alloc();
+    let body = used_by_two(&rt, alloc)?;
+    let late = read(0, Policy::Late);
+    let early = read(1, Policy::Early);
+    let one = || one_signal(signal(1, Code::Ao, 2));
+    assert!(rt; may_fail(alloc, &body, &[late, early], one())?);
+    assert!(rt;
+        !may_fail(alloc, &body, &[late], SignalList::new())?,
+        "cut short"
+    );
+    assert!(rt;
+        !may_fail(alloc, &body, &[early], one())?,
+        "the first left out"
+    );
+    assert!(rt;
+        !may_fail(alloc, &body, &[early, late], one())?,
+        "processes fall"
+    );
+    assert!(rt;
+        !may_fail(alloc, &body, &[late, late, early], one())?,
+        "read twice"
+    );
     Ok(())
 }
