@@ -79,11 +79,6 @@ free-within layout s h number found inside met some fits = (lowest.0, within (ca
         let set : found / 2 ^ trailing_zeros w64 found % 2 ≡ 1 = lowest.1 in
         absurd (omega arith)
 
--- what is of no page is nothing
-no-content : (content : Option Log) → content_name content ≡ 0 → content ≡ None
-no-content None none = refl
-no-content (Some log) none = absurd (omega arith)
-
 module _ (layout : Layout) (s : State) (h : Holds layout s) (seat : ℕ) (view : View) (frame : Frame) where
   -- a frame in hand is bare
   pub hand-bare : (found : ℕ) → slice_get s.views seat ≡ Some view → HasInHand view frame → frame.0 < layout.frames → found ≡ slice_index s.words (index layout (places.Frame frame)) → IsBare found
@@ -91,18 +86,6 @@ module _ (layout : Layout) (s : State) (h : Holds layout s) (seat : ℕ) (view :
     where
       some : 1 ≤ in_hand frame.0 (map (λ (v : View). v.hands) s.views)
       some = in_hand-mine (map (λ (v : View). v.hands) s.views) seat view.hands (at_map (λ (v : View). v.hands) s.views seat view me) has.1 frame has.3 has.0 has.2
-
-  -- its slot is empty
-  pub hand-empty : (content : Option Log) (found : ℕ) → slice_get s.views seat ≡ Some view
-      → HasInHand view frame → frame.0 < layout.frames → found ≡ slice_index s.words (index layout (places.Frame frame)) → IsIn s.homes (frame_slot frame) content → content ≡ None
-  hand-empty content found me has inside met slot =
-      no-content content (ap content_name (same_Some content home.content (same_Some (Some content) (Some home.content) (sym slot ∙ home.there))) ∙ home.named ∙ bare.unowned)
-    where
-      bare : IsBare found
-      bare = hand-bare found me has inside met
-
-      home : IsAtHome s.homes frame.0 (owner_of found)
-      home = h.rule.pages.bodies.frame_home frame.0 found (frame-word layout s h frame found inside met) bare.unlocked
 
 -- frames of one number are one
 pub same-frame : (f g : Frame) → f.0 ≡ g.0 → f ≡ g
