@@ -11,3 +11,6 @@ mod trail;
 mod turns;
 
 pub use board::PlainBoard;
+
+#[cfg(test)]
+mod tests;

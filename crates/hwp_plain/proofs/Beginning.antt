@@ -1,0 +1,24 @@
+-- A processor at opening can begin a task.
+use Rattle.std.proofs.Common.{◌≡◌, ℕ, zero, suc, ◌<◌, ◌≤◌, Some, map, get_or, slice_get, refl, ap, ◌∙◌, arith}
+use Rattle.std.proofs.lemmas.Option.{none-some, same_Some, get_or_from_slice_get}
+use Rattle.hwp_geom.specs.declared.Layout.{Layout}
+use Rattle.hwp_geom.specs.declared.Who.{Who}
+use Rattle.hwp_rule.specs.declared.Part.{Part}
+use Rattle.hwp_rule.specs.Opening.{below, opening, opening_view}
+use Rattle.hwp_rule.proofs.Lists.{at_map}
+use Rattle.hwp_rule.proofs.OpeningWords.{below-at}
+use Rattle.hwp_step.specs.Boards.{view_of}
+use Rattle.hwp_step.specs.Calls.{IsOnTurn}
+
+pub view-open : (layout : Layout) (c : ℕ) → c < layout.cpus → view_of (opening layout) c ≡ opening_view c
+view-open layout c less = get_or_from_slice_get (map opening_view (below layout.cpus)) c (opening_view c) (opening_view c) (at_map opening_view (below layout.cpus) c c (below-at layout.cpus c less))
+
+later-open : (who : Who) (i : ℕ) (p : Part) → slice_get (opening_view who.cpu.0).parts i ≡ Some p → p.latest ≤ who.seq
+later-open who zero p e = let none : 0 ≡ p.latest = ap (λ (q : Part). q.latest) (same_Some (record { cpu = who.cpu; latest = 0 }) p e) in omega arith
+later-open who (suc i) p e = absurd (none-some p e)
+
+pub on-turn-open : (who : Who) → IsOnTurn (opening_view who.cpu.0) who
+on-turn-open who = record {
+  turn = record { part = (0, record { cpu = who.cpu; latest = 0 }, refl, (refl, omega arith)) };
+  later = λ i p e same. later-open who i p e;
+}
