@@ -26,7 +26,7 @@ use Rattle.hwp_report.specs.declared.CpuLine.{CpuLine}
 use Rattle.hwp_report.specs.declared.CpuLine.TheVariants as lines
 use Rattle.hwp_law.specs.Places.{entry_at}
 use Rattle.hwp_law.specs.History.{AreMade, AreOrdered, IsMade}
-use Rattle.hwp_law.specs.Answers.{AreAnswers, IsAnswer, IsLoadAnswer, IsPageAnswer, StandsAt, AreNamed, IsNamed, is_answering}
+use Rattle.hwp_law.specs.Answers.{AreAnswers, IsAnswer, IsLoadAnswer, IsPageAnswer, AreNamed, IsNamed, is_answering}
 use Rattle.hwp_law.specs.States.{HadState, entry_named}
 
 -- the new histories are the old ones with one entry more, at the end of its page
