@@ -11,11 +11,8 @@ use Rattle.std.proofs.lemmas.Option.{none-some, same_Some, slice_get-get_or, sli
 use Rattle.hwp_geom.specs.declared.Layout.{Layout}
 use Rattle.hwp_geom.specs.declared.FileNo.{FileNo}
 use Rattle.hwp_geom.specs.declared.Page.{Page}
-use Rattle.hwp_geom.specs.declared.PageKind.{PageKind}
-use Rattle.hwp_geom.specs.declared.PageKind.TheVariants as kinds
 use Rattle.hwp_geom.specs.declared.ThreadDecl.{ThreadDecl}
 use Rattle.hwp_geom.specs.declared.VSlot.{VSlot}
-use Rattle.hwp_page.specs.Step.{is_file}
 use Rattle.hwp_geom.specs.declared.Thread.{Thread}
 use Rattle.hwp_kill.specs.declared.Policy.{Policy}
 use Rattle.hwp_kill.specs.declared.Policy.TheVariants.{Default}
@@ -28,7 +25,7 @@ use Rattle.hwp_script.specs.declared.PrctlArgs.{PrctlArgs}
 use Rattle.hwp_script.specs.declared.Command.{Command}
 use Rattle.hwp_script.specs.declared.Command.TheVariants as commands
 use Rattle.hwp_script.specs.declared.Script.{Script}
-use Rattle.hwp_script.specs.Valid.{AreLists, IsAnon, IsCommandOf, IsFile, IsThreadOf, IsValid}
+use Rattle.hwp_script.specs.Valid.{AreLists, IsCommandOf, IsThreadOf, IsValid}
 use Rattle.hwp_report.specs.declared.Answer.{Answer}
 use Rattle.hwp_report.specs.declared.Answer.TheVariants as answers
 use Rattle.hwp_report.specs.declared.CpuLine.TheVariants as lines
@@ -39,7 +36,7 @@ use Rattle.hwp_law.specs.Answers.{IsAnswer, reply_answer}
 use Rattle.hwp_law.specs.Policies.{arguments, last_policy, policy_before, setting_of, settings}
 use Rattle.hwp_law.specs.States.{place_named}
 use Rattle.hwp_law.proofs.Growth.{slice_get-set_at, slice_get-set_other}
-use Rattle.hwp_top.specs.Bench.{Answers, ArePolicies, Calls, Follows, Goes, IsAccessBy, IsBackedBy, IsServable, at_command, is_built_command, set_by}
+use Rattle.hwp_top.specs.Bench.{Answers, ArePolicies, Calls, Follows, Goes, IsAccessBy, IsServable, at_command, is_built_command, set_by}
 use Rattle.hwp_top.proofs.Following.{Answers-refused, Follows-next, Follows-stopped, Follows-stops}
 
 -- the only list of a script has the commands of the first processor

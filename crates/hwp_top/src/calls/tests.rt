@@ -382,8 +382,10 @@ end
 
 #[test]
 fn many_declarations_are_served(rt: HostRuntime) -> Result<(), Fail> {
-    let mut script = String::from_str(rt.alloc(),
-        "hwp 1\ncpus 1\nframes 2\nproc 0\nthread 0 0 0 handler\npage 0 anon\n")?;
+    let mut script = String::from_str(
+        rt.alloc(),
+        "hwp 1\ncpus 1\nframes 2\nproc 0\nthread 0 0 0 handler\npage 0 anon\n",
+    )?;
     for slot in 0..300 {
         writeln!(script, "trans {slot} 0 0")?;
     }
@@ -403,7 +405,10 @@ fn long_inputs_are_read_to_their_end(rt: HostRuntime) -> Result<(), Fail> {
     refused.push_str("hwp 1\nsotre\n")?;
     let left = call(rt.alloc(), &["step"], refused.as_bytes(), &[], 4096, &[])?;
     assert_eq!(rt; left.status, 3);
-    assert_eq!(rt; left.err.as_slice(), b"script line 5002: UnknownWord\n".as_slice());
+    assert_eq!(rt;
+        left.err.as_slice(),
+        b"script line 5002: UnknownWord\n".as_slice()
+    );
     // A comment fills the script up to 1 MiB.
     let mut whole = vec![in rt.alloc(); b'#'; 1_048_576 - STORE_AND_LOAD.len() - 1]?;
     whole.push(b'\n')?;
