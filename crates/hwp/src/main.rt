@@ -13,17 +13,18 @@ const VERSION: &str = "hwp 0.1.0";
 const HELP: &str = "\
 usage: hwp step < SCRIPT > REPORT
 
-Simulates a machine whose memory lines go bad while its processors load and store.
+Simulates Linux memory failure (hwpoison) on a machine of its own. Today it runs
+scripts of one processor in which no memory fails; docs/FORMATS.md has the formats.
 
-  hwp step     reads a fault script from standard input, runs it step by step,
-               and writes the report to standard output
+  hwp step     reads a fault script from standard input, runs it, and writes the
+               report to standard output
   hwp --help   prints this text
   hwp --version
 
 Exit status: 0 done, 8 done and the machine stopped, 2 wrong words,
 3 the script is refused, 4 a read failed, 5 a write failed, 6 out of memory.";
 
-/// The exit status for want of memory.
+/// The exit status of a program that is out of memory.
 const OUT_OF_MEMORY: u8 = 6;
 
 /// The words after the program's name.
