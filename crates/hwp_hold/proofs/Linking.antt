@@ -28,11 +28,12 @@ use Rattle.hwp_rule.specs.parts.Unpoisoned.{is_failure}
 use Rattle.hwp_rule.proofs.FittingWords.{fitting-at}
 use Rattle.hwp_rule.proofs.Lists.{same-number}
 use Rattle.hwp_hold.specs.declared.hold.Hold.{Hold}
+use Rattle.hwp_hold.specs.declared.hold.HoldAt.{HoldAt}
 use Rattle.hwp_hold.specs.declared.hold.HoldAt.TheVariants as at
 use Rattle.hwp_hold.specs.declared.unhold.Unhold.{Unhold}
 use Rattle.hwp_step.specs.Calls.{IsOnTurn}
 use Rattle.hwp_step.specs.Hands.{Hand, body_in}
-use Rattle.hwp_hold.specs.Holds.{HoldsPage, FitsAt, held, page_lock, words_of}
+use Rattle.hwp_hold.specs.Holds.{HoldsPage, FitsAt, IsBody, IsBodyAt, answer, answer_at, held, page_lock, words_of}
 use Rattle.hwp_hold.specs.Unholds.{begin, HoldsAhead, Fits, LetsGo}
 
 no-member : {A : Type 0} (P : A → Type 0) → EachMember P []
@@ -148,3 +149,11 @@ held-unholds layout view who page (Some frame) body on inside has = record { on_
 pub over-lets-go : (h : Hold) (u : Unhold) (frame : Option Frame) (body : BodyValue) → h.at ≡ at.Held frame body → u ≡ begin h.who h.page frame body → LetsGo h u
 over-lets-go h u frame body over is layout view fits = subst (Fits layout view) (sym is)
     (held-unholds layout view h.who h.page frame body fits.on_turn fits.page (subst (FitsAt layout view h.who h.page) over fits.at))
+
+held-at : (a : HoldAt) (frame : Option Frame) (body : BodyValue) → answer_at a ≡ Some frame → IsBodyAt a body → a ≡ at.Held frame body
+held-at (at.Held f b) frame body answered is = λ i. at.Held (same_Some f frame answered i) (sym is i)
+held-at a frame body answered is = absurd is
+
+-- with what it answers
+pub answered-lets-go : (h : Hold) (u : Unhold) (frame : Option Frame) (body : BodyValue) → answer h ≡ Some frame → IsBody h body → u ≡ begin h.who h.page frame body → LetsGo h u
+answered-lets-go h u frame body answered is begun = over-lets-go h u frame body (held-at h.at frame body answered is) begun

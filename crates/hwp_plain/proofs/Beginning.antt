@@ -1,6 +1,7 @@
 -- A processor at opening can begin a task.
 use Rattle.std.proofs.Common.{◌≡◌, ℕ, zero, suc, ◌<◌, ◌≤◌, Some, map, get_or, slice_get, refl, ap, ◌∙◌, arith}
 use Rattle.std.proofs.lemmas.Option.{none-some, same_Some, get_or_from_slice_get}
+use Rattle.hwp_geom.specs.declared.Frame.{Frame}
 use Rattle.hwp_geom.specs.declared.Layout.{Layout}
 use Rattle.hwp_geom.specs.declared.Who.{Who}
 use Rattle.hwp_rule.specs.declared.Part.{Part}
@@ -9,6 +10,8 @@ use Rattle.hwp_rule.proofs.Lists.{at_map}
 use Rattle.hwp_rule.proofs.OpeningWords.{below-at}
 use Rattle.hwp_step.specs.Boards.{view_of}
 use Rattle.hwp_step.specs.Calls.{IsOnTurn}
+use Rattle.hwp_hold.specs.Pins as pins
+use Rattle.hwp_hold.specs.Takes as takes
 
 pub view-open : (layout : Layout) (c : ℕ) → c < layout.cpus → view_of (opening layout) c ≡ opening_view c
 view-open layout c less = get_or_from_slice_get (map opening_view (below layout.cpus)) c (opening_view c) (opening_view c) (at_map opening_view (below layout.cpus) c c (below-at layout.cpus c less))
@@ -22,3 +25,10 @@ on-turn-open who = record {
   turn = record { part = (0, record { cpu = who.cpu; latest = 0 }, refl, (refl, omega arith)) };
   later = λ i p e same. later-open who i p e;
 }
+
+-- a frame can be taken, and a reference
+pub take-open : (layout : Layout) (who : Who) → takes.Fits layout (opening_view who.cpu.0) (takes.begin who)
+take-open layout who = record { on_turn = on-turn-open who; at = (omega arith, omega arith) }
+
+pub pin-open : (layout : Layout) (who : Who) (frame : Frame) → frame.0 < layout.frames → pins.Fits layout (opening_view who.cpu.0) (pins.begin who frame)
+pin-open layout who frame inside = record { on_turn = on-turn-open who; frame = inside; at = record { shares = omega arith; first = λ _. omega arith } }

@@ -1,130 +1,137 @@
-//! Two processors, one frame and one page.
+//! Turns of two processors, word by word.
 
-ghost use Rattle.std.specs.Prelude.{◌≡◌, ◌≢◌, ℕ, ◌<◌, IfOk, length};
+ghost use Rattle.std.specs.Prelude.{◌≡◌, ℕ, ◌<◌, IfOk, length};
 ghost use Rattle.hwp_geom.specs.Layout.{IsSound};
 ghost use Rattle.hwp_rule.specs.Opening.{opening_view};
 ghost use Rattle.hwp_step.specs.Boards.{view_of};
-ghost use Rattle.hwp_hold.specs.Holds.{Fits};
+ghost use Rattle.hwp_hold.specs.Takes.{Fits};
 
 use crate::board::PlainBoard;
-use hwp_geom::{Cpu, Frame, Kind, Layout, List, OutOfMemory, Page, PageKind, Who};
-use hwp_hold::Hold;
+use hwp_geom::{Cpu, Frame, Kind, Layout, List, OutOfMemory, Who};
+use hwp_hold::{Take, TakeAnswer};
 use hwp_rule::Place;
-use hwp_step::{Board, Machine, Turn};
+use hwp_step::{Board, Turn};
 use std::alloc::Global;
 use std::process::Abort;
 use std::test::Fail;
 
-/// Two processors, one frame and one anonymous page.
-fn machine(alloc: Global) -> Result<Layout, OutOfMemory>
+/// Two processors, and frames of which some are the kernel's.
+fn machine(alloc: Global, kernel: &[bool]) -> Result<Layout, OutOfMemory>
+    requires { (0 < length kernel.now) × (length kernel.now < 4) }
     ensures sound { IfOk result (λ layout. IsSound layout) }
-    ensures numbers { IfOk result (λ layout. (layout.cpus ≡ 2) × (layout.frames ≡ 1) × (length layout.pages ≡ 1)) }
+    ensures numbers { IfOk result (λ layout. (layout.cpus ≡ 2) × (layout.frames ≡ length kernel.now)) }
 {
     Ok(Layout {
         cpus: 2,
-        frames: 1,
-        kernel: List::from_vec([false].to_vec(alloc)?),
+        frames: kernel.len() as u16,
+        kernel: List::from_vec(kernel.to_vec(alloc)?),
         recovery: true,
         early: false,
         files: 0,
         procs: 0,
         threads: List::new(alloc),
-        pages: List::from_vec([PageKind::Anon].to_vec(alloc)?),
+        pages: List::new(alloc),
         trans: List::new(alloc),
     })
 }
 
 /// The board at opening, on which each processor can begin a task.
-fn opened(alloc: Global) -> Result<PlainBoard, OutOfMemory>
-    ensures numbers { IfOk result (λ board. (board.layout.cpus ≡ 2) × (board.layout.frames ≡ 1) × (length board.layout.pages ≡ 1)) }
+fn opened(alloc: Global, kernel: &[bool]) -> Result<PlainBoard, OutOfMemory>
+    requires { (0 < length kernel.now) × (length kernel.now < 4) }
+    ensures numbers { IfOk result (λ board. (board.layout.cpus ≡ 2) × (board.layout.frames ≡ length kernel.now)) }
     ensures views { IfOk result (λ board. (c : ℕ) → c < 2 → view_of board.state c ≡ opening_view c) }
 {
-    let layout = machine(alloc)?;
+    let layout = machine(alloc, kernel)?;
     let board = PlainBoard::new(alloc, &layout)?;
     Ok(board)
 }
 
-/// The words of the frame, of the page's cache word and lock, the free word and the available word.
-fn words(board: &PlainBoard) -> [u64; 5]
-    requires frames { 0 < board.now.layout.frames }
-    requires pages { 0 < length board.now.layout.pages }
+/// A task that takes a frame for the processor's first command.
+fn taking(board: &PlainBoard, cpu: u8) -> Take
+    requires { view_of board.now.state cpu ≡ opening_view cpu }
+    ensures fits { Fits board.now.layout (view_of board.now.state cpu) result }
+    ensures who { result.who.cpu.0 ≡ cpu }
+{
+    let _board = board;
+    Take::new(Who {
+        cpu: Cpu(cpu),
+        seq: 0,
+    })
+}
+
+/// The available word, the free word, and the word of frame 1.
+fn words(board: &PlainBoard) -> [u64; 3]
+    requires { 1 < board.now.layout.frames }
 {
     [
-        board.word(Place::Frame(Frame(0))),
-        board.word(Place::Cache(Page(0))),
-        board.word(Place::Page(Page(0))),
-        board.word(Place::Free(0)),
         board.word(Place::Available),
+        board.word(Place::Free(0)),
+        board.word(Place::Frame(Frame(1))),
     ]
 }
 
-/// A task that holds the page for the processor's first command.
-fn holding(board: &PlainBoard, who: Who) -> Hold
-    requires opening { view_of board.now.state who.cpu.0 ≡ opening_view who.cpu.0 }
-    requires pages { 0 < length board.now.layout.pages }
-    ensures fits { Fits board.now.layout (view_of board.now.state who.cpu.0) result }
-    ensures who { result.who ≡ who }
-{
-    let _board = board;
-    Hold::new(who, Page(0))
-}
-
-/// One turn of a processor's task, which leaves what the other processor's task needs.
-fn turn_of<A: Machine, B: Machine>(
-    board: &mut PlainBoard,
-    cpu: Cpu,
-    task: &mut A,
-    other: &B,
-) -> (Turn, Option<Kind>)
-    requires cpu { cpu.0 < board.old.layout.cpus }
-    requires own { (A.who task.old).cpu ≡ cpu }
-    requires apart { (B.who other.now).cpu.0 ≢ cpu.0 }
-    requires fits { A.fits board.old.layout (view_of board.old.state cpu.0) task.old }
-    requires other { B.fits board.old.layout (view_of board.old.state (B.who other.now).cpu.0) other.now }
-    ensures layout { board.new.layout ≡ board.old.layout }
-    ensures own { (A.who task.new).cpu ≡ cpu }
-    ensures fits { A.fits board.new.layout (view_of board.new.state cpu.0) task.new }
-    ensures other { B.fits board.new.layout (view_of board.new.state (B.who other.now).cpu.0) other.now }
-{
-    let _other = other;
-    board.advance(cpu, task)
+#[test]
+fn the_lowest_frame_that_is_not_the_kernels_is_taken(rt: HostRuntime) -> Result<(), Fail> {
+    let mut board = opened(rt.alloc(), &[true, false, false])?;
+    assert_eq!(rt; words(&board), [2, 6, 0]);
+    let mut take = taking(&board, 0);
+    let made = board.advance(Cpu(0), &mut take);
+    assert_eq!(rt;
+        (made, words(&board)),
+        ((Turn::Moved, Some(Kind::LoadAvail)), [2, 6, 0])
+    );
+    let made = board.advance(Cpu(0), &mut take);
+    assert_eq!(rt;
+        (made, words(&board)),
+        ((Turn::Moved, Some(Kind::Reserve)), [1, 6, 0])
+    );
+    let made = board.advance(Cpu(0), &mut take);
+    assert_eq!(rt;
+        (made, words(&board)),
+        ((Turn::Moved, Some(Kind::LoadFree)), [1, 6, 0])
+    );
+    let made = board.advance(Cpu(0), &mut take);
+    assert_eq!(rt;
+        (made, words(&board)),
+        ((Turn::Moved, Some(Kind::TakeBit)), [1, 4, 0])
+    );
+    let made = board.advance(Cpu(0), &mut take);
+    assert_eq!(rt;
+        (made, words(&board)),
+        ((Turn::Moved, Some(Kind::Adopt)), [1, 4, 17])
+    );
+    assert_eq!(rt; take.answer(), Some(TakeAnswer::Taken(Frame(1))));
+    let made = board.advance(Cpu(0), &mut take);
+    assert_eq!(rt; (made, words(&board)), ((Turn::Finished, None), [1, 4, 17]));
+    Ok(())
 }
 
 #[test]
-fn a_page_is_held_by_one_processor_and_the_other_waits(rt: HostRuntime) -> Result<(), Fail> {
-    let mut board = opened(rt.alloc())?;
-    assert_eq!(rt; words(&board), [0, 0, 0, 1, 1]);
-    let own = Who {
-        cpu: Cpu(0),
-        seq: 0,
-    };
-    let its = Who {
-        cpu: Cpu(1),
-        seq: 0,
-    };
-    let mut first = holding(&board, own);
-    let mut second = holding(&board, its);
-    let made = turn_of(&mut board, Cpu(0), &mut first, &second);
+fn of_two_processors_one_reserves_the_only_frame(rt: HostRuntime) -> Result<(), Fail> {
+    let mut board = opened(rt.alloc(), &[false])?;
+    let mut first = taking(&board, 0);
+    let mut second = taking(&board, 1);
     assert_eq!(rt;
-        (made, words(&board)),
-        ((Turn::Moved, Some(Kind::LockPage)), [0, 0, 1, 1, 1])
+        board.advance(Cpu(0), &mut first),
+        (Turn::Moved, Some(Kind::LoadAvail))
     );
-    let made = turn_of(&mut board, Cpu(1), &mut second, &first);
     assert_eq!(rt;
-        (made, words(&board)),
-        ((Turn::Waits(1), Some(Kind::LockPage)), [0, 0, 1, 1, 1])
+        board.advance(Cpu(1), &mut second),
+        (Turn::Moved, Some(Kind::LoadAvail))
     );
-    let made = turn_of(&mut board, Cpu(0), &mut first, &second);
     assert_eq!(rt;
-        (made, words(&board)),
-        ((Turn::Moved, Some(Kind::LoadCache)), [0, 0, 1, 1, 1])
+        board.advance(Cpu(1), &mut second),
+        (Turn::Moved, Some(Kind::Reserve))
     );
-    assert_eq!(rt; first.answer(), Some(None));
-    let made = turn_of(&mut board, Cpu(0), &mut first, &second);
+    assert_eq!(rt; board.word(Place::Available), 0);
     assert_eq!(rt;
-        (made, words(&board)),
-        ((Turn::Finished, None), [0, 0, 1, 1, 1])
+        board.advance(Cpu(0), &mut first),
+        (Turn::Changed(0), Some(Kind::Reserve))
     );
-    assert_eq!(rt; second.answer(), None);
+    assert_eq!(rt; first.answer(), Some(TakeAnswer::NoFrame));
+    assert_eq!(rt; board.advance(Cpu(0), &mut first), (Turn::Finished, None));
     Ok(())
 }
+
+mod pages;
+mod races;

@@ -5,7 +5,7 @@ use Rattle.hwp_hold.specs.declared.Hold.{Hold}
 use Rattle.hwp_hold.specs.Holds.{Fits, begin}
 use Rattle.hwp_step.specs.Boards.{view_of}
 use Rattle.hwp_plain.proofs.Beginning.{on-turn-open}
-use Rattle.hwp_plain.proofs.tests.holding.Goals as goal
+use Rattle.hwp_plain.proofs.tests.pages.holding.Goals as goal
 
 abbrev page : Page
 page = record { 0 = 0 }
