@@ -39,3 +39,4 @@ pub mod OpeningHolds
 pub mod LossBounds
 pub mod Meeting
 pub mod Served
+pub mod CycleBounds
