@@ -14,7 +14,7 @@ use Rattle.hwp_rule.specs.declared.view.Mark.{Mark}
 use Rattle.hwp_rule.specs.declared.view.PageLock.{PageLock}
 use Rattle.hwp_rule.specs.declared.view.Sight.{Sight}
 use Rattle.hwp_rule.specs.declared.view.Spoiled.{Spoiled}
-use Rattle.hwp_rule.specs.Lists.{Homes, EachListed}
+use Rattle.hwp_rule.specs.Lists.{Homes, EachListed, EachMember}
 use Rattle.hwp_rule.specs.Words.{free_bit}
 use Rattle.hwp_rule.specs.parts.Bodies.{BodiesAtHome, Holder, IsAtHome}
 use Rattle.hwp_rule.specs.parts.Counter.{CounterAgrees, CountDebts}
@@ -22,11 +22,14 @@ use Rattle.hwp_rule.specs.parts.Marks.{MarksAlternate, IsBefore}
 use Rattle.hwp_rule.specs.parts.Owners.{TranslationsOwned, CacheWordsOwned, NamesOwn}
 use Rattle.hwp_rule.specs.parts.Places.{HasOnePlace, IsBare, IsApart, in_hand, IsHanded}
 use Rattle.hwp_rule.specs.parts.Unpoisoned.{NothingPoisonedYet}
-use Rattle.hwp_rule.proofs.Lists.{at_set, set_here, set_else, same-or, sum-set}
+use Rattle.hwp_rule.proofs.Lists.{at_set, set_here, set_else, same-or, sum-set, each-set, each-weaken, term-le, same-number}
 use Rattle.hwp_rule.specs.declared.view.FrameInHand.{FrameInHand}
 use Rattle.hwp_rule.specs.Rule.{FailureParts, count_debts_of}
 use Rattle.hwp_rule.specs.declared.view.View.{View}
 use Rattle.hwp_rule.specs.parts.Handled.{HandledIsPoisoned}
+use Rattle.hwp_rule.specs.parts.Locks.{FrameLocksHeld, IsLocked}
+use Rattle.hwp_rule.specs.declared.view.Ref.{Ref}
+use Rattle.hwp_rule.specs.Views.{refs_on, locks_on}
 
 abbrev cycle_and_poison : ℕ → ℕ × ℕ
 cycle_and_poison word = (cycle_of word, poison_of word)
@@ -45,6 +48,46 @@ module _ (frames : List ℕ) (f w u : ℕ) (there : slice_get frames f ≡ Some 
     | inl is ↦ (u, ap (slice_get (set frames f u)) is ∙ set_here frames f u w there, same ∙ ap g (same_Some w y (sym there ∙ ap (slice_get frames) (sym is) ∙ e)))
     | inr differs ↦ (y, set_else frames f i u differs ∙ e, refl)
   ]
+
+  -- ---- the locks, where nobody has the frame's
+
+  module _ (held : List (List Ref × List FrameLock)) (free : lock_of w ≡ 0) (h : FrameLocksHeld frames held) where
+    of-others : (i : ℕ) (o : List Ref × List FrameLock) → slice_get held i ≡ Some o → (j : ℕ) (l : FrameLock) → slice_get o.1 j ≡ Some l → l.frame.0 ≢ f
+    of-others i o at j l listed same =
+        let all : sum_by (λ (o : List Ref × List FrameLock). locks_on f o.1) held ≡ lock_of w = h.one f w there in
+        let theirs : locks_on f o.1 ≤ sum_by (λ (o : List Ref × List FrameLock). locks_on f o.1) held = term-le (λ (o : List Ref × List FrameLock). locks_on f o.1) held i o at in
+        let this : from_bool (l.frame.0 == f) ≤ locks_on f o.1 = term-le (λ (l : FrameLock). from_bool (l.frame.0 == f)) o.1 j l listed in
+        let one : from_bool (l.frame.0 == f) ≡ 1 = ap from_bool (same-number l.frame.0 f same) in
+        omega (arith, all, theirs, this, one, free)
+
+    still-known : (i : ℕ) (o : List Ref × List FrameLock) → slice_get held i ≡ Some o → (now : List Ref) → ((g : ℕ) → g ≢ f → refs_on g now ≡ refs_on g o.0) → EachMember (IsLocked (set frames f u) now) o.1
+    still-known i o at now others j l listed =
+        let known : IsLocked frames o.0 l = h.known i o at j l listed in
+        let differs : l.frame.0 ≢ f = of-others i o at j l listed in
+        record {
+          word = known.word;
+          there = set_else frames f l.frame.0 u differs ∙ known.there;
+          owner = known.owner;
+          handled = known.handled;
+          poisoned = known.poisoned;
+          referenced = subst (λ (n : ℕ). 0 < n) (sym (others l.frame.0 differs)) known.referenced;
+        }
+
+    -- and one view's references to it change
+    pub unlocked-kept : lock_of u ≡ lock_of w → (seat : ℕ) (mine : List Ref × List FrameLock) → slice_get held seat ≡ Some mine → (now : List Ref) → ((g : ℕ) → g ≢ f → refs_on g now ≡ refs_on g mine.0)
+        → FrameLocksHeld (set frames f u) (set held seat (now, mine.1))
+    unlocked-kept lock seat mine me now others = record {
+      one = λ g x at.
+          let moved : sum_by (λ (o : List Ref × List FrameLock). locks_on g o.1) (set held seat (now, mine.1)) + locks_on g mine.1 ≡ sum_by (λ (o : List Ref × List FrameLock). locks_on g o.1) held + locks_on g mine.1 =
+          sum-set (λ (o : List Ref × List FrameLock). locks_on g o.1) held seat mine (now, mine.1) me in
+          let same : sum_by (λ (o : List Ref × List FrameLock). locks_on g o.1) (set held seat (now, mine.1)) ≡ sum_by (λ (o : List Ref × List FrameLock). locks_on g o.1) held = omega arith in
+          elim (at_set frames f g u x at) [
+            | inl t ↦ same ∙ ap (λ (n : ℕ). sum_by (λ (o : List Ref × List FrameLock). locks_on n o.1) held) t.0 ∙ h.one f w there ∙ sym lock ∙ ap lock_of t.1
+            | inr t ↦ same ∙ h.one g x t.1
+          ];
+      known = each-set (λ (o : List Ref × List FrameLock). EachMember (IsLocked (set frames f u) o.0) o.1) held seat (now, mine.1)
+          (still-known seat mine me now others) (λ i o at. still-known i o at o.0 (λ g differs. refl));
+    }
 
   -- ---- parts that read owners
 

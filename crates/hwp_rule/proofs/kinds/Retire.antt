@@ -25,8 +25,8 @@ use Rattle.hwp_rule.specs.parts.Locks.{FrameLocksHeld, IsLocked}
 use Rattle.hwp_rule.specs.parts.Places.{HasOnePlace, in_hand}
 use Rattle.hwp_rule.proofs.Keeps.{Keeps}
 use Rattle.hwp_rule.proofs.Kept
-use Rattle.hwp_rule.proofs.Lists.{change, at_map, at_set, set_here, set_else, set-set, same-or, same-number, sum-set, term-le, each-set}
-use Rattle.hwp_rule.proofs.FrameFields.{translations-kept, caches-kept, bodies-kept, handed-kept, placed-kept, failures-kept}
+use Rattle.hwp_rule.proofs.Lists.{change, at_map, at_set, set_here, set_else, set-set, same-or, same-number, set_again, sum-set, term-le, each-set}
+use Rattle.hwp_rule.proofs.FrameFields.{translations-kept, caches-kept, bodies-kept, handed-kept, placed-kept, failures-kept, unlocked-kept}
 use Rattle.hwp_rule.proofs.Refs
 use Rattle.hwp_rule.proofs.WordsByKind.{word-there}
 use Rattle.hwp_rule.proofs.kinds.UnlockFrame
@@ -93,45 +93,11 @@ module _ (layout : Layout) (w : Words) (homes : Homes) (views : List View) (seat
       (λ usable. subst (λ (n : ℕ). free_bit w.frees frame.0 + in_hand frame.0 (map (λ (v : View). v.hands) views) + min n 1 ≡ 1) (sym are.count) (h.frames.places.placed frame.0 word there usable))
       (λ idle. absurd (not-idle idle)) (handed-kept w.frames frame.0 word now there are.poison (map (λ (v : View). v.hands) views) h.frames.places.handed) h.frames.places
 
-  -- no view lists a lock of the frame
-  of-others : (i : ℕ) (o : List Ref × List FrameLock) → slice_get held i ≡ Some o → (j : ℕ) (l : FrameLock) → slice_get o.1 j ≡ Some l → l.frame.0 ≢ frame.0
-  of-others i o at j l listed same =
-      let all : sum_by (λ (o : List Ref × List FrameLock). locks_on frame.0 o.1) held ≡ lock_of word = h.frames.frame_locks.one frame.0 word there in
-      let theirs : locks_on frame.0 o.1 ≤ sum_by (λ (o : List Ref × List FrameLock). locks_on frame.0 o.1) held = term-le (λ (o : List Ref × List FrameLock). locks_on frame.0 o.1) held i o at in
-      let this : from_bool (l.frame.0 == frame.0) ≤ locks_on frame.0 o.1 = term-le (λ (l : FrameLock). from_bool (l.frame.0 == frame.0)) o.1 j l listed in
-      let one : from_bool (l.frame.0 == frame.0) ≡ 1 = ap from_bool (same-number l.frame.0 frame.0 same) in
-      omega (arith, all, theirs, this, one, free)
-
-  still-known : (i : ℕ) (o : List Ref × List FrameLock) → slice_get held i ≡ Some o → (now' : List Ref) → ((g : ℕ) → g ≢ frame.0 → refs_on g now' ≡ refs_on g o.0) → EachMember (IsLocked frames now') o.1
-  still-known i o at now' others j l listed =
-      let known : IsLocked w.frames o.0 l = h.frames.frame_locks.known i o at j l listed in
-      let differs : l.frame.0 ≢ frame.0 = of-others i o at j l listed in
-      record {
-        word = known.word;
-        there = set_else w.frames frame.0 l.frame.0 now differs ∙ known.there;
-        owner = known.owner;
-        handled = known.handled;
-        poisoned = known.poisoned;
-        referenced = subst (λ (n : ℕ). 0 < n) (sym (others l.frame.0 differs)) known.referenced;
-      }
-
   my-held : slice_get {X = List Ref × List FrameLock} held seat ≡ Some (v.refs, v.locks)
   my-held = at_map (λ (v : View). (v.refs, v.locks)) views seat v me
 
   locks : FrameLocksHeld frames (set held seat (less, v.locks))
-  locks = record {
-    one = λ g x at.
-        let moved : sum_by (λ (o : List Ref × List FrameLock). locks_on g o.1) (set held seat (less, v.locks)) + locks_on g v.locks ≡ sum_by (λ (o : List Ref × List FrameLock). locks_on g o.1) held + locks_on g v.locks =
-        sum-set (λ (o : List Ref × List FrameLock). locks_on g o.1) held seat (v.refs, v.locks) (less, v.locks) my-held in
-        let same : sum_by (λ (o : List Ref × List FrameLock). locks_on g o.1) (set held seat (less, v.locks)) ≡ sum_by (λ (o : List Ref × List FrameLock). locks_on g o.1) held = omega arith in
-        elim (at_set w.frames frame.0 g now x at) [
-          | inl t ↦ same ∙ ap (λ (n : ℕ). sum_by (λ (o : List Ref × List FrameLock). locks_on n o.1) held) t.0 ∙ h.frames.frame_locks.one frame.0 word there ∙ sym are.lock ∙ ap lock_of t.1
-          | inr t ↦ same ∙ h.frames.frame_locks.one g x t.1
-        ];
-    known = each-set (λ (o : List Ref × List FrameLock). EachMember (IsLocked frames o.0) o.1) held seat (less, v.locks)
-        (still-known seat (v.refs, v.locks) my-held less (λ g differs. Refs.refs-less-other frame 1 g v.refs differs))
-        (λ i o at. still-known i o at o.0 (λ g differs. refl));
-  }
+  locks = unlocked-kept w.frames frame.0 word now there held free h.frames.frame_locks are.lock seat (v.refs, v.locks) my-held less (λ g differs. Refs.refs-less-other frame 1 g v.refs differs)
 
   bounded : IsBounded layout (holdings_of u)
   bounded = record {
