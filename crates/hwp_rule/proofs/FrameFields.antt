@@ -22,7 +22,7 @@ use Rattle.hwp_rule.specs.parts.Marks.{MarksAlternate, IsBefore}
 use Rattle.hwp_rule.specs.parts.Owners.{TranslationsOwned, CacheWordsOwned, NamesOwn}
 use Rattle.hwp_rule.specs.parts.Places.{HasOnePlace, IsBare, IsApart, in_hand, IsHanded}
 use Rattle.hwp_rule.specs.parts.Unpoisoned.{NothingPoisonedYet}
-use Rattle.hwp_rule.proofs.Lists.{at_set, set_here, set_else, same-or, sum-set, each-set, each-weaken, term-le, same-number}
+use Rattle.hwp_rule.proofs.Lists.{at_set, set_here, set_else, same-or, sum-set, each-set, term-le, same-number}
 use Rattle.hwp_rule.specs.declared.view.FrameInHand.{FrameInHand}
 use Rattle.hwp_rule.specs.Rule.{FailureParts, count_debts_of}
 use Rattle.hwp_rule.specs.declared.view.View.{View}

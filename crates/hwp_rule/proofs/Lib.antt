@@ -4,7 +4,6 @@ pub mod Counting
 pub mod WordsByKind
 pub mod Bits
 pub mod Refs
-pub mod RefBounds
 pub mod FramesInHand
 pub mod EmptySlots
 pub mod FittingWords
@@ -16,7 +15,6 @@ pub mod Noted
 pub mod KeptTurns
 pub mod NotLater
 pub mod Sights
-pub mod Exhausted
 pub mod ShownWords
 pub mod FreeAndHand
 pub mod FrameFields
@@ -36,7 +34,6 @@ pub mod Moving
 pub mod AdoptedFrames
 pub mod OpeningWords
 pub mod OpeningHolds
-pub mod LossBounds
 pub mod Meeting
 pub mod Served
-pub mod CycleBounds
+pub mod bounds

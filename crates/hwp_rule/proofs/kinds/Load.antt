@@ -14,7 +14,7 @@ use Rattle.hwp_rule.specs.Rule.{FrameRule}
 use Rattle.hwp_rule.specs.Views.{sighted, stamp_of, changed, is_page_lock_of}
 use Rattle.hwp_rule.specs.Words.{Words}
 use Rattle.hwp_rule.specs.parts.Fits.{KnowsWords, KnowsOwn}
-use Rattle.hwp_rule.proofs.Exhausted.{explained-available}
+use Rattle.hwp_rule.proofs.bounds.Exhausted.{explained-available}
 use Rattle.hwp_rule.proofs.Keeps.{Keeps}
 use Rattle.hwp_rule.proofs.PageLockLists.{keeps-listing}
 use Rattle.hwp_rule.proofs.WordsByKind.{word-there, same-put}

@@ -7,7 +7,7 @@ use Rattle.hwp_rule.specs.Rule.{FrameRule}
 use Rattle.hwp_rule.specs.Views.{sighted, stamp_of}
 use Rattle.hwp_rule.specs.Words.{free_bit, sum_below}
 use Rattle.hwp_rule.specs.parts.Free.{FreeBitsAgree}
-use Rattle.hwp_rule.proofs.Exhausted.{explained-available}
+use Rattle.hwp_rule.proofs.bounds.Exhausted.{explained-available}
 use Rattle.hwp_rule.proofs.Keeps.{Keeps}
 use Rattle.hwp_rule.proofs.Lists.{at_map, sum-set}
 use Rattle.hwp_rule.proofs.Sights.{keeps-sight}

@@ -1,8 +1,7 @@
 -- A poisoned frame that is handled keeps the frame rule: its lock is freed, and then the frame's reference becomes HANDLED's.
-use Rattle.std.proofs.Common.{◌≡◌, ◌≢◌, ℕ, ◌+◌, ◌-◌, ◌<◌, ◌≤◌, ◌==◌, min, Bool, true, false, List, Option, Some, None, map, set, length, slice_get, slice_index, bit_and, bit_xor, inl, inr, refl, sym, ap, ◌∙◌, subst, arith}
+use Rattle.std.proofs.Common.{◌≡◌, ◌≢◌, ℕ, ◌+◌, ◌-◌, ◌<◌, ◌≤◌, min, Bool, true, false, List, Option, Some, None, map, set, length, slice_get, slice_index, bit_and, bit_xor, inl, inr, refl, sym, ap, ◌∙◌, subst, arith}
 use Rattle.std.proofs.lemmas.Bool.{eqb-true, eqb-false}
 use Rattle.std.proofs.lemmas.Option.{same_Some}
-use Rattle.std.specs.Int.{from_bool}
 use Rattle.std.specs.List.{sum_by}
 use Rattle.hwp_geom.specs.declared.Frame.{Frame}
 use Rattle.hwp_geom.specs.declared.Layout.{Layout}
@@ -14,9 +13,9 @@ use Rattle.hwp_rule.specs.declared.view.FrameLock.{FrameLock}
 use Rattle.hwp_rule.specs.declared.view.Ref.{Ref}
 use Rattle.hwp_rule.specs.declared.view.View.{View}
 use Rattle.hwp_rule.specs.Asks.{CanRetire}
-use Rattle.hwp_rule.specs.Lists.{Homes, EachMember}
+use Rattle.hwp_rule.specs.Lists.{Homes}
 use Rattle.hwp_rule.specs.Rule.{FrameRule, holdings_of, holder_of}
-use Rattle.hwp_rule.specs.Views.{refs_on, less_refs, locks_on, without, is_lock_of}
+use Rattle.hwp_rule.specs.Views.{refs_on, less_refs, without, is_lock_of}
 use Rattle.hwp_rule.specs.Words.{Words, free_bit}
 use Rattle.hwp_rule.specs.parts.Counts.{CountsBalance, named}
 use Rattle.hwp_rule.specs.parts.Handled.{HandledIsPoisoned}
@@ -25,7 +24,7 @@ use Rattle.hwp_rule.specs.parts.Locks.{FrameLocksHeld, IsLocked}
 use Rattle.hwp_rule.specs.parts.Places.{HasOnePlace, in_hand}
 use Rattle.hwp_rule.proofs.Keeps.{Keeps}
 use Rattle.hwp_rule.proofs.Kept
-use Rattle.hwp_rule.proofs.Lists.{change, at_map, at_set, set_here, set_else, set-set, same-or, same-number, set_again, sum-set, term-le, each-set}
+use Rattle.hwp_rule.proofs.Lists.{change, at_map, at_set, set_here, set-set, same-or, sum-set, term-le, each-set}
 use Rattle.hwp_rule.proofs.FrameFields.{translations-kept, caches-kept, bodies-kept, handed-kept, placed-kept, failures-kept, unlocked-kept}
 use Rattle.hwp_rule.proofs.Refs
 use Rattle.hwp_rule.proofs.WordsByKind.{word-there}

@@ -1,5 +1,5 @@
 -- A frame whose poison is cleared keeps the frame rule; a word met that isn't as expected is shown.
-use Rattle.std.proofs.Common.{◌≡◌, ◌≢◌, ℕ, ◌+◌, ◌-◌, ◌*◌, ◌%◌, ◌^◌, ◌<◌, ◌≤◌, ◌==◌, ◌&&◌, nat_lt, min, eq-eqb, ne_eqb, le-ltb, lt-ltb, Bool, true, false, cond, List, [], ◌∷◌, ◌++◌, Some, map, set, length, get_or, slice_get, inl, inr, refl, sym, ap, ◌∙◌, subst, arith}
+use Rattle.std.proofs.Common.{◌≡◌, ◌≢◌, ℕ, ◌+◌, ◌-◌, ◌*◌, ◌^◌, ◌<◌, ◌≤◌, ◌==◌, ◌&&◌, nat_lt, eq-eqb, ne_eqb, le-ltb, lt-ltb, Bool, true, false, cond, List, [], ◌∷◌, Some, map, set, length, get_or, slice_get, inl, inr, refl, sym, ap, ◌∙◌, subst, arith}
 use prog.Atomic.{either}
 use Rattle.std.proofs.lemmas.Bool.{eqb-true}
 use Rattle.std.proofs.lemmas.List.{length-set, length-append}
@@ -12,7 +12,6 @@ use Rattle.hwp_geom.specs.declared.FileNo.{FileNo}
 use Rattle.hwp_geom.specs.declared.Frame.{Frame}
 use Rattle.hwp_geom.specs.declared.Layout.{Layout}
 use Rattle.hwp_geom.specs.declared.Who.{Who}
-use Rattle.hwp_geom.specs.Layout.{IsSound}
 use Rattle.hwp_geom.specs.Limits.{command_limit}
 use Rattle.hwp_words.specs.Counters.{biased_poisoned_of, hardware_of}
 use Rattle.hwp_words.specs.Frames.{lock_of, poison_of, handled_of, kernel_of, count_of, owner_of, cycle_of, is_kernel}
@@ -26,7 +25,6 @@ use Rattle.hwp_rule.specs.declared.view.Mark.{Mark}
 use Rattle.hwp_rule.specs.declared.view.MarkKind.TheVariants as mark_kinds
 use Rattle.hwp_rule.specs.declared.view.Ref.{Ref}
 use Rattle.hwp_rule.specs.declared.view.Reported.{Reported}
-use Rattle.hwp_rule.specs.declared.view.Sight.{Sight}
 use Rattle.hwp_rule.specs.declared.view.View.{View}
 use Rattle.hwp_rule.specs.Asks.{CanRevive}
 use Rattle.hwp_rule.specs.Lists.{Homes, EachMember, EachListed, SomeMember, IsNotLater, sum_all, sum_bodies}
@@ -34,7 +32,7 @@ use Rattle.hwp_rule.specs.Logs.{losses_of, is_loss}
 use Rattle.hwp_rule.specs.Rule.{FrameRule, holdings_of, holder_of, count_debts_of, losing_of}
 use Rattle.hwp_rule.specs.Steps.{revived}
 use Rattle.hwp_rule.specs.Views.{sighted, revived_by, stamp_of, unpoisoned, refs_on}
-use Rattle.hwp_rule.specs.Words.{Words, free_bit, sum_below}
+use Rattle.hwp_rule.specs.Words.{Words, sum_below}
 use Rattle.hwp_rule.specs.parts.Counter.{CounterAgrees, CountDebts, IsCovered, is_by_hardware, is_poisoning, is_revival}
 use Rattle.hwp_rule.specs.parts.Counts.{CountsBalance, named}
 use Rattle.hwp_rule.specs.parts.Exhaustion.{ExhaustionExplained, usable, is_marked}
@@ -43,10 +41,9 @@ use Rattle.hwp_rule.specs.parts.Holdings.{AreOwn, IsBounded, HoldingsBounded, Is
 use Rattle.hwp_rule.specs.parts.Locks.{FrameLocksHeld}
 use Rattle.hwp_rule.specs.parts.Losses.{Losing, LossesBalance, IsPoisonLoss}
 use Rattle.hwp_rule.specs.parts.Marks.{MarksAlternate, IsBefore, poisonings, revivals, revivals_by}
-use Rattle.hwp_rule.specs.parts.Places.{HasOnePlace, IsBare, IsHanded, in_hand}
-use Rattle.hwp_rule.specs.parts.Unpoisoned.{NothingPoisonedYet}
+use Rattle.hwp_rule.specs.parts.Places.{HasOnePlace, IsHanded, in_hand}
 use Rattle.hwp_rule.proofs.Counting.{below-le}
-use Rattle.hwp_rule.proofs.CycleBounds.{cycles-few}
+use Rattle.hwp_rule.proofs.bounds.CycleBounds.{cycles-few}
 use Rattle.hwp_rule.proofs.FrameFields.{translations-kept, caches-kept, bodies-kept, unlocked-kept, placed-kept}
 use Rattle.hwp_rule.proofs.Keeps.{Keeps}
 use Rattle.hwp_rule.proofs.Kept

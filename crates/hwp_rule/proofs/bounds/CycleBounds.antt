@@ -1,5 +1,5 @@
 -- How often a frame's poison was cleared: no more often than the processors can.
-use Rattle.std.proofs.Common.{add-mul, ◌≡◌, ℕ, zero, suc, ◌+◌, ◌*◌, ◌<◌, ◌≤◌, ◌==◌, ◌&&◌, nat_lt, lt-ltb, eq-eqb, Bool, true, false, List, [], ◌∷◌, Some, map, length, slice_get, refl, sym, ap, ◌∙◌, subst, arith}
+use Rattle.std.proofs.Common.{add-mul, ◌≡◌, ℕ, zero, suc, ◌+◌, ◌*◌, ◌<◌, ◌≤◌, ◌==◌, ◌&&◌, lt-ltb, eq-eqb, Bool, true, false, List, [], ◌∷◌, Some, map, length, slice_get, refl, sym, ap, ◌∙◌, subst, arith}
 use Rattle.std.specs.Int.{from_bool}
 use Rattle.std.specs.List.{sum_by}
 use Rattle.std.proofs.lemmas.List.Sums.{sum_by-cons}
@@ -10,7 +10,7 @@ use Rattle.hwp_words.specs.Frames.{cycle_of}
 use Rattle.hwp_rule.specs.declared.view.Mark.{Mark}
 use Rattle.hwp_rule.specs.declared.view.Part.{Part}
 use Rattle.hwp_rule.specs.declared.view.View.{View}
-use Rattle.hwp_rule.specs.Lists.{Homes, sum_all}
+use Rattle.hwp_rule.specs.Lists.{Homes}
 use Rattle.hwp_rule.specs.Rule.{FrameRule}
 use Rattle.hwp_rule.specs.Words.{Words, sum_below}
 use Rattle.hwp_rule.specs.parts.Counter.{is_revival}
@@ -18,7 +18,7 @@ use Rattle.hwp_rule.specs.parts.Holdings.{IsPast}
 use Rattle.hwp_rule.specs.parts.Marks.{revivals, revivals_by}
 use Rattle.hwp_rule.proofs.Counting.{below-swap, below-zero, hit-one, sum-le, sum-add, sum-ones}
 use Rattle.hwp_rule.proofs.Lists.{at_map, term-le, sum-map}
-use Rattle.hwp_rule.proofs.RefBounds.{parts-number}
+use Rattle.hwp_rule.proofs.bounds.RefBounds.{parts-number}
 
 -- a sum over two lists
 list-swap : {A B : Type 0} (g : A → B → ℕ) (l : List A) (m : List B) → sum_by (λ (x : A). sum_by (g x) m) l ≡ sum_by (λ (y : B). sum_by (λ (x : A). g x y) l) m

@@ -27,7 +27,7 @@ use Rattle.hwp_rule.specs.parts.Places.{in_hand}
 use Rattle.hwp_rule.proofs.Counting.{below-le, below-add, below-swap, hit-one, sum-le, sum-ones, sum-add, some-term, hits-all-le}
 use Rattle.hwp_rule.proofs.Keeps.{IsShaped}
 use Rattle.hwp_rule.proofs.Lists.{from_bool-same, same-or, at_map, map-was, term-le, sum-map}
-use Rattle.hwp_rule.proofs.RefBounds.{parts-number}
+use Rattle.hwp_rule.proofs.bounds.RefBounds.{parts-number}
 use Rattle.hwp_rule.proofs.Sights.{IsExplained, explained-exhausted}
 use Rattle.hwp_rule.specs.declared.place.Place.TheVariants as places
 use Rattle.std.proofs.lemmas.List.{nil_from_length}

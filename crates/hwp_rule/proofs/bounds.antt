@@ -1,0 +1,4 @@
+pub mod RefBounds
+pub mod Exhausted
+pub mod CycleBounds
+pub mod LossBounds
