@@ -1,5 +1,5 @@
 -- What one turn of the scheduler makes.
-use Rattle.std.proofs.Common.{◌≡◌, ◌≢◌, ℕ, ◌<◌, ◌≤◌, ◌⊎◌, inl, inr, List, ◌∷◌, length, take, get_or, set, false, Option, Some, None, refl, sym, ap, ◌∙◌, subst, arith}
+use Rattle.std.proofs.Common.{◌≡◌, ◌≢◌, ℕ, ◌<◌, ◌≤◌, inr, List, length, take, get_or, set, false, Option, Some, None, refl, sym, ap, ◌∙◌, subst, arith}
 use Rattle.std.proofs.lemmas.List.{get_or-take, get_or_default, length-set, map-set}
 use Rattle.std.proofs.Math.Seq.{take-set-lt}
 use Rattle.hwp_geom.specs.declared.Cpu.{Cpu}
@@ -15,8 +15,7 @@ use Rattle.hwp_step.specs.declared.Turn.TheVariants as turns
 use Rattle.hwp_step.specs.Boards.{Played, TakesTurn, view_of, AreSeated}
 use Rattle.hwp_step.specs.Calls.{logs, rec_of}
 use Rattle.hwp_step.specs.Ranks.{Member, is_waits}
-use Rattle.hwp_sched.specs.Law.{IsScheduled}
-use Rattle.hwp_sched.specs.Order.{Running, running, IsAt, IsNoMemory, IsOver, IsRefused, EndsCommand, EndsWord, TurnOf, told_of, level_by, level, levels, IsChosen, cpu_of, seat_of}
+use Rattle.hwp_sched.specs.Order.{Running, running, IsAt, IsNoMemory, IsOver, IsRefused, EndsCommand, EndsWord, told_of, level_by, level, levels, IsChosen, cpu_of, seat_of}
 use Rattle.hwp_sched.specs.Rank.{words_in, rank, cost_at}
 use Rattle.hwp_sched.specs.Ready.{InPlay, IsNext, Ready, TurnTold}
 use Rattle.hwp_sched.proofs.Seats.{few-tasks}

@@ -1,4 +1,4 @@
-use Rattle.std.proofs.Common.{refl, ◌∙◌, arith}
+use Rattle.std.proofs.Common.{refl, ◌∙◌}
 use Rattle.hwp_step.specs.Ranks.{member}
 use Rattle.hwp_sched.specs.Order.{running}
 use Rattle.hwp_sched.proofs.Seats.{few-tasks}
