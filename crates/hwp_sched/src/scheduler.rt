@@ -6,13 +6,16 @@ ghost use Rattle.hwp_sched.specs.Order.{running, level, levels, IsNoMemory, Ends
 ghost use Rattle.hwp_sched.specs.Ready.{IsCrew, InPlay, TurnTold, IsNext};
 
 use crate::scheduled::Scheduled;
-use hwp_geom::{Cpu, Kind, OutOfMemory};
+use hwp_geom::{Cpu, Kind, MAX_CPUS, OutOfMemory};
 use hwp_script::{Go, Until};
 use hwp_step::{Board, Turn};
 use std::alloc::AllocError;
 
 /// The level of a task that is over, above all classes.
 const OVER: u8 = 5;
+
+/// A place for each processor of the largest machine.
+const PLACES: usize = MAX_CPUS as usize;
 
 /// The class of a task, or `OVER`.
 fn level_of<T: Scheduled>(task: &T) -> u8
@@ -22,11 +25,11 @@ fn level_of<T: Scheduled>(task: &T) -> u8
 }
 
 /// The levels of the tasks, and `OVER` in the places that are left.
-fn levels_of<T: Scheduled>(tasks: &[T]) -> [u8; 8]
+fn levels_of<T: Scheduled>(tasks: &[T]) -> [u8; PLACES]
     requires few { length tasks.now ≤ 8 }
     ensures { (length result ≡ 8) × (take (length tasks.now) result ≡ levels (member T.who T.plan T.put T.bare T.next T.fits T.class_of T.cost T.aborts T.claims) tasks.now) }
 {
-    let mut levels = [OVER; 8];
+    let mut levels = [OVER; PLACES];
     for (i, task) in tasks.iter().enumerate() {
         levels[i] = level_of(task);
     }
@@ -82,7 +85,7 @@ fn is_refused(turn: Turn) -> bool
 fn make_turn<B: Board, T: Scheduled>(
     board: &mut B,
     tasks: &mut [T],
-    levels: &mut [u8; 8],
+    levels: &mut [u8; PLACES],
     cpu: usize,
 ) -> Result<(Turn, Option<Kind>), OutOfMemory>
     requires play { InPlay (member T.who T.plan T.put T.bare T.next T.fits T.class_of T.cost T.aborts T.claims) levels.old (running (B.machine board.old) (B.seat board.old) tasks.old (B.state board.old)) }
@@ -106,7 +109,7 @@ fn make_turn<B: Board, T: Scheduled>(
 fn play_word<B: Board, T: Scheduled>(
     board: &mut B,
     tasks: &mut [T],
-    levels: &mut [u8; 8],
+    levels: &mut [u8; PLACES],
     go: &Go,
 ) -> Result<(), OutOfMemory>
     requires play { InPlay (member T.who T.plan T.put T.bare T.next T.fits T.class_of T.cost T.aborts T.claims) levels.old (running (B.machine board.old) (B.seat board.old) tasks.old (B.state board.old)) }
@@ -130,7 +133,7 @@ fn play_word<B: Board, T: Scheduled>(
 fn finish<B: Board, T: Scheduled>(
     board: &mut B,
     tasks: &mut [T],
-    levels: &mut [u8; 8],
+    levels: &mut [u8; PLACES],
 ) -> Result<(), OutOfMemory>
     requires play { InPlay (member T.who T.plan T.put T.bare T.next T.fits T.class_of T.cost T.aborts T.claims) levels.old (running (B.machine board.old) (B.seat board.old) tasks.old (B.state board.old)) }
     ensures play { OnOk result (InPlay (member T.who T.plan T.put T.bare T.next T.fits T.class_of T.cost T.aborts T.claims) levels.new (running (B.machine board.new) (B.seat board.new) tasks.new (B.state board.new))) }
