@@ -1,0 +1,17 @@
+use Rattle.std.proofs.Common.{◌≡◌, length}
+use Rattle.hwp_step.specs.Ranks.{member}
+use Rattle.hwp_sched.specs.Order.{running, Word}
+use Rattle.hwp_sched.specs.Rank.{cost_at, words_in}
+use Rattle.hwp_sched.specs.Ready.{InPlay}
+use Rattle.hwp_sched.proofs.Telling.{SoFar}
+use Rattle.hwp_sched.proofs.scheduler.play_word.Given as goal
+
+abbrev pub invariant-loop-levels : goal.invariant-loop-levels
+invariant-loop-levels g l = record {
+  play : InPlay (member g.T.Machine.who g.T.Machine.plan g.T.Machine.put g.T.Machine.bare g.T.Machine.next g.T.Machine.fits g.T.Ranked.class_of g.T.Ranked.cost g.T.Ranked.aborts g.T.Ranked.claims) l.levels (running (g.B.Board.machine l.board) (g.B.Board.seat l.board) l.tasks (g.B.Board.state l.board));
+  count : length l.tasks ≡ length l.fn.tasks;
+  so_far : SoFar (Word (member g.T.Machine.who g.T.Machine.plan g.T.Machine.put g.T.Machine.bare g.T.Machine.next g.T.Machine.fits g.T.Ranked.class_of g.T.Ranked.cost g.T.Ranked.aborts g.T.Ranked.claims) l.go) (running (g.B.Board.machine l.fn.board) (g.B.Board.seat l.fn.board) l.fn.tasks (g.B.Board.state l.fn.board)) (g.B.Board.log l.fn.board) (running (g.B.Board.machine l.board) (g.B.Board.seat l.board) l.tasks (g.B.Board.state l.board)) (g.B.Board.log l.board);
+}
+
+abbrev pub decreases-loop-levels : goal.decreases-loop-levels
+decreases-loop-levels g l = cost_at (member g.T.Machine.who g.T.Machine.plan g.T.Machine.put g.T.Machine.bare g.T.Machine.next g.T.Machine.fits g.T.Ranked.class_of g.T.Ranked.cost g.T.Ranked.aborts g.T.Ranked.claims) l.tasks (words_in (running (g.B.Board.machine l.board) (g.B.Board.seat l.board) l.tasks (g.B.Board.state l.board))) l.cpu

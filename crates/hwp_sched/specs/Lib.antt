@@ -1,0 +1,4 @@
+pub mod Law
+pub mod Order
+pub mod Rank
+pub mod Ready

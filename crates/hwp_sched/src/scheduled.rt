@@ -1,0 +1,16 @@
+ghost use Rattle.std.specs.Prelude.{◌≡◌, ◌↔◌, IsTrue, Option, Some, None};
+ghost use Rattle.hwp_step.specs.Ranks.{member};
+ghost use Rattle.hwp_sched.specs.Law.{TellsClass};
+
+use hwp_step::Ranked;
+
+/// A task that a scheduler may run: its class tells what it holds.
+pub trait Scheduled: Ranked {
+    /// Whether no step is left.
+    fn is_over(&self) -> bool
+        ensures { IsTrue result ↔ (Self.plan self.now ≡ None) };
+
+    /// Its clause is of all tasks of this type: the class tells what a task holds. It does nothing.
+    fn tells(&self)
+        ensures { TellsClass (member Self.who Self.plan Self.put Self.bare Self.next Self.fits Self.class_of Self.cost Self.aborts Self.claims) };
+}
