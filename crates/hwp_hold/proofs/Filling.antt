@@ -25,18 +25,21 @@ use Rattle.hwp_step.proofs.Stepping.{on-turn-after, hand-planned, steps-planned,
 use Rattle.hwp_hold.specs.declared.fill.Fill.{Fill}
 use Rattle.hwp_hold.specs.declared.fill.FillAt.{FillAt}
 use Rattle.hwp_hold.specs.declared.fill.FillAt.TheVariants as at
+use Rattle.hwp_hold.specs.declared.fill.FillAnswer.{FillAnswer}
+use Rattle.hwp_hold.specs.declared.fill.FillAnswer.TheVariants as answers
 use Rattle.hwp_hold.specs.declared.refer.Refer.{Refer}
 use Rattle.hwp_hold.specs.declared.refer.ReferAt.{ReferAt}
 use Rattle.hwp_hold.specs.declared.refer.ReferAt.TheVariants as refer_at
 use Rattle.hwp_hold.specs.declared.take.Take.{Take}
 use Rattle.hwp_hold.specs.declared.take.TakeAt.{TakeAt}
 use Rattle.hwp_hold.specs.declared.take.TakeAt.TheVariants as take_at
-use Rattle.hwp_hold.specs.Fills.{begin, plan, plan_at, after_take, after_refer, next, next_at, brought, body_next, turn, ShowsAt, Shows, HasRoomFor, CanBring, with_take, with_frame, HoldsBoth, IsReferring, Fits, FitsAt}
+use Rattle.hwp_hold.specs.Fills.{answer, answer_at, begin, plan, plan_at, after_take, after_refer, next, next_at, brought, body_next, turn, ShowsAt, Shows, HasRoomFor, CanBring, with_take, with_frame, HoldsBoth, IsReferring, Fits, FitsAt}
 use Rattle.hwp_hold.specs.Holds.{locked, page_lock, one_ref, HoldsPage}
 use Rattle.hwp_hold.specs.Refers as refers
 use Rattle.hwp_hold.specs.Takes as takes
 use Rattle.hwp_hold.specs.Takes.{new_lock}
-use Rattle.hwp_hold.specs.Unholds.{holding}
+use Rattle.hwp_hold.specs.Unholds as unholds
+use Rattle.hwp_hold.specs.Unholds.{holding, HoldsAhead}
 use Rattle.hwp_hold.proofs.Bringing.{trans, goes-home}
 use Rattle.hwp_hold.proofs.Referring as referring
 use Rattle.hwp_hold.proofs.Taking as taking
@@ -275,3 +278,39 @@ held-fills layout view who page body on inside has room = record {
     under_way = refl;
   };
 }
+
+-- the frame of an answer, or this one where it has none
+abbrev frame-or : Frame → Option FillAnswer → Frame
+frame-or other (Some (answers.Filled frame)) = frame
+frame-or other _ = other
+
+abbrev is-filled : Option FillAnswer → Bool
+is-filled (Some (answers.Filled frame)) = true
+is-filled _ = false
+
+-- a page that was filled is let go with its frame, and with the entry
+pub filled-unholds : (layout : Layout) (view : View) (f : Fill) (frame : Frame) → answer f ≡ Some (answers.Filled frame) → Fits layout view f → unholds.Fits layout view (unholds.begin f.who f.page (Some frame) f.body)
+filled-unholds layout view f frame answered fits = record { on_turn = fits.on_turn; page = fits.page; at = which f.at answered fits.at }
+  where
+    over-at : (x : Option Frame) → answer_at (at.Over x) ≡ Some (answers.Filled frame) → FitsAt layout view f.who f.page f.body (at.Over x) → HoldsAhead layout f.who view f.page (Some frame) (Some f.body) × (frame.0 < layout.frames)
+    over-at None over has = absurd (both_ways true (sym (ap is-filled over)) refl)
+    over-at (Some other) over has = subst (λ (g : Frame). HoldsAhead layout f.who view f.page (Some g) (Some f.body) × (g.0 < layout.frames)) (ap (frame-or frame) over) has
+
+    which : (x : FillAt) → answer_at x ≡ Some (answers.Filled frame) → FitsAt layout view f.who f.page f.body x → HoldsAhead layout f.who view f.page (Some frame) (Some f.body) × (frame.0 < layout.frames)
+    which (at.Take t) over has = absurd (none-some (answers.Filled frame) over)
+    which (at.SetOwner other) over has = absurd (none-some (answers.Filled frame) over)
+    which (at.Refer r) over has = absurd (none-some (answers.Filled frame) over)
+    which (at.SetCache other) over has = absurd (none-some (answers.Filled frame) over)
+    which (at.Over x) over has = over-at x over has
+
+-- a page that was not is held as before
+pub unfilled-holds : (layout : Layout) (view : View) (f : Fill) → answer f ≡ Some answers.NoFrame → Fits layout view f → HoldsPage layout view f.page None f.body
+unfilled-holds layout view f answered fits = which f.at answered fits.at
+  where
+    which : (x : FillAt) → answer_at x ≡ Some answers.NoFrame → FitsAt layout view f.who f.page f.body x → HoldsPage layout view f.page None f.body
+    which (at.Over None) over has = has
+    which (at.Over (Some frame)) over has = absurd (both_ways true (ap is-filled over) refl)
+    which (at.Take t) over has = absurd (none-some answers.NoFrame over)
+    which (at.SetOwner frame) over has = absurd (none-some answers.NoFrame over)
+    which (at.Refer r) over has = absurd (none-some answers.NoFrame over)
+    which (at.SetCache frame) over has = absurd (none-some answers.NoFrame over)

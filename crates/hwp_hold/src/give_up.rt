@@ -8,8 +8,8 @@ use hwp_rule::Step;
 use hwp_step::{Machine, Ranked, Turn};
 use std::mem;
 
-/// Ends a command for which memory was refused: its body goes home, what it holds is let go, and the processors are told to
-/// stop. The last turn is `NoMemory` (this project's rule).
+/// Ends a command for which memory was refused: its body goes home, what it holds is let go, and the stop word tells the
+/// other processors. That last turn is `NoMemory` (this project's rule).
 #[derive(Drop)]
 pub struct GiveUp {
     who: Who,
