@@ -6,10 +6,10 @@ use super::*;
 use crate::entry::{Met, What};
 use crate::situation::{Outcome, Situation};
 use hwp_geom::{
-    Cpu, FileNo, Layout, Line, List, Mask, OutOfMemory, Page, PageKind, Proc, Thread, ThreadDecl,
-    TransDecl, VSlot, Who,
+    Cpu, FileNo, Layout, Line, Lines, List, Mask, OutOfMemory, Page, PageKind, Proc, Thread,
+    ThreadDecl, TransDecl, VSlot, Who,
 };
-use hwp_kill::{Code, Policy, Seen, Signal, SignalList};
+use hwp_kill::{Code, Policy, Seen, Signal, SignalList, Slots};
 use std::alloc::Global;
 use std::process::Abort;
 use std::sync::Arc;
@@ -86,101 +86,104 @@ fn mapped_state(line: Line) -> PageState {
     state
 }
 
+/// Whether the state allows the entry of the page is as the row of the table says.
+fn judge(
+    rt: &impl Abort,
+    layout: &Layout,
+    page: u16,
+    state: &PageState,
+    what: &What,
+    want: bool,
+    row: usize,
+)
+    requires { IsSound layout.now }
+{
+    assert_eq!(rt; state.allows(layout, Page(page), what), want, "row {row}");
+}
+
 #[test]
 fn which_accesses_a_state_allows(rt: HostRuntime) -> Result<(), Fail> {
     let layout = two_pages(rt.alloc())?;
     let line = Line::new(2).ok_or("a line")?;
     let state = mapped_state(line);
-    for (slot, bad, word, loads, stores) in [
-        (0, 0, 70, true, true),
-        (0, 0xb, 70, true, true),
-        (0, 4, 70, false, false),
-        (0, 0, 71, false, true),
-        (2, 0, 70, false, false),
+    // the row, the slot, the bad lines, the word; a load, a store, a machine check
+    for (row, slot, bad, word, loads, stores, fails) in [
+        (0, 0, 0, 70, true, true, false),
+        (1, 0, 0xb, 70, true, true, false),
+        (2, 0, 4, 70, false, false, true),
+        (3, 0, 0, 71, false, true, false),
+        (4, 2, 0, 70, false, false, false),
+        (5, 2, 4, 70, false, false, false),
     ] {
         let slot = VSlot(slot);
         let met = met(bad, word);
-        let load = What::Load { slot, line, met };
-        assert_eq!(rt;
-            state.allows(&layout, Page(0), &load),
+        let mask = Mask(bad);
+        judge(
+            &rt,
+            &layout,
+            0,
+            &state,
+            &What::Load { slot, line, met },
             loads,
-            "load {slot:?} {bad} {word}"
+            row,
         );
-        let store = What::Store { slot, line, met };
-        assert_eq!(rt;
-            state.allows(&layout, Page(0), &store),
+        judge(
+            &rt,
+            &layout,
+            0,
+            &state,
+            &What::Store { slot, line, met },
             stores,
-            "store {slot:?} {bad} {word}"
+            row,
         );
-    }
-    for (slot, bad, want) in [(0, 0xc, true), (0, 8, false), (2, 4, false)] {
-        let slot = VSlot(slot);
-        let mce = What::Mce {
-            slot,
-            line,
-            mask: Mask(bad),
-        };
-        assert_eq!(rt;
-            state.allows(&layout, Page(0), &mce),
-            want,
-            "mce {slot:?} {bad}"
+        judge(
+            &rt,
+            &layout,
+            0,
+            &state,
+            &What::Mce { slot, line, mask },
+            fails,
+            row,
         );
     }
     Ok(())
 }
 
 #[test]
-fn which_translations_come_and_go(rt: HostRuntime) -> Result<(), Fail> {
-    let layout = two_pages(rt.alloc())?;
-    let mut state = mapped_state(Line::new(2).ok_or("a line")?);
-    state.step(&What::Free { slot: VSlot(0) });
-    // free; in use; another page's; with a poison entry; not declared
-    for (slot, used, map, free) in [
-        (0, false, true, false),
-        (0, true, false, true),
-        (1, false, false, false),
-        (2, false, false, false),
-        (3, false, false, false),
-    ] {
-        let slot = VSlot(slot);
-        if used {
-            state.maps.insert(slot);
-        }
-        assert_eq!(rt;
-            state.allows(&layout, Page(0), &What::Map { slot }),
-            map,
-            "map {slot:?}"
-        );
-        assert_eq!(rt;
-            state.allows(&layout, Page(0), &What::Free { slot }),
-            free,
-            "free {slot:?}"
-        );
-    }
-    Ok(())
-}
-
-#[test]
-fn whom_a_sigbus_reaches(rt: HostRuntime) -> Result<(), Fail> {
+fn which_translations_and_signals_a_state_allows(rt: HostRuntime) -> Result<(), Fail> {
     let layout = two_pages(rt.alloc())?;
     let line = Line::new(2).ok_or("a line")?;
-    let mut state = mapped_state(line);
-    for (lost, slot, thread, want) in [
-        (false, 0, 0, false),
-        (false, 2, 1, true),
-        (false, 2, 0, false),
-        (true, 0, 0, true),
+    let state = mapped_state(line);
+    // in use; another page's; with a poison entry; not declared
+    for (slot, frees, signals) in [
+        (0, true, false),
+        (1, false, false),
+        (2, false, true),
+        (3, false, false),
     ] {
-        state.lost = lost;
+        let row = usize::from(slot);
         let slot = VSlot(slot);
-        let met = Met::Sigbus {
-            thread: Thread(thread),
-        };
-        let load = What::Load { slot, line, met };
-        assert_eq!(rt;
-            state.allows(&layout, Page(0), &load),
-            want,
-            "{slot:?} {thread} {lost}"
+        judge(&rt, &layout, 0, &state, &What::Map { slot }, false, row);
+        judge(&rt, &layout, 0, &state, &What::Free { slot }, frees, row);
+        let met = Met::Sigbus { thread: Thread(1) };
+        judge(
+            &rt,
+            &layout,
+            0,
+            &state,
+            &What::Load { slot, line, met },
+            signals,
+            row,
+        );
+        let met = Met::Sigbus { thread: Thread(0) };
+        judge(
+            &rt,
+            &layout,
+            0,
+            &state,
+            &What::Load { slot, line, met },
+            false,
+            row,
         );
     }
     Ok(())
@@ -189,83 +192,59 @@ fn whom_a_sigbus_reaches(rt: HostRuntime) -> Result<(), Fail> {
 #[test]
 fn when_an_anonymous_page_comes_and_goes(rt: HostRuntime) -> Result<(), Fail> {
     let layout = two_pages(rt.alloc())?;
-    let mut state = mapped_state(Line::new(2).ok_or("a line")?);
-    for (cached, lost, comes) in [
-        (true, false, false),
-        (false, false, true),
-        (false, true, false),
+    let line = Line::new(2).ok_or("a line")?;
+    let mut state = mapped_state(line);
+    let slot = VSlot(0);
+    let met = Met::Sigbus { thread: Thread(0) };
+    state.maps.remove(slot);
+    for (row, cached, lost, comes) in [
+        (0, true, false, false),
+        (1, false, false, true),
+        (2, false, true, false),
     ] {
         state.cached = cached;
         state.lost = lost;
-        assert_eq!(rt;
-            state.allows(&layout, Page(0), &What::FaultIn),
-            comes,
-            "in {cached} {lost}"
-        );
-        assert_eq!(rt;
-            state.allows(&layout, Page(0), &What::Out),
-            cached,
-            "out {cached}"
-        );
-        assert_eq!(rt;
-            state.allows(&layout, Page(0), &What::Soft),
-            cached,
-            "soft {cached}"
-        );
-        assert!(rt;
-            !state.allows(&layout, Page(0), &What::Drop),
-            "a drop without backing"
-        );
-        assert!(rt;
-            !state.allows(&layout, Page(0), &What::Sync),
-            "a sync without a file"
+        judge(&rt, &layout, 0, &state, &What::FaultIn, comes, row);
+        judge(&rt, &layout, 0, &state, &What::Map { slot }, cached, row);
+        judge(&rt, &layout, 0, &state, &What::Out, cached, row);
+        judge(&rt, &layout, 0, &state, &What::Soft, cached, row);
+        judge(&rt, &layout, 0, &state, &What::Drop, false, row);
+        judge(&rt, &layout, 0, &state, &What::Sync, false, row);
+        judge(
+            &rt,
+            &layout,
+            0,
+            &state,
+            &What::Load { slot, line, met },
+            lost,
+            row,
         );
     }
-    state.maps.remove(VSlot(0));
-    assert!(rt;
-        !state.allows(&layout, Page(0), &What::Map { slot: VSlot(0) }),
-        "a map without a frame"
-    );
     Ok(())
 }
 
 #[test]
 fn when_a_file_page_is_dropped_and_synced(rt: HostRuntime) -> Result<(), Fail> {
     let layout = two_pages(rt.alloc())?;
-    let file = PageKind::File {
+    let mut state = PageState::opening(PageKind::File {
         file: FileNo(0),
         fill: 9,
-    };
-    // cached, mapped, dirty; whether it may be dropped, and synced
-    let table = [
-        (true, false, false, true, true),
-        (true, false, true, false, true),
-        (true, true, false, false, true),
-        (false, false, false, false, false),
-    ];
-    for (cached, mapped, dirty, dropped, synced) in table {
-        let mut state = PageState::opening(file);
+    });
+    // the row, cached, dirty; whether it may be dropped, and synced
+    for (row, cached, dirty, drops, syncs) in [
+        (0, true, false, true, true),
+        (1, true, true, false, true),
+        (2, false, false, false, false),
+    ] {
         state.cached = cached;
         state.dirty = dirty;
-        if mapped {
-            state.maps.insert(VSlot(1));
-        }
-        let name = (cached, mapped, dirty);
-        assert_eq!(rt;
-            state.allows(&layout, Page(1), &What::Drop),
-            dropped,
-            "drop, {name:?}"
-        );
-        assert_eq!(rt;
-            state.allows(&layout, Page(1), &What::Sync),
-            synced,
-            "sync, {name:?}"
-        );
-        assert!(rt;
-            !state.allows(&layout, Page(1), &What::Out),
-            "out, {name:?}"
-        );
+        judge(&rt, &layout, 1, &state, &What::Drop, drops, row);
+        judge(&rt, &layout, 1, &state, &What::Sync, syncs, row);
+        judge(&rt, &layout, 1, &state, &What::Out, false, row);
     }
+    state.cached = true;
+    state.maps.insert(VSlot(1));
+    judge(&rt, &layout, 1, &state, &What::Drop, false, 3);
     Ok(())
 }
 
@@ -273,35 +252,28 @@ fn when_a_file_page_is_dropped_and_synced(rt: HostRuntime) -> Result<(), Fail> {
 fn a_history_of_one_page(rt: HostRuntime) -> Result<(), Fail> {
     let layout = Arc::new(rt.alloc(), two_pages(rt.alloc())?)?;
     let mut body = Body::new(rt.alloc(), &layout, Page(0))?;
-    let slot = VSlot(2);
     let line = Line::new(2).ok_or("a line")?;
+    add(&rt, rt.alloc(), &mut body, &stored(2, line, 70))?;
     let who = Who {
         cpu: Cpu(0),
         seq: 3,
     };
     let load = |word| What::Load {
-        slot,
+        slot: VSlot(2),
         line,
         met: met(0, word),
     };
-    let store = What::Store {
-        slot,
-        line,
-        met: met(0, 70),
-    };
-    for what in [What::FaultIn, What::Map { slot }, store, load(70)] {
-        let entry = Entry { who, what };
-        body.room()?;
-        assert!(rt; body.allowed(&entry), "entry {}", body.len());
-        body.append(entry.copy(rt.alloc())?);
-    }
     let stale = Entry { who, what: load(0) };
     assert!(rt; !body.allowed(&stale), "load of the word before the store");
-    assert_eq!(rt; body.len(), 4);
-    assert_eq!(rt; body.page(), Page(0));
-    assert_eq!(rt; body.entries().len(), 4);
-    assert!(rt; body.state().dirty && body.state().cached);
-    assert!(rt; body.entry(4).is_none());
+    let fresh = Entry {
+        who,
+        what: load(70),
+    };
+    assert!(rt; body.allowed(&fresh));
+    body.room()?;
+    body.append(fresh);
+    let seen = (body.len(), body.page(), body.entry(4).is_none());
+    assert_eq!(rt; seen, (4, Page(0), true));
     assert_eq!(rt; body.entry(3).map(|entry| entry.who), Some(who));
     Ok(())
 }
@@ -371,71 +343,52 @@ fn two_signals(first: Signal, second: Signal) -> SignalList {
     signals
 }
 
-/// One process with a thread, one page of a file filled with 9, and translation 0 to it.
-fn one_file_page(alloc: Global) -> Result<Layout, OutOfMemory>
-    ensures { IfOk result (λ layout. IsSound layout × (length layout.pages ≡ 1)) }
-{
-    let thread = ThreadDecl {
-        process: Proc(0),
-        cpu: Cpu(0),
-        handler: true,
-    };
-    let file = PageKind::File {
-        file: FileNo(0),
-        fill: 9,
-    };
-    let translation = TransDecl {
-        process: Proc(0),
-        page: Page(0),
-    };
-    Ok(Layout {
-        cpus: 1,
-        frames: 2,
-        kernel: List::from_vec([false, false].to_vec(alloc)?),
-        recovery: true,
-        early: false,
-        files: 1,
-        procs: 1,
-        threads: List::from_vec([thread].to_vec(alloc)?),
-        pages: List::from_vec([file].to_vec(alloc)?),
-        trans: List::from_vec([translation].to_vec(alloc)?),
-    })
+/// Every line of the content has the word.
+fn is_filled(rt: &impl Abort, content: &Lines, word: u64) {
+    for number in 0..64 {
+        if let Some(line) = Line::new(number) {
+            assert_eq!(rt; content.get(line), word, "line {number}");
+        }
+    }
+}
+
+/// The translation is the one member.
+fn is_alone(rt: &impl Abort, set: &Slots, member: u16) {
+    for number in 0..512 {
+        assert_eq!(rt; set.has(VSlot(number)), number == member, "slot {number}");
+    }
 }
 
 #[test]
 fn a_dirty_file_page_fails(rt: HostRuntime) -> Result<(), Fail> {
     let alloc = rt.alloc();
-    let layout = Arc::new(alloc, one_file_page(alloc)?)?;
+    let layout = Arc::new(alloc, two_pages(alloc)?)?;
     let line = Line::new(2).ok_or("a line")?;
-    let mut body = Body::new(alloc, &layout, Page(0))?;
-    add(&rt, alloc, &mut body, &stored(0, line, 70))?;
-    let to_thread = || one_signal(signal(0, Code::Ar, 0));
+    let mut body = Body::new(alloc, &layout, Page(1))?;
+    add(&rt, alloc, &mut body, &stored(1, line, 70))?;
+    let to_thread = || one_signal(signal(0, Code::Ar, 1));
+    let clean = required(alloc, Situation::FileClean, to_thread());
+    refuses(&rt, &body, clean);
+    let silent = required(alloc, Situation::FileDirty, SignalList::new());
+    refuses(&rt, &body, silent);
+    let failure = [required(alloc, Situation::FileDirty, to_thread())];
+    add(&rt, alloc, &mut body, &failure)?;
+    let state = body.state();
+    is_filled(&rt, &state.val, 9);
+    is_alone(&rt, &state.bar, 1);
+    assert!(rt; state.maps.lowest_from(VSlot(0)).is_none());
+    assert!(rt; !state.dirty && !state.cached && !state.lost);
+    Ok(())
+}
+
+/// The body does not allow the entry.
+fn refuses(rt: &impl Abort, body: &Body, what: What) {
     let who = Who {
         cpu: Cpu(0),
         seq: 1,
     };
-    let entry = |what| Entry { who, what };
-    let clean = entry(required(alloc, Situation::FileClean, to_thread()));
-    assert!(rt; !body.allowed(&clean), "failed as clean");
-    let silent = entry(required(alloc, Situation::FileDirty, SignalList::new()));
-    assert!(rt; !body.allowed(&silent), "without its signal");
-    let failure = [required(alloc, Situation::FileDirty, to_thread())];
-    add(&rt, alloc, &mut body, &failure)?;
-    let state = body.state();
-    for number in 0..64 {
-        let line = Line::new(number).ok_or("a line")?;
-        assert_eq!(rt; state.val.get(line), 9, "line {number}");
-    }
-    assert!(rt; !state.dirty && !state.cached && !state.lost);
-    for slot in 0..512 {
-        assert!(rt; !state.maps.has(VSlot(slot)), "slot {slot} in use");
-        assert_eq!(rt;
-            state.bar.has(VSlot(slot)),
-            slot == 0,
-            "poison entry of slot {slot}"
-        );
-    }
-    Ok(())
+    let entry = Entry { who, what };
+    assert!(rt; !body.allowed(&entry));
 }
 
 /// A memory failure of a page: its situation, its outcome, whether it signals, and the state of the page after it, as
