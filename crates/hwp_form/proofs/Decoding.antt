@@ -1,27 +1,29 @@
 -- From words back to their line: words are those of one line at most.
-use Rattle.std.proofs.Common.{ℕ, ◌≡◌, ◌<◌, ◌^◌, ◌+◌, ◌*◌, ◌==◌, cond, Bool, true, false, inl, inr, List, [], ◌∷◌, length, get_or, drop, decimal, refl, sym, ap, ◌∙◌, arith}
+use Rattle.std.proofs.Common.{ℕ, ◌≡◌, ◌<◌, ◌≤◌, ◌^◌, ◌+◌, ◌*◌, ◌==◌, cond, Bool, true, false, inl, inr, List, [], ◌∷◌, length, get_or, drop, decimal, refl, sym, ap, ◌∙◌, arith}
 use Rattle.std.specs.Str.Parse.{digits_value}
 use Rattle.std.proofs.lemmas.Fmt.{decimal_is_IsNumeral, decimal_injective}
 use Rattle.std.proofs.lemmas.List.{append_cancel_right}
+use Rattle.hwp_geom.specs.Limits.{cpu_limit}
 use Rattle.hwp_geom.specs.Pairs.{Pairs}
 use Rattle.hwp_geom.specs.declared.Kind.{Kind}
 use Rattle.hwp_geom.specs.declared.Kind.TheVariants as kinds
 use Rattle.hwp_form.specs.Kinds.{kind_text}
 use Rattle.hwp_form.specs.Numbers.{IsRegister}
-use Rattle.hwp_form.specs.Grammar.{keyword, order_word, handler_text, Fits, OrderFits, AreRestWords, AreOrderWords, IsTurn, pieces_of, IsSentence, IsForm}
+use Rattle.hwp_form.specs.Grammar.{keyword, command_word, handler_text, Fits, CommandFits, AreRestWords, AreCommandWords, IsTurn, AreTurnOver, HaveTurnShape, pieces_of, IsSentence, IsForm}
 use Rattle.hwp_form.specs.declared.form.Form.{Form}
-use Rattle.hwp_form.specs.declared.form.Order.{Order}
-use Rattle.hwp_form.specs.declared.form.GoWord.{GoWord}
-use Rattle.hwp_form.specs.declared.form.Until.{Until}
-use Rattle.hwp_form.specs.declared.form.PrctlArgs.{PrctlArgs}
+use Rattle.hwp_form.specs.declared.command.Command.{Command}
+use Rattle.hwp_form.specs.declared.command.Go.{Go}
+use Rattle.hwp_form.specs.declared.command.Until.{Until}
+use Rattle.hwp_form.specs.declared.command.PrctlArgs.{PrctlArgs}
 use Rattle.hwp_form.specs.declared.keywords.Keyword.{Keyword}
-use Rattle.hwp_form.specs.declared.keywords.OrderWord.{OrderWord}
+use Rattle.hwp_form.specs.declared.keywords.CommandWord.{CommandWord}
 use Rattle.hwp_form.specs.declared.form.Form.TheVariants as forms
-use Rattle.hwp_form.specs.declared.form.Order.TheVariants as orders
+use Rattle.hwp_form.specs.declared.command.Command.TheVariants as commands
 use Rattle.hwp_form.specs.declared.form.Backing.TheVariants as backings
-use Rattle.hwp_form.specs.declared.form.Until.TheVariants as untils
+use Rattle.hwp_form.specs.declared.command.Until.TheVariants as untils
 use Rattle.hwp_form.specs.declared.keywords.Keyword.TheVariants as keywords
-use Rattle.hwp_form.specs.declared.keywords.OrderWord.TheVariants as words
+use Rattle.hwp_form.specs.declared.keywords.CommandWord.TheVariants as words
+use Rattle.hwp_form.proofs.CommandLaws.{value, value_is, command_at, command_found}
 use Rattle.hwp_form.proofs.Listed.{all_kinds}
 use Rattle.hwp_form.proofs.PairsLaws.{Pairs-unique}
 use Rattle.hwp_form.proofs.SentenceLaws.{text_number, sentence_from_form}
@@ -88,94 +90,32 @@ until_unique c d (untils.After i) untils.Command h k e = absurd (omega (arith, a
 until_unique c d (untils.After i) (untils.After j) h k e =
     (decimal_injective c d h k (ap (λ ws. get_or ws 0 []) e), ap untils.After (kind_text_injective i j (ap (λ ws. get_or ws 1 []) e)))
 
-abbrev turn_made : ℕ → Until → GoWord
-turn_made c u = record { cpu = c; until = u }
+abbrev turn_made : ℕ → Until → Go
+turn_made c u = record { cpu = record { 0 = c }; until = u }
 
-pub turn_unique : (word : List ℕ) (s t : GoWord) → IsTurn word s → IsTurn word t → s ≡ t
+below_cpus : (n : ℕ) → n < cpu_limit → n < 2 ^ 64
+below_cpus n h = omega arith
+
+pub turn_unique : (word : List ℕ) (s t : Go) → IsTurn word s → IsTurn word t → s ≡ t
 turn_unique word s t h k =
-    let both = until_unique s.cpu t.cpu s.until t.until h.fits k.fits (sym h.same ∙ k.same) in
-    ap (λ c. turn_made c s.until) both.0 ∙ ap (λ u. turn_made t.cpu u) both.1
+    let both = until_unique s.cpu.0 t.cpu.0 s.until t.until (below_cpus s.cpu.0 h.fits) (below_cpus t.cpu.0 k.fits) (sym h.same ∙ k.same) in
+    ap (λ c. turn_made c s.until) both.0 ∙ ap (λ u. turn_made t.cpu.0 u) both.1
 
--- the number that the i-th word writes, and the value of a register word
-value : List (List ℕ) → ℕ → ℕ
-value ws i = digits_value 10 (get_or ws i [])
-
-value_is : (ws : List (List ℕ)) (i n : ℕ) → n < 2 ^ 64 → get_or ws i [] ≡ decimal n → value ws i ≡ n
-unfolding value
-value_is ws i n h e = ap (digits_value 10) e ∙ (decimal_is_IsNumeral n h).1
-
-register_value : List ℕ → ℕ
-register_value w = digits_value 16 (drop 2 w)
-
-register_is : (w : List ℕ) (n : ℕ) → IsRegister w n → register_value w ≡ n
-unfolding register_value
-register_is w n (inl h) = ap (λ v. digits_value 16 (drop 2 v)) h.0 ∙ sym h.1
-register_is w n (inr h) = ap (λ v. digits_value 16 (drop 2 v)) h.same ∙ sym h.value
-
-abbrev args_made : ℕ → ℕ → ℕ → ℕ → ℕ → PrctlArgs
-args_made o a b c d = record { operation = o; arg2 = a; arg3 = b; arg4 = c; arg5 = d }
-
--- the command of a first word and the words behind it
-order_at : OrderWord → List (List ℕ) → Order
-order_at words.Load ws = orders.Load (value ws 0) (value ws 1) (value ws 2)
-order_at words.Fetch ws = orders.Fetch (value ws 0) (value ws 1) (value ws 2)
-order_at words.KLoad ws = orders.KLoad (value ws 0) (value ws 1) (value ws 2)
-order_at words.Store ws = orders.Store (value ws 0) (value ws 1) (value ws 2) (value ws 3)
-order_at words.Free ws = orders.Free (value ws 0)
-order_at words.Drop ws = orders.Drop (value ws 0)
-order_at words.Sync ws = orders.Sync (value ws 0)
-order_at words.Out ws = orders.Out (value ws 0)
-order_at words.Fsync ws = orders.Fsync (value ws 0)
-order_at words.Bad ws = orders.Bad (value ws 0) (value ws 1)
-order_at words.Weak ws = orders.Weak (value ws 0) (value ws 1)
-order_at words.Scrub ws = orders.Scrub (value ws 0) (value ws 1)
-order_at words.Inject ws = orders.Inject (value ws 0)
-order_at words.Soft ws = orders.Soft (value ws 0)
-order_at words.Unpoison ws = orders.Unpoison (value ws 0)
-order_at words.Prctl ws = orders.Prctl (value ws 0) (record { operation = value ws 1; arg2 = value ws 2; arg3 = value ws 3; arg4 = value ws 4; arg5 = value ws 5 })
-order_at words.Log ws = orders.Log (register_value (get_or ws 0 [])) (register_value (get_or ws 1 [])) (register_value (get_or ws 2 []))
-order_at words.Raise ws = cond (length ws == 4) (orders.RaiseUser (value ws 1) (value ws 2) (value ws 3)) (cond (length ws == 3) (orders.RaiseKernel (value ws 1) (value ws 2)) orders.RaiseNested)
-
-order_found : (ws : List (List ℕ)) (o : Order) → OrderFits o → AreOrderWords ws o → order_at (order_word o) ws ≡ o
-unfolding order_at
-order_found ws (orders.Load m n p) h e = cc (value_is ws 0 m h.0 (ap (λ us. get_or us 0 []) e), value_is ws 1 n h.1 (ap (λ us. get_or us 1 []) e), value_is ws 2 p h.2 (ap (λ us. get_or us 2 []) e))
-order_found ws (orders.Fetch m n p) h e = cc (value_is ws 0 m h.0 (ap (λ us. get_or us 0 []) e), value_is ws 1 n h.1 (ap (λ us. get_or us 1 []) e), value_is ws 2 p h.2 (ap (λ us. get_or us 2 []) e))
-order_found ws (orders.KLoad m n p) h e = cc (value_is ws 0 m h.0 (ap (λ us. get_or us 0 []) e), value_is ws 1 n h.1 (ap (λ us. get_or us 1 []) e), value_is ws 2 p h.2 (ap (λ us. get_or us 2 []) e))
-order_found ws (orders.Store m n p q) h e = cc (value_is ws 0 m h.0 (ap (λ us. get_or us 0 []) e), value_is ws 1 n h.1 (ap (λ us. get_or us 1 []) e), value_is ws 2 p h.2 (ap (λ us. get_or us 2 []) e), value_is ws 3 q h.3 (ap (λ us. get_or us 3 []) e))
-order_found ws (orders.Free m) h e = ap orders.Free (value_is ws 0 m h (ap (λ us. get_or us 0 []) e))
-order_found ws (orders.Drop m) h e = ap orders.Drop (value_is ws 0 m h (ap (λ us. get_or us 0 []) e))
-order_found ws (orders.Sync m) h e = ap orders.Sync (value_is ws 0 m h (ap (λ us. get_or us 0 []) e))
-order_found ws (orders.Out m) h e = ap orders.Out (value_is ws 0 m h (ap (λ us. get_or us 0 []) e))
-order_found ws (orders.Fsync m) h e = ap orders.Fsync (value_is ws 0 m h (ap (λ us. get_or us 0 []) e))
-order_found ws (orders.Bad m n) h e = cc (value_is ws 0 m h.0 (ap (λ us. get_or us 0 []) e), value_is ws 1 n h.1 (ap (λ us. get_or us 1 []) e))
-order_found ws (orders.Weak m n) h e = cc (value_is ws 0 m h.0 (ap (λ us. get_or us 0 []) e), value_is ws 1 n h.1 (ap (λ us. get_or us 1 []) e))
-order_found ws (orders.Scrub m n) h e = cc (value_is ws 0 m h.0 (ap (λ us. get_or us 0 []) e), value_is ws 1 n h.1 (ap (λ us. get_or us 1 []) e))
-order_found ws (orders.Inject m) h e = ap orders.Inject (value_is ws 0 m h (ap (λ us. get_or us 0 []) e))
-order_found ws (orders.Soft m) h e = ap orders.Soft (value_is ws 0 m h (ap (λ us. get_or us 0 []) e))
-order_found ws (orders.Unpoison m) h e = ap orders.Unpoison (value_is ws 0 m h (ap (λ us. get_or us 0 []) e))
-order_found ws (orders.Prctl t args) h e =
-    ap (λ x. orders.Prctl x (args_made (value ws 1) (value ws 2) (value ws 3) (value ws 4) (value ws 5))) (value_is ws 0 t h.0 (ap (λ us. get_or us 0 []) e))
-    ∙ ap (λ x. orders.Prctl t (args_made x (value ws 2) (value ws 3) (value ws 4) (value ws 5))) (value_is ws 1 args.operation h.1 (ap (λ us. get_or us 1 []) e))
-    ∙ ap (λ x. orders.Prctl t (args_made args.operation x (value ws 3) (value ws 4) (value ws 5))) (value_is ws 2 args.arg2 h.2 (ap (λ us. get_or us 2 []) e))
-    ∙ ap (λ x. orders.Prctl t (args_made args.operation args.arg2 x (value ws 4) (value ws 5))) (value_is ws 3 args.arg3 h.3 (ap (λ us. get_or us 3 []) e))
-    ∙ ap (λ x. orders.Prctl t (args_made args.operation args.arg2 args.arg3 x (value ws 5))) (value_is ws 4 args.arg4 h.4 (ap (λ us. get_or us 4 []) e))
-    ∙ ap (λ x. orders.Prctl t (args_made args.operation args.arg2 args.arg3 args.arg4 x)) (value_is ws 5 args.arg5 h.5 (ap (λ us. get_or us 5 []) e))
-order_found ws (orders.Log s a m) h e = cc (register_is (get_or ws 0 []) s e.status, register_is (get_or ws 1 []) a e.addr, register_is (get_or ws 2 []) m e.misc)
-order_found ws (orders.RaiseUser t r p) h e =
-    ap (λ k. cond (k == 4) (orders.RaiseUser (value ws 1) (value ws 2) (value ws 3)) (cond (k == 3) (orders.RaiseKernel (value ws 1) (value ws 2)) orders.RaiseNested)) (ap length e)
-    ∙ cc (value_is ws 1 t h.0 (ap (λ us. get_or us 1 []) e), value_is ws 2 r h.1 (ap (λ us. get_or us 2 []) e), value_is ws 3 p h.2 (ap (λ us. get_or us 3 []) e))
-order_found ws (orders.RaiseKernel r p) h e =
-    ap (λ k. cond (k == 4) (orders.RaiseUser (value ws 1) (value ws 2) (value ws 3)) (cond (k == 3) (orders.RaiseKernel (value ws 1) (value ws 2)) orders.RaiseNested)) (ap length e)
-    ∙ cc (value_is ws 1 r h.0 (ap (λ us. get_or us 1 []) e), value_is ws 2 p h.1 (ap (λ us. get_or us 2 []) e))
-order_found ws orders.RaiseNested h e =
-    ap (λ k. cond (k == 4) (orders.RaiseUser (value ws 1) (value ws 2) (value ws 3)) (cond (k == 3) (orders.RaiseKernel (value ws 1) (value ws 2)) orders.RaiseNested)) (ap length e)
+-- a word of a schedule whose number is too high
+pub over_turn : (pieces : List (List ℕ)) (c : ℕ) (u : Until) → c < 2 ^ 64 → pieces ≡ pieces_of c u → cpu_limit ≤ c → HaveTurnShape pieces → AreTurnOver pieces
+over_turn pieces c u h e out shape = record {
+  shaped = shape;
+  number = record { cpu = c; until = u; fits = h; same = e };
+  none = λ turn k.
+      let same = (until_unique c turn.cpu.0 u turn.until h (below_cpus turn.cpu.0 k.fits) (sym e ∙ k.same)).0 in omega (arith, same, k.fits, out);
+}
 
 -- the line of a keyword and the words behind it, where these are the words of a schedule
-form_at : List GoWord → Keyword → List (List ℕ) → Form
+form_at : List Go → Keyword → List (List ℕ) → Form
 form_at turns keywords.Hwp ws = forms.Header
 form_at turns keywords.End ws = forms.End
 form_at turns keywords.Schedule ws = forms.Schedule turns
-form_at turns (keywords.Order w) ws = forms.Order (order_at w ws)
+form_at turns (keywords.Command w) ws = forms.Command (command_at w ws)
 form_at turns keywords.Trans ws = forms.Trans (value ws 0) (value ws 1) (value ws 2)
 form_at turns keywords.Thread ws = forms.Thread (value ws 0) (value ws 1) (value ws 2) (length (get_or ws 3 []) == 7)
 form_at turns keywords.Page ws = cond (length ws == 2) (forms.Page (value ws 0) backings.Anon) (forms.Page (value ws 0) (backings.File (value ws 2) (value ws 4)))
@@ -193,17 +133,17 @@ handler_found true = refl
 handler_found false = refl
 
 -- the turns of a schedule, and none for other lines
-turns_of : Form → List GoWord
+turns_of : Form → List Go
 turns_of (forms.Schedule turns) = turns
 turns_of f = []
 
-form_found : (turns : List GoWord) (ws : List (List ℕ)) (f : Form) → (keyword f ≡ keywords.Schedule → turns ≡ turns_of f) → Fits f → AreRestWords ws f
+form_found : (turns : List Go) (ws : List (List ℕ)) (f : Form) → (keyword f ≡ keywords.Schedule → turns ≡ turns_of f) → Fits f → AreRestWords ws f
     → form_at turns (keyword f) ws ≡ f
 unfolding form_at turns_of
 form_found turns ws forms.Header one h e = refl
 form_found turns ws forms.End one h e = refl
 form_found turns ws (forms.Schedule ts) one h e = ap forms.Schedule (one refl)
-form_found turns ws (forms.Order o) one h e = ap forms.Order (order_found ws o h e)
+form_found turns ws (forms.Command o) one h e = ap forms.Command (command_found ws o h e)
 form_found turns ws (forms.Trans m n p) one h e = cc (value_is ws 0 m h.0 (ap (λ us. get_or us 0 []) e), value_is ws 1 n h.1 (ap (λ us. get_or us 1 []) e), value_is ws 2 p h.2 (ap (λ us. get_or us 2 []) e))
 form_found turns ws (forms.Thread m n p b) one h e =
     let last : (length (get_or ws 3 []) == 7) ≡ b = ap (λ us. length (get_or us 3 []) == 7) e ∙ handler_found b in
@@ -223,12 +163,12 @@ form_found turns ws (forms.File n) one h e = ap forms.File (value_is ws 0 n h (a
 form_found turns ws (forms.Proc n) one h e = ap forms.Proc (value_is ws 0 n h (ap (λ us. get_or us 0 []) e))
 form_found turns ws (forms.Cpu n) one h e = ap forms.Cpu (value_is ws 0 n h (ap (λ us. get_or us 0 []) e))
 
-turns_unique : (ws : List (List ℕ)) (turns : List GoWord) (g : Form) → Pairs IsTurn ws turns → AreRestWords ws g → keyword g ≡ keywords.Schedule
+turns_unique : (ws : List (List ℕ)) (turns : List Go) (g : Form) → Pairs IsTurn ws turns → AreRestWords ws g → keyword g ≡ keywords.Schedule
     → turns ≡ turns_of g
 unfolding turns_of
 turns_unique ws turns (forms.Schedule ts) h k e = Pairs-unique IsTurn turn_unique ws turns ts h k
 turns_unique ws turns forms.Header h k e = absurd (cc e)
-turns_unique ws turns (forms.Order o) h k e = absurd (cc e)
+turns_unique ws turns (forms.Command o) h k e = absurd (cc e)
 turns_unique ws turns (forms.Trans m n p) h k e = absurd (cc e)
 turns_unique ws turns (forms.Thread m n p b) h k e = absurd (cc e)
 turns_unique ws turns (forms.Page q b) h k e = absurd (cc e)
@@ -248,7 +188,7 @@ turns_agree : (ws : List (List ℕ)) (f g : Form) → keyword f ≡ keyword g �
 unfolding turns_of
 turns_agree ws (forms.Schedule ts) g same h k e = turns_unique ws ts g h k e
 turns_agree ws forms.Header g same h k e = absurd (cc (same ∙ e))
-turns_agree ws (forms.Order o) g same h k e = absurd (cc (same ∙ e))
+turns_agree ws (forms.Command o) g same h k e = absurd (cc (same ∙ e))
 turns_agree ws (forms.Trans m n p) g same h k e = absurd (cc (same ∙ e))
 turns_agree ws (forms.Thread m n p b) g same h k e = absurd (cc (same ∙ e))
 turns_agree ws (forms.Page q b) g same h k e = absurd (cc (same ∙ e))

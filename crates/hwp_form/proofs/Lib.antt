@@ -2,7 +2,7 @@ pub mod PairsLaws
 pub mod Searches
 pub mod Listed
 pub mod HexLaws
-pub mod OrderLaws
+pub mod CommandLaws
 pub mod TurnLaws
 pub mod SentenceLaws
 pub mod Decoding

@@ -11,7 +11,7 @@ use Rattle.hwp_form.specs.declared.form.Numbered.{Numbered}
 use Rattle.hwp_form.proofs.PairsLaws.{Pairs-push, Pairs-unique, take-now}
 use Rattle.hwp_form.specs.declared.form.LineRead.TheVariants as reads
 use Rattle.hwp_form.proofs.Decoding.{form_unique}
-use Rattle.hwp_form.proofs.Shapes.{shaped}
+use Rattle.hwp_form.proofs.Shapes.{bad_form, bad_over, whole}
 
 -- a text has at most one piece more than bytes
 pub length-pieces : (bytes : List ℕ) → length (pieces bytes) ≤ length bytes + 1
@@ -68,14 +68,21 @@ lines-all bytes ps i lines e h l =
 -- words are read as one thing
 pub read_unique : (ws : List (List ℕ)) (a b : LineRead) → IsRead ws a → IsRead ws b → a ≡ b
 read_unique ws (reads.Form f) (reads.Form g) h k = ap reads.Form (form_unique ws f g h k)
-read_unique ws (reads.Form f) reads.Unknown h k = absurd (k (shaped ws f h))
-read_unique ws (reads.Form f) reads.BadNumber h k = absurd (k.none f h)
-read_unique ws reads.Unknown (reads.Form g) h k = absurd (h (shaped ws g k))
+read_unique ws (reads.Form f) reads.Unknown h k = absurd (k (whole ws f h).shaped)
+read_unique ws (reads.Form f) reads.BadNumber h k = absurd (bad_form ws f h k)
+read_unique ws (reads.Form f) reads.OverLimit h k = absurd (k.none f h)
+read_unique ws reads.Unknown (reads.Form g) h k = absurd (h (whole ws g k).shaped)
 read_unique ws reads.Unknown reads.Unknown h k = refl
 read_unique ws reads.Unknown reads.BadNumber h k = absurd (h k.shaped)
-read_unique ws reads.BadNumber (reads.Form g) h k = absurd (h.none g k)
+read_unique ws reads.Unknown reads.OverLimit h k = absurd (h k.shaped)
+read_unique ws reads.BadNumber (reads.Form g) h k = absurd (bad_form ws g k h)
 read_unique ws reads.BadNumber reads.Unknown h k = absurd (k h.shaped)
 read_unique ws reads.BadNumber reads.BadNumber h k = refl
+read_unique ws reads.BadNumber reads.OverLimit h k = absurd (bad_over ws h k)
+read_unique ws reads.OverLimit (reads.Form g) h k = absurd (h.none g k)
+read_unique ws reads.OverLimit reads.Unknown h k = absurd (k h.shaped)
+read_unique ws reads.OverLimit reads.BadNumber h k = absurd (bad_over ws k h)
+read_unique ws reads.OverLimit reads.OverLimit h k = refl
 
 abbrev numbered_made : ℕ → LineRead → Numbered
 numbered_made n read = record { line = n; read = read }

@@ -1,14 +1,14 @@
 -- The lists of all kinds of step and of all first words, and the place of each.
 use Rattle.std.proofs.Common.{ℕ, ◌≡◌, ◌⊎◌, inl, inr, ◌<◌, List, [], ◌∷◌, get_or, refl, arith}
 use Rattle.std.proofs.Common.{◌≤◌, ap, sym, ◌∙◌}
-use Rattle.hwp_form.specs.Grammar.{keyword_text, order_text}
+use Rattle.hwp_form.specs.Grammar.{keyword_text, command_text}
 use Rattle.hwp_form.proofs.Searches.{IsNoneOf, none-at}
 use Rattle.hwp_geom.specs.declared.Kind.{Kind}
 use Rattle.hwp_geom.specs.declared.Kind.TheVariants as kinds
 use Rattle.hwp_form.specs.declared.keywords.Keyword.{Keyword}
-use Rattle.hwp_form.specs.declared.keywords.OrderWord.{OrderWord}
+use Rattle.hwp_form.specs.declared.keywords.CommandWord.{CommandWord}
 use Rattle.hwp_form.specs.declared.keywords.Keyword.TheVariants as keywords
-use Rattle.hwp_form.specs.declared.keywords.OrderWord.TheVariants as words
+use Rattle.hwp_form.specs.declared.keywords.CommandWord.TheVariants as words
 
 abbrev pub all_kinds : List Kind
 all_kinds =
@@ -57,12 +57,12 @@ kind_listed kinds.SetPolicy = (33, omega arith, refl)
 kind_listed kinds.Lose = (34, omega arith, refl)
 kind_listed kinds.ReportLost = (35, omega arith, refl)
 
-abbrev pub all_words : List OrderWord
+abbrev pub all_words : List CommandWord
 all_words =
     words.Load ∷ words.Fetch ∷ words.KLoad ∷ words.Store ∷ words.Free ∷ words.Drop ∷ words.Sync ∷ words.Out ∷ words.Fsync ∷ words.Prctl ∷
     words.Bad ∷ words.Weak ∷ words.Scrub ∷ words.Log ∷ words.Raise ∷ words.Inject ∷ words.Soft ∷ words.Unpoison ∷ []
 
-pub word_listed : (w : OrderWord) → (i : ℕ) × (i < 18) × (get_or all_words i words.Load ≡ w)
+pub word_listed : (w : CommandWord) → (i : ℕ) × (i < 18) × (get_or all_words i words.Load ≡ w)
 word_listed words.Load = (0, omega arith, refl)
 word_listed words.Fetch = (1, omega arith, refl)
 word_listed words.KLoad = (2, omega arith, refl)
@@ -88,7 +88,7 @@ all_heads =
     keywords.Thread ∷ keywords.Page ∷ keywords.Trans ∷ keywords.Cpu ∷ keywords.Schedule ∷ keywords.End ∷ []
 
 -- each first word has a place in the list, or is a command's
-pub head_listed : (k : Keyword) → ((i : ℕ) × (i < 14) × (get_or all_heads i keywords.Hwp ≡ k)) ⊎ ((w : OrderWord) × (k ≡ keywords.Order w))
+pub head_listed : (k : Keyword) → ((i : ℕ) × (i < 14) × (get_or all_heads i keywords.Hwp ≡ k)) ⊎ ((w : CommandWord) × (k ≡ keywords.Command w))
 head_listed keywords.Hwp = inl (0, omega arith, refl)
 head_listed keywords.Cpus = inl (1, omega arith, refl)
 head_listed keywords.Frames = inl (2, omega arith, refl)
@@ -103,15 +103,15 @@ head_listed keywords.Trans = inl (10, omega arith, refl)
 head_listed keywords.Cpu = inl (11, omega arith, refl)
 head_listed keywords.Schedule = inl (12, omega arith, refl)
 head_listed keywords.End = inl (13, omega arith, refl)
-head_listed (keywords.Order w) = inr (w, refl)
+head_listed (keywords.Command w) = inr (w, refl)
 
-no_head-at : (word : List ℕ) (i : ℕ) → 14 ≤ i → IsNoneOf (λ k. word ≡ keyword_text k) all_heads i → ((w : OrderWord) → word ≡ order_text w → ⊥)
-    → (k : Keyword) → word ≡ keyword_text k → ((j : ℕ) × (j < 14) × (get_or all_heads j keywords.Hwp ≡ k)) ⊎ ((w : OrderWord) × (k ≡ keywords.Order w)) → ⊥
+no_head-at : (word : List ℕ) (i : ℕ) → 14 ≤ i → IsNoneOf (λ k. word ≡ keyword_text k) all_heads i → ((w : CommandWord) → word ≡ command_text w → ⊥)
+    → (k : Keyword) → word ≡ keyword_text k → ((j : ℕ) × (j < 14) × (get_or all_heads j keywords.Hwp ≡ k)) ⊎ ((w : CommandWord) × (k ≡ keywords.Command w)) → ⊥
 no_head-at word i all heads none k e (inl listed) =
     none-at (λ k. word ≡ keyword_text k) all_heads i listed.0 keywords.Hwp (omega arith) heads (omega arith) (e ∙ ap keyword_text (sym listed.2))
 no_head-at word i all heads none k e (inr order) = none order.0 (e ∙ ap keyword_text order.1)
 
 -- a word that is neither in the list nor a command's is no first word
-pub no_head : (word : List ℕ) (i : ℕ) → 14 ≤ i → IsNoneOf (λ k. word ≡ keyword_text k) all_heads i → ((w : OrderWord) → word ≡ order_text w → ⊥)
+pub no_head : (word : List ℕ) (i : ℕ) → 14 ≤ i → IsNoneOf (λ k. word ≡ keyword_text k) all_heads i → ((w : CommandWord) → word ≡ command_text w → ⊥)
     → (k : Keyword) → word ≡ keyword_text k → ⊥
 no_head word i all heads none k e = no_head-at word i all heads none k e (head_listed k)

@@ -1,5 +1,5 @@
--- The words of a line are printable, and its shape fits them.
-use Rattle.std.proofs.Common.{ℕ, ◌≡◌, ◌<◌, ◌≤◌, ◌^◌, nat_lt, ◌&&◌, ◌++◌, Bool, true, false, inl, inr, List, [], ◌∷◌, length, get_or, decimal, codes, refl, sym, ap, ◌∙◌, arith}
+-- The words of a line are printable, its shape fits them, and their numbers stand in place.
+use Rattle.std.proofs.Common.{ℕ, ◌≡◌, ◌<◌, ◌≤◌, ◌^◌, nat_lt, ◌&&◌, ◌++◌, Bool, true, false, inl, inr, List, [], ◌∷◌, length, get_or, take, drop, decimal, codes, refl, sym, ap, subst, ◌∙◌, arith}
 use Rattle.std.specs.Prelude.{All}
 use Rattle.std.specs.Char.{digit_value}
 use Rattle.std.specs.List.{join_with_byte}
@@ -7,25 +7,30 @@ use Rattle.std.specs.Str.Parse.{AllDigits}
 use Rattle.std.proofs.lemmas.Bool.{and_parts}
 use Rattle.std.proofs.lemmas.Bool.Decides.{nat_tests}
 use Rattle.std.proofs.lemmas.Fmt.{decimal_is_IsNumeral}
-use Rattle.std.proofs.lemmas.List.Elements.{All-nil, All-cons, All-append, All-from_recursion, All-same}
+use Rattle.std.proofs.lemmas.List.Elements.{All-nil, All-cons, All-append, All-from_recursion, All-same, All-weaker}
 use Rattle.std.proofs.lemmas.List.Splits.{join_with_byte-slice_split}
+use Rattle.hwp_geom.specs.Limits.{line_limit, frame_limit, file_limit, thread_limit, page_limit, translation_limit}
 use Rattle.hwp_geom.specs.Pairs.{Pairs}
 use Rattle.hwp_geom.specs.declared.Kind.{Kind}
 use Rattle.hwp_geom.specs.declared.Kind.TheVariants as kinds
 use Rattle.hwp_form.specs.Kinds.{kind_text}
-use Rattle.hwp_form.specs.Numbers.{IsRegister}
-use Rattle.hwp_form.specs.Grammar.{keyword, keyword_text, order_word, order_text, order_words, rest_words, handler_text, Fits, OrderFits, AreRestWords, AreOrderWords, AreRegisters, IsTurn, HasTurnShape, HaveTurnShape, pieces_of, turn_pieces, IsForm, IsShaped, IsPrintable, HasShape, HasOrderShape}
+use Rattle.hwp_form.specs.Numbers.{IsNumberWord, IsRegister, IsRegisterWord}
+use Rattle.hwp_form.specs.Grammar.{bit, keyword, keyword_text, command_word, command_text, rest_words, handler_text, Fits, CommandFits, AreRestWords, AreCommandWords, AreRegisters, IsTurn, IsTurnWord, HasTurnShape, HaveTurnShape, pieces_of, turn_pieces, IsForm, IsShaped, IsBadNumber, IsOverLimit, IsPrintable, HasShape, HasCommandShape, HasRaiseShape, HaveNumbers, HaveCommandNumbers}
 use Rattle.hwp_form.specs.declared.form.Form.{Form}
-use Rattle.hwp_form.specs.declared.form.Order.{Order}
-use Rattle.hwp_form.specs.declared.form.GoWord.{GoWord}
-use Rattle.hwp_form.specs.declared.form.Until.{Until}
+use Rattle.hwp_form.specs.declared.command.Command.{Command}
+use Rattle.hwp_form.specs.declared.command.Go.{Go}
+use Rattle.hwp_form.specs.declared.command.Until.{Until}
 use Rattle.hwp_form.specs.declared.keywords.Keyword.{Keyword}
+use Rattle.hwp_form.specs.declared.keywords.CommandWord.{CommandWord}
 use Rattle.hwp_form.specs.declared.form.Form.TheVariants as forms
-use Rattle.hwp_form.specs.declared.form.Order.TheVariants as orders
+use Rattle.hwp_form.specs.declared.command.Command.TheVariants as commands
 use Rattle.hwp_form.specs.declared.form.Backing.TheVariants as backings
-use Rattle.hwp_form.specs.declared.form.Until.TheVariants as untils
+use Rattle.hwp_form.specs.declared.command.Until.TheVariants as untils
 use Rattle.hwp_form.specs.declared.keywords.Keyword.TheVariants as keywords
-use Rattle.hwp_form.specs.declared.keywords.OrderWord.TheVariants as words
+use Rattle.hwp_form.specs.declared.keywords.CommandWord.TheVariants as words
+use Rattle.hwp_form.proofs.CommandLaws.{bit_low, low, one, two, three, four, six}
+use Rattle.hwp_form.proofs.SentenceLaws.{first_words}
+use Rattle.hwp_form.proofs.TurnLaws.{turn_word}
 
 -- a hex digit is printable
 digit_printable : (b : ℕ) → digit_value b < 16 → IsPrintable b
@@ -67,24 +72,24 @@ printable-keyword keywords.Trans = plain (keyword_text keywords.Trans) refl
 printable-keyword keywords.Cpu = plain (keyword_text keywords.Cpu) refl
 printable-keyword keywords.Schedule = plain (keyword_text keywords.Schedule) refl
 printable-keyword keywords.End = plain (keyword_text keywords.End) refl
-printable-keyword (keywords.Order words.Load) = plain (order_text words.Load) refl
-printable-keyword (keywords.Order words.Fetch) = plain (order_text words.Fetch) refl
-printable-keyword (keywords.Order words.KLoad) = plain (order_text words.KLoad) refl
-printable-keyword (keywords.Order words.Store) = plain (order_text words.Store) refl
-printable-keyword (keywords.Order words.Free) = plain (order_text words.Free) refl
-printable-keyword (keywords.Order words.Drop) = plain (order_text words.Drop) refl
-printable-keyword (keywords.Order words.Sync) = plain (order_text words.Sync) refl
-printable-keyword (keywords.Order words.Out) = plain (order_text words.Out) refl
-printable-keyword (keywords.Order words.Fsync) = plain (order_text words.Fsync) refl
-printable-keyword (keywords.Order words.Prctl) = plain (order_text words.Prctl) refl
-printable-keyword (keywords.Order words.Bad) = plain (order_text words.Bad) refl
-printable-keyword (keywords.Order words.Weak) = plain (order_text words.Weak) refl
-printable-keyword (keywords.Order words.Scrub) = plain (order_text words.Scrub) refl
-printable-keyword (keywords.Order words.Log) = plain (order_text words.Log) refl
-printable-keyword (keywords.Order words.Raise) = plain (order_text words.Raise) refl
-printable-keyword (keywords.Order words.Inject) = plain (order_text words.Inject) refl
-printable-keyword (keywords.Order words.Soft) = plain (order_text words.Soft) refl
-printable-keyword (keywords.Order words.Unpoison) = plain (order_text words.Unpoison) refl
+printable-keyword (keywords.Command words.Load) = plain (command_text words.Load) refl
+printable-keyword (keywords.Command words.Fetch) = plain (command_text words.Fetch) refl
+printable-keyword (keywords.Command words.KLoad) = plain (command_text words.KLoad) refl
+printable-keyword (keywords.Command words.Store) = plain (command_text words.Store) refl
+printable-keyword (keywords.Command words.Free) = plain (command_text words.Free) refl
+printable-keyword (keywords.Command words.Drop) = plain (command_text words.Drop) refl
+printable-keyword (keywords.Command words.Sync) = plain (command_text words.Sync) refl
+printable-keyword (keywords.Command words.Out) = plain (command_text words.Out) refl
+printable-keyword (keywords.Command words.Fsync) = plain (command_text words.Fsync) refl
+printable-keyword (keywords.Command words.Prctl) = plain (command_text words.Prctl) refl
+printable-keyword (keywords.Command words.Bad) = plain (command_text words.Bad) refl
+printable-keyword (keywords.Command words.Weak) = plain (command_text words.Weak) refl
+printable-keyword (keywords.Command words.Scrub) = plain (command_text words.Scrub) refl
+printable-keyword (keywords.Command words.Log) = plain (command_text words.Log) refl
+printable-keyword (keywords.Command words.Raise) = plain (command_text words.Raise) refl
+printable-keyword (keywords.Command words.Inject) = plain (command_text words.Inject) refl
+printable-keyword (keywords.Command words.Soft) = plain (command_text words.Soft) refl
+printable-keyword (keywords.Command words.Unpoison) = plain (command_text words.Unpoison) refl
 
 printable-kind : (k : Kind) → All IsPrintable (kind_text k)
 printable-kind kinds.LoadPte = plain (kind_text kinds.LoadPte) refl
@@ -139,31 +144,31 @@ printable-turn_at c untils.Command h = All-append IsPrintable (decimal c) (codes
 printable-turn_at c (untils.After k) h =
     All-append IsPrintable (decimal c) (64 ∷ kind_text k) (printable-decimal c h) (All-cons IsPrintable 64 (kind_text k) (omega arith, omega arith) (printable-kind k))
 
-printable-turn : (w : List ℕ) (t : GoWord) → IsTurn w t → All IsPrintable w
-printable-turn w t h =
-    All-same IsPrintable w (join_with_byte 64 (pieces_of t.cpu t.until)) (sym (join_with_byte-slice_split 64 w) ∙ ap (join_with_byte 64) h.same) (printable-turn_at t.cpu t.until h.fits)
+printable-turn : (w : List ℕ) → IsTurnWord w → All IsPrintable w
+printable-turn w h =
+    All-same IsPrintable w (join_with_byte 64 (pieces_of h.cpu h.until)) (sym (join_with_byte-slice_split 64 w) ∙ ap (join_with_byte 64) h.same) (printable-turn_at h.cpu h.until h.fits)
 
 shape-turn_at : (pieces : List (List ℕ)) (c : ℕ) (u : Until) → pieces ≡ pieces_of c u → HaveTurnShape pieces
 shape-turn_at pieces c untils.One e = inl (ap length e)
 shape-turn_at pieces c untils.Command e = inl (ap length e)
 shape-turn_at pieces c (untils.After k) e = inr (ap length e, (k, ap (λ us. get_or us 1 []) e))
 
-printable-turns : (ws : List (List ℕ)) (ts : List GoWord) → Pairs IsTurn ws ts → All (All IsPrintable) ws × All HasTurnShape ws
-printable-turns [] ts h = (All-nil (All IsPrintable), All-nil HasTurnShape)
-printable-turns (w ∷ ws) [] h = absurd h
-printable-turns (w ∷ ws) (t ∷ ts) h =
-    let rest = printable-turns ws ts h.1 in
-    (All-cons (All IsPrintable) w ws (printable-turn w t h.0) rest.0, All-cons HasTurnShape w ws (shape-turn_at (turn_pieces w) t.cpu t.until h.0.same) rest.1)
+shape-turn : (w : List ℕ) → IsTurnWord w → HasTurnShape w
+shape-turn w h = shape-turn_at (turn_pieces w) h.cpu h.until h.same
 
-printable-registers : (ws : List (List ℕ)) (s a m : ℕ) → AreRegisters ws s a m → All (All IsPrintable) ws
-printable-registers [] s a m h = absurd (omega (arith, h.three))
-printable-registers (u ∷ []) s a m h = absurd (omega (arith, h.three))
-printable-registers (u ∷ v ∷ []) s a m h = absurd (omega (arith, h.three))
-printable-registers (u ∷ v ∷ w ∷ []) s a m h =
-    All-from_recursion (All IsPrintable) (u ∷ v ∷ w ∷ []) (printable-register u s h.status, (printable-register v a h.addr, (printable-register w m h.misc, tt)))
-printable-registers (u ∷ v ∷ w ∷ x ∷ ws) s a m h = absurd (omega (arith, h.three))
+turn_words : (ws : List (List ℕ)) (ts : List Go) → Pairs IsTurn ws ts → All IsTurnWord ws
+turn_words [] ts h = All-nil IsTurnWord
+turn_words (w ∷ ws) [] h = absurd h
+turn_words (w ∷ ws) (t ∷ ts) h = All-cons IsTurnWord w ws (turn_word w t h.0) (turn_words ws ts h.1)
 
-turns-some : (ws : List (List ℕ)) (ts : List GoWord) → Pairs IsTurn ws ts → 0 < length ts → 0 < length ws
+registers : (ws : List (List ℕ)) (s a m : ℕ) → AreRegisters ws s a m → All IsRegisterWord ws
+registers [] s a m h = absurd (omega (arith, h.three))
+registers (u ∷ []) s a m h = absurd (omega (arith, h.three))
+registers (u ∷ v ∷ []) s a m h = absurd (omega (arith, h.three))
+registers (u ∷ v ∷ w ∷ []) s a m h = All-from_recursion IsRegisterWord (u ∷ v ∷ w ∷ []) ((s, h.status), ((a, h.addr), ((m, h.misc), tt)))
+registers (u ∷ v ∷ w ∷ x ∷ ws) s a m h = absurd (omega (arith, h.three))
+
+turns-some : (ws : List (List ℕ)) (ts : List Go) → Pairs IsTurn ws ts → 0 < length ts → 0 < length ws
 turns-some [] [] h l = absurd (omega arith)
 turns-some [] (t ∷ ts) h l = absurd h
 turns-some (w ∷ ws) ts h l = omega arith
@@ -172,87 +177,148 @@ turns-some (w ∷ ws) ts h l = omega arith
 same_printable : (ws us : List (List ℕ)) → ws ≡ us → All (All IsPrintable) us → All (All IsPrintable) ws
 same_printable ws us e h = All-same (All IsPrintable) ws us e h
 
-order_printable : (ws : List (List ℕ)) (o : Order) → OrderFits o → AreOrderWords ws o → All (All IsPrintable) ws × HasOrderShape (order_word o) ws
-order_printable ws (orders.Load m n p) h e =
-    (same_printable ws (order_words (orders.Load m n p)) e (All-from_recursion (All IsPrintable) (order_words (orders.Load m n p)) (printable-decimal m h.0, (printable-decimal n h.1, (printable-decimal p h.2, tt)))), ap length e)
-order_printable ws (orders.Fetch m n p) h e =
-    (same_printable ws (order_words (orders.Fetch m n p)) e (All-from_recursion (All IsPrintable) (order_words (orders.Fetch m n p)) (printable-decimal m h.0, (printable-decimal n h.1, (printable-decimal p h.2, tt)))), ap length e)
-order_printable ws (orders.KLoad m n p) h e =
-    (same_printable ws (order_words (orders.KLoad m n p)) e (All-from_recursion (All IsPrintable) (order_words (orders.KLoad m n p)) (printable-decimal m h.0, (printable-decimal n h.1, (printable-decimal p h.2, tt)))), ap length e)
-order_printable ws (orders.Store m n p q) h e =
-    (same_printable ws (order_words (orders.Store m n p q)) e (All-from_recursion (All IsPrintable) (order_words (orders.Store m n p q)) (printable-decimal m h.0, (printable-decimal n h.1, (printable-decimal p h.2, (printable-decimal q h.3, tt))))), ap length e)
-order_printable ws (orders.Free m) h e =
-    (same_printable ws (order_words (orders.Free m)) e (All-from_recursion (All IsPrintable) (order_words (orders.Free m)) (printable-decimal m h, tt)), ap length e)
-order_printable ws (orders.Drop m) h e =
-    (same_printable ws (order_words (orders.Drop m)) e (All-from_recursion (All IsPrintable) (order_words (orders.Drop m)) (printable-decimal m h, tt)), ap length e)
-order_printable ws (orders.Sync m) h e =
-    (same_printable ws (order_words (orders.Sync m)) e (All-from_recursion (All IsPrintable) (order_words (orders.Sync m)) (printable-decimal m h, tt)), ap length e)
-order_printable ws (orders.Out m) h e =
-    (same_printable ws (order_words (orders.Out m)) e (All-from_recursion (All IsPrintable) (order_words (orders.Out m)) (printable-decimal m h, tt)), ap length e)
-order_printable ws (orders.Fsync m) h e =
-    (same_printable ws (order_words (orders.Fsync m)) e (All-from_recursion (All IsPrintable) (order_words (orders.Fsync m)) (printable-decimal m h, tt)), ap length e)
-order_printable ws (orders.Bad m n) h e =
-    (same_printable ws (order_words (orders.Bad m n)) e (All-from_recursion (All IsPrintable) (order_words (orders.Bad m n)) (printable-decimal m h.0, (printable-decimal n h.1, tt))), ap length e)
-order_printable ws (orders.Weak m n) h e =
-    (same_printable ws (order_words (orders.Weak m n)) e (All-from_recursion (All IsPrintable) (order_words (orders.Weak m n)) (printable-decimal m h.0, (printable-decimal n h.1, tt))), ap length e)
-order_printable ws (orders.Scrub m n) h e =
-    (same_printable ws (order_words (orders.Scrub m n)) e (All-from_recursion (All IsPrintable) (order_words (orders.Scrub m n)) (printable-decimal m h.0, (printable-decimal n h.1, tt))), ap length e)
-order_printable ws (orders.Inject m) h e =
-    (same_printable ws (order_words (orders.Inject m)) e (All-from_recursion (All IsPrintable) (order_words (orders.Inject m)) (printable-decimal m h, tt)), ap length e)
-order_printable ws (orders.Soft m) h e =
-    (same_printable ws (order_words (orders.Soft m)) e (All-from_recursion (All IsPrintable) (order_words (orders.Soft m)) (printable-decimal m h, tt)), ap length e)
-order_printable ws (orders.Unpoison m) h e =
-    (same_printable ws (order_words (orders.Unpoison m)) e (All-from_recursion (All IsPrintable) (order_words (orders.Unpoison m)) (printable-decimal m h, tt)), ap length e)
-order_printable ws (orders.Prctl t args) h e =
-    (same_printable ws (order_words (orders.Prctl t args)) e (All-from_recursion (All IsPrintable) (order_words (orders.Prctl t args)) (printable-decimal t h.0, (printable-decimal args.operation h.1, (printable-decimal args.arg2 h.2, (printable-decimal args.arg3 h.3, (printable-decimal args.arg4 h.4, (printable-decimal args.arg5 h.5, tt))))))), ap length e)
-order_printable ws (orders.Log s a m) h e = (printable-registers ws s a m e, e.three)
-order_printable ws (orders.RaiseUser t r p) h e =
-    (same_printable ws (order_words (orders.RaiseUser t r p)) e (All-from_recursion (All IsPrintable) (order_words (orders.RaiseUser t r p)) (plain (codes "user") refl, (printable-decimal t h.0, (printable-decimal r h.1, (printable-decimal p h.2, tt))))), inl (ap length e, ap (λ us. get_or us 0 []) e))
-order_printable ws (orders.RaiseKernel r p) h e =
-    (same_printable ws (order_words (orders.RaiseKernel r p)) e (All-from_recursion (All IsPrintable) (order_words (orders.RaiseKernel r p)) (plain (codes "kernel") refl, (printable-decimal r h.0, (printable-decimal p h.1, tt)))), inr (inl (ap length e, ap (λ us. get_or us 0 []) e)))
-order_printable ws orders.RaiseNested h e =
-    (same_printable ws (order_words orders.RaiseNested) e (All-from_recursion (All IsPrintable) (order_words orders.RaiseNested) (plain (codes "nested") refl, tt)), inr (inr e))
+numbers_printable : (ws : List (List ℕ)) → All IsNumberWord ws → All (All IsPrintable) ws
+numbers_printable ws h = All-weaker IsNumberWord (All IsPrintable) (λ w n. All-same IsPrintable w (decimal n.0) n.1.digits (printable-decimal n.0 n.1.fits)) ws h
 
-form_printable : (ws : List (List ℕ)) (f : Form) → Fits f → AreRestWords ws f → All (All IsPrintable) ws × HasShape (keyword f) ws
-form_printable ws forms.Header h e =
-    (same_printable ws (rest_words forms.Header) e (All-from_recursion (All IsPrintable) (rest_words forms.Header) (plain (codes "1") refl, tt)), e)
-form_printable ws forms.End h e =
-    (same_printable ws (rest_words forms.End) e (All-from_recursion (All IsPrintable) (rest_words forms.End) tt), ap length e)
-form_printable ws (forms.Cpus n) h e =
-    (same_printable ws (rest_words (forms.Cpus n)) e (All-from_recursion (All IsPrintable) (rest_words (forms.Cpus n)) (printable-decimal n h, tt)), ap length e)
-form_printable ws (forms.Frames n) h e =
-    (same_printable ws (rest_words (forms.Frames n)) e (All-from_recursion (All IsPrintable) (rest_words (forms.Frames n)) (printable-decimal n h, tt)), ap length e)
-form_printable ws (forms.Kernel n) h e =
-    (same_printable ws (rest_words (forms.Kernel n)) e (All-from_recursion (All IsPrintable) (rest_words (forms.Kernel n)) (printable-decimal n h, tt)), ap length e)
-form_printable ws (forms.Recovery n) h e =
-    (same_printable ws (rest_words (forms.Recovery n)) e (All-from_recursion (All IsPrintable) (rest_words (forms.Recovery n)) (printable-decimal n h, tt)), ap length e)
-form_printable ws (forms.Early n) h e =
-    (same_printable ws (rest_words (forms.Early n)) e (All-from_recursion (All IsPrintable) (rest_words (forms.Early n)) (printable-decimal n h, tt)), ap length e)
-form_printable ws (forms.File n) h e =
-    (same_printable ws (rest_words (forms.File n)) e (All-from_recursion (All IsPrintable) (rest_words (forms.File n)) (printable-decimal n h, tt)), ap length e)
-form_printable ws (forms.Proc n) h e =
-    (same_printable ws (rest_words (forms.Proc n)) e (All-from_recursion (All IsPrintable) (rest_words (forms.Proc n)) (printable-decimal n h, tt)), ap length e)
-form_printable ws (forms.Cpu n) h e =
-    (same_printable ws (rest_words (forms.Cpu n)) e (All-from_recursion (All IsPrintable) (rest_words (forms.Cpu n)) (printable-decimal n h, tt)), ap length e)
-form_printable ws (forms.Thread m n p b) h e =
-    (same_printable ws (rest_words (forms.Thread m n p b)) e (All-from_recursion (All IsPrintable) (rest_words (forms.Thread m n p b)) (printable-decimal m h.0, (printable-decimal n h.1, (printable-decimal p h.2, (printable-handler b, tt))))), (ap length e, (b, ap (λ us. get_or us 3 []) e)))
-form_printable ws (forms.Trans m n p) h e =
-    (same_printable ws (rest_words (forms.Trans m n p)) e (All-from_recursion (All IsPrintable) (rest_words (forms.Trans m n p)) (printable-decimal m h.0, (printable-decimal n h.1, (printable-decimal p h.2, tt)))), ap length e)
-form_printable ws (forms.Page q backings.Anon) h e =
-    (same_printable ws (rest_words (forms.Page q backings.Anon)) e (All-from_recursion (All IsPrintable) (rest_words (forms.Page q backings.Anon)) (printable-decimal q h, (plain (codes "anon") refl, tt))), inl (ap length e, ap (λ us. get_or us 1 []) e))
-form_printable ws (forms.Page q (backings.File n x)) h e =
-    (same_printable ws (rest_words (forms.Page q (backings.File n x))) e (All-from_recursion (All IsPrintable) (rest_words (forms.Page q (backings.File n x))) (printable-decimal q h.0, (plain (codes "file") refl, (printable-decimal n h.1, (plain (codes "fill") refl, (printable-decimal x h.2, tt)))))), inr (ap length e, ap (λ us. get_or us 1 []) e, ap (λ us. get_or us 3 []) e))
-form_printable ws (forms.Order o) h e = order_printable ws o h e
-form_printable ws (forms.Schedule ts) h e =
-    let all = printable-turns ws ts e in (all.0, (turns-some ws ts e h, all.1))
+raise_first : (u : List ℕ) (us : List (List ℕ)) → HasRaiseShape (u ∷ us) → All IsPrintable u
+raise_first u us (inl h) = All-same IsPrintable u (codes "user") h.1 (plain (codes "user") refl)
+raise_first u us (inr (inl h)) = All-same IsPrintable u (codes "kernel") h.1 (plain (codes "kernel") refl)
+raise_first u us (inr (inr h)) = All-same IsPrintable u (codes "nested") (ap (λ vs. get_or vs 0 []) h) (plain (codes "nested") refl)
 
--- the words of a line are printable, and its shape fits them
-pub shaped : (ws : List (List ℕ)) (f : Form) → IsForm ws f → IsShaped ws
-shaped ws f h =
-    let rest = form_printable h.rest f h.is.fits h.is.same in record {
-      printable = All-same (All IsPrintable) ws (keyword_text (keyword f) ∷ h.rest) h.same (All-cons (All IsPrintable) (keyword_text (keyword f)) h.rest (printable-keyword (keyword f)) rest.0);
-      first = keyword f;
-      rest = h.rest;
-      same = h.same;
-      shape = rest.1;
+raise_printable : (ws : List (List ℕ)) → All IsNumberWord (drop 1 ws) → HasRaiseShape ws → All (All IsPrintable) ws
+raise_printable [] h shape = All-nil (All IsPrintable)
+raise_printable (u ∷ us) h shape = All-cons (All IsPrintable) u us (raise_first u us shape) (numbers_printable us h)
+
+command_printable : (w : CommandWord) (ws : List (List ℕ)) → HaveCommandNumbers w ws → HasCommandShape w ws → All (All IsPrintable) ws
+command_printable words.Log ws h shape = All-weaker IsRegisterWord (All IsPrintable) (λ w n. printable-register w n.0 n.1) ws h
+command_printable words.Raise ws h shape = raise_printable ws h shape
+command_printable words.Load ws h shape = numbers_printable ws h
+command_printable words.Fetch ws h shape = numbers_printable ws h
+command_printable words.KLoad ws h shape = numbers_printable ws h
+command_printable words.Store ws h shape = numbers_printable ws h
+command_printable words.Free ws h shape = numbers_printable ws h
+command_printable words.Drop ws h shape = numbers_printable ws h
+command_printable words.Sync ws h shape = numbers_printable ws h
+command_printable words.Out ws h shape = numbers_printable ws h
+command_printable words.Fsync ws h shape = numbers_printable ws h
+command_printable words.Prctl ws h shape = numbers_printable ws h
+command_printable words.Bad ws h shape = numbers_printable ws h
+command_printable words.Weak ws h shape = numbers_printable ws h
+command_printable words.Scrub ws h shape = numbers_printable ws h
+command_printable words.Inject ws h shape = numbers_printable ws h
+command_printable words.Soft ws h shape = numbers_printable ws h
+command_printable words.Unpoison ws h shape = numbers_printable ws h
+
+-- the words of a command have its shape, and their numbers stand in place
+command_shaped : (ws : List (List ℕ)) (c : Command) → CommandFits c → AreCommandWords ws c → HaveCommandNumbers (command_word c) ws × HasCommandShape (command_word c) ws
+command_shaped ws (commands.Load t v l) h e =
+    (three ws t.0 v.0 l (low t.0 thread_limit h.0 (omega arith), low v.0 translation_limit h.1 (omega arith), low l line_limit h.2 (omega arith), e), ap length e)
+command_shaped ws (commands.Fetch t v l) h e =
+    (three ws t.0 v.0 l (low t.0 thread_limit h.0 (omega arith), low v.0 translation_limit h.1 (omega arith), low l line_limit h.2 (omega arith), e), ap length e)
+command_shaped ws (commands.KLoad t v l) h e =
+    (three ws t.0 v.0 l (low t.0 thread_limit h.0 (omega arith), low v.0 translation_limit h.1 (omega arith), low l line_limit h.2 (omega arith), e), ap length e)
+command_shaped ws (commands.Store t v l x) h e =
+    (four ws t.0 v.0 l x (low t.0 thread_limit h.0.0 (omega arith), low v.0 translation_limit h.0.1 (omega arith), low l line_limit h.0.2 (omega arith), h.1, e), ap length e)
+command_shaped ws (commands.Free v) h e = (one ws v.0 (low v.0 translation_limit h (omega arith), e), ap length e)
+command_shaped ws (commands.Drop q) h e = (one ws q.0 (low q.0 page_limit h (omega arith), e), ap length e)
+command_shaped ws (commands.Sync q) h e = (one ws q.0 (low q.0 page_limit h (omega arith), e), ap length e)
+command_shaped ws (commands.Out q) h e = (one ws q.0 (low q.0 page_limit h (omega arith), e), ap length e)
+command_shaped ws (commands.Fsync n) h e = (one ws n.0 (low n.0 file_limit h (omega arith), e), ap length e)
+command_shaped ws (commands.Inject f) h e = (one ws f.0 (low f.0 frame_limit h (omega arith), e), ap length e)
+command_shaped ws (commands.Soft f) h e = (one ws f.0 (low f.0 frame_limit h (omega arith), e), ap length e)
+command_shaped ws (commands.Unpoison f) h e = (one ws f.0 (low f.0 frame_limit h (omega arith), e), ap length e)
+command_shaped ws (commands.Bad f l) h e = (two ws f.0 l (low f.0 frame_limit h.0 (omega arith), low l line_limit h.1 (omega arith), e), ap length e)
+command_shaped ws (commands.Weak f l) h e = (two ws f.0 l (low f.0 frame_limit h.0 (omega arith), low l line_limit h.1 (omega arith), e), ap length e)
+command_shaped ws (commands.Scrub a b) h e =
+    (two ws a.0 b.0 (low a.0 frame_limit (omega (arith, h.0, h.1)) (omega arith), low b.0 frame_limit h.1 (omega arith), e), ap length e)
+command_shaped ws (commands.Prctl t args) h e =
+    (six ws t.0 args.operation args.arg2 args.arg3 args.arg4 args.arg5 (low t.0 thread_limit h.0 (omega arith), h.1, h.2, h.3, h.4, h.5, e), ap length e)
+command_shaped ws (commands.Log s a m) h e = (registers ws s a m e, e.three)
+command_shaped ws (commands.RaiseUser t r p) h e =
+    (three (drop 1 ws) t.0 (bit r) (bit p) (low t.0 thread_limit h (omega arith), bit_low r, bit_low p, ap (drop 1) e), inl (ap length e, ap (λ us. get_or us 0 []) e))
+command_shaped ws (commands.RaiseKernel r p) h e =
+    (two (drop 1 ws) (bit r) (bit p) (bit_low r, bit_low p, ap (drop 1) e), inr (inl (ap length e, ap (λ us. get_or us 0 []) e)))
+command_shaped ws commands.RaiseNested h e = (All-same IsNumberWord (drop 1 ws) [] (ap (drop 1) e) (All-nil IsNumberWord), inr (inr e))
+
+-- the words of a line behind its first
+record AreRest (k : Keyword) (ws : List (List ℕ)) : Type 0 where
+  printable : All (All IsPrintable) ws
+  shape : HasShape k ws
+  numbers : HaveNumbers k ws
+
+number_at : (ws : List (List ℕ)) (i n : ℕ) → n < 2 ^ 64 → get_or ws i [] ≡ decimal n → IsNumberWord (get_or ws i [])
+number_at ws i n h e = (n, record { fits = h; digits = e })
+
+form_rest : (ws : List (List ℕ)) (f : Form) → Fits f → AreRestWords ws f → AreRest (keyword f) ws
+form_rest ws forms.Header h e = record {
+  printable = same_printable ws (rest_words forms.Header) e (All-from_recursion (All IsPrintable) (rest_words forms.Header) (plain (codes "1") refl, tt));
+  shape = e;
+  numbers = tt;
+}
+form_rest ws forms.End h e =
+    record { printable = same_printable ws (rest_words forms.End) e (All-nil (All IsPrintable)); shape = ap length e; numbers = tt }
+form_rest ws (forms.Cpus n) h e = let all = one ws n (h, e) in record { printable = numbers_printable ws all; shape = ap length e; numbers = all }
+form_rest ws (forms.Frames n) h e = let all = one ws n (h, e) in record { printable = numbers_printable ws all; shape = ap length e; numbers = all }
+form_rest ws (forms.Kernel n) h e = let all = one ws n (h, e) in record { printable = numbers_printable ws all; shape = ap length e; numbers = all }
+form_rest ws (forms.Recovery n) h e = let all = one ws n (h, e) in record { printable = numbers_printable ws all; shape = ap length e; numbers = all }
+form_rest ws (forms.Early n) h e = let all = one ws n (h, e) in record { printable = numbers_printable ws all; shape = ap length e; numbers = all }
+form_rest ws (forms.File n) h e = let all = one ws n (h, e) in record { printable = numbers_printable ws all; shape = ap length e; numbers = all }
+form_rest ws (forms.Proc n) h e = let all = one ws n (h, e) in record { printable = numbers_printable ws all; shape = ap length e; numbers = all }
+form_rest ws (forms.Cpu n) h e = let all = one ws n (h, e) in record { printable = numbers_printable ws all; shape = ap length e; numbers = all }
+form_rest ws (forms.Trans m n p) h e =
+    let all = three ws m n p (h.0, h.1, h.2, e) in record { printable = numbers_printable ws all; shape = ap length e; numbers = all }
+form_rest ws (forms.Thread m n p b) h e = record {
+  printable = same_printable ws (rest_words (forms.Thread m n p b)) e (All-from_recursion (All IsPrintable) (rest_words (forms.Thread m n p b)) (printable-decimal m h.0, (printable-decimal n h.1, (printable-decimal p h.2, (printable-handler b, tt)))));
+  shape = (ap length e, (b, ap (λ us. get_or us 3 []) e));
+  numbers = three (take 3 ws) m n p (h.0, h.1, h.2, ap (take 3) e);
+}
+form_rest ws (forms.Page q backings.Anon) h e =
+    let two : length ws ≡ 2 = ap length e in record {
+      printable = same_printable ws (rest_words (forms.Page q backings.Anon)) e (All-from_recursion (All IsPrintable) (rest_words (forms.Page q backings.Anon)) (printable-decimal q h, (plain (codes "anon") refl, tt)));
+      shape = inl (two, ap (λ us. get_or us 1 []) e);
+      numbers = (number_at ws 0 q h (ap (λ us. get_or us 0 []) e), λ five. absurd (omega (arith, two, five)));
     }
+form_rest ws (forms.Page q (backings.File n x)) h e = record {
+  printable = same_printable ws (rest_words (forms.Page q (backings.File n x))) e (All-from_recursion (All IsPrintable) (rest_words (forms.Page q (backings.File n x)))
+      (printable-decimal q h.0, (plain (codes "file") refl, (printable-decimal n h.1, (plain (codes "fill") refl, (printable-decimal x h.2, tt))))));
+  shape = inr (ap length e, ap (λ us. get_or us 1 []) e, ap (λ us. get_or us 3 []) e);
+  numbers = (number_at ws 0 q h.0 (ap (λ us. get_or us 0 []) e), λ five. (number_at ws 2 n h.1 (ap (λ us. get_or us 2 []) e), number_at ws 4 x h.2 (ap (λ us. get_or us 4 []) e)));
+}
+form_rest ws (forms.Command c) h e =
+    let both = command_shaped ws c h e in record { printable = command_printable (command_word c) ws both.0 both.1; shape = both.1; numbers = both.0 }
+form_rest ws (forms.Schedule ts) h e =
+    let all = turn_words ws ts e in record {
+      printable = All-weaker IsTurnWord (All IsPrintable) printable-turn ws all;
+      shape = (turns-some ws ts e h, All-weaker IsTurnWord HasTurnShape shape-turn ws all);
+      numbers = all;
+    }
+
+-- the words of a line have its shape, and their numbers stand in place
+pub record IsWhole (ws : List (List ℕ)) : Type 0 where
+  pub shaped : IsShaped ws
+  pub numbers : HaveNumbers shaped.first shaped.rest
+
+pub whole : (ws : List (List ℕ)) (f : Form) → IsForm ws f → IsWhole ws
+whole ws f h =
+    let rest = form_rest h.rest f h.is.fits h.is.same in record {
+      shaped = record {
+        printable = All-same (All IsPrintable) ws (keyword_text (keyword f) ∷ h.rest) h.same (All-cons (All IsPrintable) (keyword_text (keyword f)) h.rest (printable-keyword (keyword f)) rest.printable);
+        first = keyword f;
+        rest = h.rest;
+        same = h.same;
+        shape = rest.shape;
+      };
+      numbers = rest.numbers;
+    }
+
+-- the numbers of words of one shape stand in place as those of another
+numbers_of : (ws : List (List ℕ)) (h k : IsShaped ws) → HaveNumbers h.first h.rest → HaveNumbers k.first k.rest
+numbers_of ws h k numbers =
+    let both = first_words k.first h.first ws k.rest h.rest k.same h.same in
+    subst (λ us. HaveNumbers k.first us) both.1 (subst (λ j. HaveNumbers j h.rest) both.0 numbers)
+
+pub bad_form : (ws : List (List ℕ)) (f : Form) → IsForm ws f → IsBadNumber ws → ⊥
+bad_form ws f h k = let w = whole ws f h in k.none (numbers_of ws w.shaped k.shaped w.numbers)
+
+pub bad_over : (ws : List (List ℕ)) → IsBadNumber ws → IsOverLimit ws → ⊥
+bad_over ws h k = h.none (numbers_of ws k.shaped h.shaped k.numbers)

@@ -1,43 +1,46 @@
 -- The grammar of a line: the words of each form, and which lines are no form.
-use Rattle.std.specs.Prelude.{◌≡◌, ℕ, Bool, true, false, ◌^◌, ◌<◌, ◌≤◌, ◌==◌, ◌++◌, ◌⊎◌, List, [], ◌∷◌, length, get_or, map, codes, decimal, All}
+use Rattle.std.specs.Prelude.{◌≡◌, ℕ, Bool, true, false, ◌^◌, ◌<◌, ◌≤◌, ◌==◌, ◌++◌, ◌⊎◌, List, [], ◌∷◌, length, get_or, take, drop, map, codes, decimal, All}
 use Rattle.std.specs.List.{slice_split}
 use Rattle.hwp_geom.specs.declared.Kind.{Kind}
+use Rattle.hwp_geom.specs.declared.Thread.{Thread}
+use Rattle.hwp_geom.specs.declared.VSlot.{VSlot}
 use Rattle.hwp_geom.specs.Pairs.{Pairs}
-use Rattle.hwp_form.specs.Numbers.{IsRegister, register}
+use Rattle.hwp_geom.specs.Limits.{line_limit, cpu_limit, frame_limit, file_limit, thread_limit, page_limit, translation_limit}
+use Rattle.hwp_form.specs.Numbers.{IsNumberWord, IsRegister, IsRegisterWord, register}
 use Rattle.hwp_form.specs.Kinds.{kind_text}
 use Rattle.hwp_form.specs.declared.form.Form.{Form}
-use Rattle.hwp_form.specs.declared.form.Order.{Order}
-use Rattle.hwp_form.specs.declared.form.GoWord.{GoWord}
-use Rattle.hwp_form.specs.declared.form.Until.{Until}
+use Rattle.hwp_form.specs.declared.command.Command.{Command}
+use Rattle.hwp_form.specs.declared.command.Go.{Go}
+use Rattle.hwp_form.specs.declared.command.Until.{Until}
 use Rattle.hwp_form.specs.declared.keywords.Keyword.{Keyword}
-use Rattle.hwp_form.specs.declared.keywords.OrderWord.{OrderWord}
+use Rattle.hwp_form.specs.declared.keywords.CommandWord.{CommandWord}
 use Rattle.hwp_form.specs.declared.form.Form.TheVariants as forms
-use Rattle.hwp_form.specs.declared.form.Order.TheVariants as orders
+use Rattle.hwp_form.specs.declared.command.Command.TheVariants as commands
 use Rattle.hwp_form.specs.declared.form.Backing.TheVariants as backings
-use Rattle.hwp_form.specs.declared.form.Until.TheVariants as untils
+use Rattle.hwp_form.specs.declared.command.Until.TheVariants as untils
 use Rattle.hwp_form.specs.declared.keywords.Keyword.TheVariants as keywords
-use Rattle.hwp_form.specs.declared.keywords.OrderWord.TheVariants as words
+use Rattle.hwp_form.specs.declared.keywords.CommandWord.TheVariants as words
 
 -- the first word of a command
-abbrev pub order_text : OrderWord → List ℕ
-order_text words.Load = codes "load"
-order_text words.Fetch = codes "fetch"
-order_text words.KLoad = codes "kload"
-order_text words.Store = codes "store"
-order_text words.Free = codes "free"
-order_text words.Drop = codes "drop"
-order_text words.Sync = codes "sync"
-order_text words.Out = codes "out"
-order_text words.Fsync = codes "fsync"
-order_text words.Prctl = codes "prctl"
-order_text words.Bad = codes "bad"
-order_text words.Weak = codes "weak"
-order_text words.Scrub = codes "scrub"
-order_text words.Log = codes "log"
-order_text words.Raise = codes "raise"
-order_text words.Inject = codes "inject"
-order_text words.Soft = codes "soft"
-order_text words.Unpoison = codes "unpoison"
+abbrev pub command_text : CommandWord → List ℕ
+command_text words.Load = codes "load"
+command_text words.Fetch = codes "fetch"
+command_text words.KLoad = codes "kload"
+command_text words.Store = codes "store"
+command_text words.Free = codes "free"
+command_text words.Drop = codes "drop"
+command_text words.Sync = codes "sync"
+command_text words.Out = codes "out"
+command_text words.Fsync = codes "fsync"
+command_text words.Prctl = codes "prctl"
+command_text words.Bad = codes "bad"
+command_text words.Weak = codes "weak"
+command_text words.Scrub = codes "scrub"
+command_text words.Log = codes "log"
+command_text words.Raise = codes "raise"
+command_text words.Inject = codes "inject"
+command_text words.Soft = codes "soft"
+command_text words.Unpoison = codes "unpoison"
 
 -- the first word of a line
 abbrev pub keyword_text : Keyword → List ℕ
@@ -55,30 +58,30 @@ keyword_text keywords.Trans = codes "trans"
 keyword_text keywords.Cpu = codes "cpu"
 keyword_text keywords.Schedule = codes "schedule"
 keyword_text keywords.End = codes "end"
-keyword_text (keywords.Order w) = order_text w
+keyword_text (keywords.Command w) = command_text w
 
 -- which first word a command has
-abbrev pub order_word : Order → OrderWord
-order_word (orders.Load t v l) = words.Load
-order_word (orders.Fetch t v l) = words.Fetch
-order_word (orders.KLoad t v l) = words.KLoad
-order_word (orders.Store t v l x) = words.Store
-order_word (orders.Free v) = words.Free
-order_word (orders.Drop q) = words.Drop
-order_word (orders.Sync q) = words.Sync
-order_word (orders.Out q) = words.Out
-order_word (orders.Fsync n) = words.Fsync
-order_word (orders.Prctl t args) = words.Prctl
-order_word (orders.Bad f l) = words.Bad
-order_word (orders.Weak f l) = words.Weak
-order_word (orders.Scrub a b) = words.Scrub
-order_word (orders.Log s a m) = words.Log
-order_word (orders.RaiseUser t r e) = words.Raise
-order_word (orders.RaiseKernel r e) = words.Raise
-order_word orders.RaiseNested = words.Raise
-order_word (orders.Inject f) = words.Inject
-order_word (orders.Soft f) = words.Soft
-order_word (orders.Unpoison f) = words.Unpoison
+abbrev pub command_word : Command → CommandWord
+command_word (commands.Load t v l) = words.Load
+command_word (commands.Fetch t v l) = words.Fetch
+command_word (commands.KLoad t v l) = words.KLoad
+command_word (commands.Store t v l x) = words.Store
+command_word (commands.Free v) = words.Free
+command_word (commands.Drop q) = words.Drop
+command_word (commands.Sync q) = words.Sync
+command_word (commands.Out q) = words.Out
+command_word (commands.Fsync n) = words.Fsync
+command_word (commands.Prctl t args) = words.Prctl
+command_word (commands.Bad f l) = words.Bad
+command_word (commands.Weak f l) = words.Weak
+command_word (commands.Scrub a b) = words.Scrub
+command_word (commands.Log s a m) = words.Log
+command_word (commands.RaiseUser t r e) = words.Raise
+command_word (commands.RaiseKernel r e) = words.Raise
+command_word commands.RaiseNested = words.Raise
+command_word (commands.Inject f) = words.Inject
+command_word (commands.Soft f) = words.Soft
+command_word (commands.Unpoison f) = words.Unpoison
 
 -- which first word a line has
 abbrev pub keyword : Form → Keyword
@@ -94,7 +97,7 @@ keyword (forms.Thread t p c h) = keywords.Thread
 keyword (forms.Page q b) = keywords.Page
 keyword (forms.Trans v p q) = keywords.Trans
 keyword (forms.Cpu c) = keywords.Cpu
-keyword (forms.Order o) = keywords.Order (order_word o)
+keyword (forms.Command o) = keywords.Command (command_word o)
 keyword (forms.Schedule turns) = keywords.Schedule
 keyword forms.End = keywords.End
 
@@ -105,8 +108,8 @@ until_text untils.Command = codes "."
 until_text (untils.After kind) = codes "@" ++ kind_text kind
 
 -- a word of a schedule, as it is printed
-abbrev pub turn_text : GoWord → List ℕ
-turn_text turn = decimal turn.cpu ++ until_text turn.until
+abbrev pub turn_text : Go → List ℕ
+turn_text turn = decimal turn.cpu.0 ++ until_text turn.until
 
 -- a word of a schedule, cut at each `@`
 abbrev pub turn_pieces : List ℕ → List (List ℕ)
@@ -119,13 +122,24 @@ pieces_of cpu untils.Command = (decimal cpu ++ codes ".") ∷ []
 pieces_of cpu (untils.After kind) = decimal cpu ∷ kind_text kind ∷ []
 
 -- the pieces are those of a word of a schedule
-pub record AreTurnPieces (pieces : List (List ℕ)) (turn : GoWord) : Type 0 where
-  pub fits : turn.cpu < 2 ^ 64
-  pub same : pieces ≡ pieces_of turn.cpu turn.until
+pub record AreTurnPieces (pieces : List (List ℕ)) (turn : Go) : Type 0 where
+  pub fits : turn.cpu.0 < cpu_limit
+  pub same : pieces ≡ pieces_of turn.cpu.0 turn.until
 
 -- a word is this word of a schedule
-abbrev pub IsTurn : List ℕ → GoWord → Type 0
+abbrev pub IsTurn : List ℕ → Go → Type 0
 IsTurn word turn = AreTurnPieces (turn_pieces word) turn
+
+-- the pieces are those of a word of a schedule, if its number may be that of a processor
+pub record HaveTurnNumber (pieces : List (List ℕ)) : Type 0 where
+  pub cpu : ℕ
+  pub until : Until
+  pub fits : cpu < 2 ^ 64
+  pub same : pieces ≡ pieces_of cpu until
+
+-- a word is one of a schedule, if its number may be that of a processor
+abbrev pub IsTurnWord : List ℕ → Type 0
+IsTurnWord word = HaveTurnNumber (turn_pieces word)
 
 -- the pieces are one, or two of which the second names a kind of step
 abbrev pub HaveTurnShape : List (List ℕ) → Type 0
@@ -135,33 +149,55 @@ HaveTurnShape pieces = (length pieces ≡ 1) ⊎ ((length pieces ≡ 2) × ((kin
 abbrev pub HasTurnShape : List ℕ → Type 0
 HasTurnShape word = HaveTurnShape (turn_pieces word)
 
+-- a truth value as a number
+abbrev pub bit : Bool → ℕ
+bit true = 1
+bit false = 0
+
 -- the words of a command behind its first, as they are printed
-abbrev pub order_words : Order → List (List ℕ)
-order_words (orders.Load t v l) = decimal t ∷ decimal v ∷ decimal l ∷ []
-order_words (orders.Fetch t v l) = decimal t ∷ decimal v ∷ decimal l ∷ []
-order_words (orders.KLoad t v l) = decimal t ∷ decimal v ∷ decimal l ∷ []
-order_words (orders.Store t v l x) = decimal t ∷ decimal v ∷ decimal l ∷ decimal x ∷ []
-order_words (orders.Free v) = decimal v ∷ []
-order_words (orders.Drop q) = decimal q ∷ []
-order_words (orders.Sync q) = decimal q ∷ []
-order_words (orders.Out q) = decimal q ∷ []
-order_words (orders.Fsync n) = decimal n ∷ []
-order_words (orders.Prctl t args) = decimal t ∷ decimal args.operation ∷ decimal args.arg2 ∷ decimal args.arg3 ∷ decimal args.arg4 ∷ decimal args.arg5 ∷ []
-order_words (orders.Bad f l) = decimal f ∷ decimal l ∷ []
-order_words (orders.Weak f l) = decimal f ∷ decimal l ∷ []
-order_words (orders.Scrub a b) = decimal a ∷ decimal b ∷ []
-order_words (orders.Log s a m) = register s ∷ register a ∷ register m ∷ []
-order_words (orders.RaiseUser t r e) = codes "user" ∷ decimal t ∷ decimal r ∷ decimal e ∷ []
-order_words (orders.RaiseKernel r e) = codes "kernel" ∷ decimal r ∷ decimal e ∷ []
-order_words orders.RaiseNested = codes "nested" ∷ []
-order_words (orders.Inject f) = decimal f ∷ []
-order_words (orders.Soft f) = decimal f ∷ []
-order_words (orders.Unpoison f) = decimal f ∷ []
+abbrev pub command_words : Command → List (List ℕ)
+command_words (commands.Load t v l) = decimal t.0 ∷ decimal v.0 ∷ decimal l ∷ []
+command_words (commands.Fetch t v l) = decimal t.0 ∷ decimal v.0 ∷ decimal l ∷ []
+command_words (commands.KLoad t v l) = decimal t.0 ∷ decimal v.0 ∷ decimal l ∷ []
+command_words (commands.Store t v l x) = decimal t.0 ∷ decimal v.0 ∷ decimal l ∷ decimal x ∷ []
+command_words (commands.Free v) = decimal v.0 ∷ []
+command_words (commands.Drop q) = decimal q.0 ∷ []
+command_words (commands.Sync q) = decimal q.0 ∷ []
+command_words (commands.Out q) = decimal q.0 ∷ []
+command_words (commands.Fsync n) = decimal n.0 ∷ []
+command_words (commands.Prctl t args) = decimal t.0 ∷ decimal args.operation ∷ decimal args.arg2 ∷ decimal args.arg3 ∷ decimal args.arg4 ∷ decimal args.arg5 ∷ []
+command_words (commands.Bad f l) = decimal f.0 ∷ decimal l ∷ []
+command_words (commands.Weak f l) = decimal f.0 ∷ decimal l ∷ []
+command_words (commands.Scrub a b) = decimal a.0 ∷ decimal b.0 ∷ []
+command_words (commands.Log s a m) = register s ∷ register a ∷ register m ∷ []
+command_words (commands.RaiseUser t r e) = codes "user" ∷ decimal t.0 ∷ decimal (bit r) ∷ decimal (bit e) ∷ []
+command_words (commands.RaiseKernel r e) = codes "kernel" ∷ decimal (bit r) ∷ decimal (bit e) ∷ []
+command_words commands.RaiseNested = codes "nested" ∷ []
+command_words (commands.Inject f) = decimal f.0 ∷ []
+command_words (commands.Soft f) = decimal f.0 ∷ []
+command_words (commands.Unpoison f) = decimal f.0 ∷ []
 
 -- whether a thread has a handler, as its last word says it
 abbrev pub handler_text : Bool → List ℕ
 handler_text true = codes "handler"
 handler_text false = codes "nohandler"
+
+-- the pieces are those of a word of a schedule but for its number, which is too high for a processor
+pub record AreTurnOver (pieces : List (List ℕ)) : Type 0 where
+  pub shaped : HaveTurnShape pieces
+  pub number : HaveTurnNumber pieces
+  pub none : (turn : Go) → AreTurnPieces pieces turn → ⊥
+
+-- a word names a processor that there can't be
+abbrev pub IsTurnOver : List ℕ → Type 0
+IsTurnOver word = AreTurnOver (turn_pieces word)
+
+-- each word is one of a schedule, but for the number of one, which is too high for a processor
+pub record IsScheduleOver (ws : List (List ℕ)) : Type 0 where
+  pub some : 0 < length ws
+  pub shaped : All HasTurnShape ws
+  pub numbers : All IsTurnWord ws
+  pub none : (turns : List Go) → Pairs IsTurn ws turns → ⊥
 
 -- the words of a line behind its first, as they are printed
 abbrev pub rest_words : Form → List (List ℕ)
@@ -178,7 +214,7 @@ rest_words (forms.Page q backings.Anon) = decimal q ∷ codes "anon" ∷ []
 rest_words (forms.Page q (backings.File n x)) = decimal q ∷ codes "file" ∷ decimal n ∷ codes "fill" ∷ decimal x ∷ []
 rest_words (forms.Trans v p q) = decimal v ∷ decimal p ∷ decimal q ∷ []
 rest_words (forms.Cpu c) = decimal c ∷ []
-rest_words (forms.Order o) = order_words o
+rest_words (forms.Command o) = command_words o
 rest_words (forms.Schedule turns) = map turn_text turns
 rest_words forms.End = []
 
@@ -186,30 +222,34 @@ rest_words forms.End = []
 abbrev pub form_words : Form → List (List ℕ)
 form_words f = keyword_text (keyword f) ∷ rest_words f
 
--- the numbers of a command are below 2 ^ 64
-abbrev pub OrderFits : Order → Type 0
-OrderFits (orders.Load t v l) = (t < 2 ^ 64) × (v < 2 ^ 64) × (l < 2 ^ 64)
-OrderFits (orders.Fetch t v l) = (t < 2 ^ 64) × (v < 2 ^ 64) × (l < 2 ^ 64)
-OrderFits (orders.KLoad t v l) = (t < 2 ^ 64) × (v < 2 ^ 64) × (l < 2 ^ 64)
-OrderFits (orders.Store t v l x) = (t < 2 ^ 64) × (v < 2 ^ 64) × (l < 2 ^ 64) × (x < 2 ^ 64)
-OrderFits (orders.Free v) = v < 2 ^ 64
-OrderFits (orders.Drop q) = q < 2 ^ 64
-OrderFits (orders.Sync q) = q < 2 ^ 64
-OrderFits (orders.Out q) = q < 2 ^ 64
-OrderFits (orders.Fsync n) = n < 2 ^ 64
-OrderFits (orders.Prctl t args) = (t < 2 ^ 64) × (args.operation < 2 ^ 64) × (args.arg2 < 2 ^ 64) × (args.arg3 < 2 ^ 64) × (args.arg4 < 2 ^ 64) × (args.arg5 < 2 ^ 64)
-OrderFits (orders.Bad f l) = (f < 2 ^ 64) × (l < 2 ^ 64)
-OrderFits (orders.Weak f l) = (f < 2 ^ 64) × (l < 2 ^ 64)
-OrderFits (orders.Scrub a b) = (a < 2 ^ 64) × (b < 2 ^ 64)
-OrderFits (orders.Log s a m) = (s < 2 ^ 64) × (a < 2 ^ 64) × (m < 2 ^ 64)
-OrderFits (orders.RaiseUser t r e) = (t < 2 ^ 64) × (r < 2 ^ 64) × (e < 2 ^ 64)
-OrderFits (orders.RaiseKernel r e) = (r < 2 ^ 64) × (e < 2 ^ 64)
-OrderFits orders.RaiseNested = Unit {0}
-OrderFits (orders.Inject f) = f < 2 ^ 64
-OrderFits (orders.Soft f) = f < 2 ^ 64
-OrderFits (orders.Unpoison f) = f < 2 ^ 64
+-- an access names a thread, a translation and a line that there may be
+abbrev pub IsAccessWithin : Thread → VSlot → ℕ → Type 0
+IsAccessWithin t v l = (t.0 < thread_limit) × (v.0 < translation_limit) × (l < line_limit)
 
--- the numbers of a line are below 2 ^ 64, and a schedule has a word
+-- each number of a command is within its range
+abbrev pub CommandFits : Command → Type 0
+CommandFits (commands.Load t v l) = IsAccessWithin t v l
+CommandFits (commands.Fetch t v l) = IsAccessWithin t v l
+CommandFits (commands.KLoad t v l) = IsAccessWithin t v l
+CommandFits (commands.Store t v l x) = IsAccessWithin t v l × (x < 2 ^ 64)
+CommandFits (commands.Free v) = v.0 < translation_limit
+CommandFits (commands.Drop q) = q.0 < page_limit
+CommandFits (commands.Sync q) = q.0 < page_limit
+CommandFits (commands.Out q) = q.0 < page_limit
+CommandFits (commands.Fsync n) = n.0 < file_limit
+CommandFits (commands.Prctl t args) = (t.0 < thread_limit) × (args.operation < 2 ^ 64) × (args.arg2 < 2 ^ 64) × (args.arg3 < 2 ^ 64) × (args.arg4 < 2 ^ 64) × (args.arg5 < 2 ^ 64)
+CommandFits (commands.Bad f l) = (f.0 < frame_limit) × (l < line_limit)
+CommandFits (commands.Weak f l) = (f.0 < frame_limit) × (l < line_limit)
+CommandFits (commands.Scrub a b) = (a.0 ≤ b.0) × (b.0 < frame_limit)
+CommandFits (commands.Log s a m) = (s < 2 ^ 64) × (a < 2 ^ 64) × (m < 2 ^ 64)
+CommandFits (commands.RaiseUser t r e) = t.0 < thread_limit
+CommandFits (commands.RaiseKernel r e) = Unit {0}
+CommandFits commands.RaiseNested = Unit {0}
+CommandFits (commands.Inject f) = f.0 < frame_limit
+CommandFits (commands.Soft f) = f.0 < frame_limit
+CommandFits (commands.Unpoison f) = f.0 < frame_limit
+
+-- the numbers of a declaration are below 2 ^ 64, those of a command are within their ranges, and a schedule has a word
 abbrev pub Fits : Form → Type 0
 Fits forms.Header = Unit {0}
 Fits (forms.Cpus n) = n < 2 ^ 64
@@ -224,7 +264,7 @@ Fits (forms.Page q backings.Anon) = q < 2 ^ 64
 Fits (forms.Page q (backings.File n x)) = (q < 2 ^ 64) × (n < 2 ^ 64) × (x < 2 ^ 64)
 Fits (forms.Trans v p q) = (v < 2 ^ 64) × (p < 2 ^ 64) × (q < 2 ^ 64)
 Fits (forms.Cpu c) = c < 2 ^ 64
-Fits (forms.Order o) = OrderFits o
+Fits (forms.Command c) = CommandFits c
 Fits (forms.Schedule turns) = 0 < length turns
 Fits forms.End = Unit {0}
 
@@ -237,19 +277,19 @@ pub record AreRegisters (ws : List (List ℕ)) (s a m : ℕ) : Type 0 where
 
 -- the words behind the first word of a command are those of the command; its register words may have upper-case digits
 -- and leading zeros
-abbrev pub AreOrderWords : List (List ℕ) → Order → Type 0
-AreOrderWords ws (orders.Log s a m) = AreRegisters ws s a m
-AreOrderWords ws o = ws ≡ order_words o
+abbrev pub AreCommandWords : List (List ℕ) → Command → Type 0
+AreCommandWords ws (commands.Log s a m) = AreRegisters ws s a m
+AreCommandWords ws o = ws ≡ command_words o
 
 -- a word and those behind it are a command
-pub record IsOrder (word : OrderWord) (ws : List (List ℕ)) (o : Order) : Type 0 where
-  pub kind : order_word o ≡ word
-  pub fits : OrderFits o
-  pub same : AreOrderWords ws o
+pub record IsCommand (word : CommandWord) (ws : List (List ℕ)) (o : Command) : Type 0 where
+  pub kind : command_word o ≡ word
+  pub fits : CommandFits o
+  pub same : AreCommandWords ws o
 
 -- the words behind the first are those of the line; a schedule has at least one
 abbrev pub AreRestWords : List (List ℕ) → Form → Type 0
-AreRestWords ws (forms.Order o) = AreOrderWords ws o
+AreRestWords ws (forms.Command o) = AreCommandWords ws o
 AreRestWords ws (forms.Schedule turns) = Pairs IsTurn ws turns
 AreRestWords ws f = ws ≡ rest_words f
 
@@ -266,7 +306,7 @@ pub record IsForm (ws : List (List ℕ)) (f : Form) : Type 0 where
   pub is : IsSentence (keyword f) rest f
 
 -- the first word of a machine check
-abbrev pub raise_word : OrderWord
+abbrev pub raise_word : CommandWord
 raise_word = words.Raise
 
 -- a raise is of a thread, of the kernel, or nested
@@ -274,25 +314,25 @@ abbrev pub HasRaiseShape : List (List ℕ) → Type 0
 HasRaiseShape ws = ((length ws ≡ 4) × (get_or ws 0 [] ≡ codes "user")) ⊎ ((length ws ≡ 3) × (get_or ws 0 [] ≡ codes "kernel")) ⊎ (ws ≡ codes "nested" ∷ [])
 
 -- the words behind the first word of a command are as many as they must be, and its fixed words are in place
-abbrev pub HasOrderShape : OrderWord → List (List ℕ) → Type 0
-HasOrderShape words.Load ws = length ws ≡ 3
-HasOrderShape words.Fetch ws = length ws ≡ 3
-HasOrderShape words.KLoad ws = length ws ≡ 3
-HasOrderShape words.Store ws = length ws ≡ 4
-HasOrderShape words.Free ws = length ws ≡ 1
-HasOrderShape words.Drop ws = length ws ≡ 1
-HasOrderShape words.Sync ws = length ws ≡ 1
-HasOrderShape words.Out ws = length ws ≡ 1
-HasOrderShape words.Fsync ws = length ws ≡ 1
-HasOrderShape words.Prctl ws = length ws ≡ 6
-HasOrderShape words.Bad ws = length ws ≡ 2
-HasOrderShape words.Weak ws = length ws ≡ 2
-HasOrderShape words.Scrub ws = length ws ≡ 2
-HasOrderShape words.Log ws = length ws ≡ 3
-HasOrderShape words.Raise ws = HasRaiseShape ws
-HasOrderShape words.Inject ws = length ws ≡ 1
-HasOrderShape words.Soft ws = length ws ≡ 1
-HasOrderShape words.Unpoison ws = length ws ≡ 1
+abbrev pub HasCommandShape : CommandWord → List (List ℕ) → Type 0
+HasCommandShape words.Load ws = length ws ≡ 3
+HasCommandShape words.Fetch ws = length ws ≡ 3
+HasCommandShape words.KLoad ws = length ws ≡ 3
+HasCommandShape words.Store ws = length ws ≡ 4
+HasCommandShape words.Free ws = length ws ≡ 1
+HasCommandShape words.Drop ws = length ws ≡ 1
+HasCommandShape words.Sync ws = length ws ≡ 1
+HasCommandShape words.Out ws = length ws ≡ 1
+HasCommandShape words.Fsync ws = length ws ≡ 1
+HasCommandShape words.Prctl ws = length ws ≡ 6
+HasCommandShape words.Bad ws = length ws ≡ 2
+HasCommandShape words.Weak ws = length ws ≡ 2
+HasCommandShape words.Scrub ws = length ws ≡ 2
+HasCommandShape words.Log ws = length ws ≡ 3
+HasCommandShape words.Raise ws = HasRaiseShape ws
+HasCommandShape words.Inject ws = length ws ≡ 1
+HasCommandShape words.Soft ws = length ws ≡ 1
+HasCommandShape words.Unpoison ws = length ws ≡ 1
 
 -- the words behind a keyword are as many as they must be, and the fixed words are in place
 abbrev pub HasShape : Keyword → List (List ℕ) → Type 0
@@ -308,9 +348,39 @@ HasShape keywords.Thread ws = (length ws ≡ 4) × ((handler : Bool) × (get_or 
 HasShape keywords.Page ws = ((length ws ≡ 2) × (get_or ws 1 [] ≡ codes "anon")) ⊎ ((length ws ≡ 5) × (get_or ws 1 [] ≡ codes "file") × (get_or ws 3 [] ≡ codes "fill"))
 HasShape keywords.Trans ws = length ws ≡ 3
 HasShape keywords.Cpu ws = length ws ≡ 1
-HasShape (keywords.Order w) ws = HasOrderShape w ws
+HasShape (keywords.Command w) ws = HasCommandShape w ws
 HasShape keywords.Schedule ws = (0 < length ws) × All HasTurnShape ws
 HasShape keywords.End ws = length ws ≡ 0
+
+-- in the places of numbers and of register words of a command stand such
+abbrev pub HaveCommandNumbers : CommandWord → List (List ℕ) → Type 0
+HaveCommandNumbers words.Log ws = All IsRegisterWord ws
+HaveCommandNumbers words.Raise ws = All IsNumberWord (drop 1 ws)
+HaveCommandNumbers w ws = All IsNumberWord ws
+
+-- the words are as many as they must be, and their numbers stand in place, and yet they are no command: a number is
+-- outside its range
+pub record IsCommandOver (word : CommandWord) (ws : List (List ℕ)) : Type 0 where
+  pub shaped : HasCommandShape word ws
+  pub numbers : HaveCommandNumbers word ws
+  pub none : (c : Command) → IsCommand word ws c → ⊥
+
+-- in the places of numbers, register words and schedule words of a line stand such
+abbrev pub HaveNumbers : Keyword → List (List ℕ) → Type 0
+HaveNumbers keywords.Hwp ws = Unit {0}
+HaveNumbers keywords.Thread ws = All IsNumberWord (take 3 ws)
+HaveNumbers keywords.Page ws = IsNumberWord (get_or ws 0 []) × (length ws ≡ 5 → IsNumberWord (get_or ws 2 []) × IsNumberWord (get_or ws 4 []))
+HaveNumbers (keywords.Command w) ws = HaveCommandNumbers w ws
+HaveNumbers keywords.Schedule ws = All IsTurnWord ws
+HaveNumbers keywords.End ws = Unit {0}
+HaveNumbers k ws = All IsNumberWord ws
+
+-- a keyword's shape fits the words, and their numbers stand in place, and yet they are no line: a number is outside its
+-- range
+pub record IsSentenceOver (k : Keyword) (ws : List (List ℕ)) : Type 0 where
+  pub shaped : HasShape k ws
+  pub numbers : HaveNumbers k ws
+  pub none : (f : Form) → IsSentence k ws f → ⊥
 
 -- the first word of a schedule, of a thread, and of a page
 abbrev pub schedule_keyword : Keyword
@@ -338,8 +408,13 @@ pub record IsShaped (ws : List (List ℕ)) : Type 0 where
 abbrev pub IsUnknown : List (List ℕ) → Type 0
 IsUnknown ws = IsShaped ws → ⊥
 
--- a shape fits the words, and yet they are no line: in the place of a number, a register word or a schedule word stands
--- what is none
+-- a shape fits the words, and in the place of a number, a register word or a schedule word stands what is none
 pub record IsBadNumber (ws : List (List ℕ)) : Type 0 where
   pub shaped : IsShaped ws
+  pub none : HaveNumbers shaped.first shaped.rest → ⊥
+
+-- all numbers stand in their places, and yet the words are no line: a number is outside its range
+pub record IsOverLimit (ws : List (List ℕ)) : Type 0 where
+  pub shaped : IsShaped ws
+  pub numbers : HaveNumbers shaped.first shaped.rest
   pub none : (f : Form) → IsForm ws f → ⊥

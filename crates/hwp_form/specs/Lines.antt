@@ -3,7 +3,7 @@ use Rattle.std.specs.Prelude.{◌≡◌, ℕ, Bool, false, not, if◌then◌else
 use Rattle.std.specs.List.{filter}
 use Rattle.hwp_geom.specs.Words.{pieces, cut}
 use Rattle.hwp_geom.specs.Pairs.{Pairs}
-use Rattle.hwp_form.specs.Grammar.{IsForm, IsUnknown, IsBadNumber}
+use Rattle.hwp_form.specs.Grammar.{IsForm, IsUnknown, IsBadNumber, IsOverLimit}
 use Rattle.hwp_form.specs.declared.form.LineRead.{LineRead}
 use Rattle.hwp_form.specs.declared.form.Numbered.{Numbered}
 use Rattle.hwp_form.specs.declared.form.LineRead.TheVariants as reads
@@ -35,6 +35,7 @@ abbrev pub IsRead : List (List ℕ) → LineRead → Type 0
 IsRead ws (reads.Form f) = IsForm ws f
 IsRead ws reads.Unknown = IsUnknown ws
 IsRead ws reads.BadNumber = IsBadNumber ws
+IsRead ws reads.OverLimit = IsOverLimit ws
 
 -- a line has this number and is read as this
 pub record IsNumbered (line : ℕ × List (List ℕ)) (numbered : Numbered) : Type 0 where

@@ -8,6 +8,10 @@ pub record IsNumber (word : List ℕ) (n : ℕ) : Type 0 where
   pub fits : n < 2 ^ 64
   pub digits : word ≡ decimal n
 
+-- a word is a number
+abbrev pub IsNumberWord : List ℕ → Type 0
+IsNumberWord word = (n : ℕ) × IsNumber word n
+
 -- a word is `0x` and 1 to 16 hex digits of either case, which write the number
 pub record IsHex (word : List ℕ) (n : ℕ) : Type 0 where
   pub digits : List ℕ
@@ -19,6 +23,10 @@ pub record IsHex (word : List ℕ) (n : ℕ) : Type 0 where
 -- a word is a register word: `0`, or hex digits behind `0x`
 abbrev pub IsRegister : List ℕ → ℕ → Type 0
 IsRegister word n = ((word ≡ codes "0") × (n ≡ 0)) ⊎ IsHex word n
+
+-- a word is a register word
+abbrev pub IsRegisterWord : List ℕ → Type 0
+IsRegisterWord word = (n : ℕ) × IsRegister word n
 
 -- the register word that is printed: lower-case digits without leading zeros
 abbrev pub register : ℕ → List ℕ

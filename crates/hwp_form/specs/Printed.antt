@@ -5,7 +5,7 @@ use Rattle.hwp_geom.specs.Words.{line}
 use Rattle.hwp_form.specs.Grammar.{form_words, turn_text}
 use Rattle.hwp_form.specs.declared.form.Form.{Form}
 use Rattle.hwp_form.specs.declared.form.Backing.{Backing}
-use Rattle.hwp_form.specs.declared.form.GoWord.{GoWord}
+use Rattle.hwp_form.specs.declared.command.Go.{Go}
 use Rattle.hwp_form.specs.declared.form.Form.TheVariants as forms
 
 -- the words of a thread
@@ -17,7 +17,7 @@ abbrev pub page_words : ℕ → Backing → List (List ℕ)
 page_words q backing = form_words (forms.Page q backing)
 
 -- the words of a line of the schedule
-abbrev pub schedule_words : List GoWord → List (List ℕ)
+abbrev pub schedule_words : List Go → List (List ℕ)
 schedule_words turns = form_words (forms.Schedule turns)
 
 -- the text of lines

@@ -1,4 +1,5 @@
-use hwp_geom::{Kind, List};
+use crate::command::{Command, Go};
+use hwp_geom::List;
 
 /// What stands behind a page, with its numbers as they are written.
 #[derive(Clone, Copy, Debug, PartialEq, Eq)]
@@ -9,136 +10,8 @@ pub enum Backing {
     File { file: u64, fill: u64 },
 }
 
-/// The five numbers of a `prctl` command, named as in prctl(2): the operation and its four arguments.
-#[derive(Clone, Copy, Debug, PartialEq, Eq)]
-pub struct PrctlArgs {
-    pub operation: u64,
-    pub arg2: u64,
-    pub arg3: u64,
-    pub arg4: u64,
-    pub arg5: u64,
-}
-
-/// A line of a processor's list, with its numbers as they are written.
-#[derive(Clone, Copy, Debug, PartialEq, Eq)]
-pub enum Order {
-    /// `load T V L`: a thread loads the word of a line, through a translation.
-    Load {
-        thread: u64,
-        slot: u64,
-        line: u64,
-    },
-    /// `fetch T V L`: as `load`, for an instruction.
-    Fetch {
-        thread: u64,
-        slot: u64,
-        line: u64,
-    },
-    /// `kload T V L`: as `load`, in kernel mode.
-    KLoad {
-        thread: u64,
-        slot: u64,
-        line: u64,
-    },
-    /// `store T V L X`: a thread stores a word at a line, through a translation.
-    Store {
-        thread: u64,
-        slot: u64,
-        line: u64,
-        word: u64,
-    },
-    /// `free V`: releases a translation.
-    Free {
-        slot: u64,
-    },
-    /// `drop Q`: frees the frame of a clean page.
-    Drop {
-        page: u64,
-    },
-    /// `sync Q`: writes a page back to its file.
-    Sync {
-        page: u64,
-    },
-    /// `out Q`: swaps an anonymous page out.
-    Out {
-        page: u64,
-    },
-    /// `fsync N`: takes the number of losses of a file.
-    Fsync {
-        file: u64,
-    },
-    /// `prctl T A B C D E`: a thread calls prctl(2).
-    Prctl {
-        thread: u64,
-        args: PrctlArgs,
-    },
-    /// `bad F L`: a line of a frame goes bad.
-    Bad {
-        frame: u64,
-        line: u64,
-    },
-    /// `weak F L`: a line of a frame gets weak.
-    Weak {
-        frame: u64,
-        line: u64,
-    },
-    /// `scrub A B`: the scrubber goes over the frames from A to B.
-    Scrub {
-        first: u64,
-        last: u64,
-    },
-    /// `log S A M`: an event of this status, address and misc word in bank 1.
-    Log {
-        status: u64,
-        addr: u64,
-        misc: u64,
-    },
-    /// `raise user T R E`: a machine check in a thread, with RIPV and EIPV as said.
-    RaiseUser {
-        thread: u64,
-        ripv: u64,
-        eipv: u64,
-    },
-    /// `raise kernel R E`: a machine check in the kernel, with RIPV and EIPV as said.
-    RaiseKernel {
-        ripv: u64,
-        eipv: u64,
-    },
-    /// `raise nested`: a machine check inside a machine check.
-    RaiseNested,
-    /// `inject F`: a memory failure of a frame, by software.
-    Inject {
-        frame: u64,
-    },
-    /// `soft F`: takes a frame out of use, and keeps its content.
-    Soft {
-        frame: u64,
-    },
-    /// `unpoison F`: takes back the failure of a frame.
-    Unpoison {
-        frame: u64,
-    },
-}
-
-/// How long a processor goes on, in a word of a schedule.
-#[derive(Clone, Copy, Debug, PartialEq, Eq)]
-pub enum Until {
-    /// `C`: for one turn.
-    One,
-    /// `C.`: up to the end of the command, or to the first turn that waits.
-    Command,
-    /// `C@KIND`: up to the first step of that kind, the end of the command, or the first turn that waits.
-    After(Kind),
-}
-
-/// A word of a schedule: a processor, as it is written, and how long it goes on.
-#[derive(Clone, Copy, Debug, PartialEq, Eq)]
-pub struct GoWord {
-    pub cpu: u64,
-    pub until: Until,
-}
-
-/// A line of a script, with its numbers as they are written.
+/// A line of a script. The numbers of a declaration stand as they are written, those of a command and of the schedule
+/// within their ranges.
 #[derive(Drop)]
 pub enum Form {
     /// `hwp 1`: the head of a script.
@@ -179,9 +52,9 @@ pub enum Form {
     /// `cpu C`: the head of a processor's commands.
     Cpu(u64),
     /// A command.
-    Order(Order),
+    Command(Command),
     /// `schedule W W W`: words of the schedule, one or more.
-    Schedule(List<GoWord>),
+    Schedule(List<Go>),
     /// `end`: the last line.
     End,
 }
@@ -195,6 +68,8 @@ pub enum LineRead {
     Unknown,
     /// A word in the place of a number, a register word or a schedule word is none.
     BadNumber,
+    /// A number of a command, or of a word of the schedule, is outside its range.
+    OverLimit,
 }
 
 /// A line with words, and its number from 1 among all lines.

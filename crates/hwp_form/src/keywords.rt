@@ -1,7 +1,7 @@
 ghost use Rattle.std.specs.Prelude.{◌≡◌, IfSome, IfNone};
-ghost use Rattle.hwp_form.specs.Grammar.{keyword_text, order_text};
+ghost use Rattle.hwp_form.specs.Grammar.{keyword_text, command_text};
 ghost use Rattle.hwp_form.specs.declared.keywords.Keyword.{Keyword};
-ghost use Rattle.hwp_form.specs.declared.keywords.OrderWord.{OrderWord};
+ghost use Rattle.hwp_form.specs.declared.keywords.CommandWord.{CommandWord};
 
 use crate::words::is_text;
 
@@ -22,12 +22,12 @@ pub(crate) enum Keyword {
     Cpu,
     Schedule,
     End,
-    Order(OrderWord),
+    Command(CommandWord),
 }
 
 /// The first word of a command.
 #[derive(Clone, Copy)]
-pub(crate) enum OrderWord {
+pub(crate) enum CommandWord {
     Load,
     Fetch,
     KLoad,
@@ -49,25 +49,25 @@ pub(crate) enum OrderWord {
 }
 
 /// The first words of all commands.
-const ORDER_WORDS: [OrderWord; 18] = [
-    OrderWord::Load,
-    OrderWord::Fetch,
-    OrderWord::KLoad,
-    OrderWord::Store,
-    OrderWord::Free,
-    OrderWord::Drop,
-    OrderWord::Sync,
-    OrderWord::Out,
-    OrderWord::Fsync,
-    OrderWord::Prctl,
-    OrderWord::Bad,
-    OrderWord::Weak,
-    OrderWord::Scrub,
-    OrderWord::Log,
-    OrderWord::Raise,
-    OrderWord::Inject,
-    OrderWord::Soft,
-    OrderWord::Unpoison,
+const COMMAND_WORDS: [CommandWord; 18] = [
+    CommandWord::Load,
+    CommandWord::Fetch,
+    CommandWord::KLoad,
+    CommandWord::Store,
+    CommandWord::Free,
+    CommandWord::Drop,
+    CommandWord::Sync,
+    CommandWord::Out,
+    CommandWord::Fsync,
+    CommandWord::Prctl,
+    CommandWord::Bad,
+    CommandWord::Weak,
+    CommandWord::Scrub,
+    CommandWord::Log,
+    CommandWord::Raise,
+    CommandWord::Inject,
+    CommandWord::Soft,
+    CommandWord::Unpoison,
 ];
 
 /// The first words of all other lines.
@@ -88,30 +88,30 @@ const HEADS: [Keyword; 14] = [
     Keyword::End,
 ];
 
-impl OrderWord {
+impl CommandWord {
     /// The text of the word.
     pub(crate) fn text(self) -> &'static str
-        ensures { result.now ≡ order_text self }
+        ensures { result.now ≡ command_text self }
     {
         match self {
-            OrderWord::Load => "load",
-            OrderWord::Fetch => "fetch",
-            OrderWord::KLoad => "kload",
-            OrderWord::Store => "store",
-            OrderWord::Free => "free",
-            OrderWord::Drop => "drop",
-            OrderWord::Sync => "sync",
-            OrderWord::Out => "out",
-            OrderWord::Fsync => "fsync",
-            OrderWord::Prctl => "prctl",
-            OrderWord::Bad => "bad",
-            OrderWord::Weak => "weak",
-            OrderWord::Scrub => "scrub",
-            OrderWord::Log => "log",
-            OrderWord::Raise => "raise",
-            OrderWord::Inject => "inject",
-            OrderWord::Soft => "soft",
-            OrderWord::Unpoison => "unpoison",
+            CommandWord::Load => "load",
+            CommandWord::Fetch => "fetch",
+            CommandWord::KLoad => "kload",
+            CommandWord::Store => "store",
+            CommandWord::Free => "free",
+            CommandWord::Drop => "drop",
+            CommandWord::Sync => "sync",
+            CommandWord::Out => "out",
+            CommandWord::Fsync => "fsync",
+            CommandWord::Prctl => "prctl",
+            CommandWord::Bad => "bad",
+            CommandWord::Weak => "weak",
+            CommandWord::Scrub => "scrub",
+            CommandWord::Log => "log",
+            CommandWord::Raise => "raise",
+            CommandWord::Inject => "inject",
+            CommandWord::Soft => "soft",
+            CommandWord::Unpoison => "unpoison",
         }
     }
 }
@@ -136,17 +136,17 @@ impl Keyword {
             Keyword::Cpu => "cpu",
             Keyword::Schedule => "schedule",
             Keyword::End => "end",
-            Keyword::Order(word) => word.text(),
+            Keyword::Command(word) => word.text(),
         }
     }
 }
 
 /// The first word of a command that a word is.
-fn read_order_word(word: &[u8]) -> Option<OrderWord>
-    ensures some { IfSome result (λ w. word.now ≡ order_text w) }
-    ensures none { IfNone result ((w : OrderWord) → word.now ≡ order_text w → ⊥) }
+fn read_command_word(word: &[u8]) -> Option<CommandWord>
+    ensures some { IfSome result (λ w. word.now ≡ command_text w) }
+    ensures none { IfNone result ((w : CommandWord) → word.now ≡ command_text w → ⊥) }
 {
-    for first in &ORDER_WORDS {
+    for first in &COMMAND_WORDS {
         if is_text(word, first.text()) {
             return Some(*first);
         }
@@ -164,8 +164,8 @@ pub(crate) fn read_keyword(word: &[u8]) -> Option<Keyword>
             return Some(*head);
         }
     }
-    let Some(first) = read_order_word(word) else {
+    let Some(first) = read_command_word(word) else {
         return None;
     };
-    Some(Keyword::Order(first))
+    Some(Keyword::Command(first))
 }

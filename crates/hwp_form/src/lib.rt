@@ -1,12 +1,13 @@
-//! The lines of a fault script: the kinds of line, their reading from bytes, and their text.
+//! The lines of a fault script: their kinds and its commands, their reading from bytes, and their text.
 #![tactic(auto)]
 
+mod command;
+mod commands;
 mod form;
 mod keywords;
 mod kinds;
 mod lines;
 mod numbers;
-mod orders;
 mod printing;
 mod sentences;
 #[cfg(test)]
@@ -14,6 +15,7 @@ mod tests;
 mod turns;
 mod words;
 
-pub use form::{Backing, Form, GoWord, LineRead, Numbered, Order, PrctlArgs, Until};
+pub use command::{Command, Go, PrctlArgs, Until};
+pub use form::{Backing, Form, LineRead, Numbered};
 pub use lines::read_lines;
 pub use printing::put_form;

@@ -26,6 +26,7 @@ fn read_words(alloc: Global, words: &[&[u8]]) -> Result<LineRead, OutOfMemory>
         Ok(form) => Ok(LineRead::Form(form)),
         Err(Misfit::Unknown) => Ok(LineRead::Unknown),
         Err(Misfit::BadNumber) => Ok(LineRead::BadNumber),
+        Err(Misfit::OverLimit) => Ok(LineRead::OverLimit),
     }
 }
 

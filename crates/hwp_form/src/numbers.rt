@@ -1,6 +1,6 @@
-ghost use Rattle.std.specs.Prelude.{◌≡◌, ◌≢◌, ◌≤◌, ℕ, ◌^◌, ◌<◌, ◌↔◌, List, [], ◌∷◌, length, map, codes, decimal, IfOk, IsErrOf, IfSome, IfNone, MatchResult, MatchOption};
+ghost use Rattle.std.specs.Prelude.{◌≡◌, ◌≢◌, ◌≤◌, ℕ, ◌^◌, ◌<◌, ◌↔◌, List, [], ◌∷◌, length, map, codes, decimal, All, IfOk, IsErrOf, IfSome, IfNone, MatchResult, MatchOption};
 ghost use Rattle.std.specs.Str.Parse.{AllDigits, digits_value};
-ghost use Rattle.hwp_form.specs.Numbers.{IsNumber, IsRegister};
+ghost use Rattle.hwp_form.specs.Numbers.{IsNumber, IsNumberWord, IsRegister, IsRegisterWord};
 ghost use Rattle.hwp_form.specs.Grammar.{AreRegisters};
 
 use itoa::Buffer;
@@ -12,6 +12,8 @@ pub(crate) enum Misfit {
     Unknown,
     /// A word in the place of a number, a register word or a schedule word is none.
     BadNumber,
+    /// A number of a command, or of a word of the schedule, is outside its range.
+    OverLimit,
 }
 
 /// The number that a word is: `0` or decimal digits without a leading zero, below 2^64.
@@ -71,7 +73,8 @@ fn register(word: &[u8]) -> Result<u64, Misfit>
 pub(crate) fn three_registers(words: &[&[u8]]) -> Result<(u64, u64, u64), Misfit>
     ensures registers { IfOk result (λ n. AreRegisters (map (λ w. w.now) words.now) n.0 n.1 n.2) }
     ensures unknown { IsErrOf result Misfit.Unknown → length (map (λ w. w.now) words.now) ≢ 3 }
-    ensures bad { IsErrOf result Misfit.BadNumber → (length (map (λ w. w.now) words.now) ≡ 3) × ((s a m : ℕ) → AreRegisters (map (λ w. w.now) words.now) s a m → ⊥) }
+    ensures bad { IsErrOf result Misfit.BadNumber → (length (map (λ w. w.now) words.now) ≡ 3) × (All IsRegisterWord (map (λ w. w.now) words.now) → ⊥) }
+    ensures within { IsErrOf result Misfit.OverLimit → ⊥ }
 {
     match words {
         [status, addr, misc] => Ok((register(status)?, register(addr)?, register(misc)?)),
@@ -83,7 +86,8 @@ pub(crate) fn three_registers(words: &[&[u8]]) -> Result<(u64, u64, u64), Misfit
 pub(crate) fn one_number(words: &[&[u8]]) -> Result<u64, Misfit>
     ensures numbers { IfOk result (λ n. (n < 2 ^ 64) × (map (λ w. w.now) words.now ≡ decimal n ∷ [])) }
     ensures unknown { IsErrOf result Misfit.Unknown → length (map (λ w. w.now) words.now) ≢ 1 }
-    ensures bad { IsErrOf result Misfit.BadNumber → (length (map (λ w. w.now) words.now) ≡ 1) × ((n : ℕ) → n < 2 ^ 64 → map (λ w. w.now) words.now ≡ decimal n ∷ [] → ⊥) }
+    ensures bad { IsErrOf result Misfit.BadNumber → (length (map (λ w. w.now) words.now) ≡ 1) × (All IsNumberWord (map (λ w. w.now) words.now) → ⊥) }
+    ensures within { IsErrOf result Misfit.OverLimit → ⊥ }
 {
     match words {
         [word] => number(word),
@@ -95,7 +99,8 @@ pub(crate) fn one_number(words: &[&[u8]]) -> Result<u64, Misfit>
 pub(crate) fn two_numbers(words: &[&[u8]]) -> Result<(u64, u64), Misfit>
     ensures numbers { IfOk result (λ n. (n.0 < 2 ^ 64) × (n.1 < 2 ^ 64) × (map (λ w. w.now) words.now ≡ decimal n.0 ∷ decimal n.1 ∷ [])) }
     ensures unknown { IsErrOf result Misfit.Unknown → length (map (λ w. w.now) words.now) ≢ 2 }
-    ensures bad { IsErrOf result Misfit.BadNumber → (length (map (λ w. w.now) words.now) ≡ 2) × ((m n : ℕ) → m < 2 ^ 64 → n < 2 ^ 64 → map (λ w. w.now) words.now ≡ decimal m ∷ decimal n ∷ [] → ⊥) }
+    ensures bad { IsErrOf result Misfit.BadNumber → (length (map (λ w. w.now) words.now) ≡ 2) × (All IsNumberWord (map (λ w. w.now) words.now) → ⊥) }
+    ensures within { IsErrOf result Misfit.OverLimit → ⊥ }
 {
     match words {
         [first, second] => Ok((number(first)?, number(second)?)),
@@ -107,7 +112,8 @@ pub(crate) fn two_numbers(words: &[&[u8]]) -> Result<(u64, u64), Misfit>
 pub(crate) fn three_numbers(words: &[&[u8]]) -> Result<(u64, u64, u64), Misfit>
     ensures numbers { IfOk result (λ n. (n.0 < 2 ^ 64) × (n.1 < 2 ^ 64) × (n.2 < 2 ^ 64) × (map (λ w. w.now) words.now ≡ decimal n.0 ∷ decimal n.1 ∷ decimal n.2 ∷ [])) }
     ensures unknown { IsErrOf result Misfit.Unknown → length (map (λ w. w.now) words.now) ≢ 3 }
-    ensures bad { IsErrOf result Misfit.BadNumber → (length (map (λ w. w.now) words.now) ≡ 3) × ((m n p : ℕ) → m < 2 ^ 64 → n < 2 ^ 64 → p < 2 ^ 64 → map (λ w. w.now) words.now ≡ decimal m ∷ decimal n ∷ decimal p ∷ [] → ⊥) }
+    ensures bad { IsErrOf result Misfit.BadNumber → (length (map (λ w. w.now) words.now) ≡ 3) × (All IsNumberWord (map (λ w. w.now) words.now) → ⊥) }
+    ensures within { IsErrOf result Misfit.OverLimit → ⊥ }
 {
     match words {
         [first, second, third] => Ok((number(first)?, number(second)?, number(third)?)),
@@ -119,7 +125,8 @@ pub(crate) fn three_numbers(words: &[&[u8]]) -> Result<(u64, u64, u64), Misfit>
 pub(crate) fn four_numbers(words: &[&[u8]]) -> Result<(u64, u64, u64, u64), Misfit>
     ensures numbers { IfOk result (λ n. (n.0 < 2 ^ 64) × (n.1 < 2 ^ 64) × (n.2 < 2 ^ 64) × (n.3 < 2 ^ 64) × (map (λ w. w.now) words.now ≡ decimal n.0 ∷ decimal n.1 ∷ decimal n.2 ∷ decimal n.3 ∷ [])) }
     ensures unknown { IsErrOf result Misfit.Unknown → length (map (λ w. w.now) words.now) ≢ 4 }
-    ensures bad { IsErrOf result Misfit.BadNumber → (length (map (λ w. w.now) words.now) ≡ 4) × ((m n p q : ℕ) → m < 2 ^ 64 → n < 2 ^ 64 → p < 2 ^ 64 → q < 2 ^ 64 → map (λ w. w.now) words.now ≡ decimal m ∷ decimal n ∷ decimal p ∷ decimal q ∷ [] → ⊥) }
+    ensures bad { IsErrOf result Misfit.BadNumber → (length (map (λ w. w.now) words.now) ≡ 4) × (All IsNumberWord (map (λ w. w.now) words.now) → ⊥) }
+    ensures within { IsErrOf result Misfit.OverLimit → ⊥ }
 {
     match words {
         [first, second, third, fourth] => Ok((
@@ -136,7 +143,8 @@ pub(crate) fn four_numbers(words: &[&[u8]]) -> Result<(u64, u64, u64, u64), Misf
 pub(crate) fn six_numbers(words: &[&[u8]]) -> Result<(u64, u64, u64, u64, u64, u64), Misfit>
     ensures numbers { IfOk result (λ n. (n.0 < 2 ^ 64) × (n.1 < 2 ^ 64) × (n.2 < 2 ^ 64) × (n.3 < 2 ^ 64) × (n.4 < 2 ^ 64) × (n.5 < 2 ^ 64) × (map (λ w. w.now) words.now ≡ decimal n.0 ∷ decimal n.1 ∷ decimal n.2 ∷ decimal n.3 ∷ decimal n.4 ∷ decimal n.5 ∷ [])) }
     ensures unknown { IsErrOf result Misfit.Unknown → length (map (λ w. w.now) words.now) ≢ 6 }
-    ensures bad { IsErrOf result Misfit.BadNumber → (length (map (λ w. w.now) words.now) ≡ 6) × ((m n p q r s : ℕ) → m < 2 ^ 64 → n < 2 ^ 64 → p < 2 ^ 64 → q < 2 ^ 64 → r < 2 ^ 64 → s < 2 ^ 64 → map (λ w. w.now) words.now ≡ decimal m ∷ decimal n ∷ decimal p ∷ decimal q ∷ decimal r ∷ decimal s ∷ [] → ⊥) }
+    ensures bad { IsErrOf result Misfit.BadNumber → (length (map (λ w. w.now) words.now) ≡ 6) × (All IsNumberWord (map (λ w. w.now) words.now) → ⊥) }
+    ensures within { IsErrOf result Misfit.OverLimit → ⊥ }
 {
     match words {
         [first, second, third, fourth, fifth, sixth] => Ok((

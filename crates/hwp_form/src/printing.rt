@@ -1,10 +1,11 @@
 ghost use Rattle.std.specs.Prelude.{◌≡◌, ◌∷◌, ◌++◌, [], OnOk, string_bytes};
 ghost use Rattle.std.specs.List.{flat_map};
 ghost use Rattle.hwp_geom.specs.Words.{line};
-ghost use Rattle.hwp_form.specs.Grammar.{form_words, order_text, order_word, order_words, turn_text};
+ghost use Rattle.hwp_form.specs.Grammar.{form_words, command_text, command_word, command_words, turn_text};
 ghost use Rattle.hwp_form.specs.Printed.{thread_words, page_words, schedule_words};
 
-use crate::form::{Backing, Form, GoWord, Order, Until};
+use crate::command::{Command, Go, Until};
+use crate::form::{Backing, Form};
 use crate::kinds::kind_name;
 use hwp_geom::OutOfMemory;
 
@@ -34,7 +35,7 @@ pub fn put_form(out: &mut String, form: &Form) -> Result<(), OutOfMemory>
             page,
         } => writeln!(out, "trans {slot} {process} {page}"),
         Form::Cpu(cpu) => writeln!(out, "cpu {cpu}"),
-        Form::Order(order) => put_order(out, order),
+        Form::Command(command) => put_command(out, command),
         Form::Schedule(turns) => put_schedule(out, turns.as_slice()),
         Form::End => writeln!(out, "end"),
     }
@@ -65,50 +66,62 @@ fn put_page(out: &mut String, page: u64, backing: Backing) -> Result<(), OutOfMe
     }
 }
 
-fn put_order(out: &mut String, order: &Order) -> Result<(), OutOfMemory>
-    ensures { OnOk result (string_bytes out.new ≡ string_bytes out.old ++ line (order_text (order_word order.now) ∷ order_words order.now)) }
+fn put_command(out: &mut String, command: &Command) -> Result<(), OutOfMemory>
+    ensures { OnOk result (string_bytes out.new ≡ string_bytes out.old ++ line (command_text (command_word command.now) ∷ command_words command.now)) }
 {
-    match order {
-        Order::Load { thread, slot, line } => writeln!(out, "load {thread} {slot} {line}"),
-        Order::Fetch { thread, slot, line } => writeln!(out, "fetch {thread} {slot} {line}"),
-        Order::KLoad { thread, slot, line } => writeln!(out, "kload {thread} {slot} {line}"),
-        Order::Store {
+    match *command {
+        Command::Load { thread, slot, line } => {
+            writeln!(out, "load {} {} {}", thread.0, slot.0, line.get())
+        }
+        Command::Fetch { thread, slot, line } => {
+            writeln!(out, "fetch {} {} {}", thread.0, slot.0, line.get())
+        }
+        Command::KLoad { thread, slot, line } => {
+            writeln!(out, "kload {} {} {}", thread.0, slot.0, line.get())
+        }
+        Command::Store {
             thread,
             slot,
             line,
             word,
-        } => writeln!(out, "store {thread} {slot} {line} {word}"),
-        Order::Free { slot } => writeln!(out, "free {slot}"),
-        Order::Drop { page } => writeln!(out, "drop {page}"),
-        Order::Sync { page } => writeln!(out, "sync {page}"),
-        Order::Out { page } => writeln!(out, "out {page}"),
-        Order::Fsync { file } => writeln!(out, "fsync {file}"),
-        Order::Prctl { thread, args } => writeln!(
+        } => writeln!(out, "store {} {} {} {word}", thread.0, slot.0, line.get()),
+        Command::Free { slot } => writeln!(out, "free {}", slot.0),
+        Command::Drop { page } => writeln!(out, "drop {}", page.0),
+        Command::Sync { page } => writeln!(out, "sync {}", page.0),
+        Command::Out { page } => writeln!(out, "out {}", page.0),
+        Command::Fsync { file } => writeln!(out, "fsync {}", file.0),
+        Command::Prctl { thread, args } => writeln!(
             out,
-            "prctl {thread} {} {} {} {} {}",
-            args.operation, args.arg2, args.arg3, args.arg4, args.arg5
+            "prctl {} {} {} {} {} {}",
+            thread.0, args.operation, args.arg2, args.arg3, args.arg4, args.arg5
         ),
-        Order::Bad { frame, line } => writeln!(out, "bad {frame} {line}"),
-        Order::Weak { frame, line } => writeln!(out, "weak {frame} {line}"),
-        Order::Scrub { first, last } => writeln!(out, "scrub {first} {last}"),
-        Order::Log { status, addr, misc } => {
+        Command::Bad { frame, line } => writeln!(out, "bad {} {}", frame.0, line.get()),
+        Command::Weak { frame, line } => writeln!(out, "weak {} {}", frame.0, line.get()),
+        Command::Scrub { first, last } => writeln!(out, "scrub {} {}", first.0, last.0),
+        Command::Log { status, addr, misc } => {
             writeln!(out, "log 0x{status:x} 0x{addr:x} 0x{misc:x}")
         }
-        Order::RaiseUser { thread, ripv, eipv } => {
-            writeln!(out, "raise user {thread} {ripv} {eipv}")
+        Command::RaiseUser { thread, ripv, eipv } => writeln!(
+            out,
+            "raise user {} {} {}",
+            thread.0,
+            u64::from(ripv),
+            u64::from(eipv)
+        ),
+        Command::RaiseKernel { ripv, eipv } => {
+            writeln!(out, "raise kernel {} {}", u64::from(ripv), u64::from(eipv))
         }
-        Order::RaiseKernel { ripv, eipv } => writeln!(out, "raise kernel {ripv} {eipv}"),
-        Order::RaiseNested => writeln!(out, "raise nested"),
-        Order::Inject { frame } => writeln!(out, "inject {frame}"),
-        Order::Soft { frame } => writeln!(out, "soft {frame}"),
-        Order::Unpoison { frame } => writeln!(out, "unpoison {frame}"),
+        Command::RaiseNested => writeln!(out, "raise nested"),
+        Command::Inject { frame } => writeln!(out, "inject {}", frame.0),
+        Command::Soft { frame } => writeln!(out, "soft {}", frame.0),
+        Command::Unpoison { frame } => writeln!(out, "unpoison {}", frame.0),
     }
 }
 
-fn put_turn(out: &mut String, turn: GoWord) -> Result<(), OutOfMemory>
+fn put_turn(out: &mut String, turn: Go) -> Result<(), OutOfMemory>
     ensures { OnOk result (string_bytes out.new ≡ string_bytes out.old ++ 32 ∷ turn_text turn) }
 {
-    let cpu = turn.cpu;
+    let cpu = turn.cpu.0;
     match turn.until {
         Until::One => write!(out, " {cpu}"),
         Until::Command => write!(out, " {cpu}."),
@@ -116,7 +129,7 @@ fn put_turn(out: &mut String, turn: GoWord) -> Result<(), OutOfMemory>
     }
 }
 
-fn put_turns(out: &mut String, turns: &[GoWord]) -> Result<(), OutOfMemory>
+fn put_turns(out: &mut String, turns: &[Go]) -> Result<(), OutOfMemory>
     ensures { OnOk result (string_bytes out.new ≡ string_bytes out.old ++ flat_map (λ turn. 32 ∷ turn_text turn) turns.now) }
 {
     for turn in turns {
@@ -125,7 +138,7 @@ fn put_turns(out: &mut String, turns: &[GoWord]) -> Result<(), OutOfMemory>
     Ok(())
 }
 
-fn put_schedule(out: &mut String, turns: &[GoWord]) -> Result<(), OutOfMemory>
+fn put_schedule(out: &mut String, turns: &[Go]) -> Result<(), OutOfMemory>
     ensures { OnOk result (string_bytes out.new ≡ string_bytes out.old ++ line (schedule_words turns.now)) }
 {
     write!(out, "schedule")?;

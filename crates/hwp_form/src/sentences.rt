@@ -1,12 +1,11 @@
 ghost use Rattle.std.specs.Prelude.{◌≡◌, ◌≢◌, ◌↔◌, ℕ, ◌^◌, ◌<◌, List, [], ◌∷◌, length, map, Bool, All, codes, IfOk, IfErr, IsErrOf, IsTrue, MatchOption, MatchResult};
-ghost use Rattle.hwp_form.specs.Grammar.{IsSentence, HasShape, IsForm, IsShaped, IsPrintable, thread_keyword, page_keyword, schedule_keyword, handler_text};
+ghost use Rattle.hwp_form.specs.Grammar.{IsSentence, IsSentenceOver, HasShape, HaveNumbers, thread_keyword, page_keyword, schedule_keyword, handler_text};
 ghost use Rattle.hwp_form.specs.Numbers.{IsNumber};
-ghost use Rattle.hwp_form.specs.declared.form.Form.{Form};
 
+use crate::commands::read_command;
 use crate::form::{Backing, Form};
 use crate::keywords::Keyword;
 use crate::numbers::{Misfit, number, one_number, three_numbers};
-use crate::orders::read_order;
 use crate::turns::read_schedule;
 use crate::words::is_text;
 use hwp_geom::OutOfMemory;
@@ -38,7 +37,8 @@ fn read_thread(words: &[&[u8]]) -> Result<Form, Misfit>
     ensures shaped { IfOk result (λ form. HasShape thread_keyword (map (λ w. w.now) words.now)) }
     ensures unknown { IsErrOf result Misfit.Unknown → HasShape thread_keyword (map (λ w. w.now) words.now) → ⊥ }
     ensures fits { IsErrOf result Misfit.BadNumber → HasShape thread_keyword (map (λ w. w.now) words.now) }
-    ensures bad { IsErrOf result Misfit.BadNumber → (f : Form) → IsSentence thread_keyword (map (λ w. w.now) words.now) f → ⊥ }
+    ensures bad { IsErrOf result Misfit.BadNumber → HaveNumbers thread_keyword (map (λ w. w.now) words.now) → ⊥ }
+    ensures within { IsErrOf result Misfit.OverLimit → ⊥ }
 {
     let [thread, process, cpu, word] = words else {
         return Err(Misfit::Unknown);
@@ -61,7 +61,8 @@ fn read_page(words: &[&[u8]]) -> Result<Form, Misfit>
     ensures shaped { IfOk result (λ form. HasShape page_keyword (map (λ w. w.now) words.now)) }
     ensures unknown { IsErrOf result Misfit.Unknown → HasShape page_keyword (map (λ w. w.now) words.now) → ⊥ }
     ensures fits { IsErrOf result Misfit.BadNumber → HasShape page_keyword (map (λ w. w.now) words.now) }
-    ensures bad { IsErrOf result Misfit.BadNumber → (f : Form) → IsSentence page_keyword (map (λ w. w.now) words.now) f → ⊥ }
+    ensures bad { IsErrOf result Misfit.BadNumber → HaveNumbers page_keyword (map (λ w. w.now) words.now) → ⊥ }
+    ensures within { IsErrOf result Misfit.OverLimit → ⊥ }
 {
     match words {
         [page, kind] if is_text(kind, "anon") => Ok(Form::Page {
@@ -107,13 +108,14 @@ fn read_plain_sentence(keyword: Keyword, words: &[&[u8]]) -> Result<Form, Misfit
     ensures form { IfOk result (IsSentence keyword (map (λ w. w.now) words.now)) }
     ensures shaped { IfOk result (λ form. HasShape keyword (map (λ w. w.now) words.now)) }
     ensures unknown { IsErrOf result Misfit.Unknown → HasShape keyword (map (λ w. w.now) words.now) → ⊥ }
-    ensures bad { IsErrOf result Misfit.BadNumber → HasShape keyword (map (λ w. w.now) words.now) × ((f : Form) → IsSentence keyword (map (λ w. w.now) words.now) f → ⊥) }
+    ensures bad { IsErrOf result Misfit.BadNumber → HasShape keyword (map (λ w. w.now) words.now) × (HaveNumbers keyword (map (λ w. w.now) words.now) → ⊥) }
+    ensures over { IsErrOf result Misfit.OverLimit → IsSentenceOver keyword (map (λ w. w.now) words.now) }
 {
     match keyword {
         Keyword::Hwp => read_header(words),
         Keyword::Thread => read_thread(words),
         Keyword::Page => read_page(words),
-        Keyword::Order(word) => Ok(Form::Order(read_order(word, words)?)),
+        Keyword::Command(word) => Ok(Form::Command(read_command(word, words)?)),
         Keyword::End => read_end(words),
         Keyword::Schedule => unreachable!(),
         Keyword::Trans => {
@@ -144,7 +146,8 @@ pub(crate) fn read_sentence(
     ensures form { IfOk result (λ read. IfOk read (IsSentence keyword (map (λ w. w.now) words.now))) }
     ensures shaped { IfOk result (λ read. IfOk read (λ form. HasShape keyword (map (λ w. w.now) words.now))) }
     ensures unknown { IfOk result (λ read. IsErrOf read Misfit.Unknown → HasShape keyword (map (λ w. w.now) words.now) → ⊥) }
-    ensures bad { IfOk result (λ read. IsErrOf read Misfit.BadNumber → HasShape keyword (map (λ w. w.now) words.now) × ((f : Form) → IsSentence keyword (map (λ w. w.now) words.now) f → ⊥)) }
+    ensures bad { IfOk result (λ read. IsErrOf read Misfit.BadNumber → HasShape keyword (map (λ w. w.now) words.now) × (HaveNumbers keyword (map (λ w. w.now) words.now) → ⊥)) }
+    ensures over { IfOk result (λ read. IsErrOf read Misfit.OverLimit → IsSentenceOver keyword (map (λ w. w.now) words.now)) }
 {
     match keyword {
         Keyword::Schedule => match read_schedule(alloc, words)? {

@@ -2,7 +2,7 @@ use super::*;
 use std::alloc::Global;
 use std::test::Fail;
 
-/// The lines that are not skipped, one a line: the number, and the line as it is printed, `unknown` or `bad number`.
+/// The lines that are not skipped, one a line: the number, and the line as it is printed, or what is wrong with it.
 fn told(alloc: Global, text: &[u8]) -> Result<String, Fail> {
     if text.len() > 1000 {
         Err("a longer text than a row of these tables has")?;
@@ -15,6 +15,7 @@ fn told(alloc: Global, text: &[u8]) -> Result<String, Fail> {
             LineRead::Form(form) => put_form(&mut out, form)?,
             LineRead::Unknown => writeln!(out, "unknown")?,
             LineRead::BadNumber => writeln!(out, "bad number")?,
+            LineRead::OverLimit => writeln!(out, "over the limit")?,
         }
     }
     Ok(out)
@@ -28,7 +29,7 @@ fn every_kind_of_line_is_read_as_it_is_printed(rt: HostRuntime) -> Result<(), Fa
         "cpu 4\n2 load 1 2 3\n3 fetch 4 5 6\n4 kload 7 8 9\n5 store 1 2 3 18446744073709551615\n6 free 0\n",
         "drop 1\n2 sync 2\n3 out 3\n4 fsync 4\n5 prctl 1 33 1 0 0 0\n6 bad 5 6\n7 weak 7 8\n8 scrub 9 10\n",
         "log 0x0 0xbd000000000000c0 0x86\n2 raise user 1 0 1\n3 raise kernel 1 0\n4 raise nested\n5 inject 1\n",
-        "soft 2\n2 unpoison 3\n3 schedule 0 1. 2@poison 3@report_lost 18446744073709551615\n4 end\n",
+        "soft 2\n2 unpoison 3\n3 schedule 0 1. 2@poison 3@report_lost 7\n4 end\n",
     ];
     for printed in &rows {
         let mut text = String::new(rt.alloc());
@@ -121,11 +122,40 @@ fn a_word_in_a_numbers_place_is_a_number(rt: HostRuntime) -> Result<(), Fail> {
         b"schedule @poison",
         b"schedule 0.5",
         b"schedule 0..",
-        b"schedule 0 1. 00",
+        b"schedule 8 00",
     ];
     for text in &rows {
         let read = told(rt.alloc(), text)?;
         assert_eq!(rt; read.as_str(), "1 bad number\n");
+    }
+    Ok(())
+}
+
+#[test]
+fn a_number_of_a_command_is_in_its_range(rt: HostRuntime) -> Result<(), Fail> {
+    let rows: [&[u8]; 18] = [
+        b"load 32 0 0",
+        b"fetch 0 512 0",
+        b"kload 0 0 64",
+        b"store 32 0 0 1",
+        b"free 512",
+        b"drop 256",
+        b"sync 256",
+        b"fsync 16",
+        b"prctl 32 33 0 0 0 0",
+        b"bad 256 0",
+        b"weak 0 64",
+        b"scrub 1 0",
+        b"scrub 0 256",
+        b"raise user 0 2 0",
+        b"raise kernel 0 2",
+        b"inject 256",
+        b"schedule 8",
+        b"schedule 0 8@poison",
+    ];
+    for text in &rows {
+        let read = told(rt.alloc(), text)?;
+        assert_eq!(rt; read.as_str(), "1 over the limit\n");
     }
     Ok(())
 }

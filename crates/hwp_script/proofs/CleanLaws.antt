@@ -4,10 +4,10 @@ use Rattle.std.specs.Prelude.{slice_get, option_and_then, IsSome}
 use Rattle.hwp_script.specs.Limits.{schedule_limit}
 use Rattle.hwp_geom.specs.Limits.{command_limit}
 use Rattle.hwp_script.specs.Context.{cpus_in, frames_in, recovery_in, early_in, files_in, procs_in, threads_in, pages_in, trans_in, commands_in, go_in, place_in, highest}
-use Rattle.hwp_script.specs.Reasons.{IsMisplaced, IsElsewhere, IsBackingOver, IsBackingUndeclared, IsOver, IsUndeclared, actor, top_cpu, IsClean}
-use Rattle.hwp_form.specs.declared.Order.{Order}
+use Rattle.hwp_script.specs.Reasons.{IsMisplaced, IsElsewhere, IsBackingOver, IsBackingUndeclared, IsUndeclared, actor, top_cpu, IsClean}
 use Rattle.hwp_form.specs.declared.Backing.{Backing}
-use Rattle.hwp_form.specs.declared.GoWord.{GoWord}
+use Rattle.hwp_form.specs.declared.Go.{Go}
+use Rattle.hwp_form.specs.declared.Command.{Command}
 use Rattle.hwp_form.specs.declared.Form.{Form}
 use Rattle.hwp_form.specs.declared.Form.TheVariants as forms
 use Rattle.hwp_script.specs.declared.why.Why.TheVariants as whys
@@ -198,36 +198,32 @@ clean_cpu {above} {c} h =
     let none = h.none whys.Undeclared in
     record { placed = placed above 11 (h.none whys.WrongPlace); cpu = omega arith; low = omega arith }
 
-pub record IsOrderClean (above : List Form) (o : Order) : Type 0 where
+pub record IsCommandClean (above : List Form) (c : Command) : Type 0 where
   pub placed : IsPlaced above 11
-  pub low : IsOver o → ⊥
   pub few : commands_in above < command_limit
-  pub named : IsUndeclared above o → ⊥
-  pub here : IsElsewhere (place_in above) (option_and_then (λ t. slice_get (threads_in above) t) (actor o)) → ⊥
+  pub named : IsUndeclared above c → ⊥
+  pub here : IsElsewhere (place_in above) (option_and_then (λ t. slice_get (threads_in above) t) (actor c)) → ⊥
 
-pub clean_order : {above : List Form} {o : Order} → IsClean above (forms.Order o) → IsOrderClean above o
-clean_order {above} {o} h =
-    let many : command_limit ≤ commands_in above → ⊥ = λ e. h.none whys.OverLimit (inr e) in
+pub clean_command : {above : List Form} {c : Command} → IsClean above (forms.Command c) → IsCommandClean above c
+clean_command {above} {c} h =
+    let many : command_limit ≤ commands_in above → ⊥ = h.none whys.OverLimit in
     record {
       placed = placed above 11 (λ e. h.none whys.WrongPlace (inl e));
-      low = λ e. h.none whys.OverLimit (inl e);
       few = omega arith;
       named = h.none whys.Undeclared;
       here = λ e. h.none whys.WrongPlace (inr e);
     }
 
-pub record IsScheduleClean (above : List Form) (ws : List GoWord) : Type 0 where
+pub record IsScheduleClean (above : List Form) (ws : List Go) : Type 0 where
   pub placed : IsPlaced above 12
   pub few : length (go_in above) + length ws ≤ schedule_limit
   pub cpus : top_cpu ws < cpus_in above
-  pub low : top_cpu ws < 8
 
-pub clean_schedule : {above : List Form} {ws : List GoWord} → IsClean above (forms.Schedule ws) → IsScheduleClean above ws
+pub clean_schedule : {above : List Form} {ws : List Go} → IsClean above (forms.Schedule ws) → IsScheduleClean above ws
 clean_schedule {above} {ws} h =
-    let over : 8 ≤ top_cpu ws → ⊥ = λ e. h.none whys.OverLimit (inl e) in
-    let many : schedule_limit < length (go_in above) + length ws → ⊥ = λ e. h.none whys.OverLimit (inr e) in
+    let many : schedule_limit < length (go_in above) + length ws → ⊥ = h.none whys.OverLimit in
     let none = h.none whys.Undeclared in
-    record { placed = placed above 12 (h.none whys.WrongPlace); few = omega arith; cpus = omega arith; low = omega arith }
+    record { placed = placed above 12 (h.none whys.WrongPlace); few = omega arith; cpus = omega arith }
 
 pub clean_end : {above : List Form} → IsClean above forms.End → IsPlaced above 12
 clean_end {above} h = placed above 12 (h.none whys.WrongPlace)

@@ -1,11 +1,11 @@
 -- What one more line adds to what the lines declare.
-use Rattle.std.proofs.Common.{ℕ, ◌≡◌, ◌+◌, ◌++◌, max, List, [], ◌∷◌, length, Option, Some, None, ap, map, ◌∙◌, refl, arith}
+use Rattle.std.proofs.Common.{ℕ, ◌≡◌, ◌+◌, ◌++◌, max, List, [], ◌∷◌, length, Option, Some, None, ap, ◌∙◌, refl, arith}
 use Rattle.std.specs.Prelude.{sum, filter_map, flat_map, slice_get}
-use Rattle.std.proofs.lemmas.List.{append-nil, length_push, map-append}
+use Rattle.std.proofs.lemmas.List.{append-nil, length_push}
 use Rattle.std.proofs.lemmas.List.Elements.{filter_map-append}
 use Rattle.std.proofs.lemmas.List.Sums.{fold-append}
 use Rattle.std.proofs.lemmas.Grind.{flat_map-append}
-use Rattle.hwp_script.specs.Context.{cpus_of, frames_of, kernel_of, recovery_of, early_of, file_of, proc_of, thread_of, page_of, trans_of, cpu_of, command_of, words_of, go_of, cpus_in, frames_in, kernel_in, recovery_in, early_in, files_in, procs_in, threads_in, pages_in, trans_in, lists_in, commands_in, go_in, place_in, place_after, group, highest}
+use Rattle.hwp_script.specs.Context.{cpus_of, frames_of, kernel_of, recovery_of, early_of, file_of, proc_of, thread_of, page_of, trans_of, cpu_of, command_of, words_of, cpus_in, frames_in, kernel_in, recovery_in, early_in, files_in, procs_in, threads_in, pages_in, trans_in, lists_in, commands_in, go_in, place_in, place_after, group, highest}
 use Rattle.hwp_form.specs.declared.Form.{Form}
 
 -- the list with the item behind it, if there is one
@@ -51,10 +51,8 @@ highest-push : (above : List Form) (f : Form) → highest (above ++ f ∷ []) �
 highest-push [] f = omega arith
 highest-push (g ∷ above) f = let e = highest-push above f in omega arith
 
-go-push : (above : List Form) (f : Form) → go_in (above ++ f ∷ []) ≡ go_in above ++ map go_of (words_of f)
-go-push above f =
-    ap (map go_of) (flat_map-append words_of above (f ∷ []) ∙ ap (λ t. flat_map words_of above ++ t) (append-nil (words_of f)))
-    ∙ map-append go_of (flat_map words_of above) (words_of f)
+go-push : (above : List Form) (f : Form) → go_in (above ++ f ∷ []) ≡ go_in above ++ words_of f
+go-push above f = flat_map-append words_of above (f ∷ []) ∙ ap (λ t. flat_map words_of above ++ t) (append-nil (words_of f))
 
 -- what the lines declare with one more
 pub record IsPushed (above : List Form) (f : Form) : Type 0 where
@@ -72,7 +70,7 @@ pub record IsPushed (above : List Form) (f : Form) : Type 0 where
   pub lists : lists_in (above ++ f ∷ []) ≡ onto (cpu_of f) (lists_in above)
   pub place : place_in (above ++ f ∷ []) ≡ place_after (place_in above) f
   pub commands : commands_in (above ++ f ∷ []) ≡ more (command_of f) (commands_in above)
-  pub go : go_in (above ++ f ∷ []) ≡ go_in above ++ map go_of (words_of f)
+  pub go : go_in (above ++ f ∷ []) ≡ go_in above ++ words_of f
 
 pub pushed : (above : List Form) (f : Form) → IsPushed above f
 pushed above f = record {

@@ -5,21 +5,20 @@ use Rattle.std.specs.List.{range_with_len, cons_option}
 use Rattle.std.proofs.lemmas.List.Elements.{All-nil, All-cons, All-head, All-tail, All-append}
 use Rattle.hwp_geom.specs.Pairs.{Pairs}
 use Rattle.hwp_geom.specs.declared.PageKind.{PageKind}
-use Rattle.hwp_form.specs.Grammar.{Fits, OrderFits, IsForm}
+use Rattle.hwp_form.specs.Grammar.{Fits, CommandFits, IsForm}
 use Rattle.hwp_form.specs.Lines.{IsNumbered, AreLinesOf, numbered_lines}
 use Rattle.hwp_form.specs.declared.Form.{Form}
 use Rattle.hwp_form.specs.declared.Form.TheVariants as forms
-use Rattle.hwp_form.specs.declared.Order.{Order}
-use Rattle.hwp_form.specs.declared.Order.TheVariants as orders
 use Rattle.hwp_form.specs.declared.Backing.{Backing}
 use Rattle.hwp_form.specs.declared.Backing.TheVariants as backings
 use Rattle.hwp_form.specs.declared.LineRead.TheVariants as reads
 use Rattle.hwp_form.specs.declared.Numbered.{Numbered}
-use Rattle.hwp_script.specs.Context.{page_of, kind_of, pages_in, ordered, place_after}
+use Rattle.hwp_script.specs.Context.{page_of, kind_of, pages_in, place_after}
 use Rattle.hwp_script.specs.Refusals.{AreForms}
 use Rattle.hwp_script.specs.Collects.{command_at, commands_from, commands_of}
 use Rattle.hwp_script.specs.Valid.{HasWords, HasFill}
-use Rattle.hwp_script.specs.declared.script.Command.{Command}
+use Rattle.hwp_form.specs.declared.Command.{Command}
+use Rattle.hwp_form.specs.declared.Command.TheVariants as commands
 
 all_fit : (ws : List (ℕ × List (List ℕ))) (lines : List Numbered) (fs : List Form) → Pairs IsNumbered ws lines
     → map (λ (l : Numbered). l.read) lines ≡ map reads.Form fs → All Fits fs
@@ -49,11 +48,11 @@ all_fills [] h = All-nil HasFill
 all_fills (f ∷ fs) h = page_fills f (pages_in fs) (All-head Fits f fs h) (all_fills fs (All-tail Fits f fs h))
 
 -- the words of commands
-order_words_fit : (o : Order) → OrderFits o → HasWords (ordered o)
-order_words_fit (orders.Store t v l x) h = h.3
-order_words_fit (orders.Prctl t args) h = (h.1, h.2, h.3, h.4, h.5)
-order_words_fit (orders.Log s a m) h = h
-order_words_fit o h = tt
+command_words_fit : (c : Command) → CommandFits c → HasWords c
+command_words_fit (commands.Store t v l x) h = h.1
+command_words_fit (commands.Prctl t args) h = (h.1, h.2, h.3, h.4, h.5)
+command_words_fit (commands.Log s a m) h = h
+command_words_fit c h = tt
 
 chosen_words : (test : Bool) (cmd : Command) → HasWords cmd → All HasWords (option_to_list (if test then Some cmd else None))
 chosen_words true cmd h = All-cons HasWords cmd [] h (All-nil HasWords)
@@ -65,7 +64,7 @@ none_words false = All-nil HasWords
 
 line_words : (p : Option ℕ) (c : ℕ) (f : Form) → Fits f → All HasWords (option_to_list (command_at p c f))
 line_words None c f h = All-nil HasWords
-line_words (Some q) c (forms.Order o) h = chosen_words (q == c) (ordered o) (order_words_fit o h)
+line_words (Some q) c (forms.Command x) h = chosen_words (q == c) x (command_words_fit x h)
 line_words (Some q) c f h = none_words (q == c)
 
 list_words : (p : Option ℕ) (c : ℕ) (fs : List Form) → All Fits fs → All HasWords (commands_from p c fs)

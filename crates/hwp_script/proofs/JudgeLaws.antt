@@ -1,5 +1,5 @@
 -- From the judgement of a line to that of all lines.
-use Rattle.std.proofs.Common.{ℕ, ◌≡◌, ◌≢◌, ◌==◌, ◌<◌, ◌≤◌, ◌+◌, ◌-◌, ◌++◌, Bool, true, List, [], ◌∷◌, length, take, get_or, Some, ap, subst, ◌∙◌, sym, refl, arith}
+use Rattle.std.proofs.Common.{ℕ, ◌≡◌, ◌==◌, ◌<◌, ◌≤◌, ◌+◌, ◌-◌, ◌++◌, true, List, [], ◌∷◌, length, take, get_or, Some, ap, subst, ◌∙◌, sym, refl, arith}
 use Rattle.std.proofs.lemmas.List.{map-append, length-map, length_push, nil_from_length}
 use Rattle.std.proofs.lemmas.Option.{slice_get-get_or}
 use Rattle.std.proofs.lemmas.Bool.Decides.{nat_tests}
@@ -10,62 +10,12 @@ use Rattle.hwp_form.specs.declared.Numbered.{Numbered}
 use Rattle.hwp_script.specs.declared.context.Summary.{Summary}
 use Rattle.hwp_script.specs.declared.why.Why.{Why}
 use Rattle.hwp_script.specs.declared.why.Why.TheVariants as whys
-use Rattle.hwp_script.specs.Reasons.{Applies, IsClean, AreClean, IsLowest, number}
+use Rattle.hwp_script.specs.Reasons.{IsClean, AreClean}
 use Rattle.hwp_script.specs.Sums.{Sums}
 use Rattle.hwp_script.specs.Collects.{IsEnded}
-use Rattle.hwp_script.specs.Refusals.{AreForms, IsFault, IsLowestFault, IsFirst, AreRefused}
+use Rattle.hwp_script.specs.Refusals.{AreForms, IsLowestFault, IsFirst, AreRefused}
 use Rattle.hwp_script.specs.declared.why.Refused.{Refused}
-use Rattle.hwp_script.proofs.CleanLists.{AreClean-none, AreClean-push, slice_get-append_at}
-
--- the reasons that are no line's own
-pub record AreHigh (above : List Form) (f : Form) : Type 0 where
-  pub end : Applies above f whys.NoEnd → ⊥
-  pub long : Applies above f whys.TooLong → ⊥
-  pub built : Applies above f whys.NotBuilt → ⊥
-
-high : (above : List Form) (f : Form) → AreHigh above f
-high above forms.Header = record { end = λ h. h; long = λ h. h; built = λ h. h }
-high above (forms.Cpus n) = record { end = λ h. h; long = λ h. h; built = λ h. h }
-high above (forms.Frames n) = record { end = λ h. h; long = λ h. h; built = λ h. h }
-high above (forms.Kernel f) = record { end = λ h. h; long = λ h. h; built = λ h. h }
-high above (forms.Recovery b) = record { end = λ h. h; long = λ h. h; built = λ h. h }
-high above (forms.Early b) = record { end = λ h. h; long = λ h. h; built = λ h. h }
-high above (forms.File n) = record { end = λ h. h; long = λ h. h; built = λ h. h }
-high above (forms.Proc p) = record { end = λ h. h; long = λ h. h; built = λ h. h }
-high above (forms.Thread t p c h) = record { end = λ h. h; long = λ h. h; built = λ h. h }
-high above (forms.Page q b) = record { end = λ h. h; long = λ h. h; built = λ h. h }
-high above (forms.Trans v p q) = record { end = λ h. h; long = λ h. h; built = λ h. h }
-high above (forms.Cpu c) = record { end = λ h. h; long = λ h. h; built = λ h. h }
-high above (forms.Order o) = record { end = λ h. h; long = λ h. h; built = λ h. h }
-high above (forms.Schedule ws) = record { end = λ h. h; long = λ h. h; built = λ h. h }
-high above forms.End = record { end = λ h. h; long = λ h. h; built = λ h. h }
-
--- a reason that applies to a form is its fault
-fault_of : (last : Bool) (above : List Form) (f : Form) (w : Why) → Applies above f w → IsFault last above (reads.Form f) w
-fault_of last above f whys.NoEnd h = absurd ((high above f).end h)
-fault_of last above f w h = h
-
-low : (above : List Form) (f : Form) (w : Why) → Applies above f w → number w ≤ 7
-low above f whys.NoEnd h = absurd ((high above f).end h)
-low above f whys.TooLong h = absurd ((high above f).long h)
-low above f whys.NotBuilt h = absurd ((high above f).built h)
-low above f w h = omega arith
-
-lowest_of : (last : Bool) (above : List Form) (f : Form) (w : Why) → IsLowest above f w → (v : Why) → IsFault last above (reads.Form f) v → number w ≤ number v
-lowest_of last above f w h whys.NoEnd e = omega (arith, low above f w h.applies)
-lowest_of last above f w h v e = h.lowest v e
-
-only_end : (last : Bool) (above : List Form) (f : Form) → IsClean above f → (v : Why) → IsFault last above (reads.Form f) v → 8 ≤ number v
-only_end last above f h whys.NoEnd e = omega arith
-only_end last above f h whys.BadHeader e = absurd (h.none whys.BadHeader e)
-only_end last above f h whys.UnknownWord e = absurd (h.none whys.UnknownWord e)
-only_end last above f h whys.BadNumber e = absurd (h.none whys.BadNumber e)
-only_end last above f h whys.OverLimit e = absurd (h.none whys.OverLimit e)
-only_end last above f h whys.Undeclared e = absurd (h.none whys.Undeclared e)
-only_end last above f h whys.Twice e = absurd (h.none whys.Twice e)
-only_end last above f h whys.WrongPlace e = absurd (h.none whys.WrongPlace e)
-only_end last above f h whys.TooLong e = omega arith
-only_end last above f h whys.NotBuilt e = omega arith
+use Rattle.hwp_script.proofs.CleanLists.{AreClean-push, slice_get-append_at}
 
 -- the lines so far have these forms, each is clean, and this is their summary; of all lines the last is `end`
 pub record AreSoFar (lines yielded : List Numbered) (fs : List Form) (s : Summary) : Type 0 where

@@ -1,6 +1,6 @@
 -- Why the names of a clean command are declared, and stay so.
-use Rattle.std.proofs.Common.{ℕ, ◌≡◌, ◌≢◌, ◌<◌, ◌≤◌, ◌++◌, true, false, List, [], ◌∷◌, length, Option, Some, None, zero, suc, ap, ◌∙◌, sym, refl, arith, ⊎_elim, inr}
-use Rattle.std.specs.Prelude.{slice_get, option_and_then, IsSomeAnd, ◌⊎◌}
+use Rattle.std.proofs.Common.{ℕ, ◌≡◌, ◌≢◌, ◌≤◌, ◌++◌, true, false, List, [], ◌∷◌, length, Option, Some, None, zero, suc, ap, ◌∙◌, sym, refl, arith, ⊎_elim, inr}
+use Rattle.std.specs.Prelude.{slice_get, option_and_then, IsSomeAnd}
 use Rattle.std.proofs.lemmas.List.{length_push}
 use Rattle.std.proofs.lemmas.Bool.{cases_eq}
 use Rattle.hwp_geom.specs.Layout.{IsBacked}
@@ -11,15 +11,14 @@ use Rattle.hwp_geom.specs.declared.PageKind.TheVariants as kinds
 use Rattle.hwp_geom.specs.declared.ThreadDecl.{ThreadDecl}
 use Rattle.hwp_geom.specs.declared.TransDecl.{TransDecl}
 use Rattle.hwp_form.specs.declared.Form.{Form}
-use Rattle.hwp_form.specs.declared.Order.{Order}
-use Rattle.hwp_form.specs.declared.Order.TheVariants as orders
 use Rattle.hwp_form.specs.declared.Backing.{Backing}
 use Rattle.hwp_form.specs.declared.Backing.TheVariants as backings
-use Rattle.hwp_script.specs.Context.{cpus_in, frames_in, files_in, procs_in, threads_in, pages_in, trans_in, kind_of, ordered}
-use Rattle.hwp_script.specs.Reasons.{IsOver, IsAccessOver, IsForeign, IsNoFilePage, IsNoAnonPage, IsUndeclared, IsElsewhere, IsBackingUndeclared, actor}
+use Rattle.hwp_script.specs.Context.{cpus_in, frames_in, files_in, procs_in, threads_in, pages_in, trans_in, kind_of}
+use Rattle.hwp_form.specs.Grammar.{CommandFits}
+use Rattle.hwp_script.specs.Reasons.{IsForeign, IsNoFilePage, IsNoAnonPage, IsUndeclared, IsElsewhere, IsBackingUndeclared, actor}
 use Rattle.hwp_script.specs.Valid.{IsThreadOf, IsAccess, IsFile, IsAnon, IsCommandOf}
-use Rattle.hwp_script.specs.declared.script.Command.{Command}
-use Rattle.hwp_script.specs.declared.script.Command.TheVariants as commands
+use Rattle.hwp_form.specs.declared.Command.{Command}
+use Rattle.hwp_form.specs.declared.Command.TheVariants as commands
 use Rattle.hwp_script.proofs.ContextLaws.{onto, plus, more, pushed}
 
 -- the names that lines declare
@@ -141,9 +140,6 @@ own c place (Some t) (Some v) e foreign here =
     let same : t.process.0 ≡ v.process.0 = ⊎_elim (λ (e : t.process.0 ≡ v.process.0). e) (λ (n : t.process.0 ≢ v.process.0). absurd (foreign n)) (cases_eq t.process.0 v.process.0) in
     (same_cpu t place c e here, let P : ℕ → Proc = λ n. record { 0 = n } in sym (ap P same))
 
-low_line : (t v l : ℕ) → (IsAccessOver t v l → ⊥) → l < 64
-low_line t v l h = let over : 64 ≤ l → ⊥ = λ e. h (inr (inr e)) in omega arith
-
 thread_here : (threads : List ThreadDecl) (t c place : ℕ) → place ≡ c → (length threads ≤ t → ⊥) → (IsElsewhere (Some place) (slice_get threads t) → ⊥)
     → IsSomeAnd (slice_get threads t) (λ (t : ThreadDecl). t.cpu.0 ≡ c)
 thread_here [] t c place e named here = absurd (named (omega arith))
@@ -160,34 +156,26 @@ anon_page None h = absurd (h tt)
 anon_page (Some kinds.Anon) h = tt
 anon_page (Some (kinds.File file fill)) h = absurd (h tt)
 
-frame_line : (f l n : ℕ) → ((256 ≤ f) ⊎ (64 ≤ l) → ⊥) → (n ≤ f → ⊥) → (f < n) × (l < 64)
-frame_line f l n low named = let over : 64 ≤ l → ⊥ = λ e. low (inr e) in (omega arith, omega arith)
-
-frame_range : (a b n : ℕ) → ((256 ≤ a) ⊎ (256 ≤ b) ⊎ (b < a) → ⊥) → ((n ≤ a) ⊎ (n ≤ b) → ⊥) → (a ≤ b) × (b < n)
-frame_range a b n low named =
-    let over : b < a → ⊥ = λ e. low (inr (inr e)) in
-    let none : n ≤ b → ⊥ = λ e. named (inr e) in (omega arith, omega arith)
-
 -- a clean command of processor c's list is one of that processor
-pub order_valid : (above : List Form) (o : Order) (c place : ℕ) → place ≡ c → (IsOver o → ⊥) → (IsUndeclared above o → ⊥)
-    → (IsElsewhere (Some place) (option_and_then (λ t. slice_get (threads_in above) t) (actor o)) → ⊥) → IsCommandOf (names_in above) c (ordered o)
-order_valid above (orders.Load t v l) c place e low named here = (own c place _ _ e named here, low_line t v l low)
-order_valid above (orders.Fetch t v l) c place e low named here = (own c place _ _ e named here, low_line t v l low)
-order_valid above (orders.KLoad t v l) c place e low named here = (own c place _ _ e named here, low_line t v l low)
-order_valid above (orders.Store t v l x) c place e low named here = (own c place _ _ e named here, low_line t v l low)
-order_valid above (orders.Free v) c place e low named here = omega arith
-order_valid above (orders.Drop q) c place e low named here = omega arith
-order_valid above (orders.Sync q) c place e low named here = file_page _ named
-order_valid above (orders.Out q) c place e low named here = anon_page _ named
-order_valid above (orders.Fsync n) c place e low named here = omega arith
-order_valid above (orders.Prctl t args) c place e low named here = thread_here (threads_in above) t c place e named here
-order_valid above (orders.Bad f l) c place e low named here = frame_line f l _ low named
-order_valid above (orders.Weak f l) c place e low named here = frame_line f l _ low named
-order_valid above (orders.Scrub a b) c place e low named here = frame_range a b _ low named
-order_valid above (orders.Log s a m) c place e low named here = tt
-order_valid above (orders.RaiseUser t r x) c place e low named here = thread_here (threads_in above) t c place e named here
-order_valid above (orders.RaiseKernel r x) c place e low named here = tt
-order_valid above orders.RaiseNested c place e low named here = tt
-order_valid above (orders.Inject f) c place e low named here = omega arith
-order_valid above (orders.Soft f) c place e low named here = omega arith
-order_valid above (orders.Unpoison f) c place e low named here = omega arith
+pub command_valid : (above : List Form) (x : Command) (c place : ℕ) → place ≡ c → CommandFits x → (IsUndeclared above x → ⊥)
+    → (IsElsewhere (Some place) (option_and_then (λ t. slice_get (threads_in above) t) (actor x)) → ⊥) → IsCommandOf (names_in above) c x
+command_valid above (commands.Load t v l) c place e fits named here = (own c place _ _ e named here, fits.2)
+command_valid above (commands.Fetch t v l) c place e fits named here = (own c place _ _ e named here, fits.2)
+command_valid above (commands.KLoad t v l) c place e fits named here = (own c place _ _ e named here, fits.2)
+command_valid above (commands.Store t v l x) c place e fits named here = (own c place _ _ e named here, fits.0.2)
+command_valid above (commands.Free v) c place e fits named here = omega arith
+command_valid above (commands.Drop q) c place e fits named here = omega arith
+command_valid above (commands.Sync q) c place e fits named here = file_page _ named
+command_valid above (commands.Out q) c place e fits named here = anon_page _ named
+command_valid above (commands.Fsync n) c place e fits named here = omega arith
+command_valid above (commands.Prctl t args) c place e fits named here = thread_here (threads_in above) t.0 c place e named here
+command_valid above (commands.Bad f l) c place e fits named here = (omega arith, fits.1)
+command_valid above (commands.Weak f l) c place e fits named here = (omega arith, fits.1)
+command_valid above (commands.Scrub a b) c place e fits named here = let none : frames_in above ≤ b.0 → ⊥ = λ k. named (inr k) in (fits.0, omega arith)
+command_valid above (commands.Log s a m) c place e fits named here = tt
+command_valid above (commands.RaiseUser t r x) c place e fits named here = thread_here (threads_in above) t.0 c place e named here
+command_valid above (commands.RaiseKernel r x) c place e fits named here = tt
+command_valid above commands.RaiseNested c place e fits named here = tt
+command_valid above (commands.Inject f) c place e fits named here = omega arith
+command_valid above (commands.Soft f) c place e fits named here = omega arith
+command_valid above (commands.Unpoison f) c place e fits named here = omega arith

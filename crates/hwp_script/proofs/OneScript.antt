@@ -6,12 +6,11 @@ use Rattle.hwp_geom.specs.declared.ThreadDecl.{ThreadDecl}
 use Rattle.hwp_geom.specs.declared.TransDecl.{TransDecl}
 use Rattle.hwp_geom.specs.declared.PageKind.{PageKind}
 use Rattle.hwp_form.specs.declared.Form.{Form}
-use Rattle.hwp_form.specs.declared.LineRead.TheVariants as reads
 use Rattle.hwp_form.specs.declared.Numbered.{Numbered}
 use Rattle.hwp_form.proofs.LineLaws.{one_reading}
 use Rattle.hwp_script.specs.declared.script.Script.{Script}
-use Rattle.hwp_script.specs.declared.script.Command.{Command}
-use Rattle.hwp_script.specs.declared.script.Go.{Go}
+use Rattle.hwp_form.specs.declared.Command.{Command}
+use Rattle.hwp_form.specs.declared.Go.{Go}
 use Rattle.hwp_script.specs.Collects.{Collects}
 use Rattle.hwp_script.specs.Reads.{Reads}
 use Rattle.hwp_script.proofs.ReadLaws.{same_forms}

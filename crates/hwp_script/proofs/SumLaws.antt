@@ -1,13 +1,16 @@
 -- What one more clean line does to a summary.
-use Rattle.std.proofs.lemmas.List.{take_more}
-use Rattle.std.proofs.Common.{ℕ, ◌≡◌, ◌≢◌, ◌<◌, ◌≤◌, ◌+◌, ◌++◌, Bool, true, false, List, [], ◌∷◌, length, take, get_or, set, replicate, Some, ap, map, ◌∙◌, sym, refl, arith, zero, suc, ⊎_elim}
-use Rattle.std.specs.Prelude.{◌↔◌, slice_get, Contains}
+use Rattle.std.proofs.Common.{ℕ, ◌≡◌, ◌≢◌, ◌<◌, ◌≤◌, ◌++◌, Bool, true, false, List, [], ◌∷◌, length, set, replicate, Option, Some, None, ap, map, ◌∙◌, sym, refl, arith, zero, suc, ⊎_elim}
+use Rattle.std.specs.Prelude.{◌↔◌, slice_get, Contains, IfSome}
+use Rattle.std.specs.List.{range_with_len}
 use Rattle.std.proofs.lemmas.List.Elements.{Contains-push, Contains-append_left, Contains-push_cases}
+use Rattle.std.proofs.lemmas.List.FromFn.{length-map-range_with_len}
 use Rattle.std.proofs.lemmas.Bool.{cases_eq}
-use Rattle.hwp_script.specs.Context.{cpus_of, frames_of, kernel_of, recovery_of, early_of, file_of, proc_of, thread_of, page_of, trans_of, cpu_of, command_of, words_of, go_of, place_after, frames_in, kernel_in, group as group_of, highest}
+use Rattle.hwp_script.specs.Context.{cpus_of, frames_of, kernel_of, recovery_of, early_of, file_of, proc_of, thread_of, page_of, trans_of, cpu_of, command_of, words_of, place_after, cpus_in, frames_in, kernel_in, group as group_of, highest}
+use Rattle.hwp_script.specs.Collects.{commands_of}
 use Rattle.hwp_script.specs.Sums.{Sums}
 use Rattle.hwp_script.specs.declared.context.Summary.{Summary}
 use Rattle.hwp_form.specs.declared.Form.{Form}
+use Rattle.hwp_script.proofs.CollectLaws.{lists_after, lists_step}
 use Rattle.hwp_script.proofs.ContextLaws.{onto, plus, more, either, pushed}
 
 -- the marks are those of these frames of the kernel
@@ -20,12 +23,15 @@ pub next_sums : (above : List Form) (f : Form) (s t : Summary) → Sums above s
     → length t.kernel.items ≡ plus (frames_of f) (length s.kernel.items) → AreMarks t.kernel.items (onto (kernel_of f) (kernel_in above))
     → t.recovery ≡ either s.recovery (recovery_of f) → t.early ≡ either s.early (early_of f) → t.files ≡ more (file_of f) s.files
     → t.procs ≡ more (proc_of f) s.procs → t.threads ≡ onto (thread_of f) s.threads → t.pages ≡ onto (page_of f) s.pages
-    → t.trans ≡ onto (trans_of f) s.trans → t.lists ≡ onto (cpu_of f) s.lists → t.place ≡ place_after s.place f
-    → t.commands ≡ more (command_of f) s.commands → t.go ≡ s.go ++ map go_of (words_of f) → Sums (above ++ f ∷ []) t
-next_sums above f s t h late group cpus frames marks kernel recovery early files procs threads pages trans lists place commands go =
-    let p = pushed above f in record {
+    → t.trans ≡ onto (trans_of f) s.trans → t.begun ≡ onto (cpu_of f) s.begun → t.place ≡ place_after s.place f
+    → t.commands ≡ more (command_of f) s.commands → t.go ≡ s.go ++ words_of f → IfSome t.place (λ (p : ℕ). p < t.cpus)
+    → t.lists.items ≡ lists_after f s.place t.cpus s.lists.items → Sums (above ++ f ∷ []) t
+next_sums above f s t h late group cpus frames marks kernel recovery early files procs threads pages trans begun place commands go within lists =
+    let p = pushed above f in
+    let many : t.cpus ≡ cpus_in (above ++ f ∷ []) = cpus ∙ ap (plus (cpus_of f)) h.cpus ∙ sym p.cpus in
+    record {
       group = omega (arith, p.group);
-      cpus = cpus ∙ ap (plus (cpus_of f)) h.cpus ∙ sym p.cpus;
+      cpus = many;
       frames = frames ∙ ap (plus (frames_of f)) h.frames ∙ sym p.frames;
       marks = marks ∙ ap (plus (frames_of f)) h.marks ∙ sym p.frames;
       kernel = λ frame. rw p.kernel (kernel.each frame);
@@ -36,11 +42,22 @@ next_sums above f s t h late group cpus frames marks kernel recovery early files
       threads = threads ∙ ap (onto (thread_of f)) h.threads ∙ sym p.threads;
       pages = pages ∙ ap (onto (page_of f)) h.pages ∙ sym p.pages;
       trans = trans ∙ ap (onto (trans_of f)) h.trans ∙ sym p.trans;
-      lists = lists ∙ ap (onto (cpu_of f)) h.lists ∙ sym p.lists;
+      begun = begun ∙ ap (onto (cpu_of f)) h.begun ∙ sym p.lists;
       place = place ∙ ap (λ at. place_after at f) h.place ∙ sym p.place;
+      within = within;
       commands = commands ∙ ap (more (command_of f)) h.commands ∙ sym p.commands;
-      go = go ∙ ap (λ t. t ++ map go_of (words_of f)) h.go ∙ sym p.go;
+      lists = lists ∙ lists_step above f s.place s.lists.items (cpus_in above) t.cpus late (sym h.place) (rw h.cpus at h.within) h.lists (cpus ∙ ap (plus (cpus_of f)) h.cpus)
+          ∙ ap (λ n. map (commands_of (above ++ f ∷ [])) (range_with_len 0 n)) many;
+      go = go ∙ ap (λ t. t ++ words_of f) h.go ∙ sym p.go;
     }
+
+pub within_more : (o : Option ℕ) (a b : ℕ) → a ≤ b → IfSome o (λ (p : ℕ). p < a) → IfSome o (λ (p : ℕ). p < b)
+within_more None a b l h = tt
+within_more (Some p) a b l h = omega (arith, l, h)
+
+-- each processor has a list
+pub many_lists : {above : List Form} {s : Summary} → Sums above s → length s.lists.items ≡ s.cpus
+many_lists {above} {s} h = ap length h.lists ∙ length-map-range_with_len (commands_of above) 0 (cpus_in above) ∙ sym h.cpus
 
 -- a line that leaves the marks alone
 pub same_marks : {above : List Form} {s : Summary} → Sums above s → AreMarks s.kernel.items (kernel_in above)

@@ -2,8 +2,8 @@
 use Rattle.std.proofs.Common.{ℕ, ◌≡◌, ◌≢◌, ◌<◌, ◌≤◌, ◌+◌, ◌-◌, ◌++◌, ◌==◌, Bool, true, false, if◌then◌else◌, List, [], ◌∷◌, length, get_or, map, take, Option, Some, None, zero, suc, ap, subst, ◌∙◌, sym, refl, arith, add-one, ⊎_elim}
 use Rattle.std.specs.Prelude.{All, sum_by, filter_map, slice_get, option_to_list}
 use Rattle.std.specs.List.{range_with_len, cons_option}
-use Rattle.std.proofs.lemmas.List.{take_more, take_all, length-append, length_push, append-nil, length-map}
-use Rattle.std.proofs.lemmas.List.Elements.{All-nil, All-cons, All-append, All-push, All-weaker}
+use Rattle.std.proofs.lemmas.List.{take_more, take_all, length-append, length_push, append-nil}
+use Rattle.std.proofs.lemmas.List.Elements.{All-nil, All-cons, All-append, All-push, All-weaker, All-get_or}
 use Rattle.std.proofs.lemmas.List.Sums.{sum_by-cons}
 use Rattle.std.proofs.lemmas.List.FromFn.{length-map-range_with_len}
 use Rattle.std.proofs.lemmas.Option.{slice_get-get_or, slice_get_within, get_or_from_slice_get}
@@ -18,20 +18,19 @@ use Rattle.hwp_geom.specs.declared.TransDecl.{TransDecl}
 use Rattle.hwp_form.specs.Grammar.{Fits}
 use Rattle.hwp_form.specs.declared.Form.{Form}
 use Rattle.hwp_form.specs.declared.Form.TheVariants as forms
-use Rattle.hwp_form.specs.declared.GoWord.{GoWord}
-use Rattle.hwp_script.specs.Context.{cpus_of, frames_of, file_of, proc_of, thread_of, page_of, trans_of, command_of, words_of, go_of, cpus_in, frames_in, files_in, procs_in, threads_in, pages_in, trans_in, commands_in, go_in, place_in, place_after}
+use Rattle.hwp_form.specs.declared.Go.{Go}
+use Rattle.hwp_script.specs.Context.{cpus_of, frames_of, file_of, proc_of, thread_of, page_of, trans_of, command_of, words_of, cpus_in, frames_in, files_in, procs_in, threads_in, pages_in, trans_in, commands_in, go_in, place_in, place_after}
 use Rattle.hwp_script.specs.Reasons.{IsClean, AreClean, top_cpu}
 use Rattle.hwp_script.specs.Collects.{command_at, commands_from, commands_of, IsEnded, Collects}
 use Rattle.hwp_script.specs.Valid.{IsCommandOf, AreLists, IsValid}
 use Rattle.hwp_script.specs.Reads.{Reads}
 use Rattle.hwp_script.specs.declared.script.Script.{Script}
-use Rattle.hwp_script.specs.declared.script.Go.{Go}
-use Rattle.hwp_script.specs.declared.script.Command.{Command}
+use Rattle.hwp_form.specs.declared.Command.{Command}
 use Rattle.hwp_script.proofs.ContextLaws.{onto, plus, more, pushed}
-use Rattle.hwp_script.proofs.CleanLaws.{clean_cpus, clean_frames, clean_file, clean_proc, clean_thread, clean_page, clean_trans, clean_order, clean_schedule, clean_end}
+use Rattle.hwp_script.proofs.CleanLaws.{clean_cpus, clean_frames, clean_file, clean_proc, clean_thread, clean_page, clean_trans, clean_command, clean_schedule, clean_end}
 use Rattle.hwp_script.proofs.CollectLaws.{commands_of-push}
 use Rattle.hwp_script.proofs.FitLaws.{lines_fit, all_fills, all_words}
-use Rattle.hwp_script.proofs.NameLaws.{names_in, Grows, grows_line, command_kept, backed_kept, backed, order_valid, plus_le, more_le, onto_le}
+use Rattle.hwp_script.proofs.NameLaws.{names_in, Grows, grows_line, command_kept, backed_kept, backed, command_valid, plus_le, more_le, onto_le}
 
 -- the numbers stay within their limits
 cpus_step : (above : List Form) (f : Form) → cpus_in above ≤ 8 → IsClean above f → plus (cpus_of f) (cpus_in above) ≤ 8
@@ -63,11 +62,11 @@ files_step above (forms.File n) h k = omega (arith, (clean_file k).few, (clean_f
 files_step above f h k = h
 
 commands_step : (above : List Form) (f : Form) → commands_in above ≤ command_limit → IsClean above f → more (command_of f) (commands_in above) ≤ command_limit
-commands_step above (forms.Order o) h k = omega (arith, (clean_order k).few)
+commands_step above (forms.Command x) h k = omega (arith, (clean_command k).few)
 commands_step above f h k = h
 
-go_count_step : (above : List Form) (f : Form) → length (go_in above) ≤ schedule_limit → IsClean above f → length (go_in above ++ map go_of (words_of f)) ≤ schedule_limit
-go_count_step above (forms.Schedule ws) h k = simp (length-append, length-map) (simp length-map at (clean_schedule k).few)
+go_count_step : (above : List Form) (f : Form) → length (go_in above) ≤ schedule_limit → IsClean above f → length (go_in above ++ words_of f) ≤ schedule_limit
+go_count_step above (forms.Schedule ws) h k = simp length-append (clean_schedule k).few
 go_count_step above f h k = rw append-nil h
 
 -- the names in declarations are declared
@@ -98,12 +97,12 @@ page_names_step above f h k = h
 abbrev pub IsNamedGo : ℕ → Go → Type 0
 IsNamedGo cpus g = g.cpu.0 < cpus
 
-go_words : (n : ℕ) (ws : List GoWord) → top_cpu ws < n → All (IsNamedGo n) (map go_of ws)
+go_words : (n : ℕ) (ws : List Go) → top_cpu ws < n → All (IsNamedGo n) ws
 go_words n [] l = All-nil (IsNamedGo n)
 go_words n (w ∷ ws) l = All-cons (IsNamedGo n) _ _ (omega arith) (go_words n ws (omega arith))
 
 go_step : (above : List Form) (f : Form) → All (IsNamedGo (cpus_in above)) (go_in above) → IsClean above f
-    → All (IsNamedGo (cpus_in above)) (go_in above ++ map go_of (words_of f))
+    → All (IsNamedGo (cpus_in above)) (go_in above ++ words_of f)
 go_step above (forms.Schedule ws) h k = All-append (IsNamedGo (cpus_in above)) _ _ h (go_words (cpus_in above) ws (clean_schedule k).cpus)
 go_step above f h k = rw append-nil h
 
@@ -112,20 +111,20 @@ added : (P : Command → Type 0) (test : Bool) (command : Command) → (test ≡
 added P true command h = All-cons P command [] (h refl) (All-nil P)
 added P false command h = All-nil P
 
-no_command : (P : Command → Type 0) (test : Bool) → All P (option_to_list (if test then None else None))
-no_command P true = All-nil P
-no_command P false = All-nil P
+none_added : (P : Command → Type 0) (test : Bool) → All P (option_to_list (if test then None else None))
+none_added P true = All-nil P
+none_added P false = All-nil P
 
 same_place : (place c : ℕ) → (place == c) ≡ true → place ≡ c
 same_place place c e = grind (arith, nat_tests)
 
-added_command : (above : List Form) (f : Form) (c : ℕ) (place : Option ℕ) → place_in above ≡ place → IsClean above f
+added_command : (above : List Form) (f : Form) (c : ℕ) (place : Option ℕ) → place_in above ≡ place → IsClean above f → Fits f
     → All (IsCommandOf (names_in above) c) (option_to_list (command_at place c f))
-added_command above f c None e k = All-nil (IsCommandOf (names_in above) c)
-added_command above (forms.Order o) c (Some place) e k =
-    let o_is = clean_order k in
-    added (IsCommandOf (names_in above) c) (place == c) _ (λ is. order_valid above o c place (same_place place c is) o_is.low o_is.named (rw e at o_is.here))
-added_command above f c (Some place) e k = no_command (IsCommandOf (names_in above) c) (place == c)
+added_command above f c None e k fits = All-nil (IsCommandOf (names_in above) c)
+added_command above (forms.Command x) c (Some place) e k fits =
+    let is = clean_command k in
+    added (IsCommandOf (names_in above) c) (place == c) _ (λ t. command_valid above x c place (same_place place c t) fits is.named (rw e at is.here))
+added_command above f c (Some place) e k fits = none_added (IsCommandOf (names_in above) c) (place == c)
 
 -- what clean lines declare
 pub record IsDeclared (fs : List Form) : Type 0 where
@@ -162,8 +161,8 @@ declared_none = record {
   few_go = omega arith;
 }
 
-declared_step : (above : List Form) (f : Form) → IsDeclared above → IsClean above f → IsDeclared (above ++ f ∷ [])
-declared_step above f h k =
+declared_step : (above : List Form) (f : Form) → IsDeclared above → IsClean above f → Fits f → IsDeclared (above ++ f ∷ [])
+declared_step above f h k fits =
     let p = pushed above f in
     let grows = grows_line above f in
     let procs : procs_in above ≤ more (proc_of f) (procs_in above) = more_le (proc_of f) (procs_in above) in
@@ -190,22 +189,22 @@ declared_step above f h k =
           (All-weaker (IsCommandOf (names_in above) c) (IsCommandOf (names_in (above ++ f ∷ [])) c)
           (command_kept (names_in above) (names_in (above ++ f ∷ [])) c grows) (commands_of above c ++ option_to_list (command_at (place_in above) c f))
           (All-append (IsCommandOf (names_in above) c) (commands_of above c) (option_to_list (command_at (place_in above) c f))
-          (h.own c) (added_command above f c (place_in above) refl k)));
+          (h.own c) (added_command above f c (place_in above) refl k fits)));
       go = rw (p.cpus, p.go) (All-weaker (IsNamedGo (cpus_in above)) (IsNamedGo (plus (cpus_of f) (cpus_in above))) (λ g l. omega (arith, cpus)) _ (go_step above f h.go k));
       few_go = rw p.go (go_count_step above f h.few_go k);
     }
 
-declared_upto : (fs : List Form) → AreClean fs → (n : ℕ) → n ≤ length fs → IsDeclared (take n fs)
-declared_upto fs h zero l = declared_none
-declared_upto fs h (suc n) l =
+declared_upto : (fs : List Form) → AreClean fs → All Fits fs → (n : ℕ) → n ≤ length fs → IsDeclared (take n fs)
+declared_upto fs h fit zero l = declared_none
+declared_upto fs h fit (suc n) l =
     let within : n < length fs = omega arith in
     let e : take (n + 1) fs ≡ take n fs ++ get_or fs n forms.End ∷ [] = take_more fs n forms.End within in
-    let step = declared_step (take n fs) (get_or fs n forms.End) (declared_upto fs h n (omega arith)) (h.each n _ (slice_get-get_or fs n forms.End within)) in
+    let step = declared_step (take n fs) (get_or fs n forms.End) (declared_upto fs h fit n (omega arith)) (h.each n _ (slice_get-get_or fs n forms.End within)) (All-get_or Fits fs n forms.End within fit) in
     rw (← add-one n, e) step
 
-pub declared : (fs : List Form) → AreClean fs → IsDeclared fs
-declared fs h =
-    let whole : take (length fs) fs ≡ fs = take_all (length fs) fs (omega arith) in rw whole at (declared_upto fs h (length fs) (omega arith))
+pub declared : (fs : List Form) → AreClean fs → All Fits fs → IsDeclared fs
+declared fs h fit =
+    let whole : take (length fs) fs ≡ fs = take_all (length fs) fs (omega arith) in rw whole at (declared_upto fs h fit (length fs) (omega arith))
 
 -- the commands of all lists
 total : List (List Command) → ℕ
@@ -305,7 +304,7 @@ has_size fs h e =
 -- the script of clean lines is valid
 valid : (fs : List Form) (s : Script) → AreClean fs → IsEnded fs → Collects fs s → All Fits fs → IsValid s
 valid fs s clean ended h fit =
-    let d = declared fs clean in
+    let d = declared fs clean fit in
     let size = has_size fs clean ended in
     let grows : Grows (names_in fs) s.layout = record {
       frames = omega (arith, h.frames);

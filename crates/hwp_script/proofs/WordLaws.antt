@@ -1,25 +1,18 @@
 -- The highest processor that words of a schedule name.
-use Rattle.std.proofs.Common.{ℕ, ◌≡◌, ◌<◌, ◌≤◌, ◌+◌, ◌++◌, max, List, [], ◌∷◌, length, take, get_or, ap, ◌∙◌, arith, zero, suc}
-use Rattle.std.specs.Prelude.{All}
+use Rattle.std.proofs.Common.{ℕ, ◌≡◌, ◌<◌, ◌≤◌, ◌+◌, ◌++◌, max, List, [], ◌∷◌, length, take, get_or, ap, ◌∙◌, arith}
 use Rattle.std.proofs.lemmas.List.{take_more, take_all}
-use Rattle.std.proofs.lemmas.List.Elements.{All-nil, All-cons}
-use Rattle.hwp_form.specs.declared.GoWord.{GoWord}
+use Rattle.hwp_form.specs.declared.Go.{Go}
 use Rattle.hwp_script.specs.Reasons.{top_cpu}
 
-top_cpu-push : (ws : List GoWord) (w : GoWord) → top_cpu (ws ++ w ∷ []) ≡ max (top_cpu ws) w.cpu
+top_cpu-push : (ws : List Go) (w : Go) → top_cpu (ws ++ w ∷ []) ≡ max (top_cpu ws) w.cpu.0
 top_cpu-push [] w = omega arith
 top_cpu-push (v ∷ ws) w = let e = top_cpu-push ws w in omega arith
 
-pub top_cpu-more : (ws : List GoWord) (i : ℕ) (d : GoWord) (m n : ℕ) → i < length ws → m ≡ top_cpu (take i ws)
-    → n ≡ max m (get_or ws i d).cpu → n ≡ top_cpu (take (i + 1) ws)
+pub top_cpu-more : (ws : List Go) (i : ℕ) (d : Go) (m n : ℕ) → i < length ws → m ≡ top_cpu (take i ws)
+    → n ≡ max m (get_or ws i d).cpu.0 → n ≡ top_cpu (take (i + 1) ws)
 top_cpu-more ws i d m n l h e =
-    let more : top_cpu (take (i + 1) ws) ≡ max (top_cpu (take i ws)) (get_or ws i d).cpu = ap top_cpu (take_more ws i d l) ∙ top_cpu-push (take i ws) (get_or ws i d) in
+    let more : top_cpu (take (i + 1) ws) ≡ max (top_cpu (take i ws)) (get_or ws i d).cpu.0 = ap top_cpu (take_more ws i d l) ∙ top_cpu-push (take i ws) (get_or ws i d) in
     omega arith
 
-pub top_cpu-all : (ws : List GoWord) (i : ℕ) → length ws ≤ i → top_cpu (take i ws) ≡ top_cpu ws
+pub top_cpu-all : (ws : List Go) (i : ℕ) → length ws ≤ i → top_cpu (take i ws) ≡ top_cpu ws
 top_cpu-all ws i l = ap top_cpu (take_all i ws l)
-
-pub top_cpu-at : (ws : List GoWord) (i : ℕ) (d : GoWord) → i < length ws → (get_or ws i d).cpu ≤ top_cpu ws
-top_cpu-at [] i d l = absurd (omega arith)
-top_cpu-at (w ∷ ws) zero d l = omega arith
-top_cpu-at (w ∷ ws) (suc i) d l = omega (arith, top_cpu-at ws i d (omega arith))

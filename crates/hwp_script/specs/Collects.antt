@@ -1,9 +1,9 @@
 -- From the lines of a script to the script.
-use Rattle.std.specs.Prelude.{◌≡◌, ℕ, ◌-◌, ◌==◌, ◌++◌, ◌↔◌, true, false, if◌then◌else◌, length, map, slice_get, option_to_list, Contains, Option, Some, None, List, [], ◌∷◌}
-use Rattle.std.specs.List.{range_with_len}
+use Rattle.std.specs.Prelude.{◌≡◌, ℕ, ◌-◌, ◌==◌, ◌++◌, ◌↔◌, true, false, if◌then◌else◌, length, map, get_or, slice_get, option_to_list, Contains, Option, Some, None, List, [], ◌∷◌}
+use Rattle.std.specs.List.{range_with_len, slice_set}
 use Rattle.std.specs.Option.{unwrap_or}
 use Rattle.hwp_script.specs.declared.script.Script.{Script}
-use Rattle.hwp_script.specs.declared.script.Command.{Command}
+use Rattle.hwp_form.specs.declared.Command.{Command}
 use Rattle.hwp_form.specs.declared.Form.{Form}
 use Rattle.hwp_form.specs.declared.Form.TheVariants as forms
 use Rattle.hwp_script.specs.Context.{command_of, place_after, cpus_in, frames_in, kernel_in, recovery_in, early_in, files_in, procs_in, threads_in, pages_in, trans_in, go_in}
@@ -21,6 +21,11 @@ commands_from place c (f ∷ fs) = option_to_list (command_at place c f) ++ comm
 -- the commands of processor c: those between its `cpu` line and the next one, the schedule, or `end`
 abbrev pub commands_of : List Form → ℕ → List Command
 commands_of fs c = commands_from None c fs
+
+-- the lists with one more command of processor `place`, if it stands in a list
+abbrev pub push_in : Option ℕ → Command → List (List Command) → List (List Command)
+push_in None command lists = lists
+push_in (Some place) command lists = slice_set lists place (get_or lists place [] ++ command ∷ [])
 
 -- the last line is `end`
 abbrev pub IsEnded : List Form → Type 0

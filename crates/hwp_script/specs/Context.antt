@@ -1,19 +1,15 @@
 -- What the lines above a line declare.
-use Rattle.std.specs.Prelude.{ℕ, ◌==◌, Bool, max, map, length, sum, fold, filter_map, flat_map, slice_get, Option, Some, None, List, [], ◌∷◌}
+use Rattle.std.specs.Prelude.{ℕ, ◌==◌, Bool, max, length, sum, fold, filter_map, flat_map, slice_get, Option, Some, None, List, [], ◌∷◌}
 use Rattle.hwp_geom.specs.declared.ThreadDecl.{ThreadDecl}
 use Rattle.hwp_geom.specs.declared.TransDecl.{TransDecl}
 use Rattle.hwp_geom.specs.declared.PageKind.{PageKind}
 use Rattle.hwp_geom.specs.declared.PageKind.TheVariants as kinds
 use Rattle.hwp_form.specs.declared.Form.{Form}
 use Rattle.hwp_form.specs.declared.Form.TheVariants as forms
-use Rattle.hwp_form.specs.declared.Order.{Order}
-use Rattle.hwp_form.specs.declared.Order.TheVariants as orders
 use Rattle.hwp_form.specs.declared.Backing.{Backing}
 use Rattle.hwp_form.specs.declared.Backing.TheVariants as backings
-use Rattle.hwp_form.specs.declared.GoWord.{GoWord}
-use Rattle.hwp_script.specs.declared.script.Command.{Command}
-use Rattle.hwp_script.specs.declared.script.Command.TheVariants as commands
-use Rattle.hwp_script.specs.declared.script.Go.{Go}
+use Rattle.hwp_form.specs.declared.Go.{Go}
+use Rattle.hwp_form.specs.declared.Command.{Command}
 
 -- the number of processors that a line declares
 abbrev pub cpus_of : Form → Option ℕ
@@ -75,40 +71,13 @@ abbrev pub cpu_of : Form → Option ℕ
 cpu_of (forms.Cpu c) = Some c
 cpu_of f = None
 
--- a command, from its numbers
-abbrev pub ordered : Order → Command
-ordered (orders.Load t v l) = commands.Load (record { 0 = t }) (record { 0 = v }) l
-ordered (orders.Fetch t v l) = commands.Fetch (record { 0 = t }) (record { 0 = v }) l
-ordered (orders.KLoad t v l) = commands.KLoad (record { 0 = t }) (record { 0 = v }) l
-ordered (orders.Store t v l x) = commands.Store (record { 0 = t }) (record { 0 = v }) l x
-ordered (orders.Free v) = commands.Free (record { 0 = v })
-ordered (orders.Drop q) = commands.Drop (record { 0 = q })
-ordered (orders.Sync q) = commands.Sync (record { 0 = q })
-ordered (orders.Out q) = commands.Out (record { 0 = q })
-ordered (orders.Fsync n) = commands.Fsync (record { 0 = n })
-ordered (orders.Prctl t args) = commands.Prctl (record { 0 = t }) args
-ordered (orders.Bad f l) = commands.Bad (record { 0 = f }) l
-ordered (orders.Weak f l) = commands.Weak (record { 0 = f }) l
-ordered (orders.Scrub a b) = commands.Scrub (record { 0 = a }) (record { 0 = b })
-ordered (orders.Log s a m) = commands.Log s a m
-ordered (orders.RaiseUser t r e) = commands.RaiseUser (record { 0 = t }) (r == 1) (e == 1)
-ordered (orders.RaiseKernel r e) = commands.RaiseKernel (r == 1) (e == 1)
-ordered orders.RaiseNested = commands.RaiseNested
-ordered (orders.Inject f) = commands.Inject (record { 0 = f })
-ordered (orders.Soft f) = commands.Soft (record { 0 = f })
-ordered (orders.Unpoison f) = commands.Unpoison (record { 0 = f })
-
 -- the command that a line is
 abbrev pub command_of : Form → Option Command
-command_of (forms.Order o) = Some (ordered o)
+command_of (forms.Command c) = Some c
 command_of f = None
 
--- a word of the schedule, from its number
-abbrev pub go_of : GoWord → Go
-go_of w = record { cpu = record { 0 = w.cpu }; until = w.until }
-
 -- the words of the schedule that a line has
-abbrev pub words_of : Form → List GoWord
+abbrev pub words_of : Form → List Go
 words_of (forms.Schedule ws) = ws
 words_of f = []
 
@@ -162,7 +131,7 @@ commands_in above = length (filter_map command_of above)
 
 -- the words of the schedule
 abbrev pub go_in : List Form → List Go
-go_in above = map go_of (flat_map words_of above)
+go_in above = flat_map words_of above
 
 -- the processor in whose list the lines after a line stand, from that before it
 abbrev pub place_after : Option ℕ → Form → Option ℕ
@@ -189,7 +158,7 @@ group (forms.Thread t p c h) = 8
 group (forms.Page q b) = 9
 group (forms.Trans v p q) = 10
 group (forms.Cpu c) = 11
-group (forms.Order o) = 11
+group (forms.Command c) = 11
 group (forms.Schedule ws) = 12
 group forms.End = 13
 

@@ -1,9 +1,8 @@
 pub mod Limits
 pub mod Context
 pub mod Reasons
-pub mod Sums
 pub mod Collects
+pub mod Sums
 pub mod Refusals
-pub mod Judged
 pub mod Valid
 pub mod Reads

@@ -4,14 +4,14 @@ use Rattle.hwp_geom.specs.declared.ThreadDecl.{ThreadDecl}
 use Rattle.hwp_geom.specs.declared.TransDecl.{TransDecl}
 use Rattle.hwp_geom.specs.declared.PageKind.{PageKind}
 use Rattle.hwp_geom.specs.declared.PageKind.TheVariants as kinds
-use Rattle.hwp_geom.specs.Limits.{line_limit, cpu_limit, frame_limit, file_limit, process_limit, thread_limit, page_limit, translation_limit, command_limit}
+use Rattle.hwp_geom.specs.Limits.{cpu_limit, frame_limit, file_limit, process_limit, thread_limit, page_limit, translation_limit, command_limit}
 use Rattle.hwp_form.specs.declared.Form.{Form}
 use Rattle.hwp_form.specs.declared.Form.TheVariants as forms
-use Rattle.hwp_form.specs.declared.Order.{Order}
-use Rattle.hwp_form.specs.declared.Order.TheVariants as orders
 use Rattle.hwp_form.specs.declared.Backing.{Backing}
 use Rattle.hwp_form.specs.declared.Backing.TheVariants as backings
-use Rattle.hwp_form.specs.declared.GoWord.{GoWord}
+use Rattle.hwp_form.specs.declared.Go.{Go}
+use Rattle.hwp_form.specs.declared.Command.{Command}
+use Rattle.hwp_form.specs.declared.Command.TheVariants as commands
 use Rattle.hwp_script.specs.Limits.{schedule_limit}
 use Rattle.hwp_script.specs.Context.{cpus_in, frames_in, kernel_in, recovery_in, early_in, files_in, procs_in, threads_in, pages_in, trans_in, lists_in, commands_in, go_in, place_in, highest}
 use Rattle.hwp_script.specs.declared.why.Why.{Why}
@@ -20,33 +20,6 @@ use Rattle.hwp_script.specs.declared.why.Why.TheVariants as whys
 -- a line of this group follows one of a higher group, or stands before the numbers of processors and frames
 abbrev pub IsMisplaced : List Form → ℕ → Type 0
 IsMisplaced above n = (n < highest above) ⊎ (cpus_in above ≡ 0) ⊎ (frames_in above ≡ 0)
-
--- an access names a thread, a translation or a line that is too high
-abbrev pub IsAccessOver : ℕ → ℕ → ℕ → Type 0
-IsAccessOver t v l = (thread_limit ≤ t) ⊎ (translation_limit ≤ v) ⊎ (line_limit ≤ l)
-
--- a number of a command is outside its range
-abbrev pub IsOver : Order → Type 0
-IsOver (orders.Load t v l) = IsAccessOver t v l
-IsOver (orders.Fetch t v l) = IsAccessOver t v l
-IsOver (orders.KLoad t v l) = IsAccessOver t v l
-IsOver (orders.Store t v l x) = IsAccessOver t v l
-IsOver (orders.Free v) = translation_limit ≤ v
-IsOver (orders.Drop q) = page_limit ≤ q
-IsOver (orders.Sync q) = page_limit ≤ q
-IsOver (orders.Out q) = page_limit ≤ q
-IsOver (orders.Fsync n) = file_limit ≤ n
-IsOver (orders.Prctl t args) = thread_limit ≤ t
-IsOver (orders.Bad f l) = (frame_limit ≤ f) ⊎ (line_limit ≤ l)
-IsOver (orders.Weak f l) = (frame_limit ≤ f) ⊎ (line_limit ≤ l)
-IsOver (orders.Scrub a b) = (frame_limit ≤ a) ⊎ (frame_limit ≤ b) ⊎ (b < a)
-IsOver (orders.Log s a m) = ⊥
-IsOver (orders.RaiseUser t r e) = (thread_limit ≤ t) ⊎ (1 < r) ⊎ (1 < e)
-IsOver (orders.RaiseKernel r e) = (1 < r) ⊎ (1 < e)
-IsOver orders.RaiseNested = ⊥
-IsOver (orders.Inject f) = frame_limit ≤ f
-IsOver (orders.Soft f) = frame_limit ≤ f
-IsOver (orders.Unpoison f) = frame_limit ≤ f
 
 -- a thread and a translation are not both declared, or are of two processes
 abbrev pub IsForeign : Option ThreadDecl → Option TransDecl → Type 0
@@ -64,37 +37,37 @@ IsNoAnonPage (Some kinds.Anon) = ⊥
 IsNoAnonPage q = Unit {0}
 
 -- a command names what is not declared above, or what is not of its kind
-abbrev pub IsUndeclared : List Form → Order → Type 0
-IsUndeclared above (orders.Load t v l) = IsForeign (slice_get (threads_in above) t) (slice_get (trans_in above) v)
-IsUndeclared above (orders.Fetch t v l) = IsForeign (slice_get (threads_in above) t) (slice_get (trans_in above) v)
-IsUndeclared above (orders.KLoad t v l) = IsForeign (slice_get (threads_in above) t) (slice_get (trans_in above) v)
-IsUndeclared above (orders.Store t v l x) = IsForeign (slice_get (threads_in above) t) (slice_get (trans_in above) v)
-IsUndeclared above (orders.Free v) = length (trans_in above) ≤ v
-IsUndeclared above (orders.Drop q) = length (pages_in above) ≤ q
-IsUndeclared above (orders.Sync q) = IsNoFilePage (slice_get (pages_in above) q)
-IsUndeclared above (orders.Out q) = IsNoAnonPage (slice_get (pages_in above) q)
-IsUndeclared above (orders.Fsync n) = files_in above ≤ n
-IsUndeclared above (orders.Prctl t args) = length (threads_in above) ≤ t
-IsUndeclared above (orders.Bad f l) = frames_in above ≤ f
-IsUndeclared above (orders.Weak f l) = frames_in above ≤ f
-IsUndeclared above (orders.Scrub a b) = (frames_in above ≤ a) ⊎ (frames_in above ≤ b)
-IsUndeclared above (orders.Log s a m) = ⊥
-IsUndeclared above (orders.RaiseUser t r e) = length (threads_in above) ≤ t
-IsUndeclared above (orders.RaiseKernel r e) = ⊥
-IsUndeclared above orders.RaiseNested = ⊥
-IsUndeclared above (orders.Inject f) = frames_in above ≤ f
-IsUndeclared above (orders.Soft f) = frames_in above ≤ f
-IsUndeclared above (orders.Unpoison f) = frames_in above ≤ f
+abbrev pub IsUndeclared : List Form → Command → Type 0
+IsUndeclared above (commands.Load t v l) = IsForeign (slice_get (threads_in above) t.0) (slice_get (trans_in above) v.0)
+IsUndeclared above (commands.Fetch t v l) = IsForeign (slice_get (threads_in above) t.0) (slice_get (trans_in above) v.0)
+IsUndeclared above (commands.KLoad t v l) = IsForeign (slice_get (threads_in above) t.0) (slice_get (trans_in above) v.0)
+IsUndeclared above (commands.Store t v l x) = IsForeign (slice_get (threads_in above) t.0) (slice_get (trans_in above) v.0)
+IsUndeclared above (commands.Free v) = length (trans_in above) ≤ v.0
+IsUndeclared above (commands.Drop q) = length (pages_in above) ≤ q.0
+IsUndeclared above (commands.Sync q) = IsNoFilePage (slice_get (pages_in above) q.0)
+IsUndeclared above (commands.Out q) = IsNoAnonPage (slice_get (pages_in above) q.0)
+IsUndeclared above (commands.Fsync n) = files_in above ≤ n.0
+IsUndeclared above (commands.Prctl t args) = length (threads_in above) ≤ t.0
+IsUndeclared above (commands.Bad f l) = frames_in above ≤ f.0
+IsUndeclared above (commands.Weak f l) = frames_in above ≤ f.0
+IsUndeclared above (commands.Scrub a b) = (frames_in above ≤ a.0) ⊎ (frames_in above ≤ b.0)
+IsUndeclared above (commands.Log s a m) = ⊥
+IsUndeclared above (commands.RaiseUser t r e) = length (threads_in above) ≤ t.0
+IsUndeclared above (commands.RaiseKernel r e) = ⊥
+IsUndeclared above commands.RaiseNested = ⊥
+IsUndeclared above (commands.Inject f) = frames_in above ≤ f.0
+IsUndeclared above (commands.Soft f) = frames_in above ≤ f.0
+IsUndeclared above (commands.Unpoison f) = frames_in above ≤ f.0
 
 -- the thread that a command is of
-abbrev pub actor : Order → Option ℕ
-actor (orders.Load t v l) = Some t
-actor (orders.Fetch t v l) = Some t
-actor (orders.KLoad t v l) = Some t
-actor (orders.Store t v l x) = Some t
-actor (orders.Prctl t args) = Some t
-actor (orders.RaiseUser t r e) = Some t
-actor o = None
+abbrev pub actor : Command → Option ℕ
+actor (commands.Load t v l) = Some t.0
+actor (commands.Fetch t v l) = Some t.0
+actor (commands.KLoad t v l) = Some t.0
+actor (commands.Store t v l x) = Some t.0
+actor (commands.Prctl t args) = Some t.0
+actor (commands.RaiseUser t r e) = Some t.0
+actor c = None
 
 -- a command stands in no list, or in that of another processor than its thread's
 abbrev pub IsElsewhere : Option ℕ → Option ThreadDecl → Type 0
@@ -113,9 +86,9 @@ IsBackingUndeclared above backings.Anon = ⊥
 IsBackingUndeclared above (backings.File n x) = files_in above ≤ n
 
 -- the highest processor that words of a schedule name
-abbrev pub top_cpu : List GoWord → ℕ
+abbrev pub top_cpu : List Go → ℕ
 top_cpu [] = 0
-top_cpu (w ∷ ws) = max w.cpu (top_cpu ws)
+top_cpu (w ∷ ws) = max w.cpu.0 (top_cpu ws)
 
 -- the reason applies to the line, after those above it (a line below `end`, also a second `end`, is in the wrong place)
 abbrev pub Applies : List Form → Form → Why → Type 0
@@ -160,10 +133,10 @@ Applies above (forms.Cpu c) whys.OverLimit = cpu_limit ≤ c
 Applies above (forms.Cpu c) whys.Undeclared = cpus_in above ≤ c
 Applies above (forms.Cpu c) whys.Twice = Contains (lists_in above) c
 Applies above (forms.Cpu c) whys.WrongPlace = IsMisplaced above 11
-Applies above (forms.Order o) whys.OverLimit = IsOver o ⊎ (command_limit ≤ commands_in above)
-Applies above (forms.Order o) whys.Undeclared = IsUndeclared above o
-Applies above (forms.Order o) whys.WrongPlace = IsMisplaced above 11 ⊎ IsElsewhere (place_in above) (option_and_then (λ t. slice_get (threads_in above) t) (actor o))
-Applies above (forms.Schedule ws) whys.OverLimit = (cpu_limit ≤ top_cpu ws) ⊎ (schedule_limit < length (go_in above) + length ws)
+Applies above (forms.Command c) whys.OverLimit = command_limit ≤ commands_in above
+Applies above (forms.Command c) whys.Undeclared = IsUndeclared above c
+Applies above (forms.Command c) whys.WrongPlace = IsMisplaced above 11 ⊎ IsElsewhere (place_in above) (option_and_then (λ t. slice_get (threads_in above) t) (actor c))
+Applies above (forms.Schedule ws) whys.OverLimit = schedule_limit < length (go_in above) + length ws
 Applies above (forms.Schedule ws) whys.Undeclared = cpus_in above ≤ top_cpu ws
 Applies above (forms.Schedule ws) whys.WrongPlace = IsMisplaced above 12
 Applies above forms.End whys.WrongPlace = IsMisplaced above 12

@@ -31,6 +31,7 @@ IsFault last above (reads.Form f) w = Applies above f w
 IsFault last above r whys.BadHeader = length above ≡ 0
 IsFault last above reads.Unknown whys.UnknownWord = Unit {0}
 IsFault last above reads.BadNumber whys.BadNumber = Unit {0}
+IsFault last above reads.OverLimit whys.OverLimit = Unit {0}
 IsFault last above r whys.NoEnd = last ≡ true
 IsFault last above r w = ⊥
 

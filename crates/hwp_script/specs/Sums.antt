@@ -1,8 +1,10 @@
 -- What is kept of the lines above while a script is read.
-use Rattle.std.specs.Prelude.{◌≡◌, ℕ, ◌↔◌, true, length, slice_get, Some, Contains, List}
+use Rattle.std.specs.Prelude.{◌≡◌, ℕ, ◌<◌, ◌↔◌, true, length, map, slice_get, Some, IfSome, Contains, List}
+use Rattle.std.specs.List.{range_with_len}
 use Rattle.hwp_form.specs.declared.Form.{Form}
 use Rattle.hwp_script.specs.declared.context.Summary.{Summary}
 use Rattle.hwp_script.specs.Context.{cpus_in, frames_in, kernel_in, recovery_in, early_in, files_in, procs_in, threads_in, pages_in, trans_in, lists_in, commands_in, go_in, place_in, highest}
+use Rattle.hwp_script.specs.Collects.{commands_of}
 
 -- the summary is that of these lines
 pub record Sums (above : List Form) (s : Summary) : Type 0 where
@@ -18,7 +20,9 @@ pub record Sums (above : List Form) (s : Summary) : Type 0 where
   pub threads : s.threads ≡ threads_in above
   pub pages : s.pages ≡ pages_in above
   pub trans : s.trans ≡ trans_in above
-  pub lists : s.lists ≡ lists_in above
+  pub begun : s.begun ≡ lists_in above
   pub place : s.place ≡ place_in above
+  pub within : IfSome s.place (λ (p : ℕ). p < s.cpus)
   pub commands : s.commands ≡ commands_in above
+  pub lists : s.lists.items ≡ map (commands_of above) (range_with_len 0 (cpus_in above))
   pub go : s.go ≡ go_in above

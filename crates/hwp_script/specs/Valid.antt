@@ -10,9 +10,9 @@ use Rattle.hwp_geom.specs.declared.TransDecl.{TransDecl}
 use Rattle.hwp_geom.specs.declared.PageKind.{PageKind}
 use Rattle.hwp_geom.specs.declared.PageKind.TheVariants as kinds
 use Rattle.hwp_script.specs.declared.script.Script.{Script}
-use Rattle.hwp_script.specs.declared.script.Go.{Go}
-use Rattle.hwp_script.specs.declared.script.Command.{Command}
-use Rattle.hwp_script.specs.declared.script.Command.TheVariants as commands
+use Rattle.hwp_form.specs.declared.Go.{Go}
+use Rattle.hwp_form.specs.declared.Command.{Command}
+use Rattle.hwp_form.specs.declared.Command.TheVariants as commands
 use Rattle.hwp_script.specs.Limits.{schedule_limit}
 
 -- a thread of the processor

@@ -1,13 +1,12 @@
-ghost use Rattle.std.specs.Prelude.{◌≡◌, ◌<◌, length, OnOk, IfOk, true, false, replicate, [], ◌∷◌, ◌++◌, map};
+ghost use Rattle.std.specs.Prelude.{◌≡◌, ◌<◌, length, OnOk, IfOk, IfSome, true, false, replicate, [], ◌∷◌, ◌++◌};
 ghost use Rattle.std.specs.List.{slice_set};
-ghost use Rattle.hwp_script.specs.Context.{go_of, kind_of};
-ghost use Rattle.hwp_script.specs.Reasons.{IsClean, IsBackingOver, top_cpu};
-ghost use Rattle.hwp_geom.specs.Limits.{cpu_limit};
+ghost use Rattle.hwp_script.specs.Collects.{push_in};
+ghost use Rattle.hwp_script.specs.Context.{kind_of};
+ghost use Rattle.hwp_script.specs.Reasons.{IsClean, IsBackingOver};
 ghost use Rattle.hwp_script.specs.Sums.{Sums};
 
 use crate::context::Summary;
-use crate::script::Go;
-use hwp_form::{Backing, Form, GoWord, Order};
+use hwp_form::{Backing, Command, Form, Go};
 use hwp_geom::{Cpu, FileNo, List, OutOfMemory, Page, PageKind, Proc, ThreadDecl, TransDecl};
 use std::alloc::Global;
 
@@ -41,28 +40,53 @@ fn page_kind(backing: Backing) -> PageKind
 }
 
 /// Adds words to a schedule.
-fn push_words(go: &mut List<Go>, words: &[GoWord]) -> Result<(), OutOfMemory>
-    requires { top_cpu words.now < cpu_limit }
-    ensures { OnOk result (go.new ≡ go.old ++ map go_of words.now) }
+fn push_words(go: &mut List<Go>, words: &[Go]) -> Result<(), OutOfMemory>
+    ensures { OnOk result (go.new ≡ go.old ++ words.now) }
 {
     for word in words {
-        go.push(Go {
-            cpu: Cpu(word.cpu as u8),
-            until: word.until,
-        })?;
+        go.push(*word)?;
     }
+    Ok(())
+}
+
+/// So many empty lists.
+fn empty_lists(alloc: Global, cpus: u64) -> Result<Vec<List<Command>>, OutOfMemory>
+    ensures { IfOk result (λ lists. lists.items ≡ replicate cpus []) }
+{
+    let mut lists = Vec::new(alloc);
+    for _cpu in 0..cpus {
+        lists.push(List::new(alloc))?;
+    }
+    Ok(lists)
+}
+
+/// Adds a command to the list of a processor, if it stands in one.
+fn push_command(
+    lists: &mut Vec<List<Command>>,
+    place: Option<u64>,
+    command: Command,
+) -> Result<(), OutOfMemory>
+    requires { IfSome place (λ p. p < length lists.old.items) }
+    ensures { OnOk result (lists.new.items ≡ push_in place command lists.old.items) }
+{
+    let Some(place) = place else {
+        return Ok(());
+    };
+    lists[place as usize].push(command)?;
     Ok(())
 }
 
 impl Summary {
     #[tactic(auto, using(crate::proofs::CleanLaws::clean_cpus))]
-    fn add_cpus(&mut self, above: &[Form], n: u64)
+    fn add_cpus(&mut self, above: &[Form], alloc: Global, n: u64) -> Result<(), OutOfMemory>
         requires sums { Sums above.now self.old }
         requires clean { IsClean above.now (Form.Cpus n) }
-        ensures { Sums (above.now ++ Form.Cpus n ∷ []) self.new }
+        ensures { OnOk result (Sums (above.now ++ Form.Cpus n ∷ []) self.new) }
     {
         self.group = 1;
         self.cpus = n as u8;
+        self.lists = empty_lists(alloc, n)?;
+        Ok(())
     }
 
     #[tactic(auto, using(crate::proofs::CleanLaws::clean_frames))]
@@ -188,22 +212,24 @@ impl Summary {
     {
         self.group = 11;
         self.place = Some(cpu);
-        self.lists.push(cpu)?;
+        self.begun.push(cpu)?;
         Ok(())
     }
 
-    #[tactic(auto, using(crate::proofs::CleanLaws::clean_order))]
-    fn add_order(&mut self, above: &[Form], order: &Order)
+    #[tactic(auto, using(crate::proofs::CleanLaws::clean_command))]
+    fn add_command(&mut self, above: &[Form], command: &Command) -> Result<(), OutOfMemory>
         requires sums { Sums above.now self.old }
-        requires clean { IsClean above.now (Form.Order order.now) }
-        ensures { Sums (above.now ++ Form.Order order.now ∷ []) self.new }
+        requires clean { IsClean above.now (Form.Command command.now) }
+        ensures { OnOk result (Sums (above.now ++ Form.Command command.now ∷ []) self.new) }
     {
         self.group = 11;
         self.commands += 1;
+        push_command(&mut self.lists, self.place, *command)?;
+        Ok(())
     }
 
     #[tactic(auto, using(crate::proofs::CleanLaws::clean_schedule))]
-    fn add_schedule(&mut self, above: &[Form], words: &[GoWord]) -> Result<(), OutOfMemory>
+    fn add_schedule(&mut self, above: &[Form], words: &[Go]) -> Result<(), OutOfMemory>
         requires sums { Sums above.now self.old }
         requires clean { IsClean above.now (Form.Schedule words.now) }
         ensures { OnOk result (Sums (above.now ++ Form.Schedule words.now ∷ []) self.new) }
@@ -232,7 +258,7 @@ impl Summary {
     {
         match form {
             Form::Header => {}
-            Form::Cpus(n) => self.add_cpus(above, *n),
+            Form::Cpus(n) => return self.add_cpus(above, alloc, *n),
             Form::Frames(n) => return self.add_frames(above, alloc, *n),
             Form::Kernel(frame) => self.add_kernel(above, *frame),
             Form::Recovery(value) => self.add_recovery(above, *value),
@@ -252,7 +278,7 @@ impl Summary {
                 page,
             } => return self.add_trans(above, *slot, *process, *page),
             Form::Cpu(cpu) => return self.add_cpu(above, *cpu),
-            Form::Order(order) => self.add_order(above, order),
+            Form::Command(command) => return self.add_command(above, command),
             Form::Schedule(words) => return self.add_schedule(above, words.as_slice()),
             Form::End => self.add_end(above),
         }

@@ -1,175 +1,117 @@
-ghost use Rattle.std.specs.Prelude.{◌≡◌, ◌==◌, ◌<◌, ◌≤◌, MatchOption, IfSome, IfNone};
-ghost use Rattle.hwp_geom.specs.Limits.{line_limit, frame_limit, file_limit, thread_limit, page_limit, translation_limit};
-ghost use Rattle.hwp_script.specs.Context.{ordered};
-ghost use Rattle.hwp_script.specs.Reasons.{IsOver};
+ghost use Rattle.std.specs.Prelude.{◌≡◌, ℕ, ◌<◌, ◌≤◌, ◌↔◌, length, slice_get, option_and_then, IsTrue, MatchOption};
+ghost use Rattle.hwp_script.specs.Reasons.{IsClean, IsLowest, IsForeign, IsNoFilePage, IsNoAnonPage, IsUndeclared, IsElsewhere, actor};
+ghost use Rattle.hwp_script.specs.Sums.{Sums};
 
-use crate::script::Command;
-use hwp_form::Order;
-use hwp_geom::{
-    FileNo, Frame, LINES, Line, MAX_FILES, MAX_FRAMES, MAX_PAGES, MAX_THREADS, MAX_TRANS, Page,
-    Thread, VSlot,
-};
+use crate::context::Summary;
+use crate::faults::is_misplaced;
+use crate::why::Why;
+use hwp_form::{Command, Form};
+use hwp_geom::{MAX_COMMANDS, Page, PageKind, Thread, VSlot};
 
-/// The thread of this number, if there may be one.
-fn thread_number(number: u64) -> Option<Thread>
-    ensures { MatchOption result (thread_limit ≤ number) (λ thread. (thread.0 ≡ number) × (number < thread_limit)) }
+/// Whether a thread and a translation are not both declared, or are of two processes.
+fn is_foreign(summary: &Summary, thread: Thread, slot: VSlot) -> bool
+    ensures { IsTrue result ↔ IsForeign (slice_get summary.now.threads thread.0) (slice_get summary.now.trans slot.0) }
 {
-    if number < u64::from(MAX_THREADS) {
-        Some(Thread(number as u8))
-    } else {
-        None
+    let thread = summary.threads.as_slice().get(usize::from(thread.0));
+    let slot = summary.trans.as_slice().get(usize::from(slot.0));
+    match (thread, slot) {
+        (Some(thread), Some(slot)) => thread.process.0 != slot.process.0,
+        _ => true,
     }
 }
 
-/// The translation of this number, if there may be one.
-fn slot_number(number: u64) -> Option<VSlot>
-    ensures { MatchOption result (translation_limit ≤ number) (λ slot. (slot.0 ≡ number) × (number < translation_limit)) }
+/// Whether a page is not declared with a file behind it.
+fn is_no_file_page(summary: &Summary, page: Page) -> bool
+    ensures { IsTrue result ↔ IsNoFilePage (slice_get summary.now.pages page.0) }
 {
-    if number < u64::from(MAX_TRANS) {
-        Some(VSlot(number as u16))
-    } else {
-        None
-    }
+    !matches!(
+        summary.pages.as_slice().get(usize::from(page.0)),
+        Some(PageKind::File { .. })
+    )
 }
 
-/// The page of this number, if there may be one.
-fn page_number(number: u64) -> Option<Page>
-    ensures { MatchOption result (page_limit ≤ number) (λ page. (page.0 ≡ number) × (number < page_limit)) }
+/// Whether a page is not declared with nothing behind it.
+fn is_no_anon_page(summary: &Summary, page: Page) -> bool
+    ensures { IsTrue result ↔ IsNoAnonPage (slice_get summary.now.pages page.0) }
 {
-    if number < u64::from(MAX_PAGES) {
-        Some(Page(number as u16))
-    } else {
-        None
-    }
+    !matches!(
+        summary.pages.as_slice().get(usize::from(page.0)),
+        Some(PageKind::Anon)
+    )
 }
 
-/// The frame of this number, if there may be one.
-fn frame_number(number: u64) -> Option<Frame>
-    ensures { MatchOption result (frame_limit ≤ number) (λ frame. (frame.0 ≡ number) × (number < frame_limit)) }
+/// Whether a command names what is not declared, or what is not of its kind.
+fn is_undeclared(summary: &Summary, above: &[Form], command: &Command) -> bool
+    requires { Sums above.now summary.now }
+    ensures { IsTrue result ↔ IsUndeclared above.now command.now }
 {
-    if number < u64::from(MAX_FRAMES) {
-        Some(Frame(number as u16))
-    } else {
-        None
-    }
-}
-
-/// The file of this number, if there may be one.
-fn file_number(number: u64) -> Option<FileNo>
-    ensures { MatchOption result (file_limit ≤ number) (λ file. (file.0 ≡ number) × (number < file_limit)) }
-{
-    if number < u64::from(MAX_FILES) {
-        Some(FileNo(number as u8))
-    } else {
-        None
-    }
-}
-
-/// The line of this number, if there is one.
-fn line_number(number: u64) -> Option<Line>
-    ensures { MatchOption result (line_limit ≤ number) (λ line. (line ≡ number) × (number < line_limit)) }
-{
-    if number < LINES as u64 {
-        Line::new(number as u8)
-    } else {
-        None
-    }
-}
-
-/// The truth value that is written as this number, if it is one.
-fn truth(number: u64) -> Option<bool>
-    ensures { MatchOption result (1 < number) (λ value. (value ≡ (number == 1)) × (number ≤ 1)) }
-{
-    if number <= 1 { Some(number == 1) } else { None }
-}
-
-/// The command that these numbers give, if each is in its range.
-pub(crate) fn command(order: &Order) -> Option<Command>
-    ensures some { IfSome result (λ command. (command ≡ ordered order.now) × (IsOver order.now → ⊥)) }
-    ensures none { IfNone result (IsOver order.now) }
-{
-    match *order {
-        Order::Load { thread, slot, line } => Some(Command::Load {
-            thread: thread_number(thread)?,
-            slot: slot_number(slot)?,
-            line: line_number(line)?,
-        }),
-        Order::Fetch { thread, slot, line } => Some(Command::Fetch {
-            thread: thread_number(thread)?,
-            slot: slot_number(slot)?,
-            line: line_number(line)?,
-        }),
-        Order::KLoad { thread, slot, line } => Some(Command::KLoad {
-            thread: thread_number(thread)?,
-            slot: slot_number(slot)?,
-            line: line_number(line)?,
-        }),
-        Order::Store {
-            thread,
-            slot,
-            line,
-            word,
-        } => Some(Command::Store {
-            thread: thread_number(thread)?,
-            slot: slot_number(slot)?,
-            line: line_number(line)?,
-            word,
-        }),
-        Order::Free { slot } => Some(Command::Free {
-            slot: slot_number(slot)?,
-        }),
-        Order::Drop { page } => Some(Command::Drop {
-            page: page_number(page)?,
-        }),
-        Order::Sync { page } => Some(Command::Sync {
-            page: page_number(page)?,
-        }),
-        Order::Out { page } => Some(Command::Out {
-            page: page_number(page)?,
-        }),
-        Order::Fsync { file } => Some(Command::Fsync {
-            file: file_number(file)?,
-        }),
-        Order::Prctl { thread, args } => Some(Command::Prctl {
-            thread: thread_number(thread)?,
-            args,
-        }),
-        Order::Bad { frame, line } => Some(Command::Bad {
-            frame: frame_number(frame)?,
-            line: line_number(line)?,
-        }),
-        Order::Weak { frame, line } => Some(Command::Weak {
-            frame: frame_number(frame)?,
-            line: line_number(line)?,
-        }),
-        Order::Scrub { first, last } => {
-            if first > last {
-                return None;
-            }
-            Some(Command::Scrub {
-                first: frame_number(first)?,
-                last: frame_number(last)?,
-            })
+    let frames = summary.frames;
+    match *command {
+        Command::Load { thread, slot, .. }
+        | Command::Fetch { thread, slot, .. }
+        | Command::KLoad { thread, slot, .. }
+        | Command::Store { thread, slot, .. } => is_foreign(summary, thread, slot),
+        Command::Free { slot } => usize::from(slot.0) >= summary.trans.len(),
+        Command::Drop { page } => usize::from(page.0) >= summary.pages.len(),
+        Command::Sync { page } => is_no_file_page(summary, page),
+        Command::Out { page } => is_no_anon_page(summary, page),
+        Command::Fsync { file } => file.0 >= summary.files,
+        Command::Prctl { thread, .. } | Command::RaiseUser { thread, .. } => {
+            usize::from(thread.0) >= summary.threads.len()
         }
-        Order::Log { status, addr, misc } => Some(Command::Log { status, addr, misc }),
-        Order::RaiseUser { thread, ripv, eipv } => Some(Command::RaiseUser {
-            thread: thread_number(thread)?,
-            ripv: truth(ripv)?,
-            eipv: truth(eipv)?,
-        }),
-        Order::RaiseKernel { ripv, eipv } => Some(Command::RaiseKernel {
-            ripv: truth(ripv)?,
-            eipv: truth(eipv)?,
-        }),
-        Order::RaiseNested => Some(Command::RaiseNested),
-        Order::Inject { frame } => Some(Command::Inject {
-            frame: frame_number(frame)?,
-        }),
-        Order::Soft { frame } => Some(Command::Soft {
-            frame: frame_number(frame)?,
-        }),
-        Order::Unpoison { frame } => Some(Command::Unpoison {
-            frame: frame_number(frame)?,
-        }),
+        Command::Bad { frame, .. } | Command::Weak { frame, .. } => frame.0 >= frames,
+        Command::Scrub { first, last } => first.0 >= frames || last.0 >= frames,
+        Command::Log { .. } | Command::RaiseKernel { .. } | Command::RaiseNested => false,
+        Command::Inject { frame } | Command::Soft { frame } | Command::Unpoison { frame } => {
+            frame.0 >= frames
+        }
+    }
+}
+
+/// The thread that a command is of.
+fn actor_of(command: &Command) -> Option<usize>
+    ensures { result ≡ actor command.now }
+{
+    match *command {
+        Command::Load { thread, .. }
+        | Command::Fetch { thread, .. }
+        | Command::KLoad { thread, .. }
+        | Command::Store { thread, .. }
+        | Command::Prctl { thread, .. }
+        | Command::RaiseUser { thread, .. } => Some(usize::from(thread.0)),
+        _ => None,
+    }
+}
+
+/// Whether a command of a thread, if it is one's, would stand in no list, or in another processor's.
+fn is_elsewhere(summary: &Summary, thread: Option<usize>) -> bool
+    ensures { IsTrue result ↔ IsElsewhere summary.now.place (option_and_then (λ t. slice_get summary.now.threads t) thread) }
+{
+    let Some(place) = summary.place else {
+        return true;
+    };
+    let Some(thread) = thread else {
+        return false;
+    };
+    match summary.threads.as_slice().get(thread) {
+        Some(thread) => u64::from(thread.cpu.0) != place,
+        None => false,
+    }
+}
+
+/// The lowest reason that applies to a command below these lines, if any does.
+pub(crate) fn command_fault(summary: &Summary, above: &[Form], command: &Command) -> Option<Why>
+    requires sums { Sums above.now summary.now }
+    requires some { 0 < length above.now }
+    ensures { MatchOption result (IsClean above.now (Form.Command command.now)) (λ why. IsLowest above.now (Form.Command command.now) why) }
+{
+    if summary.commands >= MAX_COMMANDS {
+        Some(Why::OverLimit)
+    } else if is_undeclared(summary, above, command) {
+        Some(Why::Undeclared)
+    } else if is_misplaced(summary, above, 11) || is_elsewhere(summary, actor_of(command)) {
+        Some(Why::WrongPlace)
+    } else {
+        None
     }
 }

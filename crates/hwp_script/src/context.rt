@@ -1,8 +1,10 @@
 ghost use Rattle.std.specs.Prelude.{◌↔◌, IsTrue, [], Contains};
+ghost use Rattle.hwp_script.specs.Collects.{Collects};
 ghost use Rattle.hwp_script.specs.Sums.{Sums};
 
-use crate::script::Go;
-use hwp_geom::{List, PageKind, ThreadDecl, TransDecl};
+use crate::script::Script;
+use hwp_form::{Command, Form, Go};
+use hwp_geom::{Layout, List, PageKind, ThreadDecl, TransDecl};
 use std::alloc::Global;
 
 /// What the lines above a line declare.
@@ -26,10 +28,13 @@ pub(crate) struct Summary {
     pub pages: List<PageKind>,
     pub trans: List<TransDecl>,
     /// The processors whose lists have begun.
-    pub lists: List<u64>,
+    pub begun: List<u64>,
     /// The processor in whose list the next line stands.
     pub place: Option<u64>,
+    /// The number of commands.
     pub commands: u32,
+    /// The commands of each processor.
+    pub lists: Vec<List<Command>>,
     /// The words of the schedule.
     pub go: List<Go>,
 }
@@ -51,17 +56,41 @@ impl Summary {
             threads: List::new(alloc),
             pages: List::new(alloc),
             trans: List::new(alloc),
-            lists: List::new(alloc),
+            begun: List::new(alloc),
             place: None,
             commands: 0,
+            lists: Vec::new(alloc),
             go: List::new(alloc),
         }
     }
 
     /// Whether a processor's list has begun.
     pub fn has_list(&self, cpu: u64) -> bool
-        ensures { IsTrue result ↔ Contains self.now.lists cpu }
+        ensures { IsTrue result ↔ Contains self.now.begun cpu }
     {
-        self.lists.as_slice().contains(&cpu)
+        self.begun.as_slice().contains(&cpu)
+    }
+
+    /// The script that these lines give.
+    pub fn into_script(self, lines: &[Form]) -> Script
+        requires { Sums lines.now self }
+        ensures { Collects lines.now result }
+    {
+        Script {
+            layout: Layout {
+                cpus: self.cpus,
+                frames: self.frames,
+                kernel: List::from_vec(self.kernel),
+                recovery: self.recovery.unwrap_or(true),
+                early: self.early.unwrap_or(false),
+                files: self.files,
+                procs: self.procs,
+                threads: self.threads,
+                pages: self.pages,
+                trans: self.trans,
+            },
+            lists: List::from_vec(self.lists),
+            go: self.go,
+        }
     }
 }

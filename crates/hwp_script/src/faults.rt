@@ -3,11 +3,11 @@ ghost use Rattle.hwp_script.specs.Reasons.{IsClean, IsLowest, IsMisplaced, IsBac
 ghost use Rattle.hwp_script.specs.Limits.{schedule_limit};
 ghost use Rattle.hwp_script.specs.Sums.{Sums};
 
+use crate::commands::command_fault;
 use crate::context::Summary;
-use crate::orders::order_fault;
 use crate::script::MAX_SCHEDULE;
 use crate::why::Why;
-use hwp_form::{Backing, Form, GoWord};
+use hwp_form::{Backing, Form, Go};
 use hwp_geom::{MAX_CPUS, MAX_FILES, MAX_FRAMES, MAX_PAGES, MAX_PROCS, MAX_THREADS, MAX_TRANS};
 
 /// Whether a line of a group may not stand below these lines.
@@ -26,19 +26,19 @@ fn is_kernel(summary: &Summary, frame: u64) -> bool
 }
 
 /// The higher of two numbers.
-fn higher(left: u64, right: u64) -> u64
+fn higher(left: u8, right: u8) -> u8
     ensures { result ≡ max left right }
 {
     if left < right { right } else { left }
 }
 
 /// The highest processor that words of a schedule name.
-fn highest_cpu(words: &[GoWord]) -> u64
+fn highest_cpu(words: &[Go]) -> u8
     ensures { result ≡ top_cpu words.now }
 {
     let mut highest = 0;
     for word in words {
-        highest = higher(highest, word.cpu);
+        highest = higher(highest, word.cpu.0);
     }
     highest
 }
@@ -273,15 +273,15 @@ fn is_too_long(words: usize, more: usize) -> bool
     words > MAX_SCHEDULE as usize || more > MAX_SCHEDULE as usize - words
 }
 
-fn schedule_fault(summary: &Summary, above: &[Form], words: &[GoWord]) -> Option<Why>
+fn schedule_fault(summary: &Summary, above: &[Form], words: &[Go]) -> Option<Why>
     requires sums { Sums above.now summary.now }
     requires some { 0 < length above.now }
     ensures { MatchOption result (IsClean above.now (Form.Schedule words.now)) (λ why. IsLowest above.now (Form.Schedule words.now) why) }
 {
     let highest = highest_cpu(words);
-    if highest >= u64::from(MAX_CPUS) || is_too_long(summary.go.len(), words.len()) {
+    if is_too_long(summary.go.len(), words.len()) {
         Some(Why::OverLimit)
-    } else if highest >= u64::from(summary.cpus) {
+    } else if highest >= summary.cpus {
         Some(Why::Undeclared)
     } else if is_misplaced(summary, above, 12) {
         Some(Why::WrongPlace)
@@ -332,7 +332,7 @@ pub(crate) fn fault(summary: &Summary, above: &[Form], form: &Form) -> Option<Wh
             page,
         } => trans_fault(summary, above, *slot, *process, *page),
         Form::Cpu(cpu) => cpu_fault(summary, above, *cpu),
-        Form::Order(order) => order_fault(summary, above, order),
+        Form::Command(command) => command_fault(summary, above, command),
         Form::Schedule(words) => schedule_fault(summary, above, words.as_slice()),
         Form::End => end_fault(summary, above),
     }

@@ -1,29 +1,15 @@
 ghost use Rattle.std.specs.Prelude.{◌≡◌, ◌↔◌, Bool, IsTrue, true, IfOk, IfErr};
 ghost use Rattle.hwp_script.specs.Reasons.{IsClean};
 ghost use Rattle.hwp_script.specs.Sums.{Sums};
-ghost use Rattle.hwp_script.specs.Refusals.{IsLowestFault};
-ghost use Rattle.hwp_script.specs.Judged.{AreJudged};
+ghost use Rattle.hwp_script.specs.Refusals.{AreScript, AreRefused, IsLowestFault};
 
 use crate::context::Summary;
 use crate::faults::fault;
+use crate::script::Script;
 use crate::why::{Refused, Why};
 use hwp_form::{Form, LineRead, Numbered};
 use hwp_geom::OutOfMemory;
 use std::alloc::Global;
-
-/// The forms of a script's lines, each of which is clean after those above it, and their summary.
-#[derive(Drop)]
-pub(crate) struct Clean {
-    pub forms: Vec<Form>,
-    pub summary: Summary,
-}
-
-/// What the lines of a script are found to be.
-#[derive(Drop)]
-pub(crate) enum Judged {
-    Clean(Clean),
-    Faulty(Refused),
-}
 
 /// Whether a line is `end`.
 fn is_end(form: &Form) -> bool
@@ -54,6 +40,17 @@ fn number_fault(above: &[Form]) -> Why
     }
 }
 
+/// The fault of a line with a number outside its range.
+fn range_fault(above: &[Form]) -> Why
+    ensures { (last : Bool) → IsLowestFault last above.now LineRead.OverLimit result }
+{
+    if above.is_empty() {
+        Why::BadHeader
+    } else {
+        Why::OverLimit
+    }
+}
+
 /// The form of a line, or the lowest reason that applies to it. `last` says that no line follows.
 fn judge_line(last: bool, summary: &Summary, above: &[Form], read: LineRead) -> Result<Form, Why>
     requires { Sums above.now summary.now }
@@ -66,6 +63,7 @@ fn judge_line(last: bool, summary: &Summary, above: &[Form], read: LineRead) -> 
         LineRead::Form(form) => form,
         LineRead::Unknown => return Err(unknown_fault(above)),
         LineRead::BadNumber => return Err(number_fault(above)),
+        LineRead::OverLimit => return Err(range_fault(above)),
     };
     if let Some(why) = fault(summary, above, &form) {
         return Err(why);
@@ -76,9 +74,13 @@ fn judge_line(last: bool, summary: &Summary, above: &[Form], read: LineRead) -> 
     Ok(form)
 }
 
-/// What the lines of a script are found to be.
-pub(crate) fn judge(alloc: Global, lines: Vec<Numbered>) -> Result<Judged, OutOfMemory>
-    ensures { IfOk result (λ judged. AreJudged lines.items judged) }
+/// The script that lines give, or their first line at fault, in one walk.
+pub(crate) fn judge(
+    alloc: Global,
+    lines: Vec<Numbered>,
+) -> Result<Result<Script, Refused>, OutOfMemory>
+    ensures script { IfOk result (λ read. IfOk read (AreScript lines.items)) }
+    ensures refused { IfOk result (λ read. IfErr read (AreRefused lines.items)) }
 {
     let count = lines.len();
     let mut forms = Vec::new(alloc);
@@ -87,16 +89,16 @@ pub(crate) fn judge(alloc: Global, lines: Vec<Numbered>) -> Result<Judged, OutOf
         let last = forms.len() + 1 == count;
         let form = match judge_line(last, &summary, forms.as_slice(), read) {
             Ok(form) => form,
-            Err(why) => return Ok(Judged::Faulty(Refused { line, why })),
+            Err(why) => return Ok(Err(Refused { line, why })),
         };
         summary.add(alloc, forms.as_slice(), &form)?;
         forms.push(form)?;
     }
     if forms.is_empty() {
-        return Ok(Judged::Faulty(Refused {
+        return Ok(Err(Refused {
             line: 1,
             why: Why::BadHeader,
         }));
     }
-    Ok(Judged::Clean(Clean { forms, summary }))
+    Ok(Ok(summary.into_script(forms.as_slice())))
 }

@@ -2,20 +2,18 @@
 #![tactic(auto)]
 
 mod adding;
-mod collecting;
 mod commands;
 mod context;
 mod faults;
 mod judging;
-mod orders;
 mod reading;
 mod script;
 #[cfg(test)]
 mod tests;
 mod why;
 
-pub use hwp_form::{PrctlArgs, Until};
+pub use hwp_form::{Command, Go, PrctlArgs, Until};
 pub use hwp_geom::MAX_COMMANDS;
 pub use reading::{ReadScript, read};
-pub use script::{Command, Go, MAX_SCHEDULE, MAX_SCRIPT, Script};
+pub use script::{MAX_SCHEDULE, MAX_SCRIPT, Script};
 pub use why::{Refused, Why};

@@ -1,15 +1,13 @@
-ghost use Rattle.std.specs.Prelude.{◌≡◌, IfOk, IfErr, IsErrOf};
+ghost use Rattle.std.specs.Prelude.{◌≡◌, IfOk, IsErrOf};
 ghost use Rattle.hwp_script.specs.Reads.{Reads, IsRefused};
-ghost use Rattle.hwp_script.specs.Refusals.{AreScript, AreRefused};
 ghost use Rattle.hwp_script.specs.Valid.{IsValid};
 ghost use Rattle.hwp_script.specs.declared.script.Script.{Script};
 ghost use Rattle.hwp_script.specs.declared.why.Refused.{Refused};
 
-use crate::collecting::collect;
-use crate::judging::{Clean, Judged, judge};
+use crate::judging::judge;
 use crate::script::{MAX_SCRIPT, Script};
 use crate::why::{Refused, Why};
-use hwp_form::{Numbered, read_lines};
+use hwp_form::read_lines;
 use hwp_geom::OutOfMemory;
 use std::alloc::Global;
 
@@ -20,19 +18,6 @@ pub enum ReadScript {
     Refused(Refused),
     /// Want of memory.
     OutOfMemory,
-}
-
-/// The script that lines give, or their first line at fault.
-fn read_script(alloc: Global, lines: Vec<Numbered>) -> Result<Result<Script, Refused>, OutOfMemory>
-    ensures script { IfOk result (λ read. IfOk read (AreScript lines.items)) }
-    ensures refused { IfOk result (λ read. IfErr read (AreRefused lines.items)) }
-{
-    match judge(alloc, lines)? {
-        Judged::Clean(Clean { forms, summary }) => {
-            Ok(Ok(collect(alloc, forms.as_slice(), summary)?))
-        }
-        Judged::Faulty(refused) => Ok(Err(refused)),
-    }
 }
 
 /// The script that bytes are the text of. Bytes beyond `MAX_SCRIPT` are refused as `TooLong` at line 0. All others
@@ -54,7 +39,7 @@ pub fn read(alloc: Global, bytes: &[u8]) -> Result<Script, ReadScript>
     let Ok(lines) = read_lines(alloc, bytes) else {
         return Err(ReadScript::OutOfMemory);
     };
-    match read_script(alloc, lines) {
+    match judge(alloc, lines) {
         Ok(Ok(script)) => Ok(script),
         Ok(Err(refused)) => Err(ReadScript::Refused(refused)),
         Err(_) => Err(ReadScript::OutOfMemory),

@@ -4,15 +4,15 @@ use Rattle.std.specs.Prelude.{Contains, IsSome}
 use Rattle.hwp_script.specs.Limits.{schedule_limit}
 use Rattle.hwp_geom.specs.Limits.{command_limit}
 use Rattle.hwp_script.specs.Context.{cpus_in, kernel_in, recovery_in, early_in, lists_in, commands_in, go_in}
-use Rattle.hwp_script.specs.Reasons.{Applies, IsMisplaced, IsClean, top_cpu}
-use Rattle.hwp_form.specs.declared.Order.{Order}
+use Rattle.hwp_script.specs.Reasons.{Applies, IsMisplaced, IsClean}
+use Rattle.hwp_form.specs.declared.Command.{Command}
 use Rattle.hwp_form.specs.declared.Backing.{Backing}
-use Rattle.hwp_form.specs.declared.GoWord.{GoWord}
+use Rattle.hwp_form.specs.declared.Go.{Go}
 use Rattle.hwp_form.specs.declared.Form.{Form}
 use Rattle.hwp_form.specs.declared.Form.TheVariants as forms
 use Rattle.hwp_script.specs.declared.Why.{Why}
 use Rattle.hwp_script.specs.declared.Why.TheVariants as whys
-use Rattle.hwp_script.proofs.CleanLaws.{IsPlaced, IsCpusClean, IsFramesClean, IsKernelClean, IsRecoveryClean, IsEarlyClean, IsFileClean, IsProcClean, IsThreadClean, IsPageClean, IsTransClean, IsCpuClean, IsOrderClean, IsScheduleClean}
+use Rattle.hwp_script.proofs.CleanLaws.{IsPlaced, IsCpusClean, IsFramesClean, IsKernelClean, IsRecoveryClean, IsEarlyClean, IsFileClean, IsProcClean, IsThreadClean, IsPageClean, IsTransClean, IsCpuClean, IsCommandClean, IsScheduleClean}
 
 not_misplaced : {above : List Form} {g : ℕ} → IsPlaced above g → IsMisplaced above g → ⊥
 not_misplaced h (inl e) = omega (arith, h.late, e)
@@ -161,27 +161,25 @@ no_cpu l h k w e = e
 pub put_cpu : {above : List Form} {c : ℕ} → 0 < length above → IsCpuClean above c → (Contains (lists_in above) c → ⊥) → IsClean above (forms.Cpu c)
 put_cpu l h k = record { none = no_cpu l h k }
 
-no_order : {above : List Form} {o : Order} → 0 < length above → IsOrderClean above o → (w : Why) → Applies above (forms.Order o) w → ⊥
-no_order l h whys.BadHeader e = omega (arith, l, e)
-no_order l h whys.OverLimit (inl e) = h.low e
-no_order {above} l h whys.OverLimit (inr e) = let big : command_limit ≤ commands_in above = e in omega (arith, h.few, big)
-no_order l h whys.Undeclared e = h.named e
-no_order l h whys.WrongPlace (inl e) = not_misplaced h.placed e
-no_order l h whys.WrongPlace (inr e) = h.here e
-no_order l h w e = e
+no_command : {above : List Form} {c : Command} → 0 < length above → IsCommandClean above c → (w : Why) → Applies above (forms.Command c) w → ⊥
+no_command l h whys.BadHeader e = omega (arith, l, e)
+no_command {above} l h whys.OverLimit e = let big : command_limit ≤ commands_in above = e in omega (arith, h.few, big)
+no_command l h whys.Undeclared e = h.named e
+no_command l h whys.WrongPlace (inl e) = not_misplaced h.placed e
+no_command l h whys.WrongPlace (inr e) = h.here e
+no_command l h w e = e
 
-pub put_order : {above : List Form} {o : Order} → 0 < length above → IsOrderClean above o → IsClean above (forms.Order o)
-put_order l h = record { none = no_order l h }
+pub put_command : {above : List Form} {c : Command} → 0 < length above → IsCommandClean above c → IsClean above (forms.Command c)
+put_command l h = record { none = no_command l h }
 
-no_schedule : {above : List Form} {ws : List GoWord} → 0 < length above → IsScheduleClean above ws → (w : Why) → Applies above (forms.Schedule ws) w → ⊥
+no_schedule : {above : List Form} {ws : List Go} → 0 < length above → IsScheduleClean above ws → (w : Why) → Applies above (forms.Schedule ws) w → ⊥
 no_schedule l h whys.BadHeader e = omega (arith, l, e)
-no_schedule {above} {ws} l h whys.OverLimit (inl e) = let big : 8 ≤ top_cpu ws = e in omega (arith, h.low, big)
-no_schedule {above} {ws} l h whys.OverLimit (inr e) = let big : schedule_limit < length (go_in above) + length ws = e in omega (arith, h.few, big)
+no_schedule {above} {ws} l h whys.OverLimit e = let big : schedule_limit < length (go_in above) + length ws = e in omega (arith, h.few, big)
 no_schedule l h whys.Undeclared e = omega (arith, h.cpus, e)
 no_schedule l h whys.WrongPlace e = not_misplaced h.placed e
 no_schedule l h w e = e
 
-pub put_schedule : {above : List Form} {ws : List GoWord} → 0 < length above → IsScheduleClean above ws → IsClean above (forms.Schedule ws)
+pub put_schedule : {above : List Form} {ws : List Go} → 0 < length above → IsScheduleClean above ws → IsClean above (forms.Schedule ws)
 put_schedule l h = record { none = no_schedule l h }
 
 no_end : {above : List Form} → 0 < length above → IsPlaced above 12 → (w : Why) → Applies above forms.End w → ⊥

@@ -1,41 +1,16 @@
 -- The commands of a processor, in the lines that are put for a script.
-use Rattle.std.proofs.Common.{ℕ, ◌≡◌, ◌≢◌, ◌<◌, ◌≤◌, ◌+◌, ◌++◌, ◌==◌, Bool, true, false, if◌then◌else◌, List, [], ◌∷◌, length, map, Option, Some, None, zero, suc, ap, ◌∙◌, sym, refl, arith}
+use Rattle.std.proofs.Common.{ℕ, ◌≡◌, ◌<◌, ◌+◌, ◌++◌, ◌==◌, Bool, true, false, if◌then◌else◌, List, [], ◌∷◌, length, map, Option, Some, None, zero, suc, ap, ◌∙◌, sym, refl, arith}
 use Rattle.std.specs.Prelude.{fold, filter_map, option_to_list}
 use Rattle.std.specs.List.{range_with_len, cons_option}
 use Rattle.std.proofs.lemmas.List.{append-nil, append_assoc}
-use Rattle.std.proofs.lemmas.Bool.Decides.{nat_tests}
 use Rattle.hwp_form.specs.declared.Form.{Form}
 use Rattle.hwp_form.specs.declared.Form.TheVariants as forms
-use Rattle.hwp_script.specs.declared.Command.{Command}
-use Rattle.hwp_script.specs.declared.Command.TheVariants as commands
-use Rattle.hwp_script.specs.declared.Go.{Go}
-use Rattle.hwp_script.specs.Context.{command_of, commands_in, place_after, ordered}
+use Rattle.hwp_form.specs.declared.Command.{Command}
+use Rattle.hwp_form.specs.declared.Go.{Go}
+use Rattle.hwp_script.specs.Context.{command_of, commands_in, place_after}
 use Rattle.hwp_script.specs.Collects.{command_at, commands_from, commands_of}
-use Rattle.hwp_script_print.specs.Text.{order_of, list_forms, numbered, go_row}
-use Rattle.hwp_script_print.proofs.Sections.{bit_is}
-use Rattle.hwp_script_print.proofs.ListsPut.{command_form}
-
-ordered_back : (cmd : Command) → ordered (order_of cmd) ≡ cmd
-ordered_back (commands.RaiseUser t r e) = rw (bit_is r, bit_is e) refl
-ordered_back (commands.RaiseKernel r e) = rw (bit_is r, bit_is e) refl
-ordered_back (commands.Load t v l) = refl
-ordered_back (commands.Fetch t v l) = refl
-ordered_back (commands.KLoad t v l) = refl
-ordered_back (commands.Store t v l x) = refl
-ordered_back (commands.Free v) = refl
-ordered_back (commands.Drop q) = refl
-ordered_back (commands.Sync q) = refl
-ordered_back (commands.Out q) = refl
-ordered_back (commands.Fsync n) = refl
-ordered_back (commands.Prctl t args) = refl
-ordered_back (commands.Bad f l) = refl
-ordered_back (commands.Weak f l) = refl
-ordered_back (commands.Scrub a b) = refl
-ordered_back (commands.Log s a m) = refl
-ordered_back commands.RaiseNested = refl
-ordered_back (commands.Inject f) = refl
-ordered_back (commands.Soft f) = refl
-ordered_back (commands.Unpoison f) = refl
+use Rattle.hwp_script.proofs.CollectLaws.{no_command, same_lists, same, other}
+use Rattle.hwp_script_print.specs.Text.{list_forms, numbered, go_row}
 
 -- one part of the lines after another
 commands_from-append : (p : Option ℕ) (c : ℕ) (xs ys : List Form) → commands_from p c (xs ++ ys) ≡ commands_from p c xs ++ commands_from (fold place_after p xs) c ys
@@ -45,14 +20,6 @@ commands_from-append p c (x ∷ xs) ys =
     ∙ sym (append_assoc (option_to_list (command_at p c x)) (commands_from (place_after p x) c xs) (commands_from (fold place_after (place_after p x) xs) c ys))
 
 -- lines that are no commands
-none_kept : (test : Bool) → option_to_list {X = Command} (if test then None else None) ≡ []
-none_kept true = refl
-none_kept false = refl
-
-no_command : (p : Option ℕ) (c : ℕ) (f : Form) → command_of f ≡ None → option_to_list (command_at p c f) ≡ []
-no_command None c f e = refl
-no_command (Some q) c f e = rw e (none_kept (q == c))
-
 none_of : (f : Form) (o : Option Command) (rest : List Command) → command_of f ≡ o → length (cons_option o rest) ≡ 0 → (command_of f ≡ None) × (length rest ≡ 0)
 none_of f None rest e h = (e, h)
 none_of f (Some x) rest e h = absurd (omega (arith, h))
@@ -79,13 +46,12 @@ chosen_more : (test : Bool) (cmd : Command) (list : List Command) → option_to_
 chosen_more true cmd list = refl
 chosen_more false cmd list = refl
 
-list_from : (m c : ℕ) (list : List Command) → commands_from (Some m) c (map command_form list) ≡ chosen (m == c) list
+list_from : (m c : ℕ) (list : List Command) → commands_from (Some m) c (map forms.Command list) ≡ chosen (m == c) list
 list_from m c [] = sym (nothing_chosen (m == c))
 list_from m c (cmd ∷ list) =
-    ap (λ x. option_to_list (if m == c then Some x else None) ++ commands_from (Some m) c (map command_form list)) (ordered_back cmd)
-    ∙ ap (λ t. option_to_list (if m == c then Some cmd else None) ++ t) (list_from m c list) ∙ chosen_more (m == c) cmd list
+    ap (λ t. option_to_list (if m == c then Some cmd else None) ++ t) (list_from m c list) ∙ chosen_more (m == c) cmd list
 
-list_place : (m : ℕ) (list : List Command) → fold place_after (Some m) (map command_form list) ≡ Some m
+list_place : (m : ℕ) (list : List Command) → fold place_after (Some m) (map forms.Command list) ≡ Some m
 list_place m [] = refl
 list_place m (cmd ∷ list) = list_place m list
 
@@ -93,15 +59,9 @@ list_place m (cmd ∷ list) = list_place m list
 lists_from : (p : Option ℕ) (m c : ℕ) (list : List Command) (lists : List (List Command))
     → commands_from p c (numbered list_forms m (list ∷ lists)) ≡ chosen (m == c) list ++ commands_from (Some m) c (numbered list_forms (m + 1) lists)
 lists_from p m c list lists =
-    ap (λ t. t ++ commands_from (Some m) c (map command_form list ++ numbered list_forms (m + 1) lists)) (no_command p c (forms.Cpu m) refl)
-    ∙ commands_from-append (Some m) c (map command_form list) (numbered list_forms (m + 1) lists)
+    ap (λ t. t ++ commands_from (Some m) c (map forms.Command list ++ numbered list_forms (m + 1) lists)) (no_command p c (forms.Cpu m) refl)
+    ∙ commands_from-append (Some m) c (map forms.Command list) (numbered list_forms (m + 1) lists)
     ∙ rw (list_from m c list, list_place m list) refl
-
-other : (m c : ℕ) → m ≢ c → (m == c) ≡ false
-other m c n = grind (arith, nat_tests)
-
-same : (m : ℕ) → (m == m) ≡ true
-same m = grind (arith, nat_tests)
 
 -- the lists of higher processors
 lists_below : (p : Option ℕ) (m c : ℕ) (lists : List (List Command)) → c < m → commands_from p c (numbered list_forms m lists) ≡ []
@@ -109,20 +69,14 @@ lists_below p m c [] l = refl
 lists_below p m c (list ∷ lists) l =
     lists_from p m c list lists ∙ rw (other m c (λ e. omega (arith, e, l))) (lists_below (Some m) (m + 1) c lists (omega arith))
 
-range_same : {A : Type 0} (g h : ℕ → A) (a n : ℕ) → ((i : ℕ) → a ≤ i → g i ≡ h i) → map g (range_with_len a n) ≡ map h (range_with_len a n)
-range_same g h a zero e = refl
-range_same g h a (suc n) e =
-    let here : g a ≡ h a = e a (omega arith) in
-    let rest = range_same g h (a + 1) n (λ i l. e i (omega arith)) in cc
-
 -- each processor's list is read back
 pub lists_back : (p : Option ℕ) (m : ℕ) (lists : List (List Command)) → map (λ c. commands_from p c (numbered list_forms m lists)) (range_with_len m (length lists)) ≡ lists
 lists_back p m [] = refl
 lists_back p m (list ∷ lists) =
     let here : commands_from p m (numbered list_forms m (list ∷ lists)) ≡ list =
-    lists_from p m m list lists ∙ rw (same m, lists_below (Some m) (m + 1) m lists (omega arith)) (append-nil list) in
+    lists_from p m m list lists ∙ rw (same m m refl, lists_below (Some m) (m + 1) m lists (omega arith)) (append-nil list) in
     let rest : map (λ c. commands_from p c (numbered list_forms m (list ∷ lists))) (range_with_len (m + 1) (length lists)) ≡ lists =
-    range_same (λ c. commands_from p c (numbered list_forms m (list ∷ lists))) (λ c. commands_from (Some m) c (numbered list_forms (m + 1) lists)) (m + 1) (length lists)
+    same_lists (λ c. commands_from p c (numbered list_forms m (list ∷ lists))) (λ c. commands_from (Some m) c (numbered list_forms (m + 1) lists)) (m + 1) (length lists)
     (λ c l. lists_from p m c list lists ∙ rw (other m c (λ e. omega (arith, e, l))) refl) ∙ lists_back (Some m) (m + 1) lists in
     cc
 

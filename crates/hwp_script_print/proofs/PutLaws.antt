@@ -1,6 +1,6 @@
 -- Texts of lines, as they grow.
-use Rattle.std.proofs.Common.{ℕ, ◌≡◌, ◌+◌, ◌-◌, ◌<◌, ◌≤◌, ◌⊎◌, inl, inr, ◌++◌, List, [], ◌∷◌, length, get_or, take, drop, length-drop, map, sym, ap, ◌∙◌, add-zero, append_assoc, append-nil, arith}
-use Rattle.std.proofs.lemmas.List.{take_more, length-take-le, take_all, map_push}
+use Rattle.std.proofs.Common.{ℕ, ◌≡◌, ◌+◌, ◌-◌, ◌<◌, ◌≤◌, ◌⊎◌, inl, inr, ◌++◌, List, [], ◌∷◌, length, get_or, take, drop, length-drop, sym, ap, ◌∙◌, add-zero, append_assoc, append-nil, arith}
+use Rattle.std.proofs.lemmas.List.{take_more, length-take-le, take_all}
 use Rattle.std.proofs.lemmas.List.FromFn.{map-range_with_len_more}
 use Rattle.std.proofs.lemmas.List.Concat.{flat_map-append}
 use Rattle.hwp_geom.specs.Words.{line}

@@ -7,23 +7,25 @@ use Rattle.std.proofs.lemmas.Bool.Decides.{nat_tests}
 use Rattle.std.proofs.lemmas.Fmt.{digits_is_IsNumeral}
 use Rattle.std.proofs.lemmas.List.Splits.{slice_split_none, slice_split_at}
 use Rattle.std.proofs.lemmas.List.Elements.{All-nil, All-cons, All-append, All-weaker, All-head, All-tail}
+use Rattle.hwp_geom.specs.Limits.{cpu_limit}
 use Rattle.hwp_geom.specs.Words.{IsWord, IsLine, hex, pieces}
 use Rattle.hwp_geom.specs.Pairs.{Pairs}
 use Rattle.hwp_geom.proofs.Cuts.{joined, differs, none_is, pieces-line, cut-joined_line}
 use Rattle.hwp_form.specs.Kinds.{kind_text}
 use Rattle.hwp_form.specs.Numbers.{IsRegister, register}
-use Rattle.hwp_form.specs.Grammar.{rest_words, form_words, turn_text, until_text, turn_pieces, pieces_of, order_words, OrderFits, IsTurn, AreRestWords, AreOrderWords, IsForm}
+use Rattle.hwp_form.specs.Grammar.{rest_words, form_words, turn_text, until_text, turn_pieces, pieces_of, command_words, CommandFits, IsTurn, AreRestWords, AreCommandWords, IsForm}
 use Rattle.hwp_form.specs.Lines.{words_of, is_comment, is_skipped, numbered_from, IsNumbered, AreLinesOf}
 use Rattle.hwp_form.specs.Printed.{forms_text}
 use Rattle.hwp_form.specs.declared.Form.{Form}
-use Rattle.hwp_form.specs.declared.Order.{Order}
-use Rattle.hwp_form.specs.declared.GoWord.{GoWord}
+use Rattle.hwp_form.specs.declared.Command.{Command}
+use Rattle.hwp_form.specs.declared.Go.{Go}
 use Rattle.hwp_form.specs.declared.Until.{Until}
 use Rattle.hwp_form.specs.declared.Numbered.{Numbered}
 use Rattle.hwp_form.specs.declared.Form.TheVariants as forms
-use Rattle.hwp_form.specs.declared.Order.TheVariants as orders
+use Rattle.hwp_form.specs.declared.Command.TheVariants as commands
 use Rattle.hwp_form.specs.declared.Until.TheVariants as untils
 use Rattle.hwp_form.specs.declared.LineRead.TheVariants as reads
+use Rattle.hwp_form.proofs.CommandLaws.{low}
 use Rattle.hwp_script.specs.Refusals.{AreForms}
 use Rattle.hwp_script_print.proofs.WordsPut.{IsHigh, IsNoAt, IsPut, ArePut, IsWhole, put_word, put_words, no_at-decimal, no_at-kind}
 
@@ -38,11 +40,11 @@ pieces_put c (untils.After k) h =
     slice_split_at (λ b. b == 64) (decimal c) 64 (kind_text k) (none_is 64 (decimal c) (no_at-decimal c h)) refl
     ∙ ap (λ t. decimal c ∷ t) (slice_split_none (λ b. b == 64) (kind_text k) (none_is 64 (kind_text k) (no_at-kind k)))
 
-turns_put : (ts : List GoWord) → All (λ (t : GoWord). t.cpu < 2 ^ 64) ts → Pairs IsTurn (map turn_text ts) ts
+turns_put : (ts : List Go) → All (λ (t : Go). t.cpu.0 < cpu_limit) ts → Pairs IsTurn (map turn_text ts) ts
 turns_put [] h = tt
 turns_put (t ∷ ts) h =
-    let low = All-head (λ (t : GoWord). t.cpu < 2 ^ 64) t ts h in
-    (record { fits = low; same = pieces_put t.cpu t.until low }, turns_put ts (All-tail (λ (t : GoWord). t.cpu < 2 ^ 64) t ts h))
+    let fits = All-head (λ (t : Go). t.cpu.0 < cpu_limit) t ts h in
+    (record { fits = fits; same = pieces_put t.cpu.0 t.until (low t.cpu.0 cpu_limit fits (omega arith)) }, turns_put ts (All-tail (λ (t : Go). t.cpu.0 < cpu_limit) t ts h))
 
 -- a number below 16 ^ (j + 1) has at most j + 1 hex digits
 chosen : (test : Bool) (xs ys : List ℕ) (m : ℕ) → (test ≡ true → length xs ≤ m) → (test ≡ false → length ys ≤ m) → length (if test then xs else ys) ≤ m
@@ -73,12 +75,12 @@ register_put n h =
     let numeral = digits_is_IsNumeral 16 false (omega arith) (omega arith) n (omega arith) in
     inr (record { digits = hex n; same = refl; numeral = numeral.0; short = hex_short n h; value = sym numeral.1 })
 
-order_put : (o : Order) → OrderFits o → AreOrderWords (order_words o) o
-order_put (orders.Log s a m) h = record { three = refl; status = register_put s h.0; addr = register_put a h.1; misc = register_put m h.2 }
-order_put o h = refl
+command_put : (c : Command) → CommandFits c → AreCommandWords (command_words c) c
+command_put (commands.Log s a m) h = record { three = refl; status = register_put s h.0; addr = register_put a h.1; misc = register_put m h.2 }
+command_put c h = refl
 
 rest_put : (f : Form) → IsWhole f → AreRestWords (rest_words f) f
-rest_put (forms.Order o) h = order_put o h.fits
+rest_put (forms.Command c) h = command_put c h.fits
 rest_put (forms.Schedule ts) h = turns_put ts h.turns
 rest_put f h = refl
 

@@ -1,16 +1,16 @@
 -- The lines of the schedule: each is clean, and together they have all words.
-use Rattle.std.proofs.Common.{ℕ, ◌≡◌, ◌<◌, ◌≤◌, ◌^◌, ◌+◌, ◌-◌, ◌*◌, ◌++◌, min, List, [], ◌∷◌, length, map, take, drop, Option, None, zero, suc, ap, ◌∙◌, refl, arith}
+use Rattle.std.proofs.Common.{ℕ, ◌≡◌, ◌<◌, ◌≤◌, ◌+◌, ◌-◌, ◌*◌, ◌++◌, min, List, [], ◌∷◌, length, map, take, drop, Option, None, zero, suc, ap, ◌∙◌, refl, arith}
 use Rattle.std.specs.Prelude.{All}
 use Rattle.std.specs.List.{range_with_len}
-use Rattle.std.proofs.lemmas.List.{length-map, length-take, length-drop}
-use Rattle.std.proofs.lemmas.List.Elements.{All-nil, All-cons, All-head, All-tail, All-take, All-drop}
+use Rattle.std.proofs.lemmas.List.{length-take, length-drop}
+use Rattle.std.proofs.lemmas.List.Elements.{All-head, All-tail, All-take, All-drop, All-weaker}
+use Rattle.hwp_geom.specs.Limits.{cpu_limit}
 use Rattle.hwp_form.specs.declared.Form.{Form}
-use Rattle.hwp_form.specs.declared.GoWord.{GoWord}
+use Rattle.hwp_form.specs.declared.Go.{Go}
 use Rattle.hwp_script.specs.Limits.{schedule_limit}
-use Rattle.hwp_script.specs.declared.Go.{Go}
-use Rattle.hwp_script.specs.Context.{cpus_in, go_in, go_of}
+use Rattle.hwp_script.specs.Context.{cpus_in, go_in}
 use Rattle.hwp_script.specs.Reasons.{IsClean, top_cpu}
-use Rattle.hwp_script_print.specs.Text.{turn_of, go_row, rows_of}
+use Rattle.hwp_script_print.specs.Text.{go_row, rows_of}
 use Rattle.hwp_script_print.proofs.WordsPut.{IsWhole}
 use Rattle.hwp_script_print.proofs.CleanPut.{put_schedule}
 use Rattle.hwp_script_print.proofs.Sections.{Known, IsMade, go_more, go_more-is, made_push, made_then, made_nil, placed}
@@ -19,20 +19,13 @@ use Rattle.hwp_script_print.proofs.Sections.{Known, IsMade, go_more, go_more-is,
 abbrev pub IsGoBelow : ℕ → Go → Type 0
 IsGoBelow n g = g.cpu.0 < n
 
-turns_back : (gs : List Go) → map go_of (map turn_of gs) ≡ gs
-turns_back [] = refl
-turns_back (g ∷ gs) = ap (λ t. g ∷ t) (turns_back gs)
-
-turns_below : (n : ℕ) (gs : List Go) → 0 < n → All (IsGoBelow n) gs → top_cpu (map turn_of gs) < n
+turns_below : (n : ℕ) (gs : List Go) → 0 < n → All (IsGoBelow n) gs → top_cpu gs < n
 turns_below n [] some h = some
 turns_below n (g ∷ gs) some h =
     omega (arith, All-head (IsGoBelow n) g gs h, turns_below n gs some (All-tail (IsGoBelow n) g gs h))
 
-turns_low : (n : ℕ) (gs : List Go) → n ≤ 8 → All (IsGoBelow n) gs → All (λ (t : GoWord). t.cpu < 2 ^ 64) (map turn_of gs)
-turns_low n [] few h = All-nil (λ (t : GoWord). t.cpu < 2 ^ 64)
-turns_low n (g ∷ gs) few h =
-    All-cons (λ (t : GoWord). t.cpu < 2 ^ 64) (turn_of g) (map turn_of gs) (omega (arith, All-head (IsGoBelow n) g gs h))
-    (turns_low n gs few (All-tail (IsGoBelow n) g gs h))
+turns_low : (n : ℕ) (gs : List Go) → n ≤ cpu_limit → All (IsGoBelow n) gs → All (λ (t : Go). t.cpu.0 < cpu_limit) gs
+turns_low n gs few h = All-weaker (IsGoBelow n) (λ (t : Go). t.cpu.0 < cpu_limit) (λ t l. omega (arith, few, l)) gs h
 
 -- the words up to a place and those behind it
 nothing_taken : {A : Type 0} (m : ℕ) → take {A = A} m [] ≡ []
@@ -44,11 +37,10 @@ take_two zero m xs = let e : zero + m ≡ m = omega arith in rw e refl
 take_two (suc n) m [] = let e : suc n + m ≡ suc (n + m) = omega arith in rw e (nothing_taken m)
 take_two (suc n) m (x ∷ xs) = let e : suc n + m ≡ suc (n + m) = omega arith in rw e (ap (λ t. x ∷ t) (take_two n m xs))
 
-row_after : (go : List Go) (i : ℕ) → go_more (take (i * 50) go) (map turn_of (take 50 (drop (i * 50) go))) ≡ take ((i + 1) * 50) go
+row_after : (go : List Go) (i : ℕ) → go_more (take (i * 50) go) (take 50 (drop (i * 50) go)) ≡ take ((i + 1) * 50) go
 row_after go i =
     let e : i * 50 + 50 ≡ (i + 1) * 50 = omega arith in
-    go_more-is (take (i * 50) go) (map turn_of (take 50 (drop (i * 50) go)))
-    ∙ ap (λ t. take (i * 50) go ++ t) (turns_back (take 50 (drop (i * 50) go)))
+    go_more-is (take (i * 50) go) (take 50 (drop (i * 50) go))
     ∙ take_two (i * 50) 50 go ∙ ap (λ n. take n go) e
 
 -- where the next line stands behind n lines of the schedule
@@ -57,7 +49,7 @@ placed_rows p zero = p
 placed_rows p (suc n) = placed_rows None n
 
 pub made_rows : {fs : List Form} (k : Known) (go : List Go) (p : Option ℕ) (i n : ℕ) → IsMade fs 12 (record k { place = p; go = take (i * 50) go })
-    → 0 < k.cpus → 0 < k.frames → k.cpus ≤ 8 → All (IsGoBelow k.cpus) go → length go ≤ schedule_limit → i + n ≤ rows_of (length go)
+    → 0 < k.cpus → 0 < k.frames → k.cpus ≤ cpu_limit → All (IsGoBelow k.cpus) go → length go ≤ schedule_limit → i + n ≤ rows_of (length go)
     → IsMade (fs ++ map (go_row go) (range_with_len i n)) 12 (record k { place = placed_rows p n; go = take ((i + n) * 50) go })
 made_rows k go p i zero h some_c some_f few_c own few l = let e : i + zero ≡ i = omega arith in rw e (made_nil h)
 made_rows {fs} k go p i (suc n) h some_c some_f few_c own few l =
@@ -65,18 +57,16 @@ made_rows {fs} k go p i (suc n) h some_c some_f few_c own few l =
     let cpus : cpus_in fs ≡ k.cpus = ap (λ (x : Known). x.cpus) h.same in
     let so_far : go_in fs ≡ take (i * 50) go = ap (λ (x : Known). x.go) h.same in
     let own_row : All (IsGoBelow k.cpus) row = All-take (IsGoBelow k.cpus) 50 (drop (i * 50) go) (All-drop (IsGoBelow k.cpus) (i * 50) go own) in
-    let below : top_cpu (map turn_of row) < k.cpus = turns_below k.cpus row some_c own_row in
+    let below : top_cpu row < k.cpus = turns_below k.cpus row some_c own_row in
     let many : length row ≡ min 50 (length go - i * 50) = length-take 50 (drop (i * 50) go) ∙ ap (min 50) (length-drop (i * 50) go) in
-    let turns : length (map turn_of row) ≡ length row = rw length-map refl in
     let before : length (take (i * 50) go) ≡ min (i * 50) (length go) = length-take (i * 50) go in
     let inside : i * 50 < length go = omega arith in
     let clean : IsClean fs (go_row go i) = put_schedule h.some (record {
       placed = placed h some_c some_f;
-      few = rw (so_far, turns, before, many) (omega arith);
+      few = rw (so_far, before, many) (omega arith);
       cpus = rw cpus below;
-      low = omega arith;
     }) in
-    let whole : IsWhole (go_row go i) = record { fits = rw (turns, many) (omega arith); turns = turns_low k.cpus row few_c own_row } in
+    let whole : IsWhole (go_row go i) = record { fits = rw many (omega arith); turns = turns_low k.cpus row few_c own_row } in
     let made : IsMade (fs ++ go_row go i ∷ []) 12 (record k { place = None; go = take ((i + 1) * 50) go }) =
     rw (row_after go i) at (made_push (go_row go i) h (omega arith) whole clean) in
     let rest = made_rows {fs = fs ++ go_row go i ∷ []} k go None (i + 1) n made some_c some_f few_c own few (omega arith) in

@@ -4,22 +4,22 @@ use Rattle.std.specs.Prelude.{All, Contains}
 use Rattle.std.specs.List.{range_with_len}
 use Rattle.std.proofs.lemmas.List.{append-nil, append_assoc, length_push}
 use Rattle.std.proofs.lemmas.List.Elements.{All-nil, All-cons, All-head, All-tail, All-push, All-weaker, All-contains}
+use Rattle.hwp_geom.specs.Limits.{cpu_limit}
 use Rattle.hwp_geom.specs.declared.ThreadDecl.{ThreadDecl}
 use Rattle.hwp_geom.specs.declared.TransDecl.{TransDecl}
 use Rattle.hwp_geom.specs.declared.PageKind.{PageKind}
 use Rattle.hwp_geom.specs.declared.PageKind.TheVariants as kinds
 use Rattle.hwp_form.specs.declared.Form.{Form}
-use Rattle.hwp_form.specs.declared.GoWord.{GoWord}
+use Rattle.hwp_form.specs.declared.Go.{Go}
 use Rattle.hwp_form.specs.declared.Form.TheVariants as forms
-use Rattle.hwp_script.specs.declared.Go.{Go}
-use Rattle.hwp_script.specs.Context.{cpus_of, frames_of, kernel_of, recovery_of, early_of, file_of, proc_of, thread_of, page_of, trans_of, cpu_of, command_of, words_of, go_of, kind_of, cpus_in, frames_in, kernel_in, recovery_in, early_in, files_in, procs_in, threads_in, pages_in, trans_in, lists_in, commands_in, go_in, place_in, place_after, group, highest}
+use Rattle.hwp_script.specs.Context.{cpus_of, frames_of, kernel_of, recovery_of, early_of, file_of, proc_of, thread_of, page_of, trans_of, cpu_of, command_of, words_of, kind_of, cpus_in, frames_in, kernel_in, recovery_in, early_in, files_in, procs_in, threads_in, pages_in, trans_in, lists_in, commands_in, go_in, place_in, place_after, group, highest}
 use Rattle.hwp_script.specs.Reasons.{IsClean, AreClean, IsBackingOver, IsBackingUndeclared}
 use Rattle.hwp_script.proofs.ContextLaws.{onto, plus, more, either, pushed}
 use Rattle.hwp_script.proofs.CleanLaws.{IsPlaced}
 use Rattle.hwp_script.proofs.CleanLists.{AreClean-none, AreClean-push}
 use Rattle.hwp_script.proofs.ValidLaws.{IsNamedThread, IsNamedTrans}
-use Rattle.hwp_script_print.specs.Text.{bit, backing_of, numbered, head_forms, kernel_forms, setting_forms, file_form, proc_form, thread_forms, page_forms, trans_forms}
-use Rattle.hwp_form.specs.Grammar.{Fits}
+use Rattle.hwp_script_print.specs.Text.{backing_of, numbered, head_forms, kernel_forms, setting_forms, file_form, proc_form, thread_forms, page_forms, trans_forms}
+use Rattle.hwp_form.specs.Grammar.{bit, Fits}
 use Rattle.hwp_script_print.proofs.WordsPut.{IsWhole}
 use Rattle.hwp_script_print.proofs.CleanPut.{put_header, put_cpus, put_frames, put_kernel, put_recovery, put_early, put_file, put_proc, put_thread, put_page, put_trans}
 
@@ -58,11 +58,11 @@ known fs = record {
   go = go_in fs;
 }
 
-abbrev pub go_more : List Go → List GoWord → List Go
+abbrev pub go_more : List Go → List Go → List Go
 go_more xs [] = xs
-go_more xs (w ∷ ws) = xs ++ map go_of (w ∷ ws)
+go_more xs (w ∷ ws) = xs ++ w ∷ ws
 
-pub go_more-is : (xs : List Go) (ws : List GoWord) → go_more xs ws ≡ xs ++ map go_of ws
+pub go_more-is : (xs : List Go) (ws : List Go) → go_more xs ws ≡ xs ++ ws
 go_more-is xs [] = sym (append-nil xs)
 go_more-is xs (w ∷ ws) = refl
 
@@ -100,7 +100,7 @@ pub record IsMade (fs : List Form) (g : ℕ) (k : Known) : Type 0 where
 
 -- a line that is none of the schedule
 pub plain : {f : Form} → Fits f → words_of f ≡ [] → IsWhole f
-plain {f} h e = record { fits = h; turns = rw e (All-nil (λ (t : GoWord). t.cpu < 2 ^ 64)) }
+plain {f} h e = record { fits = h; turns = rw e (All-nil (λ (t : Go). t.cpu.0 < cpu_limit)) }
 
 pub made_push : {fs : List Form} {g : ℕ} {k : Known} (f : Form) → IsMade fs g k → group f ≤ g → IsWhole f → IsClean fs f → IsMade (fs ++ f ∷ []) g (next k f)
 made_push {fs} {g} {k} f h l w c = record {

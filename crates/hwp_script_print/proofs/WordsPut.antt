@@ -8,22 +8,24 @@ use Rattle.std.proofs.lemmas.Bool.Decides.{nat_tests}
 use Rattle.std.proofs.lemmas.Fmt.{decimal_is_IsNumeral, digits_is_IsNumeral}
 use Rattle.std.proofs.lemmas.List.{length-append}
 use Rattle.std.proofs.lemmas.List.Elements.{All-nil, All-cons, All-append, All-weaker, All-head, All-tail}
+use Rattle.hwp_geom.specs.Limits.{line_limit, cpu_limit, frame_limit, file_limit, thread_limit, page_limit, translation_limit}
 use Rattle.hwp_geom.specs.Words.{IsWord, hex}
 use Rattle.hwp_geom.specs.declared.Kind.{Kind}
 use Rattle.hwp_geom.specs.declared.Kind.TheVariants as kinds
 use Rattle.hwp_geom.proofs.WordLaws.{not_nil}
 use Rattle.hwp_form.specs.Kinds.{kind_text}
 use Rattle.hwp_form.specs.Numbers.{register}
-use Rattle.hwp_form.specs.Grammar.{keyword, keyword_text, order_words, rest_words, form_words, handler_text, turn_text, until_text, Fits, OrderFits}
+use Rattle.hwp_form.specs.Grammar.{bit, keyword, keyword_text, command_words, rest_words, form_words, handler_text, turn_text, until_text, Fits, CommandFits}
 use Rattle.hwp_script.specs.Context.{words_of as turns_in}
 use Rattle.hwp_form.specs.declared.Form.{Form}
-use Rattle.hwp_form.specs.declared.Order.{Order}
-use Rattle.hwp_form.specs.declared.GoWord.{GoWord}
+use Rattle.hwp_form.specs.declared.Command.{Command}
+use Rattle.hwp_form.specs.declared.Go.{Go}
 use Rattle.hwp_form.specs.declared.Until.{Until}
 use Rattle.hwp_form.specs.declared.Form.TheVariants as forms
-use Rattle.hwp_form.specs.declared.Order.TheVariants as orders
+use Rattle.hwp_form.specs.declared.Command.TheVariants as commands
 use Rattle.hwp_form.specs.declared.Backing.TheVariants as backings
 use Rattle.hwp_form.specs.declared.Until.TheVariants as untils
+use Rattle.hwp_form.proofs.CommandLaws.{bit_low, low}
 
 -- a byte above `#`, and so above space and line feed
 abbrev pub IsHigh : ℕ → Type 0
@@ -119,26 +121,26 @@ put_first (forms.Thread t p c h) = fixed _ _ refl
 put_first (forms.Page q b) = fixed _ _ refl
 put_first (forms.Trans v p q) = fixed _ _ refl
 put_first (forms.Schedule ts) = fixed _ _ refl
-put_first (forms.Order (orders.Load t v l)) = fixed _ _ refl
-put_first (forms.Order (orders.Fetch t v l)) = fixed _ _ refl
-put_first (forms.Order (orders.KLoad t v l)) = fixed _ _ refl
-put_first (forms.Order (orders.Store t v l x)) = fixed _ _ refl
-put_first (forms.Order (orders.Free v)) = fixed _ _ refl
-put_first (forms.Order (orders.Drop q)) = fixed _ _ refl
-put_first (forms.Order (orders.Sync q)) = fixed _ _ refl
-put_first (forms.Order (orders.Out q)) = fixed _ _ refl
-put_first (forms.Order (orders.Fsync n)) = fixed _ _ refl
-put_first (forms.Order (orders.Prctl t args)) = fixed _ _ refl
-put_first (forms.Order (orders.Bad f l)) = fixed _ _ refl
-put_first (forms.Order (orders.Weak f l)) = fixed _ _ refl
-put_first (forms.Order (orders.Scrub a b)) = fixed _ _ refl
-put_first (forms.Order (orders.Log s a m)) = fixed _ _ refl
-put_first (forms.Order (orders.RaiseUser t r e)) = fixed _ _ refl
-put_first (forms.Order (orders.RaiseKernel r e)) = fixed _ _ refl
-put_first (forms.Order orders.RaiseNested) = fixed _ _ refl
-put_first (forms.Order (orders.Inject f)) = fixed _ _ refl
-put_first (forms.Order (orders.Soft f)) = fixed _ _ refl
-put_first (forms.Order (orders.Unpoison f)) = fixed _ _ refl
+put_first (forms.Command (commands.Load t v l)) = fixed _ _ refl
+put_first (forms.Command (commands.Fetch t v l)) = fixed _ _ refl
+put_first (forms.Command (commands.KLoad t v l)) = fixed _ _ refl
+put_first (forms.Command (commands.Store t v l x)) = fixed _ _ refl
+put_first (forms.Command (commands.Free v)) = fixed _ _ refl
+put_first (forms.Command (commands.Drop q)) = fixed _ _ refl
+put_first (forms.Command (commands.Sync q)) = fixed _ _ refl
+put_first (forms.Command (commands.Out q)) = fixed _ _ refl
+put_first (forms.Command (commands.Fsync n)) = fixed _ _ refl
+put_first (forms.Command (commands.Prctl t args)) = fixed _ _ refl
+put_first (forms.Command (commands.Bad f l)) = fixed _ _ refl
+put_first (forms.Command (commands.Weak f l)) = fixed _ _ refl
+put_first (forms.Command (commands.Scrub a b)) = fixed _ _ refl
+put_first (forms.Command (commands.Log s a m)) = fixed _ _ refl
+put_first (forms.Command (commands.RaiseUser t r e)) = fixed _ _ refl
+put_first (forms.Command (commands.RaiseKernel r e)) = fixed _ _ refl
+put_first (forms.Command commands.RaiseNested) = fixed _ _ refl
+put_first (forms.Command (commands.Inject f)) = fixed _ _ refl
+put_first (forms.Command (commands.Soft f)) = fixed _ _ refl
+put_first (forms.Command (commands.Unpoison f)) = fixed _ _ refl
 
 -- whether a name of a kind of step is a fixed word
 fixed_kind : (k : Kind) → are_fixed (kind_text k) ≡ true
@@ -198,41 +200,44 @@ high_until untils.One = All-nil IsHigh
 high_until untils.Command = fixed_high (codes ".") refl
 high_until (untils.After k) = All-cons IsHigh 64 (kind_text k) (omega arith) (fixed_high (kind_text k) (fixed_kind k))
 
-put_turn : (t : GoWord) → t.cpu < 2 ^ 64 → IsPut (turn_text t)
-put_turn t h = put_append (until_text t.until) (put_decimal t.cpu h) (high_until t.until)
+put_turn : (t : Go) → t.cpu.0 < cpu_limit → IsPut (turn_text t)
+put_turn t h = put_append (until_text t.until) (put_decimal t.cpu.0 (low t.cpu.0 cpu_limit h (omega arith))) (high_until t.until)
 
-put_turns : (ts : List GoWord) → All (λ (t : GoWord). t.cpu < 2 ^ 64) ts → ArePut (map turn_text ts)
+put_turns : (ts : List Go) → All (λ (t : Go). t.cpu.0 < cpu_limit) ts → ArePut (map turn_text ts)
 put_turns [] h = nothing
-put_turns (t ∷ ts) h = then (put_turn t (All-head (λ (t : GoWord). t.cpu < 2 ^ 64) t ts h)) (put_turns ts (All-tail (λ (t : GoWord). t.cpu < 2 ^ 64) t ts h))
+put_turns (t ∷ ts) h = then (put_turn t (All-head (λ (t : Go). t.cpu.0 < cpu_limit) t ts h)) (put_turns ts (All-tail (λ (t : Go). t.cpu.0 < cpu_limit) t ts h))
 
-put_order : (o : Order) → OrderFits o → ArePut (order_words o)
-put_order (orders.Load t v l) h = then (put_decimal t h.0) (then (put_decimal v h.1) (then (put_decimal l h.2) nothing))
-put_order (orders.Fetch t v l) h = then (put_decimal t h.0) (then (put_decimal v h.1) (then (put_decimal l h.2) nothing))
-put_order (orders.KLoad t v l) h = then (put_decimal t h.0) (then (put_decimal v h.1) (then (put_decimal l h.2) nothing))
-put_order (orders.Store t v l x) h = then (put_decimal t h.0) (then (put_decimal v h.1) (then (put_decimal l h.2) (then (put_decimal x h.3) nothing)))
-put_order (orders.Free v) h = then (put_decimal v h) nothing
-put_order (orders.Drop q) h = then (put_decimal q h) nothing
-put_order (orders.Sync q) h = then (put_decimal q h) nothing
-put_order (orders.Out q) h = then (put_decimal q h) nothing
-put_order (orders.Fsync n) h = then (put_decimal n h) nothing
-put_order (orders.Prctl t args) h = then (put_decimal t h.0) (then (put_decimal args.operation h.1) (then (put_decimal args.arg2 h.2) (then (put_decimal args.arg3 h.3) (then (put_decimal args.arg4 h.4) (then (put_decimal args.arg5 h.5) nothing)))))
-put_order (orders.Bad f l) h = then (put_decimal f h.0) (then (put_decimal l h.1) nothing)
-put_order (orders.Weak f l) h = then (put_decimal f h.0) (then (put_decimal l h.1) nothing)
-put_order (orders.Scrub a b) h = then (put_decimal a h.0) (then (put_decimal b h.1) nothing)
-put_order (orders.Log s a m) h = then (put_register s h.0) (then (put_register a h.1) (then (put_register m h.2) nothing))
-put_order (orders.RaiseUser t r e) h = then (fixed _ _ refl) (then (put_decimal t h.0) (then (put_decimal r h.1) (then (put_decimal e h.2) nothing)))
-put_order (orders.RaiseKernel r e) h = then (fixed _ _ refl) (then (put_decimal r h.0) (then (put_decimal e h.1) nothing))
-put_order orders.RaiseNested h = then (fixed _ _ refl) nothing
-put_order (orders.Inject f) h = then (put_decimal f h) nothing
-put_order (orders.Soft f) h = then (put_decimal f h) nothing
-put_order (orders.Unpoison f) h = then (put_decimal f h) nothing
+put_command : (c : Command) → CommandFits c → ArePut (command_words c)
+put_command (commands.Load t v l) h = then (put_decimal t.0 (low t.0 thread_limit h.0 (omega arith))) (then (put_decimal v.0 (low v.0 translation_limit h.1 (omega arith))) (then (put_decimal l (low l line_limit h.2 (omega arith))) nothing))
+put_command (commands.Fetch t v l) h = then (put_decimal t.0 (low t.0 thread_limit h.0 (omega arith))) (then (put_decimal v.0 (low v.0 translation_limit h.1 (omega arith))) (then (put_decimal l (low l line_limit h.2 (omega arith))) nothing))
+put_command (commands.KLoad t v l) h = then (put_decimal t.0 (low t.0 thread_limit h.0 (omega arith))) (then (put_decimal v.0 (low v.0 translation_limit h.1 (omega arith))) (then (put_decimal l (low l line_limit h.2 (omega arith))) nothing))
+put_command (commands.Store t v l x) h =
+    then (put_decimal t.0 (low t.0 thread_limit h.0.0 (omega arith))) (then (put_decimal v.0 (low v.0 translation_limit h.0.1 (omega arith))) (then (put_decimal l (low l line_limit h.0.2 (omega arith))) (then (put_decimal x h.1) nothing)))
+put_command (commands.Free v) h = then (put_decimal v.0 (low v.0 translation_limit h (omega arith))) nothing
+put_command (commands.Drop q) h = then (put_decimal q.0 (low q.0 page_limit h (omega arith))) nothing
+put_command (commands.Sync q) h = then (put_decimal q.0 (low q.0 page_limit h (omega arith))) nothing
+put_command (commands.Out q) h = then (put_decimal q.0 (low q.0 page_limit h (omega arith))) nothing
+put_command (commands.Fsync n) h = then (put_decimal n.0 (low n.0 file_limit h (omega arith))) nothing
+put_command (commands.Inject f) h = then (put_decimal f.0 (low f.0 frame_limit h (omega arith))) nothing
+put_command (commands.Soft f) h = then (put_decimal f.0 (low f.0 frame_limit h (omega arith))) nothing
+put_command (commands.Unpoison f) h = then (put_decimal f.0 (low f.0 frame_limit h (omega arith))) nothing
+put_command (commands.Bad f l) h = then (put_decimal f.0 (low f.0 frame_limit h.0 (omega arith))) (then (put_decimal l (low l line_limit h.1 (omega arith))) nothing)
+put_command (commands.Weak f l) h = then (put_decimal f.0 (low f.0 frame_limit h.0 (omega arith))) (then (put_decimal l (low l line_limit h.1 (omega arith))) nothing)
+put_command (commands.Scrub a b) h = then (put_decimal a.0 (low a.0 frame_limit (omega (arith, h.0, h.1)) (omega arith))) (then (put_decimal b.0 (low b.0 frame_limit h.1 (omega arith))) nothing)
+put_command (commands.Prctl t args) h =
+    then (put_decimal t.0 (low t.0 thread_limit h.0 (omega arith))) (then (put_decimal args.operation h.1) (then (put_decimal args.arg2 h.2) (then (put_decimal args.arg3 h.3) (then (put_decimal args.arg4 h.4) (then (put_decimal args.arg5 h.5) nothing)))))
+put_command (commands.Log s a m) h = then (put_register s h.0) (then (put_register a h.1) (then (put_register m h.2) nothing))
+put_command (commands.RaiseUser t r e) h =
+    then (fixed _ _ refl) (then (put_decimal t.0 (low t.0 thread_limit h (omega arith))) (then (put_decimal (bit r) (bit_low r)) (then (put_decimal (bit e) (bit_low e)) nothing)))
+put_command (commands.RaiseKernel r e) h = then (fixed _ _ refl) (then (put_decimal (bit r) (bit_low r)) (then (put_decimal (bit e) (bit_low e)) nothing))
+put_command commands.RaiseNested h = then (fixed _ _ refl) nothing
 
--- the numbers of a line are below 2 ^ 64, also in words of the schedule
+-- the numbers of a line fit, also in words of the schedule
 pub record IsWhole (f : Form) : Type 0 where
   pub fits : Fits f
-  pub turns : All (λ (t : GoWord). t.cpu < 2 ^ 64) (turns_in f)
+  pub turns : All (λ (t : Go). t.cpu.0 < cpu_limit) (turns_in f)
 
-put_rest : (f : Form) → Fits f → All (λ (t : GoWord). t.cpu < 2 ^ 64) (turns_in f) → ArePut (rest_words f)
+put_rest : (f : Form) → Fits f → All (λ (t : Go). t.cpu.0 < cpu_limit) (turns_in f) → ArePut (rest_words f)
 put_rest forms.Header h k = then (fixed _ _ refl) nothing
 put_rest (forms.Cpus n) h k = then (put_decimal n h) nothing
 put_rest (forms.Frames n) h k = then (put_decimal n h) nothing
@@ -246,7 +251,7 @@ put_rest (forms.Thread t p c b) h k = then (put_decimal t h.0) (then (put_decima
 put_rest (forms.Page q backings.Anon) h k = then (put_decimal q h) (then (fixed _ _ refl) nothing)
 put_rest (forms.Page q (backings.File n x)) h k = then (put_decimal q h.0) (then (fixed _ _ refl) (then (put_decimal n h.1) (then (fixed _ _ refl) (then (put_decimal x h.2) nothing))))
 put_rest (forms.Trans v p q) h k = then (put_decimal v h.0) (then (put_decimal p h.1) (then (put_decimal q h.2) nothing))
-put_rest (forms.Order o) h k = put_order o h
+put_rest (forms.Command c) h k = put_command c h
 put_rest (forms.Schedule ts) h k = put_turns ts k
 put_rest forms.End h k = nothing
 

@@ -5,55 +5,20 @@ use Rattle.hwp_geom.specs.declared.PageKind.{PageKind}
 use Rattle.hwp_geom.specs.declared.ThreadDecl.{ThreadDecl}
 use Rattle.hwp_geom.specs.declared.TransDecl.{TransDecl}
 use Rattle.hwp_geom.specs.declared.PageKind.TheVariants as kinds
+use Rattle.hwp_form.specs.Grammar.{bit}
 use Rattle.hwp_form.specs.Printed.{forms_text}
 use Rattle.hwp_form.specs.declared.Form.{Form}
-use Rattle.hwp_form.specs.declared.Order.{Order}
+use Rattle.hwp_form.specs.declared.Command.{Command}
 use Rattle.hwp_form.specs.declared.Backing.{Backing}
-use Rattle.hwp_form.specs.declared.GoWord.{GoWord}
+use Rattle.hwp_form.specs.declared.Go.{Go}
 use Rattle.hwp_form.specs.declared.Form.TheVariants as forms
-use Rattle.hwp_form.specs.declared.Order.TheVariants as orders
 use Rattle.hwp_form.specs.declared.Backing.TheVariants as backings
 use Rattle.hwp_script.specs.declared.Script.{Script}
-use Rattle.hwp_script.specs.declared.Command.{Command}
-use Rattle.hwp_script.specs.declared.Go.{Go}
-use Rattle.hwp_script.specs.declared.Command.TheVariants as commands
-
--- a truth value as a number
-abbrev pub bit : Bool → ℕ
-bit true = 1
-bit false = 0
-
--- a command, with its numbers
-abbrev pub order_of : Command → Order
-order_of (commands.Load t v l) = orders.Load t.0 v.0 l
-order_of (commands.Fetch t v l) = orders.Fetch t.0 v.0 l
-order_of (commands.KLoad t v l) = orders.KLoad t.0 v.0 l
-order_of (commands.Store t v l x) = orders.Store t.0 v.0 l x
-order_of (commands.Free v) = orders.Free v.0
-order_of (commands.Drop q) = orders.Drop q.0
-order_of (commands.Sync q) = orders.Sync q.0
-order_of (commands.Out q) = orders.Out q.0
-order_of (commands.Fsync n) = orders.Fsync n.0
-order_of (commands.Prctl t args) = orders.Prctl t.0 args
-order_of (commands.Bad f l) = orders.Bad f.0 l
-order_of (commands.Weak f l) = orders.Weak f.0 l
-order_of (commands.Scrub a b) = orders.Scrub a.0 b.0
-order_of (commands.Log s a m) = orders.Log s a m
-order_of (commands.RaiseUser t r e) = orders.RaiseUser t.0 (bit r) (bit e)
-order_of (commands.RaiseKernel r e) = orders.RaiseKernel (bit r) (bit e)
-order_of commands.RaiseNested = orders.RaiseNested
-order_of (commands.Inject f) = orders.Inject f.0
-order_of (commands.Soft f) = orders.Soft f.0
-order_of (commands.Unpoison f) = orders.Unpoison f.0
 
 -- what stands behind a page, with its numbers
 abbrev pub backing_of : PageKind → Backing
 backing_of kinds.Anon = backings.Anon
 backing_of (kinds.File n x) = backings.File n.0 x
-
--- a word of the schedule, with its number
-abbrev pub turn_of : Go → GoWord
-turn_of go = record { cpu = go.cpu.0; until = go.until }
 
 -- the lines of each item of a list, with its number, counted from n
 abbrev pub numbered : {A : Type 0} → (ℕ → A → List Form) → ℕ → List A → List Form
@@ -99,7 +64,7 @@ trans_forms n t = forms.Trans n t.process.0 t.page.0 ∷ []
 
 -- a processor and its commands
 abbrev pub list_forms : ℕ → List Command → List Form
-list_forms n cmds = forms.Cpu n ∷ map (λ cmd. forms.Order (order_of cmd)) cmds
+list_forms n cmds = forms.Cpu n ∷ map forms.Command cmds
 
 -- how many lines a schedule of n words has: 50 words stand on a line
 abbrev pub rows_of : ℕ → ℕ
@@ -107,7 +72,7 @@ rows_of n = (n + 49) / 50
 
 -- a line of the schedule
 abbrev pub go_row : List Go → ℕ → Form
-go_row go i = forms.Schedule (map turn_of (take 50 (drop (i * 50) go)))
+go_row go i = forms.Schedule (take 50 (drop (i * 50) go))
 
 -- the lines of a script, in the order of their groups
 abbrev pub script_forms : Script → List Form

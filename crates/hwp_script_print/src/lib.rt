@@ -1,7 +1,6 @@
 //! The one text of a fault script, and the law that it is read as that script.
 #![tactic(auto)]
 
-mod commands;
 mod printing;
 #[cfg(test)]
 mod tests;

@@ -1,14 +1,13 @@
-ghost use Rattle.std.specs.Prelude.{◌≡◌, ◌∷◌, ◌++◌, [], Bool, OnOk, IfOk, map, length, take, drop, ◌<◌, ◌≤◌, ◌+◌, ◌*◌, ◌⊎◌, string_bytes};
+ghost use Rattle.std.specs.Prelude.{◌≡◌, ◌∷◌, ◌++◌, [], Bool, OnOk, IfOk, length, take, drop, ◌<◌, ◌≤◌, ◌+◌, ◌*◌, ◌⊎◌, string_bytes};
 ghost use Rattle.hwp_geom.specs.Words.{line};
 ghost use Rattle.hwp_form.specs.Grammar.{form_words};
 ghost use Rattle.hwp_form.specs.Printed.{forms_text};
 ghost use Rattle.hwp_script.specs.Limits.{script_limit};
 ghost use Rattle.hwp_script.specs.Valid.{IsValid};
 ghost use Rattle.hwp_script_print.specs.Round.{IsTextOf};
-ghost use Rattle.hwp_script_print.specs.Text.{backing_of, turn_of, head_forms, kernel_forms, setting_forms, thread_forms, page_forms, trans_forms, list_forms, go_row, numbered, counted, file_form, proc_form, rows_of, script_text};
+ghost use Rattle.hwp_script_print.specs.Text.{backing_of, head_forms, kernel_forms, setting_forms, thread_forms, page_forms, trans_forms, list_forms, go_row, numbered, counted, file_form, proc_form, rows_of, script_text};
 
-use crate::commands::order;
-use hwp_form::{Backing, Form, GoWord, put_form};
+use hwp_form::{Backing, Form, put_form};
 use hwp_geom::{List, OutOfMemory, PageKind, Text, ThreadDecl, TransDecl};
 use hwp_script::{Command, Go, Script};
 use std::alloc::Global;
@@ -181,23 +180,9 @@ fn put_list(out: &mut String, number: usize, commands: &[Command]) -> Result<(),
 {
     put_form(out, &Form::Cpu(number as u64))?;
     for command in commands {
-        put_form(out, &Form::Order(order(command)))?;
+        put_form(out, &Form::Command(*command))?;
     }
     Ok(())
-}
-
-/// Words of the schedule, as a line says them.
-fn turns(alloc: Global, go: &[Go]) -> Result<List<GoWord>, OutOfMemory>
-    ensures { IfOk result (λ turns. turns ≡ map turn_of go.now) }
-{
-    let mut turns = Vec::new(alloc);
-    for word in go {
-        turns.push(GoWord {
-            cpu: u64::from(word.cpu.0),
-            until: word.until,
-        })?;
-    }
-    Ok(List::from_vec(turns))
 }
 
 /// Where a line of the schedule ends that begins at a word.
@@ -225,7 +210,7 @@ fn put_row(alloc: Global, out: &mut String, go: &[Go], row: usize) -> Result<(),
     requires { row < rows_of (length go.now) }
     ensures { OnOk result (string_bytes out.new ≡ string_bytes out.old ++ line (form_words (go_row go.now row))) }
 {
-    let form = Form::Schedule(turns(alloc, row_of(go, row))?);
+    let form = Form::Schedule(List::from_vec(row_of(go, row).to_vec(alloc)?));
     put_form(out, &form)?;
     Ok(())
 }

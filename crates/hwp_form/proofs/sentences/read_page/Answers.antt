@@ -1,5 +1,5 @@
 use Rattle.std.proofs.Common.{arith}
-use Rattle.hwp_form.proofs.OrderLaws.{no_file_page}
+use Rattle.hwp_form.proofs.CommandLaws.{no_file_page}
 use Rattle.hwp_form.proofs.sentences.read_page.Goals as goal
 
 pub returns-in_err-page-in-len5-clause-bad : goal.returns-in_err-page-in-len5-clause-bad

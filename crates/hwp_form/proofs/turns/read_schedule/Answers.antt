@@ -1,9 +1,9 @@
 use Rattle.std.proofs.Common.{refl, arith}
 use Rattle.std.proofs.lemmas.Grind.{common_steps}
 use Rattle.std.proofs.lemmas.List.{length-map}
-use Rattle.hwp_form.proofs.TurnLaws.{turns-good, turns-bad, turns-unknown, turns-shaped}
+use Rattle.hwp_form.proofs.TurnLaws.{turns-good, turns-bad, turns-over, turns-unknown, turns-shaped, turns-high}
 use Rattle.hwp_form.proofs.turns.read_schedule.Goals as goal
-use Rattle.hwp_form.proofs.turns.read_schedule.Goals.{in-Ok+in_ok-push-in-Ok, in-Err-BadNumber}
+use Rattle.hwp_form.proofs.turns.read_schedule.Goals.{in-Ok+in_ok-push-in-Ok, in-Err-OverLimit, in-Err-BadNumber}
 
 pub returns-in-Err-Unknown-clause-unknown : goal.returns-in-Err-Unknown-clause-unknown
 returns-in-Err-Unknown-clause-unknown c = λ _ h.
@@ -11,18 +11,24 @@ returns-in-Err-Unknown-clause-unknown c = λ _ h.
 
 pub loop-word-preserved : goal.loop-word-preserved
 loop-word-preserved c = elim c.match-branch-2.branch [
-  | in-Ok+in_ok-push-in-Ok w ↦ rw (w.turns-is, w.is_bad-is, w.in_ok-push-in-Ok.ensures.items)
-      (turns-good c.args.words.now c.loop-word.word-index _ c.loop-word.turns.items c.loop-word.is_bad _ c.loop-word.invariant (omega arith) (rw w.in-Ok.is at c.in_ok-turn.ensures.shaped) (rw w.in-Ok.is at c.in_ok-turn.ensures.turn))
-  | in-Err-BadNumber w ↦ let bad = (rw (w.in-Err-BadNumber.is, w.in-Err-BadNumber.field-0-is) at c.in_ok-turn.ensures.bad) refl in rw (w.turns-is, w.is_bad-is)
-      (turns-bad c.args.words.now c.loop-word.word-index _ c.loop-word.turns.items c.loop-word.is_bad c.loop-word.invariant (omega arith) bad.0 bad.1)
+  | in-Ok+in_ok-push-in-Ok w ↦ rw (w.turns-is, w.is_bad-is, w.is_over-is, w.in_ok-push-in-Ok.ensures.items)
+      (turns-good c.args.words.now c.loop-word.word-index _ c.loop-word.turns.items c.loop-word.is_bad c.loop-word.is_over _ c.loop-word.invariant (omega arith) (rw w.in-Ok.is at c.in_ok-turn.ensures.shaped) (rw w.in-Ok.is at c.in_ok-turn.ensures.turn))
+  | in-Err-OverLimit w ↦ let over = (rw (w.in-Err-OverLimit.is, w.in-Err-OverLimit.field-0-is) at c.in_ok-turn.ensures.over) refl in rw (w.turns-is, w.is_bad-is, w.is_over-is)
+      (turns-over c.args.words.now c.loop-word.word-index _ c.loop-word.turns.items c.loop-word.is_bad c.loop-word.is_over c.loop-word.invariant (omega arith) over)
+  | in-Err-BadNumber w ↦ let bad = (rw (w.in-Err-BadNumber.is, w.in-Err-BadNumber.field-0-is) at c.in_ok-turn.ensures.bad) refl in rw (w.turns-is, w.is_bad-is, w.is_over-is)
+      (turns-bad c.args.words.now c.loop-word.word-index _ c.loop-word.turns.items c.loop-word.is_bad c.loop-word.is_over c.loop-word.invariant (omega arith) bad.0 bad.1)
 ]
 
 pub returns-then-is_bad-clause-bad : goal.returns-then-is_bad-clause-bad
 returns-then-is_bad-clause-bad c = λ _. (
-  (rw length-map (grind (arith, common_steps)), turns-shaped c.args.words.now c.loop-word.word-index c.loop-word.turns.items c.loop-word.is_bad c.loop-word.invariant (omega arith)),
+  (rw length-map (grind (arith, common_steps)), turns-shaped c.args.words.now c.loop-word.word-index c.loop-word.turns.items c.loop-word.is_bad c.loop-word.is_over c.loop-word.invariant (omega arith)),
   c.loop-word.invariant.ill c.if-is_bad.true,
 )
 
-pub returns-else-is_bad-clause-shaped : goal.returns-else-is_bad-clause-shaped
-returns-else-is_bad-clause-shaped c =
-    (rw length-map (grind (arith, common_steps)), turns-shaped c.args.words.now c.loop-word.word-index c.loop-word.turns.items c.loop-word.is_bad c.loop-word.invariant (omega arith))
+pub returns-then-is_over-clause-over : goal.returns-then-is_over-clause-over
+returns-then-is_over-clause-over c = λ _.
+    turns-high c.args.words.now c.loop-word.word-index c.loop-word.turns.items c.loop-word.is_bad c.loop-word.is_over c.loop-word.invariant c.if-is_bad.false c.if-is_over.true (omega arith) (grind (arith, common_steps))
+
+pub returns-else-is_over-clause-shaped : goal.returns-else-is_over-clause-shaped
+returns-else-is_over-clause-shaped c =
+    (rw length-map (grind (arith, common_steps)), turns-shaped c.args.words.now c.loop-word.word-index c.loop-word.turns.items c.loop-word.is_bad c.loop-word.is_over c.loop-word.invariant (omega arith))

@@ -6,8 +6,8 @@ use Rattle.std.proofs.lemmas.List.{map-id}
 use Rattle.hwp_script.proofs.JudgeLaws.{so_far_more, refused_at, none_refused, all_lines}
 use Rattle.hwp_script.proofs.judging.judge.Goals as goal
 
-pub returns-in-Err : goal.returns-in-Err
-returns-in-Err c =
+pub returns-in-Err-clause-refused : goal.returns-in-Err-clause-refused
+returns-in-Err-clause-refused c =
     let y = YieldsList-from_vec c.args.lines.items (search rules) (search rules) in
     let t = YieldsList-turn y c.loop-line.yielded _ c.loop-line.yielded_by _ c.next.new.self c.in-Some.field-0 c.in-Some.is c.next.ensures.steps in
     let front = YieldsList-so_far y c.loop-line.yielded _ c.loop-line.yielded_by in
@@ -27,16 +27,16 @@ loop-line-preserved c =
     c.as_slice.ensures.value have all c.in-Ok.ensures.ok c.in-Ok.ensures.clean c.in-Ok.ensures.ended
     (rw c.as_slice-in-loop-line.ensures.value at c.in_ok-add.ensures))
 
-pub returns : goal.returns
-returns c =
+pub returns-clause-script : goal.returns-clause-script
+returns-clause-script c =
     let y = YieldsList-from_vec c.args.lines.items (search rules) (search rules) in
     let e = YieldsList-end y c.loop-line.yielded _ c.loop-line.yielded_by _ c.next.new.self c.in-None.is c.next.ensures.steps in
     let some : 0 < length c.loop-line.forms.items = grind (arith, common_steps, c.loop-line.forms.ok) in
     let all = all_lines c.loop-line.invariant (sym (map-id _) ∙ e.0) some in
-    record { each = all.each; clean = c.loop-line.invariant.clean; ended = all.ended; sums = c.loop-line.invariant.sums }
+    record { forms = c.loop-line.forms.items; each = all.each; clean = c.loop-line.invariant.clean; ended = all.ended; collects = search rules }
 
-pub returns-then-is_empty : goal.returns-then-is_empty
-returns-then-is_empty c =
+pub returns-then-is_empty-clause-refused : goal.returns-then-is_empty-clause-refused
+returns-then-is_empty-clause-refused c =
     let y = YieldsList-from_vec c.args.lines.items (search rules) (search rules) in
     let e = YieldsList-end y c.loop-line.yielded _ c.loop-line.yielded_by _ c.next.new.self c.in-None.is c.next.ensures.steps in
     let none : length c.loop-line.forms.items ≡ 0 = grind (arith, common_steps, c.loop-line.forms.ok) in
