@@ -1,5 +1,5 @@
 -- The command of a first word and of the words behind it: at most one, and none where a number is outside its range.
-use Rattle.std.proofs.Common.{ℕ, ◌≡◌, ◌<◌, ◌≤◌, ◌^◌, ◌+◌, ◌==◌, inl, inr, Bool, true, false, cond, List, [], ◌∷◌, length, get_or, drop, map, Bor, decimal, codes, refl, sym, ap, subst, ◌∙◌, arith}
+use Rattle.std.proofs.Common.{ℕ, ◌≡◌, ◌<◌, ◌≤◌, ◌^◌, ◌==◌, inl, inr, Bool, true, false, cond, List, [], ◌∷◌, length, get_or, drop, map, Bor, decimal, codes, refl, sym, ap, subst, ◌∙◌, arith}
 use Rattle.std.specs.Prelude.{All, ◌⊎◌}
 use Rattle.std.specs.Str.Parse.{digits_value}
 use Rattle.std.proofs.lemmas.Fmt.{decimal_is_IsNumeral}
@@ -7,10 +7,9 @@ use Rattle.std.proofs.lemmas.List.{get_or-map, length-map}
 use Rattle.std.proofs.lemmas.List.Elements.{All-from_recursion, All-same, All-get_or}
 use Rattle.hwp_geom.specs.Limits.{line_limit, frame_limit, file_limit, thread_limit, page_limit, translation_limit}
 use Rattle.hwp_form.specs.Numbers.{IsNumber, IsNumberWord, IsRegister}
-use Rattle.hwp_form.specs.Grammar.{bit, command_word, command_words, CommandFits, AreCommandWords, AreRegisters, IsCommand, IsCommandOver, HasCommandShape, HaveCommandNumbers, HaveNumbers, thread_keyword, page_keyword}
+use Rattle.hwp_form.specs.Grammar.{bit, command_word, CommandFits, AreCommandWords, IsCommand, IsCommandOver, HasCommandShape, HaveCommandNumbers, HaveNumbers, thread_keyword, page_keyword}
 use Rattle.hwp_form.specs.declared.command.Command.{Command}
 use Rattle.hwp_form.specs.declared.command.Command.TheVariants as commands
-use Rattle.hwp_form.specs.declared.command.PrctlArgs.{PrctlArgs}
 use Rattle.hwp_form.specs.declared.keywords.CommandWord.{CommandWord}
 use Rattle.hwp_form.specs.declared.keywords.CommandWord.TheVariants as words
 

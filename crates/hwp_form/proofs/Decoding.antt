@@ -1,28 +1,21 @@
 -- From words back to their line: words are those of one line at most.
-use Rattle.std.proofs.Common.{ℕ, ◌≡◌, ◌<◌, ◌≤◌, ◌^◌, ◌+◌, ◌*◌, ◌==◌, cond, Bool, true, false, inl, inr, List, [], ◌∷◌, length, get_or, drop, decimal, refl, sym, ap, ◌∙◌, arith}
-use Rattle.std.specs.Str.Parse.{digits_value}
-use Rattle.std.proofs.lemmas.Fmt.{decimal_is_IsNumeral, decimal_injective}
+use Rattle.std.proofs.Common.{ℕ, ◌≡◌, ◌<◌, ◌≤◌, ◌^◌, ◌==◌, cond, Bool, true, false, List, [], ◌∷◌, length, get_or, decimal, refl, sym, ap, ◌∙◌, arith}
+use Rattle.std.proofs.lemmas.Fmt.{decimal_injective}
 use Rattle.std.proofs.lemmas.List.{append_cancel_right}
 use Rattle.hwp_geom.specs.Limits.{cpu_limit}
 use Rattle.hwp_geom.specs.Pairs.{Pairs}
 use Rattle.hwp_geom.specs.declared.Kind.{Kind}
 use Rattle.hwp_geom.specs.declared.Kind.TheVariants as kinds
 use Rattle.hwp_form.specs.Kinds.{kind_text}
-use Rattle.hwp_form.specs.Numbers.{IsRegister}
-use Rattle.hwp_form.specs.Grammar.{keyword, command_word, handler_text, Fits, CommandFits, AreRestWords, AreCommandWords, IsTurn, AreTurnOver, HaveTurnShape, pieces_of, IsSentence, IsForm}
+use Rattle.hwp_form.specs.Grammar.{keyword, handler_text, Fits, AreRestWords, IsTurn, AreTurnOver, HaveTurnShape, pieces_of, IsSentence, IsForm}
 use Rattle.hwp_form.specs.declared.form.Form.{Form}
-use Rattle.hwp_form.specs.declared.command.Command.{Command}
 use Rattle.hwp_form.specs.declared.command.Go.{Go}
 use Rattle.hwp_form.specs.declared.command.Until.{Until}
-use Rattle.hwp_form.specs.declared.command.PrctlArgs.{PrctlArgs}
 use Rattle.hwp_form.specs.declared.keywords.Keyword.{Keyword}
-use Rattle.hwp_form.specs.declared.keywords.CommandWord.{CommandWord}
 use Rattle.hwp_form.specs.declared.form.Form.TheVariants as forms
-use Rattle.hwp_form.specs.declared.command.Command.TheVariants as commands
 use Rattle.hwp_form.specs.declared.form.Backing.TheVariants as backings
 use Rattle.hwp_form.specs.declared.command.Until.TheVariants as untils
 use Rattle.hwp_form.specs.declared.keywords.Keyword.TheVariants as keywords
-use Rattle.hwp_form.specs.declared.keywords.CommandWord.TheVariants as words
 use Rattle.hwp_form.proofs.CommandLaws.{value, value_is, command_at, command_found}
 use Rattle.hwp_form.proofs.Listed.{all_kinds}
 use Rattle.hwp_form.proofs.PairsLaws.{Pairs-unique}

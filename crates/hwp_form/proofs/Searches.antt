@@ -2,7 +2,7 @@
 use Rattle.std.proofs.Common.{ℕ, ◌<◌, ◌≤◌, ◌+◌, List, length, get_or, take, subst}
 use Rattle.std.specs.Prelude.{All}
 use Rattle.std.proofs.lemmas.List.{take_all}
-use Rattle.std.proofs.lemmas.List.Elements.{All-nil, All-more, All-get_or}
+use Rattle.std.proofs.lemmas.List.Elements.{All-more, All-get_or}
 
 -- none of the first i items is as looked for
 pub record IsNoneOf {A : Type 0} (P : A → Type 0) (xs : List A) (i : ℕ) : Type 0 where

@@ -1,8 +1,8 @@
 -- The printed words of some kinds of line, from their parts, and the text of lines.
-use Rattle.std.specs.Prelude.{ℕ, Bool, List, [], ◌∷◌, map, codes}
+use Rattle.std.specs.Prelude.{ℕ, Bool, List}
 use Rattle.std.specs.List.{flat_map}
 use Rattle.hwp_geom.specs.Words.{line}
-use Rattle.hwp_form.specs.Grammar.{form_words, turn_text}
+use Rattle.hwp_form.specs.Grammar.{form_words}
 use Rattle.hwp_form.specs.declared.form.Form.{Form}
 use Rattle.hwp_form.specs.declared.form.Backing.{Backing}
 use Rattle.hwp_form.specs.declared.command.Go.{Go}
