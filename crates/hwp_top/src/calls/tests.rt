@@ -4,6 +4,7 @@ ghost use Rattle.std.specs.Prelude.{◌<◌};
 use super::{Done, top};
 use hwp_io::{MemSink, MemSource};
 use std::alloc::Global;
+use std::process::Abort;
 use std::test::Fail;
 
 const STORE_AND_LOAD: &str = "\
@@ -37,40 +38,95 @@ cpu 0 2
 end
 ";
 
-/// What a call left: its status, whether it gave a report, and the bytes on both sinks.
+/// What a call left: its status, whether it gave a report, and both sinks.
 #[derive(Drop)]
 struct Left {
     status: u8,
     reported: bool,
-    out: Vec<u8>,
-    err: Vec<u8>,
+    out: MemSink,
+    err: MemSink,
 }
 
-/// A call of `top` over memory. The reads and the writes whose numbers are listed fail.
-fn call(
-    alloc: Global,
-    words: &[&str],
-    input: &[u8],
-    fail_reads: &[u64],
-    take: usize,
-    fail_writes: &[u64],
-) -> Result<Left, Fail>
-    requires { 0 < take }
-{
+fn words_of(alloc: Global, words: &[&str]) -> Result<Vec<String>, Fail> {
     let mut list = Vec::new(alloc);
     for word in words {
         list.push(String::from_str(alloc, word)?)?;
     }
-    let mut src = MemSource::new(input.to_vec(alloc)?, fail_reads.to_vec(alloc)?);
-    let mut out = MemSink::new(alloc, take, fail_writes.to_vec(alloc)?);
+    Ok(list)
+}
+
+/// A source of these bytes, and a sink that takes this many bytes a write. The reads and the writes whose numbers are
+/// listed fail.
+fn source(alloc: Global, input: &[u8], fail: &[u64]) -> Result<MemSource, Fail> {
+    Ok(MemSource::new(input.to_vec(alloc)?, fail.to_vec(alloc)?))
+}
+
+fn sink(alloc: Global, take: usize, fail: &[u64]) -> Result<MemSink, Fail>
+    requires { 0 < take }
+{
+    Ok(MemSink::new(alloc, take, fail.to_vec(alloc)?))
+}
+
+/// A call of `top` over memory, of which the output goes to `out`.
+fn call(alloc: Global, words: &[&str], mut src: MemSource, mut out: MemSink) -> Result<Left, Fail> {
+    let list = words_of(alloc, words)?;
     let mut err = MemSink::new(alloc, 4096, Vec::new(alloc));
     let Done { status, report } = top(alloc, list.as_slice(), &mut src, &mut out, &mut err);
+    let reported = report.is_some();
     Ok(Left {
         status,
-        reported: report.is_some(),
-        out: out.bytes().to_vec(alloc)?,
-        err: err.bytes().to_vec(alloc)?,
+        reported,
+        out,
+        err,
     })
+}
+
+/// A call of `step` on a script, with nothing that fails.
+fn step(alloc: Global, script: &[u8]) -> Result<Left, Fail> {
+    call(
+        alloc,
+        &["step"],
+        source(alloc, script, &[])?,
+        sink(alloc, 4096, &[])?,
+    )
+}
+
+/// `step` on a script gives this report and nothing on `err`, and ends with this status.
+fn gives(
+    rt: &impl Abort,
+    alloc: Global,
+    name: &str,
+    script: &[u8],
+    status: u8,
+    report: &[u8],
+) -> Result<(), Fail> {
+    let left = step(alloc, script)?;
+    assert!(rt; left.reported, "{name}");
+    assert_eq!(rt; left.status, status, "{name}");
+    assert_eq!(rt; left.out.bytes(), report, "{name}");
+    assert_eq!(rt; left.err.bytes().len(), 0, "{name}");
+    Ok(())
+}
+
+/// A call that gave no report and wrote nothing on `out` ended with this status, and told this on `err`.
+fn tells(rt: &impl Abort, name: &str, left: &Left, status: u8, told: &[u8]) {
+    assert!(rt; !left.reported, "{name}");
+    assert_eq!(rt; left.status, status, "{name}");
+    assert_eq!(rt; left.out.bytes().len(), 0, "{name}");
+    assert_eq!(rt; left.err.bytes(), told, "{name}");
+}
+
+/// `step` refuses a script, and tells this on `err`.
+fn refuses(
+    rt: &impl Abort,
+    alloc: Global,
+    name: &str,
+    script: &[u8],
+    told: &[u8],
+) -> Result<(), Fail> {
+    let left = step(alloc, script)?;
+    tells(rt, name, &left, 3, told);
+    Ok(())
 }
 
 #[test]
@@ -108,11 +164,14 @@ page 0 5\nin 0 0\nmap 0 0 0\nstore 0 0 0 0 0 9\nmap 0 1 1\nload 0 1 1 0 0 9\ncpu
         ),
     ];
     for (name, script, report) in &table {
-        let left = call(rt.alloc(), &["step"], script.as_bytes(), &[], 4096, &[])?;
-        assert_eq!(rt; left.status, 0, "{name}");
-        assert!(rt; left.reported, "{name}");
-        assert_eq!(rt; left.out.as_slice(), report.as_bytes(), "{name}");
-        assert_eq!(rt; left.err.len(), 0, "{name}");
+        gives(
+            &rt,
+            rt.alloc(),
+            name,
+            script.as_bytes(),
+            0,
+            report.as_bytes(),
+        )?;
     }
     Ok(())
 }
@@ -128,13 +187,14 @@ fn other_words_are_usage(rt: HostRuntime) -> Result<(), Fail> {
         &["STEP"],
     ];
     for words in &table {
-        let left = call(rt.alloc(), words, STORE_AND_LOAD.as_bytes(), &[], 4096, &[])?;
-        assert_eq!(rt; left.status, 2);
-        assert!(rt; !left.reported);
-        assert_eq!(rt; left.out.len(), 0);
-        assert_eq!(rt;
-            left.err.as_slice(),
-            b"usage: hwp step|run|check|gen N|sum N\n".as_slice()
+        let src = source(rt.alloc(), STORE_AND_LOAD.as_bytes(), &[])?;
+        let left = call(rt.alloc(), words, src, sink(rt.alloc(), 4096, &[])?)?;
+        tells(
+            &rt,
+            "other words",
+            &left,
+            2,
+            b"usage: hwp step|run|check|gen N|sum N\n",
         );
     }
     Ok(())
@@ -179,40 +239,48 @@ load 0 2 0 0 0 5\nstore 0 3 0 0 0 6\ncpu 0 4\n0 stored 0 2\n1 done 0 3\n2 value 
         ),
     ];
     for (name, script, report) in &table {
-        let left = call(rt.alloc(), &["step"], script.as_bytes(), &[], 4096, &[])?;
-        assert_eq!(rt; left.status, 0, "{name}");
-        assert_eq!(rt; left.out.as_slice(), report.as_bytes(), "{name}");
+        gives(
+            &rt,
+            rt.alloc(),
+            name,
+            script.as_bytes(),
+            0,
+            report.as_bytes(),
+        )?;
     }
     Ok(())
 }
 
 #[test]
 fn prctl_answers_the_policy_that_was_set(rt: HostRuntime) -> Result<(), Fail> {
-    let script =
-        "hwp 1\ncpus 1\nframes 1\nproc 0\nthread 0 0 0 nohandler\nthread 1 0 0 handler\ncpu 0\n\
+    let table = [
+        (
+            "policies set, read and cleared by two threads",
+            "hwp 1\ncpus 1\nframes 1\nproc 0\nthread 0 0 0 nohandler\nthread 1 0 0 handler\ncpu 0\n\
 prctl 0 34 0 0 0 0\nprctl 0 33 1 1 0 0\nprctl 0 34 0 0 0 0\nprctl 1 34 0 0 0 0\nprctl 0 33 1 0 1 0\n\
 prctl 0 33 1 0 0 0\nprctl 0 34 0 0 0 0\nprctl 0 33 0 0 0 0\nprctl 0 34 0 0 0 0\nprctl 0 35 0 0 0 0\n\
-log 0xBD000000000000C0 0x1000 0x8c\nend\n";
-    let report =
-        "hwp-report 1\nstop none\ncount 0\nframe 0 free bad 0 weak 0\ncpu 0 11\n0 is 2\n1 done\n2 is 1\n\
-3 is 2\n4 einval\n5 done\n6 is 0\n7 done\n8 is 2\n9 einval\n10 done\nend\n";
-    let left = call(rt.alloc(), &["step"], script.as_bytes(), &[], 4096, &[])?;
-    assert_eq!(rt; left.status, 0);
-    assert_eq!(rt; left.out.as_slice(), report.as_bytes());
-    Ok(())
-}
-
-#[test]
-fn prctl_refuses_policies_and_arguments_that_are_none(rt: HostRuntime) -> Result<(), Fail> {
-    let script =
-        "hwp 1\ncpus 1\nframes 2\nproc 0\nthread 0 0 0 handler\npage 0 anon\ntrans 0 0 0\ncpu 0\n\
-prctl 0 33 1 3 0 0\nprctl 0 33 0 1 0 0\nprctl 0 33 1 1 0 0\nprctl 0 34 0 0 0 0\nprctl 0 34 1 0 0 0\nend\n";
-    let report =
-        "hwp-report 1\nstop none\ncount 0\nframe 0 free bad 0 weak 0\nframe 1 free bad 0 weak 0\npage 0 0\ncpu 0 5\n\
-0 einval\n1 einval\n2 done\n3 is 1\n4 einval\nend\n";
-    let left = call(rt.alloc(), &["step"], script.as_bytes(), &[], 4096, &[])?;
-    assert_eq!(rt; left.status, 0);
-    assert_eq!(rt; left.out.as_slice(), report.as_bytes());
+log 0xBD000000000000C0 0x1000 0x8c\nend\n",
+            "hwp-report 1\nstop none\ncount 0\nframe 0 free bad 0 weak 0\ncpu 0 11\n0 is 2\n1 done\n2 is 1\n\
+3 is 2\n4 einval\n5 done\n6 is 0\n7 done\n8 is 2\n9 einval\n10 done\nend\n",
+        ),
+        (
+            "policies and arguments that are none",
+            "hwp 1\ncpus 1\nframes 2\nproc 0\nthread 0 0 0 handler\npage 0 anon\ntrans 0 0 0\ncpu 0\n\
+prctl 0 33 1 3 0 0\nprctl 0 33 0 1 0 0\nprctl 0 33 1 1 0 0\nprctl 0 34 0 0 0 0\nprctl 0 34 1 0 0 0\nend\n",
+            "hwp-report 1\nstop none\ncount 0\nframe 0 free bad 0 weak 0\nframe 1 free bad 0 weak 0\npage 0 0\ncpu 0 5\n\
+0 einval\n1 einval\n2 done\n3 is 1\n4 einval\nend\n",
+        ),
+    ];
+    for (name, script, report) in &table {
+        gives(
+            &rt,
+            rt.alloc(),
+            name,
+            script.as_bytes(),
+            0,
+            report.as_bytes(),
+        )?;
+    }
     Ok(())
 }
 
@@ -235,11 +303,14 @@ store 0 0 0 0 0 7\ncpu 0 4\n0 stored 0 2\n1 stopped\n2 stopped\n3 stopped\nend\n
         ),
     ];
     for (name, script, report) in &table {
-        let left = call(rt.alloc(), &["step"], script.as_bytes(), &[], 4096, &[])?;
-        assert_eq!(rt; left.status, 8, "{name}");
-        assert!(rt; left.reported, "{name}");
-        assert_eq!(rt; left.out.as_slice(), report.as_bytes(), "{name}");
-        assert_eq!(rt; left.err.len(), 0, "{name}");
+        gives(
+            &rt,
+            rt.alloc(),
+            name,
+            script.as_bytes(),
+            8,
+            report.as_bytes(),
+        )?;
     }
     Ok(())
 }
@@ -272,95 +343,75 @@ fn a_refused_script_leaves_nothing_on_out(rt: HostRuntime) -> Result<(), Fail> {
         ),
     ];
     for (script, told) in &table {
-        let left = call(rt.alloc(), &["step"], script.as_bytes(), &[], 4096, &[])?;
-        assert_eq!(rt; left.status, 3, "{script}");
-        assert!(rt; !left.reported, "{script}");
-        assert_eq!(rt; left.out.len(), 0, "{script}");
-        assert_eq!(rt; left.err.as_slice(), told.as_bytes(), "{script}");
+        refuses(&rt, rt.alloc(), script, script.as_bytes(), told.as_bytes())?;
     }
     let two = STORE_AND_LOAD.replace(rt.alloc(), "cpus 1", "cpus 2")?;
-    let left = call(rt.alloc(), &["step"], two.as_bytes(), &[], 4096, &[])?;
-    assert_eq!(rt; left.status, 3, "a second processor");
-    assert_eq!(rt; left.out.len(), 0, "a second processor");
-    assert_eq!(rt;
-        left.err.as_slice(),
-        b"script line 0: NotBuilt\n".as_slice()
-    );
+    refuses(
+        &rt,
+        rt.alloc(),
+        "a second processor",
+        two.as_bytes(),
+        b"script line 0: NotBuilt\n",
+    )?;
     let long = vec![in rt.alloc(); b' '; 1_048_577]?;
-    let left = call(rt.alloc(), &["step"], long.as_slice(), &[], 4096, &[])?;
-    assert_eq!(rt; left.status, 3);
-    assert_eq!(rt; left.err.as_slice(), b"script line 0: TooLong\n".as_slice());
-    Ok(())
+    refuses(
+        &rt,
+        rt.alloc(),
+        "a byte too many",
+        long.as_slice(),
+        b"script line 0: TooLong\n",
+    )
 }
 
 #[test]
 fn each_cut_of_a_script_is_refused(rt: HostRuntime) -> Result<(), Fail> {
     let whole = STORE_AND_LOAD.as_bytes();
     for end in 0..whole.len() - 1 {
-        let left = call(rt.alloc(), &["step"], &whole[..end], &[], 4096, &[])?;
+        let left = step(rt.alloc(), &whole[..end])?;
         assert_eq!(rt; left.status, 3, "cut at {end}");
-        assert_eq!(rt; left.out.len(), 0, "cut at {end}");
+        assert_eq!(rt; left.out.bytes().len(), 0, "cut at {end}");
     }
     Ok(())
 }
 
 #[test]
 fn a_failing_read_leaves_nothing_on_out(rt: HostRuntime) -> Result<(), Fail> {
-    for read in 1..3 {
-        let left = call(
-            rt.alloc(),
-            &["step"],
-            STORE_AND_LOAD.as_bytes(),
-            &[read],
-            4096,
-            &[],
-        )?;
-        assert_eq!(rt; left.status, 4, "read {read}");
-        assert!(rt; !left.reported, "read {read}");
-        assert_eq!(rt; left.out.len(), 0, "read {read}");
-        assert_eq!(rt;
-            left.err.as_slice(),
-            b"read fault\n".as_slice(),
-            "read {read}"
-        );
+    let script = STORE_AND_LOAD.as_bytes();
+    for (name, read) in &[("read 1", 1), ("read 2", 2)] {
+        let src = source(rt.alloc(), script, &[*read])?;
+        let left = call(rt.alloc(), &["step"], src, sink(rt.alloc(), 4096, &[])?)?;
+        tells(&rt, name, &left, 4, b"read fault\n");
     }
+    Ok(())
+}
+
+/// Where the write of this number fails, of 16 bytes each, the front of the report that was written before stays.
+fn is_cut(rt: &impl Abort, alloc: Global, write: u64, front: &[u8]) -> Result<(), Fail> {
+    let src = source(alloc, STORE_AND_LOAD.as_bytes(), &[])?;
+    let left = call(alloc, &["step"], src, sink(alloc, 16, &[write])?)?;
+    assert!(rt; left.reported, "write {write}");
+    assert_eq!(rt; left.status, 5, "write {write}");
+    assert_eq!(rt; left.out.bytes(), front, "write {write}");
+    assert_eq!(rt;
+        left.err.bytes(),
+        b"write fault\n".as_slice(),
+        "write {write}"
+    );
     Ok(())
 }
 
 #[test]
 fn a_failing_write_leaves_a_front_of_the_report(rt: HostRuntime) -> Result<(), Fail> {
     let report = STORED_AND_LOADED.as_bytes();
-    let whole = report.len();
     for write in 1..13 {
         let kept = 16 * (write - 1);
-        assert!(rt; kept < whole);
-        let left = call(
-            rt.alloc(),
-            &["step"],
-            STORE_AND_LOAD.as_bytes(),
-            &[],
-            16,
-            &[write as u64],
-        )?;
-        assert_eq!(rt; left.status, 5, "write {write}");
-        assert!(rt; left.reported, "write {write}");
-        assert_eq!(rt; left.out.as_slice(), &report[..kept], "write {write}");
-        assert_eq!(rt;
-            left.err.as_slice(),
-            b"write fault\n".as_slice(),
-            "write {write}"
-        );
+        assert!(rt; kept < report.len());
+        is_cut(&rt, rt.alloc(), write as u64, &report[..kept])?;
     }
-    let left = call(
-        rt.alloc(),
-        &["step"],
-        STORE_AND_LOAD.as_bytes(),
-        &[],
-        16,
-        &[],
-    )?;
+    let src = source(rt.alloc(), STORE_AND_LOAD.as_bytes(), &[])?;
+    let left = call(rt.alloc(), &["step"], src, sink(rt.alloc(), 16, &[])?)?;
     assert_eq!(rt; left.status, 0);
-    assert_eq!(rt; left.out.as_slice(), report);
+    assert_eq!(rt; left.out.bytes(), report);
     Ok(())
 }
 
@@ -390,10 +441,15 @@ fn many_declarations_are_served(rt: HostRuntime) -> Result<(), Fail> {
         writeln!(script, "trans {slot} 0 0")?;
     }
     script.push_str("cpu 0\nload 0 299 0\nend\n")?;
-    let left = call(rt.alloc(), &["step"], script.as_bytes(), &[], 4096, &[])?;
-    assert_eq!(rt; left.status, 0);
-    assert_eq!(rt; left.out.as_slice(), LOADED_THROUGH_THE_LAST.as_bytes());
-    Ok(())
+    let report = LOADED_THROUGH_THE_LAST.as_bytes();
+    gives(
+        &rt,
+        rt.alloc(),
+        "300 translations",
+        script.as_bytes(),
+        0,
+        report,
+    )
 }
 
 #[test]
@@ -403,19 +459,19 @@ fn long_inputs_are_read_to_their_end(rt: HostRuntime) -> Result<(), Fail> {
         refused.push_str("#\n")?;
     }
     refused.push_str("hwp 1\nsotre\n")?;
-    let left = call(rt.alloc(), &["step"], refused.as_bytes(), &[], 4096, &[])?;
-    assert_eq!(rt; left.status, 3);
-    assert_eq!(rt;
-        left.err.as_slice(),
-        b"script line 5002: UnknownWord\n".as_slice()
-    );
+    let told = b"script line 5002: UnknownWord\n";
+    refuses(&rt, rt.alloc(), "5002 lines", refused.as_bytes(), told)?;
     // A comment fills the script up to 1 MiB.
     let mut whole = vec![in rt.alloc(); b'#'; 1_048_576 - STORE_AND_LOAD.len() - 1]?;
     whole.push(b'\n')?;
     whole.extend_from_slice(STORE_AND_LOAD.as_bytes())?;
-    let left = call(rt.alloc(), &["step"], whole.as_slice(), &[], 4096, &[])?;
     assert_eq!(rt; whole.len(), 1_048_576);
-    assert_eq!(rt; left.status, 0);
-    assert_eq!(rt; left.out.as_slice(), STORED_AND_LOADED.as_bytes());
-    Ok(())
+    gives(
+        &rt,
+        rt.alloc(),
+        "1 MiB",
+        whole.as_slice(),
+        0,
+        STORED_AND_LOADED.as_bytes(),
+    )
 }
