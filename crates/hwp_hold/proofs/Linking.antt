@@ -1,6 +1,6 @@
 -- What a finished `Hold` leaves fits `Unhold`: the page can be let go with its body as it was taken.
-use Rattle.std.proofs.Common.{◌≡◌, ℕ, ◌+◌, ◌<◌, ◌==◌, Bool, false, cond, List, [], ◌∷◌, ◌++◌, Option, Some, None, length, drop, slice_get, append-nil, refl, sym, ap, ◌∙◌, subst, arith}
-use Rattle.std.proofs.lemmas.Bool.{both_ways}
+use Rattle.std.proofs.Common.{◌≡◌, ℕ, ◌+◌, ◌<◌, ◌==◌, Bool, true, false, cond, List, [], ◌∷◌, ◌++◌, Option, Some, None, is_none, length, drop, slice_get, append-nil, refl, sym, ap, ◌∙◌, subst, arith}
+use Rattle.std.proofs.lemmas.Bool.{both_ways, false≢true}
 use Rattle.std.proofs.lemmas.List.{drop_all}
 use Rattle.std.proofs.lemmas.List.Sums.{sum_by-cons}
 use Rattle.std.proofs.lemmas.Option.{none-some, same_Some}
@@ -31,10 +31,13 @@ use Rattle.hwp_hold.specs.declared.hold.Hold.{Hold}
 use Rattle.hwp_hold.specs.declared.hold.HoldAt.{HoldAt}
 use Rattle.hwp_hold.specs.declared.hold.HoldAt.TheVariants as at
 use Rattle.hwp_hold.specs.declared.unhold.Unhold.{Unhold}
+use Rattle.hwp_hold.specs.declared.unhold.UnholdAt.{UnholdAt}
+use Rattle.hwp_hold.specs.declared.unhold.UnholdAt.TheVariants as unhold_at
 use Rattle.hwp_step.specs.Calls.{IsOnTurn}
-use Rattle.hwp_step.specs.Hands.{Hand, body_in}
+use Rattle.hwp_step.specs.Hands.{Hand, body_in, empty, hand_of}
 use Rattle.hwp_hold.specs.Holds.{HoldsPage, FitsAt, IsBody, IsBodyAt, answer, answer_at, held, page_lock, words_of}
-use Rattle.hwp_hold.specs.Unholds.{begin, HoldsAhead, Fits, LetsGo}
+use Rattle.hwp_hold.specs.Holds as holds
+use Rattle.hwp_hold.specs.Unholds.{begin, plan, plan_at, HoldsAhead, Fits, FitsAt as UnholdFitsAt, LetsGo}
 
 no-member : {A : Type 0} (P : A → Type 0) → EachMember P []
 no-member P i x e = absurd (none-some x e)
@@ -157,3 +160,16 @@ held-at a frame body answered is = absurd is
 -- with what it answers
 pub answered-lets-go : (h : Hold) (u : Unhold) (frame : Option Frame) (body : BodyValue) → answer h ≡ Some frame → IsBody h body → u ≡ begin h.who h.page frame body → LetsGo h u
 answered-lets-go h u frame body answered is begun = over-lets-go h u frame body (held-at h.at frame body answered is) begun
+
+pub answered-holds : (layout : Layout) (view : View) (h : Hold) (frame : Option Frame) (body : BodyValue) → answer h ≡ Some frame → IsBody h body → holds.Fits layout view h → HoldsPage layout view h.page frame body
+answered-holds layout view h frame body answered is fits = subst (FitsAt layout view h.who h.page) (held-at h.at frame body answered is) fits.at
+
+-- an unhold that is over has left nothing held
+pub nothing-left : (layout : Layout) (view : View) (u : Unhold) → is_none (plan u) ≡ true → Fits layout view u → hand_of view ≡ empty
+nothing-left layout view u over fits = which u.at over fits.at
+  where
+    which : (a : UnholdAt) → is_none (plan_at u.page a) ≡ true → UnholdFitsAt layout view u.who u.page a → hand_of view ≡ empty
+    which (unhold_at.UnlockFrame frame body) over at = absurd (false≢true over)
+    which (unhold_at.Release r) over at = absurd (false≢true (sym at.under_way ∙ over))
+    which (unhold_at.UnlockPage body) over at = absurd (false≢true over)
+    which unhold_at.Over over at = at
