@@ -1,2 +1,4 @@
 pub mod Growth
 pub mod Windows
+pub mod Extents
+pub mod Examples

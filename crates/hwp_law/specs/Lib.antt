@@ -6,3 +6,15 @@ pub mod Answers
 pub mod Stops
 pub mod Report
 pub mod Runs
+pub mod Lines
+pub mod Commands
+pub mod Entries
+pub mod Seen
+pub mod Records
+pub mod Frames
+pub mod Losses
+pub mod Endings
+pub mod Checks
+pub mod Halts
+pub mod Causes
+pub mod Law

@@ -1,0 +1,45 @@
+-- Which entries a command makes, also where memory fails, and in which page.
+use Rattle.std.specs.Prelude.{◌≡◌, ◌⊎◌, ℕ, true, List, Option, Some, None, IsSomeAnd}
+use Rattle.hwp_geom.specs.declared.Layout.{Layout}
+use Rattle.hwp_geom.specs.declared.Page.{Page}
+use Rattle.hwp_geom.specs.declared.Thread.{Thread}
+use Rattle.hwp_geom.specs.declared.VSlot.{VSlot}
+use Rattle.hwp_page.specs.declared.At.{At}
+use Rattle.hwp_page.specs.declared.Entry.{Entry}
+use Rattle.hwp_page.specs.declared.What.{What}
+use Rattle.hwp_page.specs.declared.What.TheVariants as entries
+use Rattle.hwp_script.specs.declared.Command.{Command}
+use Rattle.hwp_script.specs.declared.Command.TheVariants as commands
+use Rattle.hwp_script.specs.declared.Script.{Script}
+use Rattle.hwp_law.specs.Commands.{Access, access_of, can_fail, current_thread}
+use Rattle.hwp_law.specs.History.{Fits, Names}
+use Rattle.hwp_law.specs.Places.{command_at, entry_at}
+
+-- the access is through this translation and at this line
+abbrev pub IsAccessAt : VSlot → ℕ → Access → Type 0
+IsAccessAt slot line a = (a.slot ≡ slot) × (a.line ≡ line)
+
+-- a thread needs the page now, and then it is the current one; or none does
+abbrev pub IsRequiredBy : Command → Option Thread → Type 0
+IsRequiredBy command required = (required ≡ None) ⊎ (required ≡ current_thread command)
+
+-- the entry is of a kind that the command makes, with the command's numbers
+abbrev pub Makes : Command → What → Type 0
+Makes command (entries.Mce slot line mask) = IsSomeAnd (access_of command) (IsAccessAt slot line)
+Makes command (entries.Fail situation required seen signals) = (can_fail command ≡ true) × IsRequiredBy command required
+Makes (commands.Soft frame) entries.Soft = Unit {0}
+Makes command what = Fits command what
+
+-- the page is the one that the command names; a failure and a soft offline meet the page that is in their frame
+abbrev pub CanStandIn : Layout → Command → Page → What → Type 0
+CanStandIn layout command page (entries.Fail situation required seen signals) = Unit {0}
+CanStandIn layout command page entries.Soft = Unit {0}
+CanStandIn layout command page what = Names layout command page
+
+-- the entry is one that its command makes, in a page where it can stand
+abbrev pub IsMadeBy : Script → Page → Entry → Type 0
+IsMadeBy script page e = IsSomeAnd (command_at script e.who) (λ (command : Command). Makes command e.what × CanStandIn script.layout command page e.what)
+
+-- each entry is one that its command makes
+abbrev pub AreMadeBy : Script → List (List Entry) → Type 0
+AreMadeBy script pages = (at : At) (e : Entry) → entry_at pages at ≡ Some e → IsMadeBy script at.page e

@@ -1,0 +1,61 @@
+-- The whole law of a report, of all commands: also where memory fails, machine checks come and the machine stops.
+use Rattle.std.specs.Prelude.{◌≡◌, Bool, List, Some, length, slice_get}
+use Rattle.hwp_geom.specs.declared.Cpu.{Cpu}
+use Rattle.hwp_geom.specs.declared.Frame.{Frame}
+use Rattle.hwp_geom.specs.declared.Page.{Page}
+use Rattle.hwp_geom.specs.declared.Who.{Who}
+use Rattle.hwp_page.specs.declared.Entry.{Entry}
+use Rattle.hwp_script.specs.declared.Command.{Command}
+use Rattle.hwp_script.specs.declared.Script.{Script}
+use Rattle.hwp_report.specs.declared.CpuLine.{CpuLine}
+use Rattle.hwp_report.specs.declared.FrameLine.{FrameLine}
+use Rattle.hwp_report.specs.declared.Report.{Report}
+use Rattle.hwp_law.specs.Answers.{AreInWindows, AreNamed}
+use Rattle.hwp_law.specs.Causes.{AreCaused}
+use Rattle.hwp_law.specs.Checks.{AreEvents}
+use Rattle.hwp_law.specs.Endings.{EndingsStay}
+use Rattle.hwp_law.specs.Entries.{AreMadeBy}
+use Rattle.hwp_law.specs.Frames.{IsFrameLine, poisoned_count}
+use Rattle.hwp_law.specs.Halts.{StopAgrees}
+use Rattle.hwp_law.specs.History.{AreOrdered}
+use Rattle.hwp_law.specs.Losses.{LossesAgree}
+use Rattle.hwp_law.specs.Records.{AreRecorded}
+use Rattle.hwp_law.specs.Report.{IsHistory}
+use Rattle.hwp_law.specs.Seen.{AreSeen, SeenNeverFalls}
+
+-- the report has a line, a history or lines for each frame, page and processor of the script
+pub record HasShape (script : Script) (report : Report) : Type 0 where
+  pub frames : length report.frames ≡ script.layout.frames
+  pub pages : length report.pages ≡ length script.layout.pages
+  pub cpus : length report.cpus ≡ script.layout.cpus
+
+-- the histories of pages: legal, and of entries that their commands make
+pub record HistoriesFit (script : Script) (report : Report) : Type 0 where
+  pub legal : (page : Page) (entries : List Entry) → slice_get report.pages page.0 ≡ Some entries → IsHistory script.layout report.frames page entries
+  pub made : AreMadeBy script report.pages
+  pub ordered : AreOrdered report.pages
+  pub seen : AreSeen script report
+  pub falls_never : SeenNeverFalls report
+
+-- the lines of processors: answers, each with its cause, and events
+pub record AnswersFit (script : Script) (report : Report) : Type 0 where
+  pub caused : (cpu : Cpu) (commands : List Command) (lines : List CpuLine) → slice_get script.lists cpu.0 ≡ Some commands → slice_get report.cpus cpu.0 ≡ Some lines → AreCaused script report cpu 0 commands lines
+  pub named : AreNamed report.pages report.cpus
+  pub windows : AreInWindows report.pages report.cpus
+  pub endings : EndingsStay script report
+  pub events : AreEvents script report
+  pub stop : StopAgrees script report
+
+-- the lines of frames, what their records have beside them, and how many are poisoned
+pub record FramesFit (script : Script) (report : Report) : Type 0 where
+  pub lines : (frame : Frame) (kernel : Bool) (line : FrameLine) → slice_get script.layout.kernel frame.0 ≡ Some kernel → slice_get report.frames frame.0 ≡ Some line → IsFrameLine script report kernel frame line
+  pub recorded : (who : Who) → AreRecorded report who
+  pub count : report.count ≡ poisoned_count report.frames
+
+-- the report is one of a run of the script
+pub record IsLawful (script : Script) (report : Report) : Type 0 where
+  pub shape : HasShape script report
+  pub histories : HistoriesFit script report
+  pub answers : AnswersFit script report
+  pub frames : FramesFit script report
+  pub losses : LossesAgree script report

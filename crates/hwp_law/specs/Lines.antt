@@ -1,0 +1,68 @@
+-- The lines of a report: what a processor's lines say of one command, and what a frame's line says.
+use Rattle.std.specs.Prelude.{ℕ, ◌==◌, ◌&&◌, Bool, List, [], Option, Some, None, filter, filter_map, slice_get, option_map, unwrap_or}
+use Rattle.std.specs.List.{find}
+use Rattle.hwp_geom.specs.declared.Who.{Who}
+use Rattle.hwp_report.specs.declared.Acted.{Acted}
+use Rattle.hwp_report.specs.declared.Answer.{Answer}
+use Rattle.hwp_report.specs.declared.CpuLine.{CpuLine}
+use Rattle.hwp_report.specs.declared.CpuLine.TheVariants as lines
+use Rattle.hwp_report.specs.declared.FrameLine.{FrameLine}
+use Rattle.hwp_report.specs.declared.MarkLine.{MarkLine}
+use Rattle.hwp_report.specs.declared.Report.{Report}
+
+-- the line of a bank's event
+pub record EventLine : Type 0 where
+  pub seq : ℕ
+  pub bank : ℕ
+  pub status : ℕ
+  pub addr : ℕ
+  pub misc : ℕ
+  pub row : ℕ
+  pub acted : Acted
+
+-- the line of an answer
+pub record AnswerLine : Type 0 where
+  pub seq : ℕ
+  pub answer : Answer
+
+abbrev pub event_in : CpuLine → Option EventLine
+event_in (lines.Event seq bank status addr misc row acted) =
+    Some (record { seq = seq; bank = bank; status = status; addr = addr; misc = misc; row = row; acted = acted })
+event_in (lines.Answer seq answer) = None
+
+abbrev pub answer_in : CpuLine → Option AnswerLine
+answer_in (lines.Event seq bank status addr misc row acted) = None
+answer_in (lines.Answer seq answer) = Some (record { seq = seq; answer = answer })
+
+-- the two are one command of one processor
+abbrev pub is_same_command : Who → Who → Bool
+is_same_command a b = (a.cpu.0 == b.cpu.0) && (a.seq == b.seq)
+
+-- the lines of a command's processor
+abbrev pub rows_of : Report → Who → List CpuLine
+rows_of report who = unwrap_or (slice_get report.cpus who.cpu.0) []
+
+-- the event lines of a command, in order
+abbrev pub events_among : List CpuLine → ℕ → List EventLine
+events_among rows seq = filter (λ (l : EventLine). seq == l.seq) (filter_map event_in rows)
+
+abbrev pub events_of : Report → Who → List EventLine
+events_of report who = events_among (rows_of report who) who.seq
+
+-- the answer of a command
+abbrev pub answer_among : List CpuLine → ℕ → Option Answer
+answer_among rows seq = option_map (λ (l : AnswerLine). l.answer) (find (λ (l : AnswerLine). seq == l.seq) (filter_map answer_in rows))
+
+abbrev pub answer_of : Report → Who → Option Answer
+answer_of report who = answer_among (rows_of report who) who.seq
+
+-- the record of a frame
+abbrev pub marks_of : Report → ℕ → List MarkLine
+marks_of report frame = unwrap_or (option_map (λ (l : FrameLine). l.marks) (slice_get report.frames frame)) []
+
+-- the bad lines of a frame, a bit each, and its weak lines
+abbrev pub bad_lines_of : Report → ℕ → ℕ
+bad_lines_of report frame = unwrap_or (option_map (λ (l : FrameLine). l.bad.0) (slice_get report.frames frame)) 0
+
+abbrev pub weak_lines_of : Report → ℕ → ℕ
+weak_lines_of report frame = unwrap_or (option_map (λ (l : FrameLine). l.weak.0) (slice_get report.frames frame)) 0
