@@ -2,3 +2,4 @@ pub mod Situations
 pub mod Actions
 pub mod Step
 pub mod History
+pub mod Refusals

@@ -1,0 +1,60 @@
+-- What a processor knows of one of its commands: the words that its steps showed, the histories that it saw, and the entries
+-- that it made.
+use Rattle.std.specs.Prelude.{◌≡◌, ◌⊎◌, ℕ, ◌==◌, ◌&&◌, Bool, List, [], ◌∷◌, ◌++◌, Some, filter}
+use Rattle.hwp_geom.specs.declared.Page.{Page}
+use Rattle.hwp_geom.specs.declared.VSlot.{VSlot}
+use Rattle.hwp_geom.specs.declared.Who.{Who}
+use Rattle.hwp_page.specs.declared.What.{What}
+use Rattle.hwp_page.specs.declared.What.TheVariants as entries
+use Rattle.hwp_rule.specs.declared.Length.{Length}
+use Rattle.hwp_rule.specs.declared.Log.{Log}
+use Rattle.hwp_rule.specs.declared.Made.{Made}
+use Rattle.hwp_rule.specs.declared.Place.{Place}
+use Rattle.hwp_rule.specs.declared.Sight.{Sight}
+use Rattle.hwp_rule.specs.declared.View.{View}
+use Rattle.hwp_rule.specs.Lists.{EachMember, SomeMember}
+
+-- a step of the command showed the word at the place
+abbrev pub IsShown : Who → Place → ℕ → Sight → Type 0
+IsShown who place word s = (s.stamp.who ≡ who) × (s.place ≡ place) × (s.word ≡ word)
+
+abbrev pub Saw : View → Who → Place → ℕ → Type 0
+Saw view who place word = SomeMember (IsShown who place word) view.sights
+
+-- a step of the command, under the page's lock, took the page's body, whose history was this
+abbrev pub IsMet : Who → Log → Length → Type 0
+IsMet who log l = (l.stamp.who ≡ who) × (l.stamp.page ≡ Some log.page) × (l.log ≡ log)
+
+abbrev pub SawLog : View → Who → Log → Type 0
+SawLog view who log = SomeMember (IsMet who log) view.lengths
+
+-- the entries that the command made, in the order in which they were listed
+abbrev pub is_by : Who → Made → Bool
+is_by who m = (m.entry.who.cpu.0 == who.cpu.0) && (m.entry.who.seq == who.seq)
+
+abbrev pub deeds : Who → View → List Made
+deeds who view = filter (is_by who) view.made
+
+-- the command has made no entry
+abbrev pub HasMadeNone : View → Who → Type 0
+HasMadeNone view who = deeds who view ≡ []
+
+-- the entry that was made stands at this place of the page's history
+abbrev pub IsAt : Page → ℕ → What → Made → Type 0
+IsAt page place what m = (m.page ≡ page) × (m.place ≡ place) × (m.entry.what ≡ what)
+
+-- the entry was made to bring the page into a frame, or the translation into use
+abbrev pub BringsIn : Page → VSlot → Made → Type 0
+BringsIn page slot m = (m.page ≡ page) × ((m.entry.what ≡ entries.FaultIn) ⊎ (m.entry.what ≡ entries.Map slot))
+
+-- so far the command has made such entries alone
+abbrev pub HasOnly : (Made → Type 0) → View → Who → Type 0
+HasOnly Such view who = EachMember Such (deeds who view)
+
+-- the command made such entries, and then one more at this place of the page's history
+pub record HasMade (Such : Made → Type 0) (view : View) (who : Who) (page : Page) (place : ℕ) (what : What) : Type 0 where
+  pub before : List Made
+  pub last : Made
+  pub all : deeds who view ≡ before ++ last ∷ []
+  pub such : EachMember Such before
+  pub at : IsAt page place what last
