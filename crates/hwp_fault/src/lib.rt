@@ -1,0 +1,6 @@
+//! A fault: a page brought into a frame, and a translation of it into use.
+#![tactic(auto)]
+
+mod map_in;
+
+pub use map_in::MapIn;
