@@ -21,8 +21,8 @@ use Rattle.hwp_step.specs.declared.Turn.TheVariants.{Moved}
 use Rattle.hwp_step.specs.Calls.{IsOnTurn}
 use Rattle.hwp_step.specs.Hands.{Hand, hand_of}
 use Rattle.hwp_hold.specs.declared.Refer.{Refer}
-use Rattle.hwp_hold.specs.declared.ReferAt.{ReferAt}
-use Rattle.hwp_hold.specs.declared.ReferAt.TheVariants as refer_at
+use Rattle.hwp_hold.specs.declared.refer.ReferAt.{ReferAt}
+use Rattle.hwp_hold.specs.declared.refer.ReferAt.TheVariants as refer_at
 use Rattle.hwp_hold.specs.Refers as refers
 use Rattle.hwp_hold.specs.Unholds.{holding}
 use Rattle.hwp_fault.specs.declared.map_in.MapIn.{MapIn}

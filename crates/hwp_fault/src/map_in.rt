@@ -57,6 +57,13 @@ impl MapIn {
         }
     }
 
+    /// The frame that the page is in.
+    pub(crate) fn frame(&self) -> Frame
+        ensures { result ≡ self.now.frame }
+    {
+        self.frame
+    }
+
     /// The page's body.
     pub fn body(self) -> Body
         ensures { result ≡ self.body }
