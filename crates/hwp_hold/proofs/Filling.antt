@@ -9,6 +9,7 @@ use Rattle.hwp_geom.specs.declared.Page.{Page}
 use Rattle.hwp_geom.specs.declared.Who.{Who}
 use Rattle.hwp_page.specs.History.{BodyValue}
 use Rattle.hwp_rule.specs.declared.Ref.{Ref}
+use Rattle.hwp_rule.specs.declared.Place.TheVariants as places
 use Rattle.hwp_rule.specs.declared.Step.{Step}
 use Rattle.hwp_rule.specs.declared.Step.TheVariants as steps
 use Rattle.hwp_rule.specs.declared.View.{View}
@@ -22,6 +23,7 @@ use Rattle.hwp_step.specs.declared.Turn.{Turn}
 use Rattle.hwp_step.specs.Calls.{CanMake, Steps, IsOnTurn}
 use Rattle.hwp_step.specs.Hands.{Hand, hand_of, body_in}
 use Rattle.hwp_step.proofs.Stepping.{on-turn-after, hand-planned, steps-planned, can-make}
+use Rattle.hwp_known.specs.Known.{Saw}
 use Rattle.hwp_hold.specs.declared.fill.Fill.{Fill}
 use Rattle.hwp_hold.specs.declared.fill.FillAt.{FillAt}
 use Rattle.hwp_hold.specs.declared.fill.FillAt.TheVariants as at
@@ -159,7 +161,10 @@ module _ {layout : Layout} {new : View} {who : Who} {page : Page} {body : BodyVa
   take-moved t (take_at.LoadFree number) seen own hand fits = record { seen = seen; hand_is = hand; entry = entry; take = fits; own = own; under_way = refl }
   take-moved t (take_at.TakeBit frame) seen own hand fits = record { seen = seen; hand_is = hand; entry = entry; take = fits; own = own; under_way = refl }
   take-moved t (take_at.Adopt frame) seen own hand fits = record { seen = seen; hand_is = hand; entry = entry; take = fits; own = own; under_way = refl }
-  take-moved t (take_at.Over None) seen own hand fits = record { seen = seen; handled = false; poisoned = false; hand_is = hand; within = λ f none. absurd (none-some f none); body_is = entry.body_is }
+  take-moved t (take_at.Over None) seen own hand fits = (
+    record { seen = seen; handled = false; poisoned = false; hand_is = hand; within = λ f none. absurd (none-some f none); body_is = entry.body_is },
+    subst (λ (w : Who). Saw new w places.Available 0) own fits.at,
+  )
   take-moved t (take_at.Over (Some frame)) seen own hand fits = record { seen = seen; hand_is = hand; entry = entry; within = fits.at }
 
   -- once a step of the second reference is made
@@ -303,14 +308,17 @@ filled-unholds layout view f frame answered fits = record { on_turn = fits.on_tu
     which (at.SetCache other) over has = absurd (none-some (answers.Filled frame) over)
     which (at.Over x) over has = over-at x over has
 
--- a page that was not is held as before
-pub unfilled-holds : (layout : Layout) (view : View) (f : Fill) → answer f ≡ Some answers.NoFrame → Fits layout view f → HoldsPage layout view f.page None f.body
-unfilled-holds layout view f answered fits = which f.at answered fits.at
+-- a page that was not is held as before, and the command saw that no frame was available
+pub unfilled : (layout : Layout) (view : View) (f : Fill) → answer f ≡ Some answers.NoFrame → Fits layout view f → HoldsPage layout view f.page None f.body × Saw view f.who places.Available 0
+unfilled layout view f answered fits = which f.at answered fits.at
   where
-    which : (x : FillAt) → answer_at x ≡ Some answers.NoFrame → FitsAt layout view f.who f.page f.body x → HoldsPage layout view f.page None f.body
+    which : (x : FillAt) → answer_at x ≡ Some answers.NoFrame → FitsAt layout view f.who f.page f.body x → HoldsPage layout view f.page None f.body × Saw view f.who places.Available 0
     which (at.Over None) over has = has
     which (at.Over (Some frame)) over has = absurd (both_ways true (ap is-filled over) refl)
     which (at.Take t) over has = absurd (none-some answers.NoFrame over)
     which (at.SetOwner frame) over has = absurd (none-some answers.NoFrame over)
     which (at.Refer r) over has = absurd (none-some answers.NoFrame over)
     which (at.SetCache frame) over has = absurd (none-some answers.NoFrame over)
+
+pub unfilled-holds : (layout : Layout) (view : View) (f : Fill) → answer f ≡ Some answers.NoFrame → Fits layout view f → HoldsPage layout view f.page None f.body
+unfilled-holds layout view f answered fits = (unfilled layout view f answered fits).0

@@ -41,11 +41,11 @@ use Rattle.hwp_hold.proofs.Unholding as unholding_laws
 
 -- ---- what is held after each step
 
-frame-freed : (frame : Frame) (page : Page) (taken : InHand) (log : Log) (handled poisoned : Bool) → log.page ≡ page → taken.log.page ≡ page
+pub frame-freed : (frame : Frame) (page : Page) (taken : InHand) (log : Log) (handled poisoned : Bool) → log.page ≡ page → taken.log.page ≡ page
     → record (putting (Some log) (holding frame page taken handled poisoned)) { locks = without (is_lock_of frame) (holding frame page taken handled poisoned).locks } ≡ releasing frame release_at.Put
 frame-freed frame page taken log handled poisoned of_log of_taken = grind arith
 
-released : (r : Release) (x : ReleaseAt) (found : ℕ) → r.count ≡ 1 → is_none (releases.plan_at r.frame r.count x) ≡ false
+pub released : (r : Release) (x : ReleaseAt) (found : ℕ) → r.count ≡ 1 → is_none (releases.plan_at r.frame r.count x) ≡ false
     → releases.hand_next_at r.frame r.count x found (releasing r.frame x) ≡ releasing r.frame (releases.next_at r.count x found)
 released r release_at.Put found one on = by (is_last r.count found) (is_poisoned found)
   where
@@ -60,13 +60,13 @@ released r release_at.Adopt found one on = grind arith
 released r release_at.Retire found one on = grind arith
 released r release_at.Back found one on = absurd (both_ways true on refl)
 
-counted : (frame : Frame) → 1 + locks_on frame.0 [] ≤ refs_on frame.0 (one_ref frame)
+pub counted : (frame : Frame) → 1 + locks_on frame.0 [] ≤ refs_on frame.0 (one_ref frame)
 counted frame = let same = same-number frame.0 frame.0 refl in grind arith
 
 -- ---- the steps can be made
 
 module _ {layout : Layout} {who : Who} {view : View} {frame : Frame} {body : Option BodyValue} (has : HoldsFrame layout who view frame body) where
-  can-free : CanUnlockFrame layout who view frame (logs body)
+  pub can-free : CanUnlockFrame layout who view frame (logs body)
   can-free = subst (λ (b : Option BodyValue). CanUnlockFrame layout who view frame (logs b)) (sym has.given_is) (record {
     has = record { lock = lock; listed = (0, lock, ap (λ (h : Hand). slice_get h.locks 0) has.hand_is, refl); frame_is = refl };
     named = refl;
@@ -77,7 +77,7 @@ module _ {layout : Layout} {who : Who} {view : View} {frame : Frame} {body : Opt
       lock : FrameLock
       lock = record { frame = frame; owner = has.body.page.0 + 1; handled = has.handled; poisoned = has.poisoned }
 
-  body-fits : FitsLayout layout body
+  pub body-fits : FitsLayout layout body
   body-fits b is = ap (λ (x : BodyValue). x.layout) (same_Some b has.body (sym is ∙ has.given_is)) ∙ has.layout_is
 
 pub can : (layout : Layout) (view : View) (g : GiveUp) (step : Step) → Fits layout view g → plan g ≡ Some step → CanMake layout g.who step (put g) view

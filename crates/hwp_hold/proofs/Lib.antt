@@ -13,3 +13,4 @@ pub mod Bringing
 pub mod Filling
 pub mod GivingUp
 pub mod FillCosts
+pub mod Unlocking

@@ -27,6 +27,7 @@ use Rattle.hwp_rule.specs.parts.Fits.{FitsWords}
 use Rattle.hwp_rule.specs.parts.Unpoisoned.{is_failure}
 use Rattle.hwp_rule.proofs.FittingWords.{fitting-at}
 use Rattle.hwp_rule.proofs.Lists.{same-number}
+use Rattle.hwp_known.specs.Known.{SawLog}
 use Rattle.hwp_hold.specs.declared.hold.Hold.{Hold}
 use Rattle.hwp_hold.specs.declared.hold.HoldAt.{HoldAt}
 use Rattle.hwp_hold.specs.declared.hold.HoldAt.TheVariants as at
@@ -151,7 +152,7 @@ held-unholds layout view who page (Some frame) body on inside has = record { on_
 -- so a hold that is over can be let go
 pub over-lets-go : (h : Hold) (u : Unhold) (frame : Option Frame) (body : BodyValue) → h.at ≡ at.Held frame body → u ≡ begin h.who h.page frame body → LetsGo h u
 over-lets-go h u frame body over is layout view fits = subst (Fits layout view) (sym is)
-    (held-unholds layout view h.who h.page frame body fits.on_turn fits.page (subst (FitsAt layout view h.who h.page) over fits.at))
+    (held-unholds layout view h.who h.page frame body fits.on_turn fits.page (subst (FitsAt layout view h.who h.page) over fits.at).0)
 
 held-at : (a : HoldAt) (frame : Option Frame) (body : BodyValue) → answer_at a ≡ Some frame → IsBodyAt a body → a ≡ at.Held frame body
 held-at (at.Held f b) frame body answered is = λ i. at.Held (same_Some f frame answered i) (sym is i)
@@ -162,7 +163,10 @@ pub answered-lets-go : (h : Hold) (u : Unhold) (frame : Option Frame) (body : Bo
 answered-lets-go h u frame body answered is begun = over-lets-go h u frame body (held-at h.at frame body answered is) begun
 
 pub answered-holds : (layout : Layout) (view : View) (h : Hold) (frame : Option Frame) (body : BodyValue) → answer h ≡ Some frame → IsBody h body → holds.Fits layout view h → HoldsPage layout view h.page frame body
-answered-holds layout view h frame body answered is fits = subst (FitsAt layout view h.who h.page) (held-at h.at frame body answered is) fits.at
+answered-holds layout view h frame body answered is fits = (subst (FitsAt layout view h.who h.page) (held-at h.at frame body answered is) fits.at).0
+
+pub answered-saw : (layout : Layout) (view : View) (h : Hold) (frame : Option Frame) (body : BodyValue) → answer h ≡ Some frame → IsBody h body → holds.Fits layout view h → SawLog view h.who (log_of body)
+answered-saw layout view h frame body answered is fits = (subst (FitsAt layout view h.who h.page) (held-at h.at frame body answered is) fits.at).1
 
 -- an unhold that is over has left nothing held
 pub nothing-left : (layout : Layout) (view : View) (u : Unhold) → is_none (plan u) ≡ true → Fits layout view u → hand_of view ≡ empty

@@ -6,3 +6,4 @@ pub mod Takes
 pub mod Refers
 pub mod Fills
 pub mod GiveUps
+pub mod Unlocks
