@@ -60,15 +60,7 @@ impl Fault {
     pub fn is_over(&self) -> bool
         ensures { result ≡ is_none (plan self.now) }
     {
-        match &self.at {
-            FaultAt::Hold { hold } => hold.answer().is_some(),
-            FaultAt::LoadPte { .. } => false,
-            FaultAt::Fill { fill } => fill.answer().is_some(),
-            FaultAt::MapIn { map_in } => map_in.is_over(),
-            FaultAt::Unhold { unhold, .. } => unhold.is_over(),
-            FaultAt::GiveUp { give_up } => give_up.is_over(),
-            FaultAt::Over { .. } => true,
-        }
+        self.plan().is_none()
     }
 
     /// What the task came to; `None` until it is over, and where the command was given up.
