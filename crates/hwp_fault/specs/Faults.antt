@@ -1,15 +1,12 @@
 -- A page brought in, and a translation of it into use: the task's states, its steps and what they come to.
-use Rattle.std.specs.Prelude.{◌≡◌, ◌⊎◌, ℕ, ◌+◌, ◌<◌, ◌≤◌, Bool, true, false, cond, Option, Some, None, is_some, is_none, length, slice_index}
+use Rattle.std.specs.Prelude.{◌≡◌, ℕ, ◌+◌, ◌<◌, ◌≤◌, Bool, true, false, cond, Option, Some, None, is_some, is_none, length, slice_index}
 use Rattle.std.specs.FinSet as set
 use Rattle.hwp_geom.specs.declared.Frame.{Frame}
 use Rattle.hwp_geom.specs.declared.Layout.{Layout}
 use Rattle.hwp_geom.specs.declared.Page.{Page}
 use Rattle.hwp_geom.specs.declared.VSlot.{VSlot}
 use Rattle.hwp_geom.specs.declared.Who.{Who}
-use Rattle.hwp_page.specs.declared.Entry.{Entry}
 use Rattle.hwp_page.specs.declared.PageState.{PageState}
-use Rattle.hwp_page.specs.declared.What.{What}
-use Rattle.hwp_page.specs.declared.What.TheVariants as entries
 use Rattle.hwp_page.specs.History.{BodyValue}
 use Rattle.hwp_page.specs.Refusals.{IsAway}
 use Rattle.hwp_page.specs.Step.{IsOf}
@@ -54,6 +51,7 @@ use Rattle.hwp_fault.specs.declared.map_in.MapIn.{MapIn}
 use Rattle.hwp_fault.specs.declared.map_in.MapInAt.{MapInAt}
 use Rattle.hwp_fault.specs.declared.map_in.MapInAt.TheVariants as map_in_at
 use Rattle.hwp_fault.specs.MapIns as map_ins
+use Rattle.hwp_fault.specs.MapIns.{IsBringing}
 
 abbrev pub begin : Who → Page → VSlot → Fault
 begin who page slot = record { who = who; page = page; slot = slot; at = at.Hold (holds.begin who page) }
@@ -99,7 +97,7 @@ answer f = answer_at f.at
 
 -- the page is let go, and this is to be the answer
 abbrev pub let_go : Who → Page → Option Frame → BodyValue → FaultAnswer → FaultAt
-let_go who page frame body answer = at.Unhold (unholds.begin who page frame body) answer
+let_go who page frame body answer = at.Unhold (unholds.begin who page frame 1 body) answer
 
 -- the page is brought into a frame, or else the translation into use
 abbrev pub bring : Who → Page → VSlot → Option Frame → BodyValue → FaultAt
@@ -108,7 +106,7 @@ bring who page slot (Some frame) body = at.MapIn (map_ins.begin who page slot fr
 
 -- where room for so many entries was made; or it was refused, and the command is given up
 abbrev pub with_room : Who → Page → VSlot → Option Frame → BodyValue → Option ℕ → FaultAt
-with_room who page slot frame body None = at.GiveUp (give_ups.with_page who page frame body)
+with_room who page slot frame body None = at.GiveUp (give_ups.with_page who page frame 1 body)
 with_room who page slot frame body (Some spare) = bring who page slot frame (record body { spare = spare })
 
 -- once the page is held, the translation's word is loaded
@@ -212,11 +210,7 @@ ShowsAt _ found got = Unit {0}
 abbrev pub Shows : Fault → ℕ → Option BodyValue → Type 0
 Shows f found got = ShowsAt f.at found got
 
--- the entry brings the page in, or the translation into use
-abbrev pub IsBringing : VSlot → Entry → Type 0
-IsBringing slot e = (e.what ≡ entries.FaultIn) ⊎ (e.what ≡ entries.Map slot)
-
--- so do all entries that the body has more than it was taken with
+-- all entries that the body has more than it was taken with bring the page in, or the translation into use
 abbrev pub AddsOnly : View → VSlot → BodyValue → Type 0
 AddsOnly view slot body = EachMember (λ (b : InHand). EachMember (IsBringing slot) (more_of b (log_of body))) view.bodies
 
@@ -252,7 +246,6 @@ pub record IsMapping (layout : Layout) (view : View) (who : Who) (page : Page) (
   pub of : m.page ≡ page
   pub slot_is : m.slot ≡ slot
   pub under_way : is_none (map_ins.plan m) ≡ false
-  pub adds : AddsOnly view slot m.body
 
 -- the command saw why no frame is answered: none was available, and the page was in none after so many entries
 abbrev pub IsWhy : Layout → View → Who → Page → FaultAnswer → Type 0

@@ -1,25 +1,28 @@
 -- A translation brought into use: the task's states, its steps and what they come to.
-use Rattle.std.specs.Prelude.{◌≡◌, ℕ, ◌+◌, ◌-◌, ◌<◌, Bool, true, false, List, [], ◌∷◌, ◌++◌, Option, Some, None, is_none, length, slice_get}
+use Rattle.std.specs.Prelude.{◌≡◌, ◌⊎◌, ℕ, ◌+◌, ◌-◌, ◌<◌, Bool, false, List, [], ◌∷◌, ◌++◌, Option, Some, None, is_none, length, drop, slice_get}
 use Rattle.hwp_geom.specs.declared.Frame.{Frame}
 use Rattle.hwp_geom.specs.declared.Layout.{Layout}
 use Rattle.hwp_geom.specs.declared.Page.{Page}
 use Rattle.hwp_geom.specs.declared.VSlot.{VSlot}
 use Rattle.hwp_geom.specs.declared.Who.{Who}
-use Rattle.hwp_page.specs.declared.What.TheVariants.{Map}
-use Rattle.hwp_page.specs.History.{BodyValue}
+use Rattle.hwp_page.specs.declared.Entry.{Entry}
+use Rattle.hwp_page.specs.declared.What.TheVariants.{FaultIn, Map}
+use Rattle.hwp_page.specs.History.{BodyValue, Leads}
 use Rattle.hwp_page.specs.Step.{Allowed, after}
 use Rattle.hwp_words.specs.declared.Pte.TheVariants as ptes
-use Rattle.hwp_rule.specs.declared.InHand.{InHand}
+use Rattle.hwp_words.specs.Names.{frame_name}
+use Rattle.hwp_rule.specs.declared.Log.{Log}
 use Rattle.hwp_rule.specs.declared.Step.{Step}
 use Rattle.hwp_rule.specs.declared.Step.TheVariants as steps
 use Rattle.hwp_rule.specs.declared.View.{View}
-use Rattle.hwp_rule.specs.Asks.{CanGoHome}
+use Rattle.hwp_rule.specs.Lists.{EachMember}
 use Rattle.hwp_rule.specs.Logs.{log_of, state_of}
 use Rattle.hwp_rule.specs.Words.{Words}
+use Rattle.hwp_rule.specs.parts.Fits.{FitsWords}
 use Rattle.hwp_step.specs.declared.Turn.{Turn}
 use Rattle.hwp_step.specs.declared.Turn.TheVariants.{Moved}
 use Rattle.hwp_step.specs.Calls.{IsOnTurn}
-use Rattle.hwp_step.specs.Hands.{Hand, hand_of}
+use Rattle.hwp_step.specs.Hands.{hand_of, body_in}
 use Rattle.hwp_hold.specs.declared.Refer.{Refer}
 use Rattle.hwp_hold.specs.declared.refer.ReferAt.{ReferAt}
 use Rattle.hwp_hold.specs.declared.refer.ReferAt.TheVariants as refer_at
@@ -83,23 +86,42 @@ ShowsAt slot body _ = Unit {0}
 abbrev pub Shows : MapIn → Type 0
 Shows m = ShowsAt m.slot m.body m.at
 
--- the page is held with the frame that it is in, and so many references to it; its body, with the entries that it has now,
--- can go home
-pub record HoldsWithFrame (layout : Layout) (view : View) (who : Who) (page : Page) (frame : Frame) (count : ℕ) (body : BodyValue) : Type 0 where
+-- the entry brings the page in, or the translation into use
+abbrev pub IsBringing : VSlot → Entry → Type 0
+IsBringing slot e = (e.what ≡ FaultIn) ⊎ (e.what ≡ Map slot)
+
+-- the entries of a history past those of one before
+abbrev pub added : Log → Log → List Entry
+added was now = drop (length was.entries) now.entries
+
+-- the history goes on from one before with entries of this command that the states allow, and that bring the page in, or the
+-- translation into use
+pub record BringsOn (layout : Layout) (who : Who) (slot : VSlot) (was now : Log) : Type 0 where
+  pub page_is : now.page ≡ was.page
+  pub longer : now.entries ≡ was.entries ++ added was now
+  pub leads : Leads layout now.page (state_of layout was) (added was now) (state_of layout now)
+  pub own : EachMember (λ (e : Entry). e.who ≡ who) (added was now)
+  pub only : EachMember (IsBringing slot) (added was now)
+
+-- the page is held with the frame that it is in, and so many references to it; its body, taken from a frame or from the shelf,
+-- can go home with the entries that it has now
+pub record HoldsWithFrame (layout : Layout) (view : View) (who : Who) (page : Page) (slot : VSlot) (frame : Frame) (count : ℕ) (body : BodyValue) : Type 0 where
+  pub from : Option Frame
+  pub was : Log
+  pub seen : ℕ
   pub trans : List ℕ
-  pub taken : InHand
   pub handled : Bool
   pub poisoned : Bool
-  pub hand_is : hand_of view ≡ record (holding page (Some frame) trans taken handled poisoned) { refs = record { frame = frame; count = count } ∷ [] }
-  pub home : CanGoHome layout who view (log_of body)
+  pub hand_is : hand_of view ≡ holding page (Some frame) count trans (body_in from was seen) handled poisoned
+  pub brings : BringsOn layout who slot was (log_of body)
+  pub words : FitsWords layout (log_of body) (frame_name (Some frame)) trans
   pub page_is : body.page ≡ page
-  pub taken_is : taken.log.page ≡ page
   pub layout_is : body.layout ≡ layout
   pub within : frame.0 < layout.frames
 
 -- and the translation, which isn't in use, can come into use
 pub record CanMapIn (layout : Layout) (view : View) (who : Who) (page : Page) (slot : VSlot) (frame : Frame) (count : ℕ) (body : BodyValue) : Type 0 where
-  pub held : HoldsWithFrame layout view who page frame count body
+  pub held : HoldsWithFrame layout view who page slot frame count body
   pub state_is : state_of layout (log_of body) ≡ body.state
   pub room : HasRoomFor slot body
 
@@ -120,7 +142,7 @@ pub record IsReferred (layout : Layout) (view : View) (who : Who) (page : Page) 
 abbrev pub FitsAt : Layout → View → Who → Page → VSlot → Frame → BodyValue → MapInAt → Type 0
 FitsAt layout view who page slot frame body (at.Refer r) = IsReferring layout view who page slot frame body r
 FitsAt layout view who page slot frame body at.SetPte = IsReferred layout view who page slot frame body
-FitsAt layout view who page slot frame body at.Over = HoldsWithFrame layout view who page frame 1 body
+FitsAt layout view who page slot frame body at.Over = HoldsWithFrame layout view who page slot frame 1 body
 
 -- the page is held with its frame; there is room for the entry until it is appended
 pub record Fits (layout : Layout) (view : View) (m : MapIn) : Type 0 where

@@ -88,7 +88,7 @@ impl Fault {
         ensures { result ≡ let_go who page frame body answer }
     {
         FaultAt::Unhold {
-            unhold: Unhold::new(who, page, frame, body),
+            unhold: Unhold::new(who, page, frame, 1, body),
             answer,
         }
     }
@@ -113,7 +113,7 @@ impl Fault {
                 },
             },
             Err(_) => FaultAt::GiveUp {
-                give_up: GiveUp::with_page(who, page, frame, body),
+                give_up: GiveUp::with_page(who, page, frame, 1, body),
             },
         }
     }
