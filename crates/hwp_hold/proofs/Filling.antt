@@ -18,7 +18,6 @@ use Rattle.hwp_rule.specs.Logs.{log_of}
 use Rattle.hwp_rule.specs.Views.{unpoisoned, refs_on, is_body_of, frame_in, with_named, less_refs}
 use Rattle.hwp_rule.proofs.Lists.{same-number}
 use Rattle.hwp_rule.proofs.Meeting.{cache-word, lock-knows}
-use Rattle.hwp_rule.proofs.Refs.{refs-cons}
 use Rattle.hwp_step.specs.declared.Turn.{Turn}
 use Rattle.hwp_step.specs.Calls.{CanMake, Steps, IsOnTurn}
 use Rattle.hwp_step.specs.Hands.{Hand, hand_of, body_in}
@@ -45,6 +44,7 @@ use Rattle.hwp_hold.specs.Unholds.{holding, HoldsAhead}
 use Rattle.hwp_hold.proofs.Bringing.{trans, goes-home}
 use Rattle.hwp_hold.proofs.Referring as referring
 use Rattle.hwp_hold.proofs.Taking as taking
+use Rattle.hwp_hold.proofs.Unholding.{refs-are}
 
 -- ---- what is held after each step
 
@@ -101,14 +101,6 @@ refer-on frame owner h (refer_at.Get seen) found on = by (found == seen)
     by true = ap (λ (c : Bool). record (with_frame frame owner 1 h) { refs = cond c (record { frame = frame; count = 2 } ∷ []) (record { frame = frame; count = 1 } ∷ record { frame = frame; count = 1 } ∷ []) }) (same-number frame.0 frame.0 refl)
     by false = refl
 refer-on frame owner h refer_at.Over found on = absurd (both_ways true on refl)
-
--- so many references to a frame, and no other
-refs-are : (frame : Frame) (count : ℕ) → refs_on frame.0 (record { frame = frame; count = count } ∷ []) ≡ count
-refs-are frame count =
-    let all : refs_on frame.0 (record { frame = frame; count = count } ∷ []) ≡ cond {A = ℕ} (frame.0 == frame.0) count 0 + refs_on frame.0 [] = refs-cons frame.0 (record { frame = frame; count = count }) [] in
-    let this : cond {A = ℕ} (frame.0 == frame.0) count 0 ≡ count = ap (λ (b : Bool). cond {A = ℕ} b count 0) (same-number frame.0 frame.0 refl) in
-    let none : refs_on frame.0 [] ≡ 0 = refl in
-    omega (arith, all, this, none)
 
 refs-held : {layout : Layout} {view : View} {page : Page} {body : BodyValue} {frame : Frame} {owner count : ℕ} → HoldsBoth layout view page body frame owner count → refs_on frame.0 view.refs ≡ count
 refs-held {frame} {count} has = ap (λ (h : Hand). refs_on frame.0 h.refs) has.hand_is ∙ refs-are frame count
@@ -216,7 +208,7 @@ module _ {layout : Layout} {old new : View} {who : Who} {page : Page} {body : Bo
       none = same_Some found 0 (sym (cache-word layout made.told.board made.told.rule page found inside made.told.met)
           ∙ (lock-knows layout made.told.board made.told.rule made.told.seat old made.told.me (page_lock page None (Some (trans layout body))) (ap (λ (h : Hand). slice_get h.pages 0) has.hand_is)).cache 0 refl)
 
-      hand : hand_of new ≡ holding page (Some frame) (trans layout body) (body_in None (log_of body) has.seen) false false
+      hand : hand_of new ≡ holding page (Some frame) 1 (trans layout body) (body_in None (log_of body) has.seen) false false
       hand = hand-planned made refl has.hand_is
           ∙ ap (λ (n : ℕ). with-words layout page body has.seen frame (with_named (frame_in n) (less_refs frame 1 (record { frame = frame; count = 2 } ∷ []))) (page.0 == page.0)) none
           ∙ ap (λ (b : Bool). with-words layout page body has.seen frame (cond b (one_ref frame) (record { frame = frame; count = 2 } ∷ [])) (page.0 == page.0)) (same-number frame.0 frame.0 refl)
@@ -294,14 +286,14 @@ is-filled (Some (answers.Filled frame)) = true
 is-filled _ = false
 
 -- a page that was filled is let go with its frame, and with the entry
-pub filled-unholds : (layout : Layout) (view : View) (f : Fill) (frame : Frame) → answer f ≡ Some (answers.Filled frame) → Fits layout view f → unholds.Fits layout view (unholds.begin f.who f.page (Some frame) f.body)
-filled-unholds layout view f frame answered fits = record { on_turn = fits.on_turn; page = fits.page; at = which f.at answered fits.at }
+pub filled-unholds : (layout : Layout) (view : View) (f : Fill) (frame : Frame) → answer f ≡ Some (answers.Filled frame) → Fits layout view f → unholds.Fits layout view (unholds.begin f.who f.page (Some frame) 1 f.body)
+filled-unholds layout view f frame answered fits = let has = which f.at answered fits.at in record { on_turn = fits.on_turn; page = fits.page; at = (has.0, (omega arith, has.1)) }
   where
-    over-at : (x : Option Frame) → answer_at (at.Over x) ≡ Some (answers.Filled frame) → FitsAt layout view f.who f.page f.body (at.Over x) → HoldsAhead layout f.who view f.page (Some frame) (Some f.body) × (frame.0 < layout.frames)
+    over-at : (x : Option Frame) → answer_at (at.Over x) ≡ Some (answers.Filled frame) → FitsAt layout view f.who f.page f.body (at.Over x) → HoldsAhead layout f.who view f.page (Some frame) 1 (Some f.body) × (frame.0 < layout.frames)
     over-at None over has = absurd (both_ways true (sym (ap is-filled over)) refl)
-    over-at (Some other) over has = subst (λ (g : Frame). HoldsAhead layout f.who view f.page (Some g) (Some f.body) × (g.0 < layout.frames)) (ap (frame-or frame) over) has
+    over-at (Some other) over has = subst (λ (g : Frame). HoldsAhead layout f.who view f.page (Some g) 1 (Some f.body) × (g.0 < layout.frames)) (ap (frame-or frame) over) has
 
-    which : (x : FillAt) → answer_at x ≡ Some (answers.Filled frame) → FitsAt layout view f.who f.page f.body x → HoldsAhead layout f.who view f.page (Some frame) (Some f.body) × (frame.0 < layout.frames)
+    which : (x : FillAt) → answer_at x ≡ Some (answers.Filled frame) → FitsAt layout view f.who f.page f.body x → HoldsAhead layout f.who view f.page (Some frame) 1 (Some f.body) × (frame.0 < layout.frames)
     which (at.Take t) over has = absurd (none-some (answers.Filled frame) over)
     which (at.SetOwner other) over has = absurd (none-some (answers.Filled frame) over)
     which (at.Refer r) over has = absurd (none-some (answers.Filled frame) over)

@@ -135,14 +135,17 @@ module _ (layout : Layout) (old new : View) (who : Who) (page : Page) (inside : 
         hand = hand-planned made refl has.hand_is ∙ ap (λ (l : PageLock). record empty { pages = l ∷ [] }) (loaded (bare page None) refl ∙ ap (λ (n : ℕ). record (bare page None) { cache = Some n }) frame.1)
     cache-loaded (Some body) on has saw = (
       (λ none. refl),
-      subst (λ (f : Option Frame). FitsAt layout new who page (named_at who (Some body) f)) (sym (ap frame_in zero)) (record {
-        seen = has.seen;
-        handled = false;
-        poisoned = false;
-        hand_is = hand-planned made refl has.hand_is ∙ ap (λ (l : PageLock). record (locked layout page (Some (log_of body)) has.seen) { pages = l ∷ [] }) (loaded (shelved layout page body) refl ∙ ap (λ (n : ℕ). record (shelved layout page body) { cache = Some n }) zero);
-        within = λ f none. absurd (none-some f none);
-        body_is = has.body_is body refl;
-      }, saw-log-stays made saw),
+      subst (λ (f : Option Frame). FitsAt layout new who page (named_at who (Some body) f)) (sym (ap frame_in zero)) (
+        record {
+          seen = has.seen;
+          handled = false;
+          poisoned = false;
+          hand_is = hand-planned made refl has.hand_is ∙ ap (λ (l : PageLock). record (locked layout page (Some (log_of body)) has.seen) { pages = l ∷ [] }) (loaded (shelved layout page body) refl ∙ ap (λ (n : ℕ). record (shelved layout page body) { cache = Some n }) zero);
+          within = λ f none. absurd (none-some f none);
+          body_is = has.body_is body refl;
+        },
+        saw-log-stays made saw,
+      ),
     )
       where
         none : not (found == 0) ≡ false
@@ -216,21 +219,24 @@ module _ (layout : Layout) (old new : View) (who : Who) (page : Page) (inside : 
       where
         which : (free : Bool) → is_free found ≡ free → FitsAt layout new who page (cond free (locked_at frame got) (at.LockFrame frame))
         which false is = (after-lock ∙ went (is_free found) false _ _ is, has.1)
-        which true is = subst (λ (g : Option BodyValue). FitsAt layout new who page (locked_at frame g)) (sym body.1) (record {
-          seen = length old.sights;
-          handled = is_handled found;
-          poisoned = is_poisoned found;
-          hand_is = after-lock ∙ went (is_free found) true _ _ is ∙ ap (λ (c : Option Log). taking layout (Some frame) c (length old.sights) (record (named page frame (one_ref frame)) { locks = lock_found frame found ∷ [] })) (flow-of is ∙ ap logs body.1)
-              ∙ ap (λ (b : Bool). record (full (lock_found frame found).owner) { pages = cond b (knowing layout log (Some frame) lock-of) lock-of ∷ [] }) (same-number page.0 body.0.page.0 (sym (ap (λ (p : Page). p.0) body.2.0)))
-              ∙ ap full (slot is).0;
-          within = λ f is. subst (λ (g : Frame). g.0 < layout.frames) (same_Some frame f is) has.1;
-          body_is = record {
-            page_is = body.2.0;
-            layout_is = made.brings.layout_is body.0 body.1;
-            cached = ap not (ne_eqb (frame.0 + 1) 0 (λ e. omega (arith, e))) ∙ body.2.1;
-            replay = replay-of layout page body.0 body.2.0 (made.brings.layout_is body.0 body.1) (made.brings.kept body.0 body.1);
-          };
-        }, saw-log-frame (subst (λ (g : Option BodyValue). Steps layout who (steps.LockFrame frame) None old new found g) body.1 made) is lock-of (ap (λ (h : Hand). slice_get h.pages 0) has.0) (sym body.2.0))
+        which true is = subst (λ (g : Option BodyValue). FitsAt layout new who page (locked_at frame g)) (sym body.1) (
+          record {
+            seen = length old.sights;
+            handled = is_handled found;
+            poisoned = is_poisoned found;
+            hand_is = after-lock ∙ went (is_free found) true _ _ is ∙ ap (λ (c : Option Log). taking layout (Some frame) c (length old.sights) (record (named page frame (one_ref frame)) { locks = lock_found frame found ∷ [] })) (flow-of is ∙ ap logs body.1)
+                ∙ ap (λ (b : Bool). record (full (lock_found frame found).owner) { pages = cond b (knowing layout log (Some frame) lock-of) lock-of ∷ [] }) (same-number page.0 body.0.page.0 (sym (ap (λ (p : Page). p.0) body.2.0)))
+                ∙ ap full (slot is).0;
+            within = λ f is. subst (λ (g : Frame). g.0 < layout.frames) (same_Some frame f is) has.1;
+            body_is = record {
+              page_is = body.2.0;
+              layout_is = made.brings.layout_is body.0 body.1;
+              cached = ap not (ne_eqb (frame.0 + 1) 0 (λ e. omega (arith, e))) ∙ body.2.1;
+              replay = replay-of layout page body.0 body.2.0 (made.brings.layout_is body.0 body.1) (made.brings.kept body.0 body.1);
+            };
+          },
+          saw-log-frame (subst (λ (g : Option BodyValue). Steps layout who (steps.LockFrame frame) None old new found g) body.1 made) is lock-of (ap (λ (h : Hand). slice_get h.pages 0) has.0) (sym body.2.0),
+        )
           where
             body : (b : BodyValue) × (got ≡ Some b) × ((b.page ≡ page) × (true ≡ (state_of layout (log_of b)).cached))
             body = there-is is

@@ -1,19 +1,22 @@
 -- The laws of `Unlock`, and what it leaves held.
-use Rattle.std.proofs.Common.{◌≡◌, ℕ, ◌+◌, ◌<◌, ◌≤◌, ◌==◌, Bool, true, false, cond, List, [], ◌∷◌, Option, Some, None, is_none, length, slice_get, refl, sym, ap, ◌∙◌, subst, arith}
+use Rattle.std.proofs.Common.{◌≡◌, ℕ, ◌+◌, ◌<◌, ◌≤◌, Bool, true, false, cond, [], ◌∷◌, ◌++◌, Option, Some, None, is_none, length, slice_get, refl, sym, ap, ◌∙◌, subst, arith}
 use Rattle.std.proofs.lemmas.Bool.{both_ways}
-use Rattle.std.proofs.lemmas.Option.{none-some}
+use Rattle.std.proofs.lemmas.Option.{none-some, same_Some}
 use Rattle.hwp_geom.specs.declared.Frame.{Frame}
 use Rattle.hwp_geom.specs.declared.Layout.{Layout}
+use Rattle.hwp_geom.specs.declared.Page.{Page}
 use Rattle.hwp_geom.specs.declared.Who.{Who}
 use Rattle.hwp_page.specs.History.{BodyValue}
+use Rattle.hwp_words.specs.Frames.{is_poisoned}
 use Rattle.hwp_rule.specs.declared.FrameLock.{FrameLock}
+use Rattle.hwp_rule.specs.declared.InHand.{InHand}
 use Rattle.hwp_rule.specs.declared.Log.{Log}
-use Rattle.hwp_rule.specs.declared.Place.{Place}
 use Rattle.hwp_rule.specs.declared.Step.{Step}
 use Rattle.hwp_rule.specs.declared.Step.TheVariants as steps
 use Rattle.hwp_rule.specs.declared.View.{View}
 use Rattle.hwp_rule.specs.Asks.{CanUnlockFrame}
-use Rattle.hwp_rule.specs.Views.{without, is_lock_of, refs_on, locks_on}
+use Rattle.hwp_rule.specs.Steps.{is_last}
+use Rattle.hwp_rule.specs.Views.{without, is_lock_of, less_refs, refs_on, locks_on}
 use Rattle.hwp_rule.specs.Words.{Words}
 use Rattle.hwp_rule.proofs.Lists.{same-number}
 use Rattle.hwp_step.specs.declared.Turn.{Turn}
@@ -29,14 +32,52 @@ use Rattle.hwp_hold.specs.declared.release.ReleaseAt.TheVariants as release_at
 use Rattle.hwp_hold.specs.declared.unlock.Unlock.{Unlock}
 use Rattle.hwp_hold.specs.declared.unlock.UnlockAt.{UnlockAt}
 use Rattle.hwp_hold.specs.declared.unlock.UnlockAt.TheVariants as at
-use Rattle.hwp_hold.specs.GiveUps.{holding, releasing, HoldsFrame, IsReleasing}
+use Rattle.hwp_hold.specs.Holds.{one_ref}
 use Rattle.hwp_hold.specs.Releases as releases
-use Rattle.hwp_hold.specs.Unlocks.{plan, plan_at, put, put_at, bare, bare_at, after_release, next, next_at, empty_frame, HoldsEmptyFrame, FitsFrame, Fits, FitsAt, class, class_at, cost, cost_at}
-use Rattle.hwp_hold.proofs.GivingUp.{frame-freed, released, counted, can-free, body-fits}
+use Rattle.hwp_hold.specs.Unlocks.{holding, HoldsFrame, releasing, IsReleasing, plan, plan_at, put, put_at, bare, bare_at, after_release, next, next_at, empty_frame, HoldsEmptyFrame, FitsFrame, Fits, FitsAt, class, class_at, cost, cost_at}
 use Rattle.hwp_hold.proofs.Ranking.{release-falls, release-small, release-class}
 use Rattle.hwp_hold.proofs.Releasing as releasing_laws
 
+-- ---- what is held after each step
+
+frame-freed : (frame : Frame) (page : Page) (taken : InHand) (log : Log) (handled poisoned : Bool) → log.page ≡ page → taken.log.page ≡ page
+    → record (putting (Some log) (holding frame page taken handled poisoned)) { locks = without (is_lock_of frame) (holding frame page taken handled poisoned).locks } ≡ releasing frame release_at.Put
+frame-freed frame page taken log handled poisoned of_log of_taken = grind arith
+
+released : (r : Release) (x : ReleaseAt) (found : ℕ) → r.count ≡ 1 → is_none (releases.plan_at r.frame r.count x) ≡ false
+    → releases.hand_next_at r.frame r.count x found (releasing r.frame x) ≡ releasing r.frame (releases.next_at r.count x found)
+released r release_at.Put found one on = by (is_last r.count found) (is_poisoned found)
+  where
+    by : (b p : Bool) → record (releasing r.frame release_at.Put) { refs = less_refs r.frame r.count (one_ref r.frame); hands = cond b ([] ++ (record { frame = r.frame; poisoned = p }) ∷ []) [] }
+        ≡ releasing r.frame (cond b (cond p release_at.Adopt release_at.Give) release_at.Back)
+    by true true = grind arith
+    by true false = grind arith
+    by false p = grind arith
+released r release_at.Give found one on = grind arith
+released r release_at.Unreserve found one on = grind arith
+released r release_at.Adopt found one on = grind arith
+released r release_at.Retire found one on = grind arith
+released r release_at.Back found one on = absurd (both_ways true on refl)
+
+counted : (frame : Frame) → 1 + locks_on frame.0 [] ≤ refs_on frame.0 (one_ref frame)
+counted frame = let same = same-number frame.0 frame.0 refl in grind arith
+
 -- ---- the steps can be made
+
+module _ {layout : Layout} {who : Who} {view : View} {frame : Frame} {body : Option BodyValue} (has : HoldsFrame layout who view frame body) where
+  can-free : CanUnlockFrame layout who view frame (logs body)
+  can-free = subst (λ (b : Option BodyValue). CanUnlockFrame layout who view frame (logs b)) (sym has.given_is) (record {
+    has = record { lock = lock; listed = (0, lock, ap (λ (h : Hand). slice_get h.locks 0) has.hand_is, refl); frame_is = refl };
+    named = refl;
+    cached = λ other listed owner. absurd (none-some other (sym (ap (λ (h : Hand). slice_get h.pages 0) has.hand_is) ∙ listed));
+    put = has.home;
+  })
+    where
+      lock : FrameLock
+      lock = record { frame = frame; owner = has.body.page.0 + 1; handled = has.handled; poisoned = has.poisoned }
+
+  body-fits : FitsLayout layout body
+  body-fits b is = ap (λ (x : BodyValue). x.layout) (same_Some b has.body (sym is ∙ has.given_is)) ∙ has.layout_is
 
 can-free-empty : {layout : Layout} {who : Who} {view : View} {frame : Frame} → HoldsEmptyFrame layout view frame → CanUnlockFrame layout who view frame None
 can-free-empty {layout} {who} {view} {frame} has = record {

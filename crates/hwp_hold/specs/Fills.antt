@@ -160,7 +160,7 @@ pub record IsReferring (layout : Layout) (view : View) (who : Who) (page : Page)
 
 abbrev pub FitsOver : Layout → View → Who → Page → BodyValue → Option Frame → Type 0
 FitsOver layout view who page body None = HoldsPage layout view page None body × Saw view who places.Available 0
-FitsOver layout view who page body (Some frame) = HoldsAhead layout who view page (Some frame) (Some body) × (frame.0 < layout.frames)
+FitsOver layout view who page body (Some frame) = HoldsAhead layout who view page (Some frame) 1 (Some body) × (frame.0 < layout.frames)
 
 abbrev pub FitsAt : Layout → View → Who → Page → BodyValue → FillAt → Type 0
 FitsAt layout view who page body (at.Take t) = IsTaking layout view who page body t

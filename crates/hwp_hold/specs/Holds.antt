@@ -116,9 +116,12 @@ page_lock page frame trans = record { page = page; resident = is_some frame; cac
 abbrev pub words_of : Layout → Option Frame → Log → Option (List ℕ)
 words_of layout frame log = Some (fitting layout log.page (state_of layout log) (frame_name frame))
 
--- one reference to the frame, and no other
+-- so many references to the frame, or one, and no other
+abbrev pub refs_to : Frame → ℕ → List Ref
+refs_to frame count = record { frame = frame; count = count } ∷ []
+
 abbrev pub one_ref : Frame → List Ref
-one_ref frame = record { frame = frame; count = 1 } ∷ []
+one_ref frame = refs_to frame 1
 
 -- the page alone is locked; what was on its shelf is in hand
 abbrev pub locked : Layout → Page → Option Log → ℕ → Hand

@@ -1,0 +1,5 @@
+use Rattle.hwp_fault.proofs.map_in.MapInMachine.who.Goals as goal
+use Rattle.hwp_fault.proofs.Appending.{words-more}
+
+pub returns-clause-law : goal.returns-clause-law
+returns-clause-law c = ?

@@ -1,0 +1,2 @@
+pub mod MapIns
+pub mod Faults
