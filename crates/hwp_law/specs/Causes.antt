@@ -16,6 +16,7 @@ use Rattle.hwp_page.specs.declared.Outcome.{Outcome}
 use Rattle.hwp_page.specs.declared.Outcome.TheVariants as outcomes
 use Rattle.hwp_page.specs.declared.What.{What}
 use Rattle.hwp_page.specs.declared.What.TheVariants as entries
+use Rattle.hwp_page.specs.Orders.{IsNotLater}
 use Rattle.hwp_script.specs.declared.Command.{Command}
 use Rattle.hwp_script.specs.declared.Command.TheVariants as commands
 use Rattle.hwp_script.specs.declared.Script.{Script}
@@ -35,7 +36,7 @@ use Rattle.hwp_law.specs.Endings.{IsGone}
 use Rattle.hwp_law.specs.Halts.{is_stopping}
 use Rattle.hwp_law.specs.Lines.{EventLine, bad_lines_of, events_of, marks_of}
 use Rattle.hwp_law.specs.Places.{entry_at}
-use Rattle.hwp_law.specs.Records.{IsNotLater, WasPoisoned, how_in, is_by_hardware, who_in}
+use Rattle.hwp_law.specs.Records.{WasPoisoned, how_in, is_by_hardware, who_in}
 use Rattle.hwp_law.specs.States.{HadState}
 
 -- the entry sent SIGBUS to the thread that met it: for a page that it may not use, or because memory failed under it

@@ -15,6 +15,7 @@ use Rattle.hwp_severity.specs.declared.Severity.TheVariants as severities
 use Rattle.hwp_severity.specs.Graded.{graded}
 use Rattle.hwp_page.specs.declared.What.{What}
 use Rattle.hwp_page.specs.declared.What.TheVariants as entries
+use Rattle.hwp_page.specs.Orders.{IsEarlier}
 use Rattle.hwp_script.specs.declared.Command.{Command}
 use Rattle.hwp_script.specs.declared.Command.TheVariants as commands
 use Rattle.hwp_script.specs.declared.Script.{Script}
@@ -27,7 +28,7 @@ use Rattle.hwp_report.specs.declared.Report.{Report}
 use Rattle.hwp_law.specs.Commands.{Arrival, arrival_of}
 use Rattle.hwp_law.specs.Lines.{EventLine, answer_of, bad_lines_of, events_of, marks_of, weak_lines_of}
 use Rattle.hwp_law.specs.Places.{command_at}
-use Rattle.hwp_law.specs.Records.{IsEarlier, WasPoisoned, entries_of, hardware_marks, mark_results}
+use Rattle.hwp_law.specs.Records.{WasPoisoned, entries_of, hardware_marks, mark_results}
 
 -- what the banks of a processor hold, from bank 0 on
 abbrev pub Banks : Type 0

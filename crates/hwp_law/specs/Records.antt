@@ -11,6 +11,7 @@ use Rattle.hwp_page.specs.declared.Situation.{Situation}
 use Rattle.hwp_page.specs.declared.Situation.TheVariants as situations
 use Rattle.hwp_page.specs.declared.What.{What}
 use Rattle.hwp_page.specs.declared.What.TheVariants as entries
+use Rattle.hwp_page.specs.Orders.{IsEarlier}
 use Rattle.hwp_page.specs.Situations.{outcome_of}
 use Rattle.hwp_script.specs.declared.Command.TheVariants as commands
 use Rattle.hwp_script.specs.declared.Script.{Script}
@@ -204,14 +205,6 @@ pub record AreRecorded (report : Report) (who : Who) : Type 0 where
   pub required : (situation : Situation) → has_page situation ≡ true → entries_of report who (is_required situation) ≡ urgent_from report who situation 0 report.frames
   pub moves : entries_of report who is_soft ≡ marks_in report (is_move_mark who)
   pub one : marks_in report (is_commands who) ≤ 1
-
--- the one is of an earlier command of the same processor
-abbrev pub IsEarlier : Who → Who → Type 0
-IsEarlier a b = (a.cpu ≡ b.cpu) × (a.seq < b.seq)
-
--- the one is of no later command of the same processor
-abbrev pub IsNotLater : Who → Who → Type 0
-IsNotLater a b = a.cpu ≡ b.cpu → a.seq ≤ b.seq
 
 -- while the command ran the record may have had these marks only: all of the processor's earlier commands, and none of its
 -- later ones; after them the frame is poisoned, or is not
