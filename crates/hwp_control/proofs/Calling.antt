@@ -233,7 +233,7 @@ stays layout old new p step found got fits is made =
 
 -- ---- that it ends
 
-falls : (p : Prctl) (step : Step) (found : ℕ) → plan p ≡ Some step → cost (next p found) < cost p
+pub falls : (p : Prctl) (step : Step) (found : ℕ) → plan p ≡ Some step → cost (next p found) < cost p
 falls p step found is = which p.at is
   where
     by-stop : (b : Bool) → cost_at (cond b (at.Over answers.Stopped) at.LoadProcess) < 4
@@ -266,7 +266,7 @@ small p = which p.at
     which (at.SetPolicy policy settings) = omega arith
     which (at.Over answer) = omega arith
 
-abbrev the-member : Member Prctl
+abbrev pub the-member : Member Prctl
 the-member = member (λ p. p.who) plan (λ p. None) (λ p. p) (λ layout p found got after result. (after ≡ next p found) × (result ≡ Moved)) Fits (λ p. 4) (λ p words. cost p) (λ p. false) (λ p. None)
 
 pub ranked : IsRanked the-member

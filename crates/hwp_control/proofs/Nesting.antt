@@ -116,7 +116,7 @@ goes n found = which n.at
     which at.Stop = by (found == 0) (is_stopped found)
     which (at.Over answer) = refl
 
-abbrev the-member : Member Nested
+abbrev pub the-member : Member Nested
 the-member = member (λ n. n.who) plan (λ n. None) (λ n. n) (λ layout n found got after result. (after ≡ next n found) × (result ≡ turn n found)) Fits (λ n. 4) (λ n words. cost n) (λ n. false) (λ n. None)
 
 pub ranked : IsRanked the-member

@@ -64,7 +64,7 @@ small r = which r.at
     which at.LoadStop = omega arith
     which (at.Over answer) = omega arith
 
-abbrev the-member : Member ReadStop
+abbrev pub the-member : Member ReadStop
 the-member = member (λ r. r.who) plan (λ r. None) (λ r. r) (λ layout r found got after result. (after ≡ next r found) × (result ≡ Moved)) Fits (λ r. 4) (λ r words. cost r) (λ r. false) (λ r. None)
 
 pub ranked : IsRanked the-member
