@@ -203,7 +203,7 @@ pub record Follows (layout : Layout) (f : Fault) (found : ℕ) (got : Option Bod
 abbrev pub ShowsAt : FaultAt → ℕ → Option BodyValue → Type 0
 ShowsAt (at.Hold h) found got = holds.Shows h found got
 ShowsAt (at.LoadPte frame body) found got = is_poison (pte_reading found) ≡ false
-ShowsAt (at.Fill f) found got = fills.Shows f found
+ShowsAt (at.Fill f) found got = fills.Shows f found got
 ShowsAt (at.MapIn m) found got = map_ins.Shows m
 ShowsAt _ found got = Unit {0}
 
