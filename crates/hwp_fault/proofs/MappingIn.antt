@@ -87,7 +87,7 @@ module _ {layout : Layout} {view : View} {who : Who} {page : Page} {slot : VSlot
   refs-held = ap (λ (h : Hand). refs_on frame.0 h.refs) has.hand_is ∙ refs-are frame count
 
 -- the translation's declaration
-declared : (layout : Layout) (page : Page) (slot : VSlot) → IsOf layout page slot → (t : TransDecl) × (slice_get layout.trans slot.0 ≡ Some t) × (t.page ≡ page)
+pub declared : (layout : Layout) (page : Page) (slot : VSlot) → IsOf layout page slot → (t : TransDecl) × (slice_get layout.trans slot.0 ≡ Some t) × (t.page ≡ page)
 declared layout page slot of = which (slice_get layout.trans slot.0) refl of
   where
     which : (o : Option TransDecl) → slice_get layout.trans slot.0 ≡ o → IsSomeAnd o (λ (t : TransDecl). t.page ≡ page) → (t : TransDecl) × (slice_get layout.trans slot.0 ≡ Some t) × (t.page ≡ page)
