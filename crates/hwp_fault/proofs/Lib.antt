@@ -4,3 +4,4 @@ pub mod MapInCosts
 mod Unfailed
 pub mod Loading
 pub mod Faulting
+pub mod FaultCosts
