@@ -19,6 +19,7 @@ use Rattle.hwp_page.specs.declared.Entry.{Entry}
 use Rattle.hwp_page.specs.declared.PageState.{PageState}
 use Rattle.hwp_page.specs.declared.What.{What}
 use Rattle.hwp_page.specs.declared.What.TheVariants as entries
+use Rattle.hwp_page.specs.Endings.{is_ending, has_ending}
 use Rattle.hwp_page.specs.History.{BodyValue, Leads}
 use Rattle.hwp_page.specs.Step.{Allowed, after}
 use Rattle.hwp_words.specs.declared.Pte.TheVariants as ptes
@@ -31,7 +32,7 @@ use Rattle.hwp_rule.specs.declared.Sight.{Sight}
 use Rattle.hwp_rule.specs.declared.View.{View}
 use Rattle.hwp_rule.specs.Asks.{Extends, PutFits, CanGoHome}
 use Rattle.hwp_rule.specs.Lists.{EachMember}
-use Rattle.hwp_rule.specs.Logs.{log_of, opening_at, state_of, is_ending, has_ending, fitting_word}
+use Rattle.hwp_rule.specs.Logs.{log_of, opening_at, state_of, fitting_word}
 use Rattle.hwp_rule.specs.Views.{is_body_of, page_locks_on}
 use Rattle.hwp_rule.specs.parts.Entries.{HasSeen}
 use Rattle.hwp_rule.specs.parts.Fits.{FitsWords}

@@ -203,16 +203,17 @@ pub record Follows (layout : Layout) (f : Fault) (found : ℕ) (got : Option Bod
 abbrev pub ShowsAt : FaultAt → ℕ → Option BodyValue → Type 0
 ShowsAt (at.Hold h) found got = holds.Shows h found got
 ShowsAt (at.LoadPte frame body) found got = is_poison (pte_reading found) ≡ false
-ShowsAt (at.Fill f) found got = fills.Shows f found
+ShowsAt (at.Fill f) found got = fills.Shows f found got
 ShowsAt (at.MapIn m) found got = map_ins.Shows m
 ShowsAt _ found got = Unit {0}
 
 abbrev pub Shows : Fault → ℕ → Option BodyValue → Type 0
 Shows f found got = ShowsAt f.at found got
 
--- all entries that the body has more than it was taken with bring the page in, or the translation into use
-abbrev pub AddsOnly : View → VSlot → BodyValue → Type 0
-AddsOnly view slot body = EachMember (λ (b : InHand). EachMember (IsBringing slot) (more_of b (log_of body))) view.bodies
+-- the body is the page's, and all entries that it has more than it was taken with bring the page in, or the translation into use
+pub record AddsOnly (view : View) (page : Page) (slot : VSlot) (body : BodyValue) : Type 0 where
+  pub of : body.page ≡ page
+  pub only : EachMember (λ (b : InHand). EachMember (IsBringing slot) (more_of b (log_of body))) view.bodies
 
 -- the translation is neither in use nor barred
 abbrev pub IsFree : VSlot → PageState → Type 0
@@ -257,15 +258,15 @@ pub record IsLettingGo (layout : Layout) (view : View) (who : Who) (page : Page)
   pub unhold : unholds.Fits layout view u
   pub own : u.who ≡ who
   pub under_way : is_none (unholds.plan u) ≡ false
-  pub adds : (body : BodyValue) → unholds.put u ≡ Some body → AddsOnly view slot body
+  pub adds : (body : BodyValue) → unholds.put u ≡ Some body → AddsOnly view page slot body
   pub why : IsWhy layout view who page answer
 
 -- the command is being given up
-pub record IsGivingUp (layout : Layout) (view : View) (who : Who) (slot : VSlot) (g : GiveUp) : Type 0 where
+pub record IsGivingUp (layout : Layout) (view : View) (who : Who) (page : Page) (slot : VSlot) (g : GiveUp) : Type 0 where
   pub give_up : give_ups.Fits layout view g
   pub own : g.who ≡ who
   pub under_way : is_none (give_ups.plan g) ≡ false
-  pub adds : (body : BodyValue) → give_ups.put g ≡ Some body → AddsOnly view slot body
+  pub adds : (body : BodyValue) → give_ups.put g ≡ Some body → AddsOnly view page slot body
 
 abbrev pub FitsOver : Layout → View → Who → Page → Option FaultAnswer → Type 0
 FitsOver layout view who page None = hand_of view ≡ empty
@@ -277,7 +278,7 @@ FitsAt layout view who page slot (at.LoadPte frame body) = IsHeld layout view wh
 FitsAt layout view who page slot (at.Fill f) = IsFilling layout view who page slot f
 FitsAt layout view who page slot (at.MapIn m) = IsMapping layout view who page slot m
 FitsAt layout view who page slot (at.Unhold u answer) = IsLettingGo layout view who page slot u answer
-FitsAt layout view who page slot (at.GiveUp g) = IsGivingUp layout view who slot g
+FitsAt layout view who page slot (at.GiveUp g) = IsGivingUp layout view who page slot g
 FitsAt layout view who page slot (at.Over answer) = FitsOver layout view who page answer
 
 -- The processor holds nothing at first and in the end. The translation is one of the page, and the command has made no
