@@ -132,8 +132,8 @@ unhold-place u step is = which u.at is
     which unhold_at.Over e = absurd (none-some step e)
 
 -- a translation that is declared has a word
-slot-within : {layout : Layout} {page : Page} (slot : VSlot) → IsOf layout page slot → slot.0 < length layout.trans
-slot-within {layout} {page} slot of = let decl = declared layout page slot of in slice_get_within layout.trans slot.0 decl.0 decl.1
+slot-within : (layout : Layout) (page : Page) (slot : VSlot) → IsOf layout page slot → slot.0 < length layout.trans
+slot-within layout page slot of = let decl = declared layout page slot of in slice_get_within layout.trans slot.0 decl.0 decl.1
 
 -- an access that starts over where the word leads to a frame
 again-led : (slot : VSlot) (w : Words) (frame : Frame) → frame.0 < 2 ^ 16 → slice_index w.trans slot.0 ≡ frame.0 + 1 → again slot w ≡ length w.frees + 20
@@ -215,8 +215,8 @@ module _ {layout : Layout} {seat : ℕ} {a b : State} {f t : Fault} {turned : Tu
   few : length now.frees ≤ 4
   few = (few-words layout b made.kept).1
 
-  move-by : {put : Option BodyValue} (who : Who) → who ≡ f.who → Move layout seat (rec_of layout f.who made.step (logs put) made.found made.got) a b → Move layout seat (rec_of layout who made.step (logs put) made.found made.got) a b
-  move-by {put} who own move = subst (λ (x : Who). Move layout seat (rec_of layout x made.step (logs put) made.found made.got) a b) (sym own) move
+  move-by : (put : Option BodyValue) (who : Who) → who ≡ f.who → Move layout seat (rec_of layout f.who made.step (logs put) made.found made.got) a b → Move layout seat (rec_of layout who made.step (logs put) made.found made.got) a b
+  move-by put who own move = subst (λ (x : Who). Move layout seat (rec_of layout x made.step (logs put) made.found made.got) a b) (sym own) move
 
   -- a word that was loaded
   pte-falls : (frame : Option Frame) (body : BodyValue) (spare : Option ℕ) → FitsAt layout (view_of a seat) f.who f.page f.slot (at.LoadPte frame body) → Some (steps.Load (places.Trans f.slot)) ≡ Some made.step
@@ -245,7 +245,7 @@ module _ {layout : Layout} {seat : ℕ} {a b : State} {f t : Fault} {turned : Tu
         after = words-after made ∙ ap (λ (s : Step). put_word (place_of s) (word_after s made.found) w) (sym (same_Some (steps.SetPte m.slot (ptes.At m.frame)) made.step e))
 
         within : m.slot.0 < length w.trans
-        within = subst (λ (n : ℕ). m.slot.0 < n) (sym (shaped layout a made.rule).trans) (subst (λ (s : VSlot). s.0 < length layout.trans) (sym has.slot_is) (slot-within f.slot made.fits.slot))
+        within = subst (λ (n : ℕ). m.slot.0 < n) (sym (shaped layout a made.rule).trans) (subst (λ (s : VSlot). s.0 < length layout.trans) (sym has.slot_is) (slot-within layout f.page f.slot made.fits.slot))
 
         here : slice_get (set w.trans m.slot.0 (pte_word (ptes.At m.frame))) m.slot.0 ≡ Some (pte_word (ptes.At m.frame))
         here = set_here w.trans m.slot.0 (pte_word (ptes.At m.frame)) (slice_index w.trans m.slot.0) (slice_get-get_or w.trans m.slot.0 0 within)
@@ -281,30 +281,30 @@ module _ {layout : Layout} {seat : ℕ} {a b : State} {f t : Fault} {turned : Tu
       → Lowers (turn_at (bare_at x) made.found) (class_at x) layout a seat → cost_at f.slot (next_at layout f.who f.page f.slot (bare_at x) made.found made.got spare) now < cost_at f.slot x w
   which-falls (at.Hold h) spare has e move lowers =
       let less : holds.cost (holds.next h made.found made.got) now < holds.cost h w = part-falls hold-ranked refl (record {
-        step = made.step; found = made.found; got = made.got; rule = made.rule; kept = made.kept; fits = has.hold; planned = e; move = move-by h.who has.own move; brings = made.brings; follows = (refl, refl);
+        step = made.step; found = made.found; got = made.got; rule = made.rule; kept = made.kept; fits = has.hold; planned = e; move = move-by None h.who has.own move; brings = made.brings; follows = (refl, refl);
       }) lowers in
       let more : cost_at f.slot (after_hold (holds.next h made.found made.got)) now ≡ holds.cost (holds.next h made.found made.got) now + length now.frees + 14 + owed = hold-cost f.slot (holds.next h made.found made.got) now in
       omega (arith, less, more, same-number-of)
   which-falls (at.LoadPte frame body) spare has e move lowers = pte-falls frame body spare has e
   which-falls (at.Fill g) spare has e move lowers =
       let less : fills.cost (fills.next layout g made.found) now < fills.cost g w = part-falls fill-ranked refl (record {
-        step = made.step; found = made.found; got = made.got; rule = made.rule; kept = made.kept; fits = has.fill; planned = e; move = move-by g.who has.own move; brings = made.brings; follows = (refl, refl);
+        step = made.step; found = made.found; got = made.got; rule = made.rule; kept = made.kept; fits = has.fill; planned = e; move = move-by None g.who has.own move; brings = made.brings; follows = (refl, refl);
       }) lowers in
       let more : cost_at f.slot (after_fill f.who f.page f.slot (fills.next layout g made.found) spare) now ≤ fills.cost (fills.next layout g made.found) now + 3 + 4096 = fill-cost f.who f.page f.slot (fills.next layout g made.found) spare now in
       omega (arith, less, more)
   which-falls (at.MapIn m) spare has e move lowers = map-cost m has m.at e has.map_in.at (part-falls map-in-ranked refl (record {
-    step = made.step; found = made.found; got = made.got; rule = made.rule; kept = made.kept; fits = has.map_in; planned = e; move = move-by m.who has.own move; brings = made.brings; follows = (refl, refl);
+    step = made.step; found = made.found; got = made.got; rule = made.rule; kept = made.kept; fits = has.map_in; planned = e; move = move-by None m.who has.own move; brings = made.brings; follows = (refl, refl);
   }) lowers)
   which-falls (at.Unhold u answer) spare has e move lowers =
       let less : unholds.cost (unholds.next (unholds.bare u) made.found) now < unholds.cost u w = part-falls unhold-ranked refl (record {
-        step = made.step; found = made.found; got = made.got; rule = made.rule; kept = made.kept; fits = has.unhold; planned = e; move = move-by u.who has.own move; brings = made.brings; follows = (refl, refl);
+        step = made.step; found = made.found; got = made.got; rule = made.rule; kept = made.kept; fits = has.unhold; planned = e; move = move-by (unholds.put u) u.who has.own move; brings = made.brings; follows = (refl, refl);
       }) lowers in
       let more : cost_at f.slot (after_unhold (unholds.next (unholds.bare u) made.found) answer) now ≤ unholds.cost (unholds.next (unholds.bare u) made.found) now + rest f.slot answer now = unhold-cost f.slot (unholds.next (unholds.bare u) made.found) answer now in
       let same : rest f.slot answer now ≡ rest f.slot answer w = rest-stays u answer e in
       omega (arith, less, more, same)
   which-falls (at.GiveUp g) spare has e move lowers =
       let less : give_ups.cost (give_ups.next (give_ups.bare g) made.found) now < give_ups.cost g w = part-falls give-up-ranked refl (record {
-        step = made.step; found = made.found; got = made.got; rule = made.rule; kept = made.kept; fits = has.give_up; planned = e; move = move-by g.who has.own move; brings = made.brings; follows = (refl, refl);
+        step = made.step; found = made.found; got = made.got; rule = made.rule; kept = made.kept; fits = has.give_up; planned = e; move = move-by (give_ups.put g) g.who has.own move; brings = made.brings; follows = (refl, refl);
       }) lowers in
       let more : cost_at f.slot (after_give_up (give_ups.next (give_ups.bare g) made.found)) now ≤ give_ups.cost (give_ups.next (give_ups.bare g) made.found) now = give-up-cost f.slot (give_ups.next (give_ups.bare g) made.found) now in
       omega (arith, less, more)
