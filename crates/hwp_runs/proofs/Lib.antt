@@ -4,4 +4,5 @@ pub mod Telling
 pub mod SameEntries
 pub mod Histories
 pub mod Adding
+pub mod Homes
 pub mod Rising

@@ -31,7 +31,8 @@ use Rattle.hwp_rule.specs.Slots.{MeetsSlot, slot_move}
 use Rattle.hwp_rule.specs.Views.{is_body_of, made_from, more_of, noted, stamp_of, view_after, view_by}
 use Rattle.hwp_rule.specs.Words.{words_of}
 use Rattle.hwp_rule.specs.parts.Bodies.{Holder}
-use Rattle.hwp_rule.specs.parts.Entries.{Reaches, weigh, weigh_from}
+use Rattle.hwp_rule.specs.parts.Entries.{weigh, weigh_from}
+use Rattle.hwp_rule.specs.parts.Holdings.{IsPast}
 use Rattle.hwp_rule.proofs.AsksNoted.{asks-noted}
 use Rattle.hwp_rule.proofs.Counting.{some-term}
 use Rattle.hwp_rule.proofs.Lists.{at_map, each-map, each-set, same-or, set_here, sum-map, term-le, terms-le}
@@ -41,6 +42,7 @@ use Rattle.hwp_rule.proofs.Without.{find-is}
 use Rattle.hwp_step.specs.Boards.{Played}
 use Rattle.hwp_runs.specs.Turns.{Leads}
 use Rattle.hwp_runs.proofs.Adding.{AddsLength, AddsMade, AddsNothing, adds}
+use Rattle.hwp_runs.proofs.Homes.{home-within}
 
 -- the history that a command saw lies above the entry of an earlier command, not above that of a later one
 pub record Above (l : Length) (m : Made) : Type 0 where
@@ -156,3 +158,119 @@ module _ (layout : Layout) (s : State) (h : Holds layout s) where
           let list = some-term (sum_by (λ (x : InHand). weigh (is_at m.page m.place) x.log)) bodies (let all : sum_by (sum_by (λ (x : InHand). weigh (is_at m.page m.place) x.log)) bodies ≡ b = second in omega arith) in
           let body = some-term (λ (x : InHand). weigh (is_at m.page m.place) x.log) list.1 list.3 in
           in-hand list.0 body.0 list.1 body.1 list.2 body.2 body.3
+
+-- ---- one step
+
+-- entries as they are made stand at their places or later
+made-at : (P : Made → Type 0) (stamp : Stamp) (page : Page) (frame : Option Frame) (place : ℕ) (es : List Entry)
+    → ((i n : ℕ) (e : Entry) → slice_get es i ≡ Some e → place ≤ n → P (record { stamp = stamp; page = page; place = n; entry = e; frame = frame })) → EachMember P (made_from stamp page frame place es)
+made-at P stamp page frame place [] each i m there = absurd (none-some m there)
+made-at P stamp page frame place (e ∷ es) each zero m there = subst P (same_Some (record { stamp = stamp; page = page; place = place; entry = e; frame = frame }) m there) (each 0 place e refl (omega arith))
+made-at P stamp page frame place (e ∷ es) each (suc i) m there = made-at P stamp page frame (suc place) es (λ j n x at later. each (suc j) n x at (omega (arith, later))) i m there
+
+-- no command is earlier than one that isn't later
+not-earlier : (a b : Who) → IsEarlier a b → IsNotLater b a → ⊥
+not-earlier a b earlier later = let after : b.seq ≤ a.seq = later (sym earlier.0) in let before : a.seq < b.seq = earlier.1 in omega arith
+
+module _ (layout : Layout) (seat : ℕ) (r : Rec) (a b : State) (h : Holds layout a) (m : Move layout seat r a b) (rising : Rising m.view) where
+  -- what the seat lists is of no later command
+  not-after : (other : Who) → IsPast m.view.parts other → IsNotLater other r.who
+  not-after other past = not-later layout (words_of layout a.words) a.homes a.views seat m.view r.who m.me m.asks.turn h.rule seat m.view other m.me past
+
+  own-made : EachMember (λ (x : Made). IsNotLater x.entry.who r.who) m.view.made
+  own-made i x there = not-after x.entry.who ((h.rule.processors.commands.own seat m.view m.me).made i x there)
+
+  own-lengths : EachMember (λ (l : Length). IsNotLater l.stamp.who r.who) m.view.lengths
+  own-lengths i l there = not-after l.stamp.who ((h.rule.processors.commands.own seat m.view m.me).lengths i l there)
+
+  -- a history that is taken
+  module _ (l : Length) (log : Log) (slot : ℕ) (home : slice_get a.homes slot ≡ Some (Some (Some log))) (within : log.page.0 < length layout.pages) (log_is : l.log ≡ log) (own : l.stamp.who ≡ r.who) where
+    new-above : EachMember (Above l) m.view.made
+    new-above i x there = record {
+      past = λ same earlier.
+          let page_is : x.page ≡ log.page = same ∙ ap (λ (y : Log). y.page) log_is in
+          let below : x.place < length log.entries = stands-below layout a h seat i slot m.view x log m.me there home within page_is in
+          let long : length l.log.entries ≡ length log.entries = ap (λ (y : Log). length y.entries) log_is in
+          omega arith;
+      below = λ same earlier. absurd (not-earlier l.stamp.who x.entry.who earlier (subst (IsNotLater x.entry.who) (sym own) (own-made i x there)));
+    }
+
+    reached : EachMember (λ (k : Length). k.log.page ≡ l.log.page → length k.log.entries ≤ length l.log.entries) m.view.lengths
+    reached i k there same =
+        let each = h.rule.histories.entries.lengths_reached seat m.view.lengths (at_map (λ (v : View). v.lengths) a.views seat m.view m.me) i k there in
+        let starts = each.at_home slot log home (sym (same ∙ ap (λ (y : Log). y.page) log_is)) in
+        let all : length log.entries ≡ length k.log.entries + length starts.0 = ap (λ (y : List Entry). length y) starts.1 ∙ length-append k.log.entries starts.0 in
+        let long : length l.log.entries ≡ length log.entries = ap (λ (y : Log). length y.entries) log_is in
+        omega arith
+
+    taken-rises : Rises m.view.made (m.view.lengths ++ l ∷ [])
+    taken-rises = record {
+      above = each-append (λ (k : Length). EachMember (Above k) m.view.made) m.view.lengths (l ∷ []) rising.above (one (λ (k : Length). EachMember (Above k) m.view.made) new-above);
+      follows = each-append (λ (k : Length). EachMember (Follows k) (m.view.lengths ++ l ∷ [])) m.view.lengths (l ∷ [])
+          (λ i k there. each-append (Follows k) m.view.lengths (l ∷ []) (rising.follows i k there) (one (Follows k) (λ same earlier. absurd (not-earlier l.stamp.who k.stamp.who earlier (subst (IsNotLater k.stamp.who) (sym own) (own-lengths i k there))))))
+          (one (λ (k : Length). EachMember (Follows k) (m.view.lengths ++ l ∷ []))
+          (each-append (Follows l) m.view.lengths (l ∷ []) (λ i k there same earlier. reached i k there same) (one (Follows l) (λ same earlier. omega arith))));
+    }
+      where
+        one : (P : Length → Type 0) → P l → EachMember P (l ∷ [])
+        one P here zero x is = subst P (same_Some l x is) here
+        one P here (suc i) x is = absurd (none-some x is)
+
+  -- entries that are listed
+  module _ (log : Log) (body : InHand) (n : ℕ) (listed : slice_get m.view.bodies n ≡ Some body) (page_is : log.page ≡ body.log.page) (own : EachMember (λ (e : Entry). e.who ≡ r.who) (more_of body log)) (stamp : Stamp) where
+    abbrev more : List Made
+    more = made_from stamp log.page body.frame (length body.log.entries) (more_of body log)
+
+    seen-below : EachMember (λ (l : Length). log.page ≡ l.log.page → length l.log.entries ≤ length body.log.entries) m.view.lengths
+    seen-below i l there same =
+        let each = h.rule.histories.entries.lengths_reached seat m.view.lengths (at_map (λ (v : View). v.lengths) a.views seat m.view m.me) i l there in
+        let starts = each.in_hand seat m.view.bodies (at_map (λ (v : View). v.bodies) a.views seat m.view m.me) n body listed (sym page_is ∙ same) in
+        let all : length body.log.entries ≡ length l.log.entries + length starts.0 = ap (λ (y : List Entry). length y) starts.1 ∙ length-append l.log.entries starts.0 in
+        omega arith
+
+    more-above : (i : ℕ) (l : Length) → slice_get m.view.lengths i ≡ Some l → EachMember (Above l) more
+    more-above i l there = made-at (Above l) stamp log.page body.frame (length body.log.entries) (more_of body log) (λ j k e at later. record {
+      past = λ same earlier. absurd (not-earlier e.who l.stamp.who earlier (subst (IsNotLater l.stamp.who) (sym (own j e at)) (own-lengths i l there)));
+      below = λ same earlier. (let seen : length l.log.entries ≤ length body.log.entries = seen-below i l there same in let past : length body.log.entries ≤ k = later in omega arith);
+    })
+
+    listed-rises : Rises (m.view.made ++ more) m.view.lengths
+    listed-rises = record {
+      above = λ i l there. each-append (Above l) m.view.made more (rising.above i l there) (more-above i l there);
+      follows = rising.follows;
+    }
+
+  rises-by : (x : View) → AddsNothing (noted r.who m.view) x ⊎ (AddsLength layout r.who r.step r.found r.content (noted r.who m.view) x ⊎ AddsMade layout r.who (noted r.who m.view) x) → Rises x.made x.lengths
+  rises-by x (inl none) = subst (λ (made : List Made). Rises made x.lengths) (sym none.made) (subst (Rises m.view.made) (sym none.lengths) rising)
+  rises-by x (inr (inl took)) =
+      subst (λ (made : List Made). Rises made x.lengths) (sym took.made) (subst (Rises m.view.made) (sym took.lengths)
+      (taken-rises took.length took.log took.slot home (home-within layout a h took.log took.slot home) took.log_is took.own))
+    where
+      home : slice_get a.homes took.slot ≡ Some (Some (Some took.log))
+      home = subst (λ (c : Option Log). slice_get a.homes took.slot ≡ Some (Some c)) took.content_is (subst (λ (move : SlotMove). MeetsSlot move a.homes r.content) took.out m.slot)
+  rises-by x (inr (inr lists)) =
+      subst (λ (made : List Made). Rises made x.lengths) (sym lists.made) (subst (Rises (m.view.made ++ _)) (sym lists.lengths)
+      (listed-rises lists.log lists.body found.0 found.1 lists.extends.page_is lists.extends.own (stamp_of r.who (noted r.who m.view))))
+    where
+      found : (i : ℕ) × (slice_get m.view.bodies i ≡ Some lists.body) × (is_body_of lists.log.page lists.body ≡ true)
+      found = find-is (is_body_of lists.log.page) m.view.bodies lists.body lists.body_is
+
+  pub rises-moved : Rising (view_after layout r m.view)
+  rises-moved = rises-by (view_after layout r m.view) (adds layout r.who r.step r.found r.content (noted r.who m.view) (asks-noted layout r.who m.view r.step r.content m.asks.kind))
+
+-- ---- a run
+
+module _ (layout : Layout) where
+  rises-on : (turns : List Played) (a b : State) → Holds layout a → Leads layout a turns b → EachMember Rising a.views → EachMember Rising b.views
+  rises-on [] a b holds leads each = subst (λ (s : State). EachMember Rising s.views) (sym leads) each
+  rises-on (p ∷ ps) a b holds (mid, move, kept, rest) each =
+      rises-on ps mid b kept rest
+      (subst (λ (s : State). EachMember Rising s.views) (sym move.next)
+      (each-set Rising a.views p.seat (view_after layout p.made move.view) (rises-moved layout p.seat p.made a mid holds move (each p.seat move.view move.me)) each))
+
+  opening-rises : (c : ℕ) → Rising (opening_view c)
+  opening-rises c = record { above = λ i l e. absurd (none-some l e); follows = λ i l e. absurd (none-some l e) }
+
+  -- along a run, what each view lists of a page rises with its commands
+  pub run-rises : (turns : List Played) (last : State) → Holds layout (opening layout) → Leads layout (opening layout) turns last → EachMember Rising last.views
+  run-rises turns last holds leads = rises-on turns (opening layout) last holds leads (each-map opening_view Rising (below layout.cpus) (λ i c e. opening-rises c))
