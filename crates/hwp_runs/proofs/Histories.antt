@@ -1,5 +1,5 @@
 -- Where nothing is in hand, the histories are the entries that views list, each at its place.
-use Rattle.std.proofs.Common.{◌≡◌, ◌≢◌, ℕ, zero, suc, ◌+◌, ◌<◌, ◌≤◌, ◌==◌, ◌&&◌, ◌⊎◌, Bool, true, false, cond, List, [], ◌∷◌, Option, Some, None, length, map, slice_get, refl, sym, ap, ◌∙◌, subst, arith, inl, inr}
+use Rattle.std.proofs.Common.{◌≡◌, ◌≢◌, ℕ, zero, suc, ◌+◌, ◌<◌, ◌≤◌, ◌==◌, ◌&&◌, ◌⊎◌, Bool, true, false, List, [], ◌∷◌, Option, Some, None, length, map, slice_get, refl, sym, ap, ◌∙◌, subst, arith, inl, inr}
 use Rattle.std.specs.List.{sum_by}
 use Rattle.std.specs.Int.{from_bool}
 use Rattle.std.proofs.lemmas.Bool.{and_from, and_parts, eq-eqb, eqb-true}
@@ -13,11 +13,11 @@ use Rattle.hwp_rule.specs.declared.Made.{Made}
 use Rattle.hwp_rule.specs.declared.Sight.{Sight}
 use Rattle.hwp_rule.specs.declared.State.{State}
 use Rattle.hwp_rule.specs.declared.View.{View}
-use Rattle.hwp_rule.specs.Lists.{EachMember, Homes, SomeMember, of_home, sum_all, sum_bodies}
+use Rattle.hwp_rule.specs.Lists.{EachMember, SomeMember, of_home, sum_all, sum_bodies}
 use Rattle.hwp_rule.specs.Rule.{Holds, holder_of}
 use Rattle.hwp_rule.specs.parts.Bodies.{Holder}
 use Rattle.hwp_rule.specs.parts.Entries.{weigh, weigh_from}
-use Rattle.hwp_rule.proofs.Counting.{some-term, sum-le}
+use Rattle.hwp_rule.proofs.Counting.{some-term}
 use Rattle.hwp_rule.proofs.Lists.{each-map, same-or, sum-map, sum-zero, term-le, terms-le}
 use Rattle.hwp_runs.proofs.SameEntries.{same_entry, same_entry-is, same_entry-self}
 
@@ -86,7 +86,7 @@ module _ (layout : Layout) (s : State) (h : Holds layout s) (empty : EachMember 
       let all = h.rule.histories.entries.balance f in
       let none : sum_all (λ (b : InHand). weigh f b.log) (map (λ (v : View). v.bodies) s.views) ≡ 0 = no-bodies (weigh f) in
       let mapped : sum_by (λ (v : List Made × List Sight). sum_by (λ (m : Made). f m.page m.place m.entry) v.0) (map (λ (v : View). (v.made, v.sights)) s.views) ≡ sum_by (λ (v : View). sum_by (λ (m : Made). f m.page m.place m.entry) v.made) s.views
-          = sum-map (λ (v : List Made × List Sight). sum_by (λ (m : Made). f m.page m.place m.entry) v.0) (λ (v : View). (v.made, v.sights)) s.views in
+      = sum-map (λ (v : List Made × List Sight). sum_by (λ (m : Made). f m.page m.place m.entry) v.0) (λ (v : View). (v.made, v.sights)) s.views in
       omega arith
 
   -- each entry of a history is listed as made, at its place, by some view
@@ -109,7 +109,7 @@ module _ (layout : Layout) (s : State) (h : Holds layout s) (empty : EachMember 
       let one : f m.page m.place m.entry ≡ 1 = there-one m.page m.place m.entry in
       let here : f m.page m.place m.entry ≤ sum_by (λ (x : Made). f x.page x.place x.entry) v.made = term-le (λ (x : Made). f x.page x.place x.entry) v.made j m made in
       let mine : sum_by (λ (x : Made). f x.page x.place x.entry) v.made ≤ sum_by (λ (u : View). sum_by (λ (x : Made). f x.page x.place x.entry) u.made) s.views
-          = term-le (λ (u : View). sum_by (λ (x : Made). f x.page x.place x.entry) u.made) s.views i v view in
+      = term-le (λ (u : View). sum_by (λ (x : Made). f x.page x.place x.entry) u.made) s.views i v view in
       let same : sum_by (of_home (weigh f)) s.homes ≡ sum_by (λ (u : View). sum_by (λ (x : Made). f x.page x.place x.entry) u.made) s.views = balanced f in
       let home = some-term (of_home (weigh f)) s.homes (omega arith) in
       at-home home.0 home.1 home.2 home.3

@@ -1,5 +1,5 @@
 -- What one step adds to what its seat knows.
-use Rattle.std.proofs.Common.{◌≡◌, ℕ, ◌==◌, ◌⊎◌, Bool, true, false, cond, List, [], ◌∷◌, ◌++◌, Option, Some, None, length, map, option_map, slice_get, refl, sym, ap, ◌∙◌, subst, inl, inr}
+use Rattle.std.proofs.Common.{◌≡◌, ℕ, ◌==◌, Bool, true, false, cond, List, [], ◌∷◌, ◌++◌, Option, Some, None, option_map, slice_get, refl}
 use Rattle.std.proofs.lemmas.Option.{same_Some, none-some}
 use Rattle.hwp_geom.specs.declared.Cpu.{Cpu}
 use Rattle.hwp_geom.specs.declared.Frame.{Frame}
@@ -15,7 +15,6 @@ use Rattle.hwp_rule.specs.declared.MarkKind.TheVariants as kinds
 use Rattle.hwp_rule.specs.declared.PageLock.{PageLock}
 use Rattle.hwp_rule.specs.declared.Place.{Place}
 use Rattle.hwp_rule.specs.declared.Place.TheVariants as places
-use Rattle.hwp_rule.specs.declared.Rec.{Rec}
 use Rattle.hwp_rule.specs.declared.Sight.{Sight}
 use Rattle.hwp_rule.specs.declared.Spoiled.{Spoiled}
 use Rattle.hwp_rule.specs.declared.Step.{Step}
@@ -24,7 +23,7 @@ use Rattle.hwp_rule.specs.declared.View.{View}
 use Rattle.hwp_rule.specs.Lists.{EachMember, SomeMember}
 use Rattle.hwp_rule.specs.Logs.{log_of}
 use Rattle.hwp_rule.specs.Steps.{goes, place_of}
-use Rattle.hwp_rule.specs.Views.{body_of, is_page_lock_of, knowing, listed_of, loaded, lock_found, lock_of_page, poisoned, put_home, stamp_of, taken, view_by}
+use Rattle.hwp_rule.specs.Views.{body_of, is_page_lock_of, knowing, listed_of, loaded, lock_found, lock_of_page, put_home, stamp_of, taken, view_by}
 use Rattle.hwp_rule.proofs.Lists.{each-push, some-changed, some-last}
 use Rattle.hwp_runs.specs.Turns.{SeesPage}
 

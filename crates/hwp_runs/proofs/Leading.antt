@@ -1,6 +1,5 @@
 -- Turns in the order of a schedule lead from board to board.
-use Rattle.std.proofs.Common.{◌≡◌, ℕ, List, [], ◌∷◌, ◌++◌, refl, sym, ap, ◌∙◌, subst, append_assoc, inl, inr}
-use Rattle.std.proofs.lemmas.List.{append-nil}
+use Rattle.std.proofs.Common.{◌≡◌, ℕ, List, [], ◌∷◌, ◌++◌, refl, sym, ap, ◌∙◌, subst, inl, inr}
 use Rattle.hwp_geom.specs.declared.Layout.{Layout}
 use Rattle.hwp_rule.specs.declared.State.{State}
 use Rattle.hwp_rule.specs.Moves.{Move}
@@ -34,12 +33,15 @@ run-on a b c front later first then =
 
 run-turn : {S : Type 0} (m : Member S) (a b : Running S) (cpu : ℕ) (p : Played) → TurnOf m a cpu p b → Run a (p ∷ []) b
 run-turn m a b cpu p turn =
-    let to : b.state ≡ b.state = refl in
-    (( b.state
-      , subst (λ (q : Played). Move a.layout q.seat q.made a.state b.state) (sym turn.listed) turn.made.move
-      , turn.made.kept
-      , to),
-     ap (λ x. x.layout) turn.next)
+    let to : b.state ≡ b.state = refl in (
+      (
+        b.state,
+        subst (λ (q : Played). Move a.layout q.seat q.made a.state b.state) (sym turn.listed) turn.made.move,
+        turn.made.kept,
+        to,
+      ),
+      ap (λ x. x.layout) turn.next,
+    )
 
 run-word : {S : Type 0} (m : Member S) (go : Go) (a b : Running S) (ps : List Played) → Word m go a ps b → Run a ps b
 run-word m go a b [] word = run-none a b word.1

@@ -1,6 +1,6 @@
 -- Along a run, what a command saw of a page's history lies above the entries of its processor's earlier commands, not below what
 -- these saw, and not above the entries of its later ones.
-use Rattle.std.proofs.Common.{◌≡◌, ◌≢◌, ℕ, zero, suc, ◌+◌, ◌<◌, ◌≤◌, ◌==◌, ◌&&◌, ◌⊎◌, Bool, true, false, List, [], ◌∷◌, ◌++◌, Option, Some, None, length, map, slice_get, refl, sym, ap, ◌∙◌, subst, arith, inl, inr}
+use Rattle.std.proofs.Common.{◌≡◌, ℕ, zero, suc, ◌+◌, ◌<◌, ◌≤◌, ◌==◌, ◌&&◌, ◌⊎◌, Bool, true, false, List, [], ◌∷◌, ◌++◌, Option, Some, None, length, map, slice_get, refl, sym, ap, ◌∙◌, subst, arith, inl, inr}
 use Rattle.std.specs.List.{sum_by}
 use Rattle.std.specs.Int.{from_bool}
 use Rattle.std.proofs.lemmas.Bool.{and_from, and_parts, eq-eqb, eqb-true}
@@ -19,23 +19,22 @@ use Rattle.hwp_rule.specs.declared.Made.{Made}
 use Rattle.hwp_rule.specs.declared.Rec.{Rec}
 use Rattle.hwp_rule.specs.declared.Sight.{Sight}
 use Rattle.hwp_rule.specs.declared.SlotMove.{SlotMove}
-use Rattle.hwp_rule.specs.declared.SlotMove.TheVariants as moves
 use Rattle.hwp_rule.specs.declared.Stamp.{Stamp}
 use Rattle.hwp_rule.specs.declared.State.{State}
 use Rattle.hwp_rule.specs.declared.View.{View}
-use Rattle.hwp_rule.specs.Lists.{EachMember, Homes, of_home, sum_all, sum_bodies}
+use Rattle.hwp_rule.specs.Lists.{EachMember, of_home, sum_all, sum_bodies}
 use Rattle.hwp_rule.specs.Moves.{Move}
 use Rattle.hwp_rule.specs.Opening.{below, opening, opening_view}
 use Rattle.hwp_rule.specs.Rule.{Holds, holder_of}
-use Rattle.hwp_rule.specs.Slots.{MeetsSlot, slot_move}
-use Rattle.hwp_rule.specs.Views.{is_body_of, made_from, more_of, noted, stamp_of, view_after, view_by}
+use Rattle.hwp_rule.specs.Slots.{MeetsSlot}
+use Rattle.hwp_rule.specs.Views.{is_body_of, made_from, more_of, noted, stamp_of, view_after}
 use Rattle.hwp_rule.specs.Words.{words_of}
 use Rattle.hwp_rule.specs.parts.Bodies.{Holder}
 use Rattle.hwp_rule.specs.parts.Entries.{weigh, weigh_from}
 use Rattle.hwp_rule.specs.parts.Holdings.{IsPast}
 use Rattle.hwp_rule.proofs.AsksNoted.{asks-noted}
 use Rattle.hwp_rule.proofs.Counting.{some-term}
-use Rattle.hwp_rule.proofs.Lists.{at_map, each-map, each-set, same-or, set_here, sum-map, term-le, terms-le}
+use Rattle.hwp_rule.proofs.Lists.{at_map, each-map, each-set, same-or, sum-map, term-le, terms-le}
 use Rattle.hwp_rule.proofs.MoreEntries.{each-append}
 use Rattle.hwp_rule.proofs.NotLater.{not-later}
 use Rattle.hwp_rule.proofs.Without.{find-is}
@@ -103,7 +102,7 @@ module _ (layout : Layout) (s : State) (h : Holds layout s) where
       let f : Page → ℕ → Entry → ℕ = is_at m.page m.place in
       let all : sum_bodies (weigh f) s.homes bodies ≡ sum_by (λ (x : List Made × List Sight). sum_by (λ (y : Made). f y.page y.place y.entry) x.0) (map (λ (x : View). (x.made, x.sights)) s.views) = h.rule.histories.entries.balance f in
       let mapped : sum_by (λ (x : List Made × List Sight). sum_by (λ (y : Made). f y.page y.place y.entry) x.0) (map (λ (x : View). (x.made, x.sights)) s.views) ≡ sum_by (λ (x : View). sum_by (λ (y : Made). f y.page y.place y.entry) x.made) s.views
-          = sum-map (λ (x : List Made × List Sight). sum_by (λ (y : Made). f y.page y.place y.entry) x.0) (λ (x : View). (x.made, x.sights)) s.views in
+      = sum-map (λ (x : List Made × List Sight). sum_by (λ (y : Made). f y.page y.place y.entry) x.0) (λ (x : View). (x.made, x.sights)) s.views in
       let one : f m.page m.place m.entry ≡ 1 = at-one m.page m.place m.entry in
       let here : f m.page m.place m.entry ≤ sum_by (λ (y : Made). f y.page y.place y.entry) v.made = term-le (λ (y : Made). f y.page y.place y.entry) v.made j m made in
       let mine : sum_by (λ (y : Made). f y.page y.place y.entry) v.made ≤ sum_by (λ (x : View). sum_by (λ (y : Made). f y.page y.place y.entry) x.made) s.views = term-le (λ (x : View). sum_by (λ (y : Made). f y.page y.place y.entry) x.made) s.views i v view in

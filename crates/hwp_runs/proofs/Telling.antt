@@ -1,17 +1,13 @@
 -- What seats know at the end of a run, their steps told them.
-use Rattle.std.proofs.Common.{◌≡◌, ℕ, ◌==◌, Bool, true, false, List, [], ◌∷◌, ◌++◌, Some, length, map, set, slice_get, refl, sym, ap, ◌∙◌, subst, append_assoc}
+use Rattle.std.proofs.Common.{◌≡◌, ℕ, List, [], ◌∷◌, ◌++◌, Some, slice_get, refl, sym, ap, ◌∙◌, subst, append_assoc}
 use Rattle.std.proofs.lemmas.Bool.{eqb-true}
 use Rattle.std.proofs.lemmas.List.{append-nil}
 use Rattle.std.proofs.lemmas.Option.{none-some}
 use Rattle.hwp_geom.specs.declared.Cpu.{Cpu}
 use Rattle.hwp_geom.specs.declared.Layout.{Layout}
 use Rattle.hwp_geom.specs.declared.Who.{Who}
-use Rattle.hwp_rule.specs.declared.Length.{Length}
 use Rattle.hwp_rule.specs.declared.Log.{Log}
-use Rattle.hwp_rule.specs.declared.Mark.{Mark}
 use Rattle.hwp_rule.specs.declared.Rec.{Rec}
-use Rattle.hwp_rule.specs.declared.Sight.{Sight}
-use Rattle.hwp_rule.specs.declared.Spoiled.{Spoiled}
 use Rattle.hwp_rule.specs.declared.State.{State}
 use Rattle.hwp_rule.specs.declared.Step.{Step}
 use Rattle.hwp_rule.specs.declared.Step.TheVariants as steps
@@ -24,7 +20,7 @@ use Rattle.hwp_rule.specs.Rule.{Holds}
 use Rattle.hwp_rule.specs.Views.{noted, view_after}
 use Rattle.hwp_rule.proofs.Lists.{each-map, each-set, each-weaken, set_here}
 use Rattle.hwp_step.specs.Boards.{Played}
-use Rattle.hwp_runs.specs.Turns.{Finds, Leads, SawPage, SeesPage, TurnBy}
+use Rattle.hwp_runs.specs.Turns.{Finds, Leads, SawPage, TurnBy}
 use Rattle.hwp_runs.proofs.Knowing.{Marks, Said, SaidOfStep, Sayings, Spoils, said-by}
 use Rattle.hwp_runs.proofs.Leading.{leads-on}
 
