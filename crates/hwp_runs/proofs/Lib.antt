@@ -7,3 +7,4 @@ pub mod Adding
 pub mod Homes
 pub mod Rising
 pub mod Legal
+pub mod Placed
