@@ -8,3 +8,4 @@ pub mod Homes
 pub mod Rising
 pub mod Legal
 pub mod Placed
+pub mod Reported
