@@ -1,6 +1,7 @@
 -- What a report says of histories, where it is that of the last board of a run and nothing is held there.
 use Rattle.std.proofs.Common.{◌≡◌, ℕ, ◌+◌, ◌<◌, ◌≤◌, List, [], ◌∷◌, ◌++◌, Option, Some, None, length, map, take, slice_get, option_and_then, refl, sym, ap, ◌∙◌, subst, arith}
 use Rattle.std.specs.List.{count_by}
+use Rattle.std.proofs.Math.Seq.{take-append_seam}
 use Rattle.std.proofs.lemmas.List.{length-append}
 use Rattle.std.proofs.lemmas.Option.{none-some, same_Some, slice_get_within}
 use Rattle.hwp_geom.specs.declared.Frame.{Frame}
@@ -125,3 +126,73 @@ module _ (layout : Layout) (last : State) (report : Report) (l : IsLast layout l
       let stands = made-stands layout last l.holds l.empty i j v m view made in
       let told : slice_get report.pages m.page.0 ≡ Some stands.1.entries = sym (ap (λ (p : Page). slice_get report.pages p.0) stands.3) ∙ body-reported stands.0 stands.1 stands.2 in
       entry-is report.pages (record { page = m.page; entry = m.place }) stands.1.entries told ∙ stands.4
+
+  -- ---- what commands saw of pages
+
+  -- a processor is part of one view
+  one-part-of : (i k : ℕ) (v u : View) (a b : Who) → slice_get last.views i ≡ Some v → slice_get last.views k ≡ Some u → IsPast v.parts a → IsPast u.parts b → a.cpu ≡ b.cpu → u ≡ v
+  one-part-of i k v u a b mine theirs past passed same =
+      let is : i ≡ k = one-view layout (map (λ (x : View). x.parts) last.views) l.holds.rule.processors.processors i k past.0 passed.0 v.parts u.parts past.1 passed.1
+          (at_map (λ (x : View). x.parts) last.views i v mine) (at_map (λ (x : View). x.parts) last.views k u theirs) past.2 passed.2 (past.3.0 ∙ same ∙ sym passed.3.0) in
+      same_Some u v (sym theirs ∙ sym (ap (slice_get last.views) is) ∙ mine)
+
+  module _ (i j : ℕ) (v : View) (x : Length) (view : slice_get last.views i ≡ Some v) (seen : slice_get v.lengths j ≡ Some x) where
+    -- the entry of a command of the same processor is listed by the same view
+    of-same : (bt : At) (e : Entry) → entry_at report.pages bt ≡ Some e → e.who.cpu ≡ x.stamp.who.cpu → SomeMember (λ (m : Made). IsThat bt.page bt.entry e m.page m.place m.entry) v.made
+    of-same bt e is same =
+        let listed = entry-listed bt e is in
+        let made = listed.3 in
+        let past = (l.holds.rule.processors.commands.own i v view).lengths j x seen in
+        let passed = (l.holds.rule.processors.commands.own listed.0 listed.1 listed.2).made made.0 made.1 made.2 in
+        let cpu_is : x.stamp.who.cpu ≡ made.1.entry.who.cpu = sym same ∙ ap (λ (y : Entry). y.who.cpu) (sym made.3.entry_is) in
+        subst (λ (u : View). SomeMember (λ (m : Made). IsThat bt.page bt.entry e m.page m.place m.entry) u.made) (one-part-of i listed.0 v listed.1 x.stamp.who made.1.entry.who view listed.2 past passed cpu_is) made
+
+    -- it lies above the entries of the processor's earlier commands
+    pub past-earlier : (bt : At) (e : Entry) → entry_at report.pages bt ≡ Some e → bt.page ≡ x.log.page → e.who.cpu ≡ x.stamp.who.cpu → e.who.seq < x.stamp.who.seq → bt.entry < length x.log.entries
+    past-earlier bt e is page_is same earlier =
+        let m = of-same bt e is same in
+        let that = m.3 in
+        let above = ((l.rises i v view).above j x seen m.0 m.1 m.2).past (that.page_is ∙ page_is)
+            (ap (λ (y : Entry). y.who.cpu) that.entry_is ∙ same, subst (λ (y : Entry). y.who.seq < x.stamp.who.seq) (sym that.entry_is) earlier) in
+        let at : m.1.place ≡ bt.entry = that.place_is in
+        let less : m.1.place < length x.log.entries = above in
+        omega arith
+
+    -- and not above those of its later commands
+    pub before-later : (bt : At) (e : Entry) → entry_at report.pages bt ≡ Some e → bt.page ≡ x.log.page → e.who.cpu ≡ x.stamp.who.cpu → x.stamp.who.seq < e.who.seq → length x.log.entries ≤ bt.entry
+    before-later bt e is page_is same later =
+        let m = of-same bt e is same in
+        let that = m.3 in
+        let below = ((l.rises i v view).above j x seen m.0 m.1 m.2).below (that.page_is ∙ page_is)
+            (sym (ap (λ (y : Entry). y.who.cpu) that.entry_is ∙ same), subst (λ (y : Entry). x.stamp.who.seq < y.who.seq) (sym that.entry_is) later) in
+        let at : m.1.place ≡ bt.entry = that.place_is in
+        let less : length x.log.entries ≤ m.1.place = below in
+        omega arith
+
+    -- nor below what its earlier commands saw
+    pub not-below-seen : (k n : ℕ) (u : View) (y : Length) → slice_get last.views k ≡ Some u → slice_get u.lengths n ≡ Some y → y.log.page ≡ x.log.page → y.stamp.who.cpu ≡ x.stamp.who.cpu → y.stamp.who.seq < x.stamp.who.seq
+        → length y.log.entries ≤ length x.log.entries
+    not-below-seen k n u y other saw page_is same earlier =
+        let past = (l.holds.rule.processors.commands.own i v view).lengths j x seen in
+        let passed = (l.holds.rule.processors.commands.own k u other).lengths n y saw in
+        let is : u ≡ v = one-part-of i k v u x.stamp.who y.stamp.who view other past passed (sym same) in
+        (l.rises i v view).follows j x seen n y (sym (ap (λ (z : View). slice_get z.lengths n) is) ∙ saw) page_is (same, earlier)
+
+    -- the page was then in the state that was seen
+    pub seen-had : (P : PageState → Type 0) → x.log.page.0 < length layout.pages → P (state_of layout x.log) → HadState layout report.pages (record { page = x.log.page; entry = length x.log.entries }) P
+    seen-had P within had =
+        let told = there-is report.pages x.log.page.0 (subst (λ (n : ℕ). x.log.page.0 < n) (sym l.pages_fit) within) in
+        let home = home-of x.log.page told.0 told.1 in
+        let kind = kind-of x.log.page within in
+        let reached = l.holds.rule.histories.entries.lengths_reached i v.lengths (at_map (λ (z : View). z.lengths) last.views i v view) j x seen in
+        let starts = reached.at_home home.0 (record { page = x.log.page; entries = told.0 }) home.1 refl in
+        let all : length told.0 ≡ length x.log.entries + length starts.0 = ap (λ (es : List Entry). length es) starts.1 ∙ length-append x.log.entries starts.0 in
+        let front : take (length x.log.entries) told.0 ≡ x.log.entries = ap (λ (es : List Entry). take (length x.log.entries) es) starts.1 ∙ take-append_seam x.log.entries starts.0 in
+        record {
+          kind = kind.0;
+          entries = told.0;
+          declared = kind.1;
+          there = told.1;
+          within = omega arith;
+          had = subst (λ (es : List Entry). P (state_after (opening_of kind.0) es)) (sym front) (subst (λ (o : Option PageKind). P (state_after (opening_at o) x.log.entries)) kind.1 had);
+        }
