@@ -1,4 +1,4 @@
-use crate::{Bank, Event, Mcg, Origin, Shutdown, Status};
+use hwp_banks::{Bank, Event, Mcg, Origin, Shutdown, Status};
 use hwp_geom::{Frame, Line};
 
 /// An event of a status, with the address and the misc that tell the first from the second.

@@ -1,5 +1,5 @@
 //! Each small type once, at the edges of its range.
-use super::{
+use hwp_geom::{
     Cpu, Layout, Line, Lines, List, Mask, Page, PageKind, Proc, Text, ThreadDecl, TransDecl,
 };
 use std::test::Fail;

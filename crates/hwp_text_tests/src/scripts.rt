@@ -1,6 +1,7 @@
-use super::*;
-use hwp_form::{PrctlArgs, Until};
+//! Scripts read, and refused at their first line at fault.
+
 use hwp_geom::{Cpu, FileNo, Frame, Kind, Line, Page, PageKind, Thread, VSlot};
+use hwp_script::{Command, PrctlArgs, ReadScript, Refused, Script, Until, Why, read};
 use std::alloc::Global;
 use std::test::Fail;
 

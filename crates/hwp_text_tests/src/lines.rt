@@ -1,4 +1,6 @@
-use super::*;
+//! The lines of scripts: each kind as it is read and printed, and what is no line.
+
+use hwp_form::{LineRead, put_form, read_lines};
 use std::alloc::Global;
 use std::test::Fail;
 

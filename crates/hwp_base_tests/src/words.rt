@@ -1,10 +1,10 @@
 //! The words by their layout, and the edges of each field.
-use super::{
+use hwp_geom::{Cpu, Frame, Line, Mask, Page};
+use hwp_kill::Policy;
+use hwp_words::{
     AvailableWord, CacheWord, CounterWord, DamageWord, FrameWord, FreeWord, LossWord, PageWord,
     PolicyWord, ProcessWord, Pte, StopWord,
 };
-use hwp_geom::{Cpu, Frame, Line, Mask, Page};
-use hwp_kill::Policy;
 use std::test::Fail;
 
 #[test]

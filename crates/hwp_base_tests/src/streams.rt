@@ -1,4 +1,4 @@
-use crate::{
+use hwp_io::{
     MemSink, MemSource, ReadAll, Sink, Source, StdSink, StdSource, WriteFault, read_all, write_all,
 };
 use std::alloc::{AllocError, Global};

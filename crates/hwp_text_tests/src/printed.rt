@@ -1,9 +1,11 @@
+//! Scripts printed, and read again.
+
 ghost use Rattle.std.specs.Prelude.{◌≡◌, IfOk, IfSome};
 ghost use Rattle.hwp_script.specs.Valid.{IsValid};
 
-use super::*;
 use hwp_geom::Text;
 use hwp_script::{MAX_SCRIPT, Script, read};
+use hwp_script_print::print;
 use std::alloc::Global;
 use std::test::Fail;
 
