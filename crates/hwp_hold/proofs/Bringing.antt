@@ -24,6 +24,7 @@ use Rattle.hwp_page.specs.declared.What.TheVariants as entries
 use Rattle.hwp_page.specs.Actions.{acted}
 use Rattle.hwp_page.specs.History.{BodyValue, IsReplay, Leads, state_after}
 use Rattle.hwp_page.specs.Step.{Allowed, after, opening_of}
+use Rattle.hwp_page.specs.Endings.{has_ending}
 use Rattle.hwp_words.specs.Names.{frame_name}
 use Rattle.hwp_words.specs.Translations.{pte_word}
 use Rattle.hwp_words.specs.declared.Pte.TheVariants as ptes
@@ -34,7 +35,7 @@ use Rattle.hwp_rule.specs.declared.Sight.{Sight}
 use Rattle.hwp_rule.specs.declared.View.{View}
 use Rattle.hwp_rule.specs.Asks.{Extends, PutFits, CanGoHome}
 use Rattle.hwp_rule.specs.Lists.{EachMember}
-use Rattle.hwp_rule.specs.Logs.{log_of, opening_at, state_of, has_ending, fitting, fitting_word}
+use Rattle.hwp_rule.specs.Logs.{log_of, opening_at, state_of, fitting, fitting_word}
 use Rattle.hwp_rule.specs.Views.{is_body_of, more_of, page_locks_on}
 use Rattle.hwp_rule.specs.parts.Entries.{HasSeen}
 use Rattle.hwp_rule.specs.parts.Fits.{FitsWords}
@@ -162,7 +163,7 @@ module _ {layout : Layout} {page : Page} {body : BodyValue} (who : Who) (frame :
   }
 
   -- the body can go home with the entry, to the frame
-  module _ (view : View) (handled poisoned : Bool) (hand : hand_of view ≡ holding page (Some frame) (trans layout body) taken handled poisoned) where
+  module _ (view : View) (handled poisoned : Bool) (hand : hand_of view ≡ holding page (Some frame) 1 (trans layout body) taken handled poisoned) where
     abbrev lock : PageLock
     lock = page_lock page (Some frame) (Some (trans layout body))
 

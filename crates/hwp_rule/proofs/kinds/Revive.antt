@@ -13,6 +13,8 @@ use Rattle.hwp_geom.specs.declared.Frame.{Frame}
 use Rattle.hwp_geom.specs.declared.Layout.{Layout}
 use Rattle.hwp_geom.specs.declared.Who.{Who}
 use Rattle.hwp_geom.specs.Limits.{command_limit}
+use Rattle.hwp_page.specs.Losses.{is_loss}
+use Rattle.hwp_page.specs.Orders.{IsNotLater}
 use Rattle.hwp_words.specs.Counters.{biased_poisoned_of, hardware_of}
 use Rattle.hwp_words.specs.Frames.{lock_of, poison_of, handled_of, kernel_of, count_of, owner_of, cycle_of, is_kernel}
 use Rattle.hwp_words.proofs.FrameSteps.{FieldsAre, fields-revived}
@@ -27,8 +29,8 @@ use Rattle.hwp_rule.specs.declared.view.Ref.{Ref}
 use Rattle.hwp_rule.specs.declared.view.Reported.{Reported}
 use Rattle.hwp_rule.specs.declared.view.View.{View}
 use Rattle.hwp_rule.specs.Asks.{CanRevive}
-use Rattle.hwp_rule.specs.Lists.{Homes, EachMember, EachListed, SomeMember, IsNotLater, sum_all, sum_bodies}
-use Rattle.hwp_rule.specs.Logs.{losses_of, is_loss}
+use Rattle.hwp_rule.specs.Lists.{Homes, EachMember, EachListed, SomeMember, sum_all, sum_bodies}
+use Rattle.hwp_rule.specs.Logs.{losses_of}
 use Rattle.hwp_rule.specs.Rule.{FrameRule, holdings_of, holder_of, count_debts_of, losing_of}
 use Rattle.hwp_rule.specs.Steps.{revived}
 use Rattle.hwp_rule.specs.Views.{sighted, revived_by, stamp_of, unpoisoned, refs_on}

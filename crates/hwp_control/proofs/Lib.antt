@@ -1,0 +1,4 @@
+pub mod Glancing
+pub mod Reading
+pub mod Nesting
+pub mod Calling
