@@ -70,99 +70,33 @@ fn all_seen(rt: &impl Abort, alloc: Global, policies: &[(u8, Policy)]) -> List<S
     seen
 }
 
-/// A signal to this thread of the process.
-fn signal(process: u8, thread: u8, code: Code, slot: u16) -> Signal {
-    Signal {
-        process: Proc(process),
-        thread: Thread(thread),
-        code,
-        slot: VSlot(slot),
-    }
-}
+/// What a failure finds: the translations in use, whether it signals at all, the current thread, the policies it reads;
+/// and the signals that it sends.
+type Sent<'a> = (
+    &'a [u16],
+    bool,
+    Option<u8>,
+    &'a [(u8, Policy)],
+    &'a [Signal],
+);
 
-/// What a failure finds: the translations in use, whether it signals at all, the current thread, the policies it reads.
-type Found<'a> = (&'a [u16], bool, Option<u8>, &'a [(u8, Policy)]);
-
-/// The signals of a failure of the page of three processes are these.
-fn sends(rt: &impl Abort, alloc: Global, early: bool, found: Found<'_>, want: &[Signal]) {
+/// A failure of the page of three processes sends what each row says.
+fn sends(rt: &impl Abort, alloc: Global, early: bool, rows: &[Sent<'_>]) {
     let layout = three_processes(rt, alloc, early);
-    let (slots, at_all, current, policies) = found;
-    let seen = all_seen(rt, alloc, policies);
-    let mut out = SignalList::new();
-    signals(
-        &layout,
-        &in_use(slots),
-        at_all,
-        current.map(Thread),
-        &seen,
-        &mut out,
-    );
-    assert_eq!(rt; out.as_slice(), want);
-}
-
-#[test]
-#[rattlefmt::skip]
-fn whom_a_failure_signals(rt: HostRuntime) {
-    let alloc = rt.alloc();
-    let sends = |found, want: &[Signal]| sends(&rt, alloc, true, found, want);
-    let ao_to_1 = [signal(0, 1, Code::Ao, 0)];
-    let early_1 = [(0, Policy::Late), (1, Policy::Early)];
-    // the current thread, and an early one of another process
-    sends((&[0, 1], true, Some(0), &[(2, Policy::Early)]), &[signal(0, 0, Code::Ar, 0), signal(1, 2, Code::Ao, 1)]);
-    // late, then early
-    sends((&[0], true, None, &early_1), &ao_to_1);
-    // no thread is early
-    sends((&[0], true, None, &[(0, Policy::Late), (1, Policy::Late)]), &[]);
-    // no translation is in use
-    sends((&[], true, Some(3), &[]), &[]);
-    // no signals at all
-    sends((&[0, 1, 2, 3], false, Some(3), &[]), &[]);
-    // the current thread alone
-    sends((&[1, 2], true, Some(3), &[]), &[signal(1, 3, Code::Ar, 1)]);
-    // each process once
-    sends(
-        (&[0, 1, 2, 3], true, Some(3), &[(0, Policy::Late), (1, Policy::Default), (4, Policy::Early)]),
-        &[signal(0, 1, Code::Ao, 0), signal(1, 3, Code::Ar, 1), signal(2, 4, Code::Ao, 3)],
-    );
-    // two processes
-    sends((&[0, 2], true, Some(3), &early_1), &[signal(0, 1, Code::Ao, 0), signal(1, 3, Code::Ar, 2)]);
-    // the current thread is elsewhere
-    sends((&[0], true, Some(3), &early_1), &ao_to_1);
-}
-
-#[test]
-fn who_is_early(rt: HostRuntime) {
-    let ao_to_4 = [signal(2, 4, Code::Ao, 3)];
-    let sends = |early, policy, want: &[Signal]| {
-        sends(
-            &rt,
-            rt.alloc(),
-            early,
-            (&[3], true, None, &[(4, policy)]),
-            want,
-        )
-    };
-    sends(false, Policy::Late, &[]);
-    sends(true, Policy::Late, &[]);
-    sends(false, Policy::Early, &ao_to_4);
-    sends(true, Policy::Early, &ao_to_4);
-    sends(false, Policy::Default, &[]);
-    sends(true, Policy::Default, &ao_to_4);
-}
-
-/// Whether the policies are those that a failure reads.
-fn reads(
-    rt: &impl Abort,
-    alloc: Global,
-    slots: &[u16],
-    current: Option<u8>,
-    policies: &[(u8, Policy)],
-    want: bool,
-) {
-    let layout = three_processes(rt, alloc, true);
-    let seen = all_seen(rt, alloc, policies);
-    let read = are_policies_read(&layout, &in_use(slots), current.map(Thread), &seen);
-    assert_eq!(rt; read, want, "{policies:?}");
+    for (slots, at_all, current, policies, want) in rows {
+        let maps = in_use(slots);
+        let seen = all_seen(rt, alloc, policies);
+        let mut out = SignalList::new();
+        signals(
+            &layout,
+            &maps,
+            *at_all,
+            current.map(Thread),
+            &seen,
+            &mut out,
+        );
+        assert_eq!(rt; out.as_slice(), *want);
+    }
 }
 
 const LATE_0: (u8, Policy) = (0, Policy::Late);
@@ -171,69 +105,179 @@ const EARLY_0: (u8, Policy) = (0, Policy::Early);
 
 const LATE_1: (u8, Policy) = (1, Policy::Late);
 
+const EARLY_1: (u8, Policy) = (1, Policy::Early);
+
 const DEFAULT_1: (u8, Policy) = (1, Policy::Default);
 
 const LATE_2: (u8, Policy) = (2, Policy::Late);
+
+const EARLY_2: (u8, Policy) = (2, Policy::Early);
+
+const DEFAULT_2: (u8, Policy) = (2, Policy::Default);
 
 const LATE_4: (u8, Policy) = (4, Policy::Late);
 
 const EARLY_4: (u8, Policy) = (4, Policy::Early);
 
+const DEFAULT_4: (u8, Policy) = (4, Policy::Default);
+
 const LATE_5: (u8, Policy) = (5, Policy::Late);
+
+const AR_TO_0: Signal = Signal {
+    process: Proc(0),
+    thread: Thread(0),
+    code: Code::Ar,
+    slot: VSlot(0),
+};
+
+const AO_TO_1: Signal = Signal {
+    process: Proc(0),
+    thread: Thread(1),
+    code: Code::Ao,
+    slot: VSlot(0),
+};
+
+const AO_TO_2: Signal = Signal {
+    process: Proc(1),
+    thread: Thread(2),
+    code: Code::Ao,
+    slot: VSlot(1),
+};
+
+const AR_TO_3: Signal = Signal {
+    process: Proc(1),
+    thread: Thread(3),
+    code: Code::Ar,
+    slot: VSlot(1),
+};
+
+const AR_TO_3_AT_2: Signal = Signal {
+    process: Proc(1),
+    thread: Thread(3),
+    code: Code::Ar,
+    slot: VSlot(2),
+};
+
+const AO_TO_4: Signal = Signal {
+    process: Proc(2),
+    thread: Thread(4),
+    code: Code::Ao,
+    slot: VSlot(3),
+};
+
+/// Where the system default is early.
+#[rattlefmt::skip]
+const SENT: &[Sent<'static>] = &[
+    // the current thread, and an early one of another process
+    (&[0, 1], true, Some(0), &[EARLY_2], &[AR_TO_0, AO_TO_2]),
+    // late, then early
+    (&[0], true, None, &[LATE_0, EARLY_1], &[AO_TO_1]),
+    // no thread is early; no translation is in use; no signals at all
+    (&[0], true, None, &[LATE_0, LATE_1], &[]),
+    (&[], true, Some(3), &[], &[]),
+    (&[0, 1, 2, 3], false, Some(3), &[], &[]),
+    // the current thread alone
+    (&[1, 2], true, Some(3), &[], &[AR_TO_3]),
+    // each process once
+    (&[0, 1, 2, 3], true, Some(3), &[LATE_0, DEFAULT_1, EARLY_4], &[AO_TO_1, AR_TO_3, AO_TO_4]),
+    // two processes
+    (&[0, 2], true, Some(3), &[LATE_0, EARLY_1], &[AO_TO_1, AR_TO_3_AT_2]),
+    // the current thread is elsewhere
+    (&[0], true, Some(3), &[LATE_0, EARLY_1], &[AO_TO_1]),
+    // who is early
+    (&[3], true, None, &[LATE_4], &[]),
+    (&[3], true, None, &[EARLY_4], &[AO_TO_4]),
+    (&[3], true, None, &[DEFAULT_4], &[AO_TO_4]),
+];
+
+/// Where the system default is late.
+#[rattlefmt::skip]
+const SENT_WHERE_LATE: &[Sent<'static>] = &[
+    (&[3], true, None, &[LATE_4], &[]),
+    (&[3], true, None, &[EARLY_4], &[AO_TO_4]),
+    (&[3], true, None, &[DEFAULT_4], &[]),
+];
+
+#[test]
+fn whom_a_failure_signals(rt: HostRuntime) {
+    sends(&rt, rt.alloc(), true, SENT);
+    sends(&rt, rt.alloc(), false, SENT_WHERE_LATE);
+}
+
+/// Translations in use, the current thread, and policies; whether they are those that a failure reads.
+type Read<'a> = (&'a [u16], Option<u8>, &'a [(u8, Policy)], bool);
+
+/// The policies of each row are those that a failure reads, or not.
+fn reads(rt: &impl Abort, alloc: Global, rows: &[Read<'_>]) {
+    let layout = three_processes(rt, alloc, true);
+    for (slots, current, policies, want) in rows {
+        let maps = in_use(slots);
+        let seen = all_seen(rt, alloc, policies);
+        let read = are_policies_read(&layout, &maps, current.map(Thread), &seen);
+        assert_eq!(rt; read, *want, "{policies:?}");
+    }
+}
+
+/// All translations.
+const ALL: &[u16] = &[0, 1, 2, 3];
+
+#[rattlefmt::skip]
+const READ: &[Read<'static>] = &[
+    (ALL, Some(3), &[LATE_0, LATE_1, LATE_4], true),
+    (ALL, Some(3), &[LATE_0, DEFAULT_1, EARLY_4], true),
+    (ALL, Some(3), &[EARLY_0, LATE_4], true),
+    // past an early one; threads, and processes, that fall; a process, and a thread, left out
+    (ALL, Some(3), &[EARLY_0, LATE_1, LATE_4], false),
+    (ALL, Some(3), &[LATE_1, LATE_0, LATE_4], false),
+    (ALL, Some(3), &[LATE_4, LATE_0, LATE_1], false),
+    (ALL, Some(3), &[LATE_0, LATE_1], false),
+    (ALL, Some(3), &[LATE_0, LATE_4], false),
+    // a thread of the current process; one twice; one that isn't declared
+    (ALL, Some(3), &[LATE_0, LATE_1, LATE_2, LATE_4], false),
+    (ALL, Some(3), &[LATE_0, LATE_0, LATE_1, LATE_4], false),
+    (ALL, Some(3), &[LATE_0, LATE_1, LATE_4, LATE_5], false),
+    // no current thread; no translation in use
+    (&[1], None, &[DEFAULT_2], true),
+    (&[], None, &[], true),
+];
 
 #[test]
 fn whose_policies_are_read(rt: HostRuntime) {
-    let reads = |policies: &[(u8, Policy)], want| {
-        reads(&rt, rt.alloc(), &[0, 1, 2, 3], Some(3), policies, want)
-    };
-    reads(&[LATE_0, LATE_1, LATE_4], true);
-    reads(&[LATE_0, DEFAULT_1, EARLY_4], true);
-    reads(&[EARLY_0, LATE_4], true);
-    // past an early one; threads, and processes, that fall; a process, and a thread, left out
-    reads(&[EARLY_0, LATE_1, LATE_4], false);
-    reads(&[LATE_1, LATE_0, LATE_4], false);
-    reads(&[LATE_4, LATE_0, LATE_1], false);
-    reads(&[LATE_0, LATE_1], false);
-    reads(&[LATE_0, LATE_4], false);
-    // a thread of the current process; one twice; one that isn't declared
-    reads(&[LATE_0, LATE_1, LATE_2, LATE_4], false);
-    reads(&[LATE_0, LATE_0, LATE_1, LATE_4], false);
-    reads(&[LATE_0, LATE_1, LATE_4, LATE_5], false);
+    reads(&rt, rt.alloc(), READ);
 }
 
-#[test]
-fn whose_policies_are_read_without_a_current_thread(rt: HostRuntime) {
-    let default = [(2, Policy::Default)];
-    reads(&rt, rt.alloc(), &[1], None, &default, true);
-    reads(&rt, rt.alloc(), &[], None, &[], true);
+/// What prctl(2) answers to a thread with the policy `Early`.
+fn replies(rt: &impl Abort, rows: &[([u64; 5], Reply)]) {
+    for (arguments, want) in rows {
+        assert_eq!(rt; prctl(Policy::Early, *arguments), *want, "{arguments:?}");
+    }
 }
 
-/// What prctl(2) answers to a thread with the policy.
-fn replies(rt: &impl Abort, old: Policy, arguments: [u64; 5], want: Reply) {
-    assert_eq!(rt; prctl(old, arguments), want, "{arguments:?}");
-}
+#[rattlefmt::skip]
+const REPLIES: &[([u64; 5], Reply)] = &[
+    ([33, 0, 0, 0, 0], Reply::Set(Policy::Default)),
+    ([33, 1, 0, 0, 0], Reply::Set(Policy::Late)),
+    ([33, 1, 1, 0, 0], Reply::Set(Policy::Early)),
+    ([33, 1, 2, 0, 0], Reply::Set(Policy::Default)),
+    ([34, 0, 0, 0, 0], Reply::Is(Policy::Early)),
+    ([33, 1, 3, 0, 0], Reply::Einval),
+    ([33, 2, 0, 0, 0], Reply::Einval),
+    ([33, 0, 1, 0, 0], Reply::Einval),
+    ([33, 0, 0, 1, 0], Reply::Einval),
+    ([33, 0, 0, 0, 1], Reply::Einval),
+    ([33, 1, 1, 1, 0], Reply::Einval),
+    ([33, 1, 1, 0, 1], Reply::Einval),
+    ([34, 1, 0, 0, 0], Reply::Einval),
+    ([34, 0, 1, 0, 0], Reply::Einval),
+    ([34, 0, 0, 1, 0], Reply::Einval),
+    ([34, 0, 0, 0, 1], Reply::Einval),
+    ([32, 1, 1, 0, 0], Reply::Einval),
+    ([35, 0, 0, 0, 0], Reply::Einval),
+];
 
 #[test]
 fn what_prctl_answers(rt: HostRuntime) {
-    let replies = |arguments, want| replies(&rt, Policy::Early, arguments, want);
-    replies([33, 0, 0, 0, 0], Reply::Set(Policy::Default));
-    replies([33, 1, 0, 0, 0], Reply::Set(Policy::Late));
-    replies([33, 1, 1, 0, 0], Reply::Set(Policy::Early));
-    replies([33, 1, 2, 0, 0], Reply::Set(Policy::Default));
-    replies([34, 0, 0, 0, 0], Reply::Is(Policy::Early));
-    replies([33, 1, 3, 0, 0], Reply::Einval);
-    replies([33, 2, 0, 0, 0], Reply::Einval);
-    replies([33, 0, 1, 0, 0], Reply::Einval);
-    replies([33, 0, 0, 1, 0], Reply::Einval);
-    replies([33, 0, 0, 0, 1], Reply::Einval);
-    replies([33, 1, 1, 1, 0], Reply::Einval);
-    replies([33, 1, 1, 0, 1], Reply::Einval);
-    replies([34, 1, 0, 0, 0], Reply::Einval);
-    replies([34, 0, 1, 0, 0], Reply::Einval);
-    replies([34, 0, 0, 1, 0], Reply::Einval);
-    replies([34, 0, 0, 0, 1], Reply::Einval);
-    replies([32, 1, 1, 0, 0], Reply::Einval);
-    replies([35, 0, 0, 0, 0], Reply::Einval);
+    replies(&rt, REPLIES);
 }
 
 #[test]
@@ -263,11 +307,13 @@ fn a_list_takes_sixteen_signals(rt: HostRuntime) {
     let mut list = SignalList::new();
     for process in 0..16 {
         if list.as_slice().len() < 16 {
-            list.push(signal(process, 31, Code::Ao, 511));
+            list.push(Signal {
+                process: Proc(process),
+                ..AO_TO_4
+            });
         }
     }
-    let processes = list.copy();
-    assert_eq!(rt; processes.as_slice().len(), 16);
-    let last = signal(15, 31, Code::Ao, 511);
-    assert_eq!(rt; processes.as_slice().last(), Some(&last));
+    let copy = list.copy();
+    let last = copy.as_slice().last().map(|signal| signal.process);
+    assert_eq!(rt; (copy.as_slice().len(), last), (16, Some(Proc(15))));
 }
