@@ -1,5 +1,5 @@
-use crate::handle;
 use hwp_banks::{Bank, Event, Status};
+use hwp_cpu::handle;
 use hwp_geom::Mode;
 use hwp_severity::{Grade, McgBits, Severity};
 

@@ -1,6 +1,6 @@
-use crate::{Grade, McgBits, Severity, grade};
 use hwp_banks::Status;
 use hwp_geom::Mode;
+use hwp_severity::{Grade, McgBits, Severity, grade};
 use std::process::Abort;
 
 /// What the table looks at, bit by bit.

@@ -5,14 +5,14 @@ ghost use Rattle.hwp_rule.specs.Opening.{opening_view};
 ghost use Rattle.hwp_step.specs.Boards.{view_of};
 ghost use Rattle.hwp_hold.specs.Pins.{Fits};
 
-use super::{opened, taking};
-use crate::board::PlainBoard;
-use hwp_geom::{Cpu, Frame, Who};
+use crate::turns::{first_command, opened, taking};
+use hwp_geom::{Cpu, Frame};
 use hwp_hold::{Pin, PinAnswer, Take, TakeAnswer};
+use hwp_plain::PlainBoard;
 use hwp_rule::Place;
 use hwp_step::{Board, Machine};
+use std::alloc::Global;
 use std::process::Abort;
-use std::test::Fail;
 
 /// What a processor does in the race for frame 0.
 #[derive(Clone, Copy)]
@@ -31,69 +31,6 @@ enum End {
     Gone(u64),
 }
 
-/// What processor 0 and processor 1 do. The first turns are processor 1's where the order says so; then the first acts to
-/// its end, and then the other.
-#[derive(Clone, Copy)]
-struct Row {
-    acts: [Act; 2],
-    order: &'static [bool],
-    ends: [End; 2],
-    /// The available word, the free word and the frame's word.
-    words: [u64; 3],
-}
-
-/// By hand. The frame's word has 16 for each reference and 1 for its lock; it is 0 until the frame is adopted.
-const ROWS: [Row; 8] = [
-    Row {
-        acts: [Act::Take, Act::Take],
-        order: &[],
-        ends: [End::Took(Frame(0)), End::NoFrame],
-        words: [0, 0, 17],
-    },
-    Row {
-        acts: [Act::Take, Act::Take],
-        order: &[true],
-        ends: [End::Took(Frame(0)), End::NoFrame],
-        words: [0, 0, 17],
-    },
-    Row {
-        acts: [Act::Take, Act::Take],
-        order: &[false, true, true],
-        ends: [End::NoFrame, End::Took(Frame(0))],
-        words: [0, 0, 17],
-    },
-    Row {
-        acts: [Act::Take, Act::Pin],
-        order: &[],
-        ends: [End::Took(Frame(0)), End::Held(17)],
-        words: [0, 0, 33],
-    },
-    Row {
-        acts: [Act::Take, Act::Pin],
-        order: &[false, false, false, false, true],
-        ends: [End::Took(Frame(0)), End::Gone(0)],
-        words: [0, 0, 17],
-    },
-    Row {
-        acts: [Act::Take, Act::Pin],
-        order: &[false, false, false, false, false, true],
-        ends: [End::Took(Frame(0)), End::Held(17)],
-        words: [0, 0, 33],
-    },
-    Row {
-        acts: [Act::Pin, Act::Take],
-        order: &[],
-        ends: [End::Gone(0), End::Took(Frame(0))],
-        words: [0, 0, 17],
-    },
-    Row {
-        acts: [Act::Pin, Act::Pin],
-        order: &[true],
-        ends: [End::Gone(0), End::Gone(0)],
-        words: [1, 1, 0],
-    },
-];
-
 /// A task that takes a reference to frame 0 for the processor's first command.
 fn pinning(board: &PlainBoard, cpu: u8) -> Pin
     requires opening { view_of board.now.state cpu ≡ opening_view cpu }
@@ -102,13 +39,7 @@ fn pinning(board: &PlainBoard, cpu: u8) -> Pin
     ensures who { result.who.cpu.0 ≡ cpu }
 {
     let _board = board;
-    Pin::new(
-        Who {
-            cpu: Cpu(cpu),
-            seq: 0,
-        },
-        Frame(0),
-    )
+    Pin::new(first_command(cpu), Frame(0))
 }
 
 /// One turn of the first task, of processor 0, or of the other, of processor 1.
@@ -221,27 +152,62 @@ fn ends(board: &mut PlainBoard, acts: [Act; 2], order: &[bool]) -> [End; 2]
     }
 }
 
-/// The words that a row shows.
-fn words(board: &PlainBoard) -> [u64; 3]
-    requires { 0 < board.now.layout.frames }
-{
-    [
+/// Two acts of processor 0 and processor 1. The first turns are processor 1's where the order says so; then the first acts
+/// to its end, and then the other. What they come to, and the available word, the free word and the frame's word.
+fn comes_to(
+    rt: &impl Abort,
+    alloc: Global,
+    acts: [Act; 2],
+    order: &[bool],
+    want: ([End; 2], [u64; 3]),
+) {
+    let mut board = opened(rt, alloc, &[false]);
+    let ends = ends(&mut board, acts, order);
+    let words = [
         board.word(Place::Available),
         board.word(Place::Free(0)),
         board.word(Place::Frame(Frame(0))),
-    ]
+    ];
+    assert_eq!(rt; (ends, words), want);
+}
+
+const TOOK: End = End::Took(Frame(0));
+
+/// By hand. The frame's word has 16 for each reference and 1 for its lock; it is 0 until the frame is adopted.
+#[test]
+fn a_frame_is_taken_once(rt: HostRuntime) {
+    let alloc = rt.alloc();
+    let both = [Act::Take, Act::Take];
+    comes_to(&rt, alloc, both, &[], ([TOOK, End::NoFrame], [0, 0, 17]));
+    comes_to(
+        &rt,
+        alloc,
+        both,
+        &[true],
+        ([TOOK, End::NoFrame], [0, 0, 17]),
+    );
+    let order = [false, true, true];
+    comes_to(&rt, alloc, both, &order, ([End::NoFrame, TOOK], [0, 0, 17]));
 }
 
 #[test]
-fn a_frame_is_taken_once_and_referred_to_once_it_is_there(rt: HostRuntime) -> Result<(), Fail> {
-    for (number, row) in ROWS.iter().enumerate() {
-        let mut board = opened(rt.alloc(), &[false])?;
-        let ends = ends(&mut board, row.acts, row.order);
-        assert_eq!(rt;
-            (ends, words(&board)),
-            (row.ends, row.words),
-            "row {number}"
-        );
-    }
-    Ok(())
+fn a_frame_is_referred_to_once_it_is_there(rt: HostRuntime) {
+    let alloc = rt.alloc();
+    let acts = [Act::Take, Act::Pin];
+    comes_to(&rt, alloc, acts, &[], ([TOOK, End::Held(17)], [0, 0, 33]));
+    let order = [false, false, false, false, true];
+    comes_to(&rt, alloc, acts, &order, ([TOOK, End::Gone(0)], [0, 0, 17]));
+    let order = [false, false, false, false, false, true];
+    comes_to(
+        &rt,
+        alloc,
+        acts,
+        &order,
+        ([TOOK, End::Held(17)], [0, 0, 33]),
+    );
+    let acts = [Act::Pin, Act::Take];
+    comes_to(&rt, alloc, acts, &[], ([End::Gone(0), TOOK], [0, 0, 17]));
+    let acts = [Act::Pin, Act::Pin];
+    let gone = [End::Gone(0), End::Gone(0)];
+    comes_to(&rt, alloc, acts, &[true], (gone, [1, 1, 0]));
 }
