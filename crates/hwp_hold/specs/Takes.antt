@@ -5,6 +5,7 @@ use Rattle.std.specs.List.{list_all}
 use Rattle.hwp_geom.specs.declared.Frame.{Frame}
 use Rattle.hwp_geom.specs.declared.Layout.{Layout}
 use Rattle.hwp_geom.specs.declared.Who.{Who}
+use Rattle.hwp_page.specs.History.{BodyValue}
 use Rattle.hwp_words.specs.Frames.{is_poisoned}
 use Rattle.hwp_rule.specs.declared.FrameLock.{FrameLock}
 use Rattle.hwp_rule.specs.declared.Place.TheVariants as places
@@ -20,6 +21,7 @@ use Rattle.hwp_step.specs.declared.Turn.TheVariants.{Moved, Changed}
 use Rattle.hwp_step.specs.Calls.{IsOnTurn}
 use Rattle.hwp_step.specs.Hands.{Hand}
 use Rattle.hwp_step.specs.Ranks.{stale}
+use Rattle.hwp_known.specs.Known.{Saw}
 use Rattle.hwp_hold.specs.declared.take.Take.{Take}
 use Rattle.hwp_hold.specs.declared.take.TakeAt.{TakeAt}
 use Rattle.hwp_hold.specs.declared.take.TakeAt.TheVariants as at
@@ -79,14 +81,14 @@ turn_at _ found = Moved
 abbrev pub turn : Take → ℕ → Turn
 turn t found = turn_at t.at found
 
--- a free word is one of the 2^10 that any layout has at most, and a frame in hand has no poison
+-- a free word is one of the 2^10 that any layout has at most, and a frame in hand has no poison; no step brings a body
 abbrev pub ShowsAt : TakeAt → ℕ → Type 0
 ShowsAt (at.LoadFree number) found = number < 2 ^ 10
 ShowsAt (at.Adopt frame) found = is_poisoned found ≡ false
 ShowsAt _ found = Unit {0}
 
-abbrev pub Shows : Take → ℕ → Type 0
-Shows t found = ShowsAt t.at found
+abbrev pub Shows : Take → ℕ → Option BodyValue → Type 0
+Shows t found got = ShowsAt t.at found × (got ≡ None)
 
 abbrev pub answer_of : Option Frame → TakeAnswer
 answer_of None = answers.NoFrame
@@ -103,19 +105,20 @@ answer t = answer_at t.at
 abbrev pub HasLockRoom : View → Type 0
 HasLockRoom view = length view.locks < 2
 
-abbrev pub FitsAt : Layout → View → TakeAt → Type 0
-FitsAt layout view at.LoadAvailable = HasRoom view × HasLockRoom view
-FitsAt layout view (at.Reserve seen) = (0 < seen) × (HasRoom view × HasLockRoom view)
-FitsAt layout view (at.LoadFree number) = (number < free_words layout) × ((0 < view.reserved) × HasLockRoom view)
-FitsAt layout view (at.TakeBit frame) = (frame.0 < layout.frames) × ((0 < view.reserved) × HasLockRoom view)
-FitsAt layout view (at.Adopt frame) = (frame.0 < layout.frames) × (HasInHand view frame × HasLockRoom view)
-FitsAt layout view (at.Over None) = Unit {0}
-FitsAt layout view (at.Over (Some frame)) = frame.0 < layout.frames
+abbrev pub FitsAt : Layout → View → Who → TakeAt → Type 0
+FitsAt layout view who at.LoadAvailable = HasRoom view × HasLockRoom view
+FitsAt layout view who (at.Reserve seen) = (0 < seen) × (HasRoom view × HasLockRoom view)
+FitsAt layout view who (at.LoadFree number) = (number < free_words layout) × ((0 < view.reserved) × HasLockRoom view)
+FitsAt layout view who (at.TakeBit frame) = (frame.0 < layout.frames) × ((0 < view.reserved) × HasLockRoom view)
+FitsAt layout view who (at.Adopt frame) = (frame.0 < layout.frames) × (HasInHand view frame × HasLockRoom view)
+FitsAt layout view who (at.Over None) = Saw view who places.Available 0
+FitsAt layout view who (at.Over (Some frame)) = frame.0 < layout.frames
 
--- there is room for the frame until it is reserved, and for its lock until it is locked
+-- there is room for the frame until it is reserved, and for its lock until it is locked; where none is taken, the command saw
+-- that none was available
 pub record Fits (layout : Layout) (view : View) (t : Take) : Type 0 where
   pub on_turn : IsOnTurn view t.who
-  pub at : FitsAt layout view t.at
+  pub at : FitsAt layout view t.who t.at
 
 -- the lock of a frame just taken: it has no owner, and is neither handled nor poisoned
 abbrev pub new_lock : Frame → FrameLock

@@ -1,0 +1,79 @@
+use hwp_banks::{Bank, Event, Status};
+use hwp_cpu::handle;
+use hwp_geom::Mode;
+use hwp_severity::{Grade, McgBits, Severity};
+
+/// A bank after an event of this status. A status of 0 leaves it empty.
+fn bank_after(status: u64) -> Bank {
+    let mut bank = Bank::new();
+    bank.log(Event {
+        status: Status(status),
+        addr: 0x1000,
+        misc: 0x86,
+    });
+    bank
+}
+
+fn graded(severity: Severity, row: u8) -> Grade {
+    Grade { severity, row }
+}
+
+#[test]
+fn the_lowest_stopping_bank_stops_the_machine(rt: HostRuntime) {
+    let none = graded(Severity::None, 1);
+    let corrupt = graded(Severity::Stop, 3);
+    let keep = graded(Severity::Keep, 4);
+    let load = graded(Severity::Required, 9);
+    let lost = graded(Severity::Stop, 11);
+    let scrubbed = graded(Severity::Optional, 12);
+    let mcg = McgBits {
+        ripv: true,
+        eipv: true,
+    };
+    for (statuses, stop, acts) in [
+        ([0, 0, 0], None, [none, none, none]),
+        (
+            [0xbd80000000000134, 0x9c000000000000c0, 0xbd000000000000c0],
+            None,
+            [load, keep, scrubbed],
+        ),
+        (
+            [0xbd80000000000134, 0xbe00000000000000, 0xbd80000000000000],
+            Some(1),
+            [load, corrupt, lost],
+        ),
+        (
+            [0xbd80000000000000, 0, 0xbe00000000000000],
+            Some(0),
+            [lost, none, corrupt],
+        ),
+        (
+            [0, 0xbd80000000000150, 0xbe00000000000000],
+            Some(2),
+            [none, load, corrupt],
+        ),
+    ] {
+        let banks = statuses.map(bank_after);
+        let decision = handle(&banks, mcg, Mode::User);
+        assert_eq!(rt; decision.stop, stop);
+        assert_eq!(rt; decision.acts, acts);
+    }
+}
+
+#[test]
+fn two_raw_events_of_one_bank_stop_the_machine(rt: HostRuntime) {
+    let mut raw = bank_after(0xbd000000000000c0);
+    raw.log(Event {
+        status: Status(0xbd80000000000134),
+        addr: 0x2000,
+        misc: 0x86,
+    });
+    let banks = [Bank::new(), raw, Bank::new()];
+    let mcg = McgBits {
+        ripv: true,
+        eipv: true,
+    };
+    let decision = handle(&banks, mcg, Mode::User);
+    assert_eq!(rt; decision.stop, Some(1));
+    assert_eq!(rt; decision.acts[1], graded(Severity::Stop, 8));
+}
