@@ -8,7 +8,7 @@ use Rattle.hwp_geom.specs.Limits.{thread_limit}
 use Rattle.hwp_geom.specs.declared.Thread.{Thread}
 use Rattle.hwp_form.specs.Numbers.{IsNumber, IsNumberWord}
 use Rattle.hwp_form.specs.Grammar.{bit, command_word, CommandFits, AreCommandWords, IsCommand, IsCommandOver, HasCommandShape, HasRaiseShape, HaveCommandNumbers, raise_word}
-use Rattle.hwp_form.specs.Misfits.{AreNumbers, AreMisfit, IsCommandMisfit, IsMisfit, command_of, log_word, number_count}
+use Rattle.hwp_form.specs.Misfits.{AreNumbers, AreMisfit, IsCommandMisfit, IsMisfit, command_with, log_word, number_count}
 use Rattle.hwp_form.specs.declared.command.Command.TheVariants as commands
 use Rattle.hwp_form.specs.declared.keywords.CommandWord.{CommandWord}
 use Rattle.hwp_form.specs.declared.keywords.CommandWord.TheVariants as words
@@ -52,9 +52,9 @@ record IsPlain (w : CommandWord) (ws : List (List ℕ)) (ns : List ℕ) : Type 0
   long : HasCommandShape w ws → length ws ≡ number_count w
   numbers : All IsNumberWord ws → HaveCommandNumbers w ws
   all : HaveCommandNumbers w ws → All IsNumberWord ws
-  kind : command_word (command_of w ns) ≡ w
-  same : ws ≡ map decimal (numbers_from (number_count w) 0 ns) → AreCommandWords ws (command_of w ns)
-  at : ((k : ℕ) → k < number_count w → value ws k ≡ get_or ns k 0) → command_at w ws ≡ command_of w ns
+  kind : command_word (command_with w ns) ≡ w
+  same : ws ≡ map decimal (numbers_from (number_count w) 0 ns) → AreCommandWords ws (command_with w ns)
+  at : ((k : ℕ) → k < number_count w → value ws k ≡ get_or ns k 0) → command_at w ws ≡ command_with w ns
 
 plain : (w : CommandWord) → (w ≢ log_word) × (w ≢ raise_word) → (ws : List (List ℕ)) (ns : List ℕ) → IsPlain w ws ns
 plain words.Load d ws ns = record { shape = λ h. h; long = λ h. h; numbers = λ h. h; all = λ h. h; kind = refl; same = λ e. e; at = λ f. rw (f 0 (omega arith), f 1 (omega arith), f 2 (omega arith)) refl }
@@ -77,12 +77,12 @@ plain words.Log d ws ns = absurd (d.0 refl)
 plain words.Raise d ws ns = absurd (d.1 refl)
 
 pub plain_command : (w : CommandWord) → (w ≢ log_word) × (w ≢ raise_word) → (ws : List (List ℕ)) (ns : List ℕ) → AreNumbers (number_count w) ws ns
-    → CommandFits (command_of w ns) → IsCommand w ws (command_of w ns)
+    → CommandFits (command_with w ns) → IsCommand w ws (command_with w ns)
 plain_command w d ws ns h fits =
     let p = plain w d ws ns in record { kind = p.kind; fits = fits; same = p.same (words_are (number_count w) ws ns h) }
 
 pub plain_over : (w : CommandWord) → (w ≢ log_word) × (w ≢ raise_word) → (ws : List (List ℕ)) (ns : List ℕ) → AreNumbers (number_count w) ws ns
-    → (CommandFits (command_of w ns) → ⊥) → IsCommandOver w ws
+    → (CommandFits (command_with w ns) → ⊥) → IsCommandOver w ws
 plain_over w d ws ns h none =
     let p = plain w d ws ns in record {
       shaped = p.shape h.long;

@@ -62,25 +62,25 @@ abbrev pub log_word : CommandWord
 log_word = words.Log
 
 -- the command of a first word behind which these numbers stand; a log and a raise have others
-abbrev pub command_of : CommandWord → List ℕ → Command
-command_of words.Load ns = commands.Load (record { 0 = get_or ns 0 0 }) (record { 0 = get_or ns 1 0 }) (get_or ns 2 0)
-command_of words.Fetch ns = commands.Fetch (record { 0 = get_or ns 0 0 }) (record { 0 = get_or ns 1 0 }) (get_or ns 2 0)
-command_of words.KLoad ns = commands.KLoad (record { 0 = get_or ns 0 0 }) (record { 0 = get_or ns 1 0 }) (get_or ns 2 0)
-command_of words.Store ns = commands.Store (record { 0 = get_or ns 0 0 }) (record { 0 = get_or ns 1 0 }) (get_or ns 2 0) (get_or ns 3 0)
-command_of words.Free ns = commands.Free (record { 0 = get_or ns 0 0 })
-command_of words.Drop ns = commands.Drop (record { 0 = get_or ns 0 0 })
-command_of words.Sync ns = commands.Sync (record { 0 = get_or ns 0 0 })
-command_of words.Out ns = commands.Out (record { 0 = get_or ns 0 0 })
-command_of words.Fsync ns = commands.Fsync (record { 0 = get_or ns 0 0 })
-command_of words.Prctl ns = commands.Prctl (record { 0 = get_or ns 0 0 }) (record { operation = get_or ns 1 0; arg2 = get_or ns 2 0; arg3 = get_or ns 3 0; arg4 = get_or ns 4 0; arg5 = get_or ns 5 0 })
-command_of words.Bad ns = commands.Bad (record { 0 = get_or ns 0 0 }) (get_or ns 1 0)
-command_of words.Weak ns = commands.Weak (record { 0 = get_or ns 0 0 }) (get_or ns 1 0)
-command_of words.Scrub ns = commands.Scrub (record { 0 = get_or ns 0 0 }) (record { 0 = get_or ns 1 0 })
-command_of words.Log ns = commands.RaiseNested
-command_of words.Raise ns = commands.RaiseNested
-command_of words.Inject ns = commands.Inject (record { 0 = get_or ns 0 0 })
-command_of words.Soft ns = commands.Soft (record { 0 = get_or ns 0 0 })
-command_of words.Unpoison ns = commands.Unpoison (record { 0 = get_or ns 0 0 })
+abbrev pub command_with : CommandWord → List ℕ → Command
+command_with words.Load ns = commands.Load (record { 0 = get_or ns 0 0 }) (record { 0 = get_or ns 1 0 }) (get_or ns 2 0)
+command_with words.Fetch ns = commands.Fetch (record { 0 = get_or ns 0 0 }) (record { 0 = get_or ns 1 0 }) (get_or ns 2 0)
+command_with words.KLoad ns = commands.KLoad (record { 0 = get_or ns 0 0 }) (record { 0 = get_or ns 1 0 }) (get_or ns 2 0)
+command_with words.Store ns = commands.Store (record { 0 = get_or ns 0 0 }) (record { 0 = get_or ns 1 0 }) (get_or ns 2 0) (get_or ns 3 0)
+command_with words.Free ns = commands.Free (record { 0 = get_or ns 0 0 })
+command_with words.Drop ns = commands.Drop (record { 0 = get_or ns 0 0 })
+command_with words.Sync ns = commands.Sync (record { 0 = get_or ns 0 0 })
+command_with words.Out ns = commands.Out (record { 0 = get_or ns 0 0 })
+command_with words.Fsync ns = commands.Fsync (record { 0 = get_or ns 0 0 })
+command_with words.Prctl ns = commands.Prctl (record { 0 = get_or ns 0 0 }) (record { operation = get_or ns 1 0; arg2 = get_or ns 2 0; arg3 = get_or ns 3 0; arg4 = get_or ns 4 0; arg5 = get_or ns 5 0 })
+command_with words.Bad ns = commands.Bad (record { 0 = get_or ns 0 0 }) (get_or ns 1 0)
+command_with words.Weak ns = commands.Weak (record { 0 = get_or ns 0 0 }) (get_or ns 1 0)
+command_with words.Scrub ns = commands.Scrub (record { 0 = get_or ns 0 0 }) (record { 0 = get_or ns 1 0 })
+command_with words.Log ns = commands.RaiseNested
+command_with words.Raise ns = commands.RaiseNested
+command_with words.Inject ns = commands.Inject (record { 0 = get_or ns 0 0 })
+command_with words.Soft ns = commands.Soft (record { 0 = get_or ns 0 0 })
+command_with words.Unpoison ns = commands.Unpoison (record { 0 = get_or ns 0 0 })
 
 -- the lines behind whose first word just one number stands
 abbrev pub has_one_number : Keyword → Bool

@@ -1,7 +1,7 @@
 ghost use Rattle.std.specs.Prelude.{◌≡◌, ◌≢◌, ◌<◌, ◌≤◌, ◌⊎◌, ◌∷◌, map, codes, MatchOption, MatchResult};
 ghost use Rattle.hwp_geom.specs.Limits.{line_limit, frame_limit, file_limit, thread_limit, page_limit, translation_limit};
 ghost use Rattle.hwp_form.specs.Grammar.{bit, CommandFits, IsAccessWithin, IsCommand, raise_word};
-ghost use Rattle.hwp_form.specs.Misfits.{IsCommandMisfit, command_of, log_word};
+ghost use Rattle.hwp_form.specs.Misfits.{IsCommandMisfit, command_with, log_word};
 
 use crate::command::{Command, PrctlArgs};
 use crate::keywords::CommandWord;
@@ -168,9 +168,9 @@ fn read_raise(words: &[&[u8]]) -> Result<Command, Misfit>
 }
 
 /// The command of this first word behind which these numbers stand, if each is within its range.
-fn command_of(word: CommandWord, numbers: [u64; 6]) -> Option<Command>
+fn command_with(word: CommandWord, numbers: [u64; 6]) -> Option<Command>
     requires { (word ≢ log_word) × (word ≢ raise_word) }
-    ensures { MatchOption result (CommandFits (command_of word numbers) → ⊥) (λ c. (c ≡ command_of word numbers) × CommandFits (command_of word numbers)) }
+    ensures { MatchOption result (CommandFits (command_with word numbers) → ⊥) (λ c. (c ≡ command_with word numbers) × CommandFits (command_with word numbers)) }
 {
     let [first, second, third, fourth, fifth, sixth] = numbers;
     match word {
@@ -261,7 +261,7 @@ fn read_plain_command(word: CommandWord, words: &[&[u8]]) -> Result<Command, Mis
     ensures { MatchResult result (IsCommand word (map (λ w. w.now) words.now)) (IsCommandMisfit word (map (λ w. w.now) words.now)) }
 {
     match read_numbers(words, word.number_count()) {
-        Ok(numbers) => match command_of(word, numbers) {
+        Ok(numbers) => match command_with(word, numbers) {
             Some(command) => Ok(command),
             None => Err(Misfit::OverLimit),
         },

@@ -1,9 +1,9 @@
 ghost use Rattle.std.specs.Prelude.{◌≡◌, ◌∷◌, ◌++◌, [], OnOk, string_bytes, codes, decimal};
 ghost use Rattle.std.specs.List.{flat_map};
 ghost use Rattle.hwp_geom.specs.Words.{line};
-ghost use Rattle.hwp_form.specs.Grammar.{bit, form_words, command_text, command_word, command_words, turn_text};
+ghost use Rattle.hwp_form.specs.Grammar.{bit, form_words, turn_text};
 ghost use Rattle.hwp_form.specs.Numbers.{register};
-ghost use Rattle.hwp_form.specs.Printed.{thread_words, page_words, schedule_words};
+ghost use Rattle.hwp_form.specs.Printed.{command_line, thread_words, page_words, schedule_words};
 
 use crate::command::{Command, Go, PrctlArgs, Until};
 use crate::form::{Backing, Form};
@@ -11,6 +11,7 @@ use crate::kinds::kind_name;
 use hwp_geom::{Frame, Line, OutOfMemory, Thread, VSlot};
 
 /// Adds the line of a form to a text, with its line feed.
+#[tactic(auto, unfolding(crate::specs::Printed::command_line))]
 pub fn put_form(out: &mut String, form: &Form) -> Result<(), OutOfMemory>
     ensures { OnOk result (string_bytes out.new ≡ string_bytes out.old ++ line (form_words form.now)) }
 {
@@ -79,8 +80,9 @@ fn put_page(out: &mut String, page: u64, backing: Backing) -> Result<(), OutOfMe
     }
 }
 
+#[tactic(auto, unfolding(crate::specs::Printed::command_line))]
 fn put_command(out: &mut String, command: &Command) -> Result<(), OutOfMemory>
-    ensures { OnOk result (string_bytes out.new ≡ string_bytes out.old ++ line (command_text (command_word command.now) ∷ command_words command.now)) }
+    ensures { OnOk result (string_bytes out.new ≡ string_bytes out.old ++ command_line command.now) }
 {
     match *command {
         Command::Load { thread, slot, line } => put_access(out, "load", thread, slot, line),
