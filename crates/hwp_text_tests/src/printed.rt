@@ -48,28 +48,35 @@ fn what_is_not_declared_is_printed_as_it_is_by_default(rt: HostRuntime) {
     );
 }
 
-#[test]
-fn fifty_words_of_the_schedule_stand_on_a_line(rt: HostRuntime) {
-    let mut text = String::new(rt.alloc());
-    let mut want = String::new(rt.alloc());
-    text.push_str("hwp 1\ncpus 1\nframes 1\n")
-        .expect(&rt, "memory");
-    want.push_str("hwp 1\ncpus 1\nframes 1\nrecovery 1\nearly 0\ncpu 0\n")
-        .expect(&rt, "memory");
-    repeat(&rt, &mut text, "schedule 0\n", 101);
-    for words in [50, 50, 1] {
-        repeat(&rt, &mut want, "schedule", 1);
-        repeat(&rt, &mut want, " 0", words);
-        repeat(&rt, &mut want, "\n", 1);
+/// The parts one after another, each so often.
+fn repeated(rt: &impl Abort, alloc: Global, parts: &[(&str, u32)]) -> String {
+    let mut text = String::new(alloc);
+    for (part, count) in parts {
+        for _ in 0..*count {
+            text.push_str(part).expect(rt, "memory");
+        }
     }
-    text.push_str("end\n").expect(&rt, "memory");
-    want.push_str("end\n").expect(&rt, "memory");
-    is_spelled(&rt, rt.alloc(), text.as_str(), want.as_str());
+    text
 }
 
-/// Adds a text so often.
-fn repeat(rt: &impl Abort, text: &mut String, part: &str, count: u32) {
-    for _ in 0..count {
-        text.push_str(part).expect(rt, "memory");
-    }
+const ONE_BY_ONE: &[(&str, u32)] = &[
+    ("hwp 1\ncpus 1\nframes 1\n", 1),
+    ("schedule 0\n", 101),
+    ("end\n", 1),
+];
+
+const BY_FIFTY: &[(&str, u32)] = &[
+    ("hwp 1\ncpus 1\nframes 1\nrecovery 1\nearly 0\ncpu 0\n", 1),
+    ("schedule", 1),
+    (" 0", 50),
+    ("\nschedule", 1),
+    (" 0", 50),
+    ("\nschedule 0\nend\n", 1),
+];
+
+#[test]
+fn fifty_words_of_the_schedule_stand_on_a_line(rt: HostRuntime) {
+    let text = repeated(&rt, rt.alloc(), ONE_BY_ONE);
+    let want = repeated(&rt, rt.alloc(), BY_FIFTY);
+    is_spelled(&rt, rt.alloc(), text.as_str(), want.as_str());
 }

@@ -1,5 +1,6 @@
 //! Scripts read, and refused at their first line at fault.
 
+use hwp_geom::Layout;
 use hwp_script::{Command, ReadScript, Refused, Script, Why, read};
 use std::alloc::Global;
 use std::process::Abort;
@@ -52,33 +53,39 @@ fn side_by_side(command: &Command) -> [u64; 5] {
     }
 }
 
-/// The command of this number in the list of the processor has these numbers.
-fn has(rt: &impl Abort, script: &Script, at: (usize, usize), want: [u64; 5]) {
-    let (cpu, seq) = at;
-    let list = script.lists.as_slice().get(cpu).expect(rt, "a list");
-    let command = list.as_slice().get(seq).expect(rt, "a command");
-    assert_eq!(rt; side_by_side(command), want);
+/// The commands, by the processor and their number in its list, have these numbers.
+fn have(rt: &impl Abort, script: &Script, rows: &[(usize, usize, [u64; 5])]) {
+    for (cpu, seq, want) in rows {
+        let list = script.lists.as_slice().get(*cpu).expect(rt, "a list");
+        let command = list.as_slice().get(*seq).expect(rt, "a command");
+        assert_eq!(rt; side_by_side(command), *want);
+    }
 }
+
+/// The layout that `ALL` declares.
+fn is_declared(rt: &impl Abort, layout: &Layout) {
+    let counts = (layout.cpus, layout.frames, layout.procs, layout.files);
+    assert_eq!(rt;
+        (counts, layout.recovery, layout.early),
+        ((2, 4, 2, 1), false, true)
+    );
+}
+
+const NUMBERS: &[(usize, usize, [u64; 5])] = &[
+    (0, 3, [0, 3, 0, 0, 0]),
+    (0, 4, [0xbd00_0000_0000_00c0, 0x1000, 0x86, 0, 0]),
+    (0, 5, [1, 0, 0, 0, 0]),
+    (0, 6, [0, 1, 0, 0, 0]),
+    (1, 8, [33, 1, 2, 0, 7]),
+];
 
 #[test]
 fn numbers_go_to_the_fields_of_their_names(rt: HostRuntime) {
     let script = read(rt.alloc(), ALL.as_bytes())
         .ok()
         .expect(&rt, "a script");
-    let layout = &script.layout;
-    let counts = (layout.cpus, layout.frames, layout.procs, layout.files);
-    assert_eq!(rt; counts, (2, 4, 2, 1));
-    assert_eq!(rt; (layout.recovery, layout.early), (false, true));
-    has(&rt, &script, (0, 3), [0, 3, 0, 0, 0]);
-    has(
-        &rt,
-        &script,
-        (0, 4),
-        [0xbd00_0000_0000_00c0, 0x1000, 0x86, 0, 0],
-    );
-    has(&rt, &script, (0, 5), [1, 0, 0, 0, 0]);
-    has(&rt, &script, (0, 6), [0, 1, 0, 0, 0]);
-    has(&rt, &script, (1, 8), [33, 1, 2, 0, 7]);
+    is_declared(&rt, &script.layout);
+    have(&rt, &script, NUMBERS);
 }
 
 #[test]
