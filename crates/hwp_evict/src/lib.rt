@@ -1,0 +1,8 @@
+//! Tasks by which pages leave their frames: a translation freed, a page's content written back, a page dropped or swapped
+//! out; and the losses of a file reported.
+#![tactic(auto)]
+
+mod fsync;
+mod stopped;
+
+pub use fsync::{Fsync, FsyncAnswer};
