@@ -1,15 +1,17 @@
 -- What a processor knows of one of its commands: the words that its steps showed, the histories that it saw, and the entries
 -- that it made.
-use Rattle.std.specs.Prelude.{◌≡◌, ◌⊎◌, ℕ, ◌==◌, ◌&&◌, Bool, List, [], ◌∷◌, ◌++◌, Some, filter}
+use Rattle.std.specs.Prelude.{◌≡◌, ◌⊎◌, ℕ, ◌==◌, ◌&&◌, Bool, true, List, [], ◌∷◌, ◌++◌, Some, filter}
 use Rattle.hwp_geom.specs.declared.Page.{Page}
 use Rattle.hwp_geom.specs.declared.VSlot.{VSlot}
 use Rattle.hwp_geom.specs.declared.Who.{Who}
 use Rattle.hwp_page.specs.declared.What.{What}
 use Rattle.hwp_page.specs.declared.What.TheVariants as entries
+use Rattle.hwp_words.specs.Stops.{is_stopped}
 use Rattle.hwp_rule.specs.declared.Length.{Length}
 use Rattle.hwp_rule.specs.declared.Log.{Log}
 use Rattle.hwp_rule.specs.declared.Made.{Made}
 use Rattle.hwp_rule.specs.declared.Place.{Place}
+use Rattle.hwp_rule.specs.declared.Place.TheVariants as places
 use Rattle.hwp_rule.specs.declared.Sight.{Sight}
 use Rattle.hwp_rule.specs.declared.View.{View}
 use Rattle.hwp_rule.specs.Lists.{EachMember, SomeMember}
@@ -20,6 +22,12 @@ IsShown who place word s = (s.stamp.who ≡ who) × (s.place ≡ place) × (s.wo
 
 abbrev pub Saw : View → Who → Place → ℕ → Type 0
 Saw view who place word = SomeMember (IsShown who place word) view.sights
+
+-- a step of the command showed that a processor had stopped the machine
+pub record SawStop (view : View) (who : Who) : Type 0 where
+  pub word : ℕ
+  pub stopped : is_stopped word ≡ true
+  pub saw : Saw view who places.Stop word
 
 -- a step of the command, under the page's lock, took the page's body, whose history was this
 abbrev pub IsMet : Who → Log → Length → Type 0

@@ -1,5 +1,5 @@
 -- The stop word: which processor stopped the machine, and whether one has given up for want of memory.
-use Rattle.std.specs.Prelude.{ℕ, Bool, ◌==◌, List, [], ◌∷◌}
+use Rattle.std.specs.Prelude.{ℕ, Bool, not, ◌==◌, List, [], ◌∷◌}
 use Rattle.std.specs.Int.{from_bool}
 use Rattle.hwp_words.specs.declared.stop.StopWord.{StopWord}
 use Rattle.hwp_words.specs.Fields.{Field, field, bit, packed}
@@ -17,6 +17,10 @@ stop_fields = stop_cpu_field ∷ no_memory_bit ∷ []
 -- the processor that stopped the machine plus 1, or 0
 abbrev pub stopper_of : ℕ → ℕ
 stopper_of w = field stop_cpu_field w
+
+-- whether a processor has stopped the machine
+abbrev pub is_stopped : ℕ → Bool
+is_stopped w = not (stopper_of w == 0)
 
 -- whether a processor has given up for want of memory
 abbrev pub has_no_memory : ℕ → Bool

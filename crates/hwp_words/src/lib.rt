@@ -15,7 +15,7 @@ pub use counter::CounterWord;
 pub use frame::{FrameWord, HANDLED, KERNEL, LOCK, POISON, REFERENCE};
 pub use policy::PolicyWord;
 pub use single::{AvailableWord, CacheWord, DamageWord, FreeWord, LossWord, PageWord, ProcessWord};
-pub use stop::StopWord;
+pub use stop::{StopWord, is_stopped};
 pub use translation::Pte;
 
 #[cfg(test)]

@@ -1,5 +1,5 @@
 ghost use Rattle.std.specs.Prelude.{◌≡◌, ◌<◌, IfSome};
-ghost use Rattle.hwp_words.specs.Stops.{stop_reading, stop_word};
+ghost use Rattle.hwp_words.specs.Stops.{is_stopped, stop_reading, stop_word};
 
 use crate::field::field;
 use crate::names::{cpu_name, cpu_named};
@@ -33,4 +33,11 @@ impl StopWord {
             no_memory: field(word, 63, 1) == 1,
         }
     }
+}
+
+/// Whether a stop word says that a processor stopped the machine.
+pub fn is_stopped(word: u64) -> bool
+    ensures { result ≡ is_stopped word }
+{
+    field(word, 0, 8) != 0
 }
