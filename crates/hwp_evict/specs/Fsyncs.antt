@@ -12,13 +12,13 @@ use Rattle.hwp_step.specs.declared.Turn.{Turn}
 use Rattle.hwp_step.specs.declared.Turn.TheVariants.{Moved, Answered}
 use Rattle.hwp_step.specs.Calls.{IsOnTurn}
 use Rattle.hwp_step.specs.Hands.{hand_of, empty}
-use Rattle.hwp_known.specs.Known.{Saw, HasMadeNone}
+use Rattle.hwp_words.specs.Stops.{is_stopped}
+use Rattle.hwp_known.specs.Known.{Saw, SawStop, HasMadeNone}
 use Rattle.hwp_evict.specs.declared.fsync.Fsync.{Fsync}
 use Rattle.hwp_evict.specs.declared.fsync.FsyncAt.{FsyncAt}
 use Rattle.hwp_evict.specs.declared.fsync.FsyncAt.TheVariants as at
 use Rattle.hwp_evict.specs.declared.fsync.FsyncAnswer.{FsyncAnswer}
 use Rattle.hwp_evict.specs.declared.fsync.FsyncAnswer.TheVariants as answers
-use Rattle.hwp_evict.specs.Stopped.{is_stopped, SawStop}
 
 abbrev pub begin : Who → FileNo → Fsync
 begin who file = record { who = who; file = file; at = at.LoadStop }

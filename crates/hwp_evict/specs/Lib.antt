@@ -1,2 +1,1 @@
-pub mod Stopped
 pub mod Fsyncs

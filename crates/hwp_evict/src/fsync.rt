@@ -1,12 +1,11 @@
 ghost use Rattle.std.specs.Prelude.{◌≡◌, is_some, is_none};
 ghost use Rattle.hwp_evict.specs.Fsyncs.{begin, plan, answer, after_stop, after_report};
 
-use crate::stopped::is_stopped;
 use hwp_geom::{FileNo, Layout, Who};
 use hwp_page::Body;
 use hwp_rule::{Place, Step};
-use hwp_sched::Scheduled;
 use hwp_step::{Machine, Ranked, Turn};
+use hwp_words::is_stopped;
 
 /// Takes the number of losses of a file since they were taken last (Linux errseq_t, of which this is a simple form).
 #[derive(Clone, Copy, Debug, PartialEq, Eq)]
@@ -144,12 +143,4 @@ impl Ranked for Fsync {
     }
 
     fn ranked(&self) {}
-}
-
-impl Scheduled for Fsync {
-    fn is_over(&self) -> bool {
-        matches!(self.at, FsyncAt::Over { .. })
-    }
-
-    fn tells(&self) {}
 }

@@ -3,6 +3,5 @@
 #![tactic(auto)]
 
 mod fsync;
-mod stopped;
 
 pub use fsync::{Fsync, FsyncAnswer};
