@@ -1,6 +1,5 @@
 -- What a command has seen it has seen after each step too; and what a step shows.
 use Rattle.std.proofs.Common.{◌≡◌, ℕ, ◌<◌, ◌==◌, not, Bool, true, false, cond, [], ◌∷◌, ◌++◌, Option, Some, None, length, option_map, slice_get, refl, sym, ap, ◌∙◌, subst}
-use Rattle.std.proofs.lemmas.Option.{same_Some}
 use Rattle.hwp_geom.specs.declared.FileNo.{FileNo}
 use Rattle.hwp_geom.specs.declared.Frame.{Frame}
 use Rattle.hwp_geom.specs.declared.Layout.{Layout}
@@ -9,7 +8,6 @@ use Rattle.hwp_geom.specs.declared.Who.{Who}
 use Rattle.hwp_page.specs.declared.PageState.{PageState}
 use Rattle.hwp_page.specs.History.{BodyValue}
 use Rattle.hwp_words.specs.Frames.{is_locked}
-use Rattle.hwp_rule.specs.declared.FrameLock.{FrameLock}
 use Rattle.hwp_rule.specs.declared.InHand.{InHand}
 use Rattle.hwp_rule.specs.declared.Length.{Length}
 use Rattle.hwp_rule.specs.declared.Log.{Log}
@@ -27,7 +25,7 @@ use Rattle.hwp_rule.specs.Steps.{goes}
 use Rattle.hwp_rule.specs.Views.{body_of, listed_of, lock_found, lock_of_page, loaded, noted, put_home, stamp_of, taken, view_by}
 use Rattle.hwp_rule.proofs.Lists.{some-push, some-last}
 use Rattle.hwp_rule.proofs.Meeting.{free-word, on-shelf}
-use Rattle.hwp_step.specs.Calls.{Steps, logs}
+use Rattle.hwp_step.specs.Calls.{Steps}
 use Rattle.hwp_step.proofs.Stepping.{brought, content_of, was-home}
 use Rattle.hwp_known.specs.Known.{IsMet, IsShown, Saw, SawLog}
 use Rattle.hwp_known.specs.Pages.{SawState}

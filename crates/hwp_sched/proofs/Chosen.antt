@@ -5,7 +5,7 @@ use Rattle.hwp_geom.specs.declared.Frame.{Frame}
 use Rattle.hwp_rule.specs.declared.Step.{Step}
 use Rattle.hwp_step.specs.Boards.{view_of}
 use Rattle.hwp_step.specs.Ranks.{Member, HasFrame, HasPage, Pending, Quiet}
-use Rattle.hwp_sched.specs.Law.{IsScheduled}
+use Rattle.hwp_step.specs.Classes.{IsScheduled}
 use Rattle.hwp_sched.specs.Order.{Running, IsAt, IsOver, AreOver, level_by, level, levels, IsChosen, seat_of}
 use Rattle.hwp_sched.specs.Rank.{has_one, words_in}
 use Rattle.hwp_sched.specs.Ready.{Ready, Claimed, IsNext}

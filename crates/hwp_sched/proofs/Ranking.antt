@@ -9,7 +9,7 @@ use Rattle.hwp_rule.specs.declared.View.{View}
 use Rattle.hwp_rule.specs.Rule.{Holds}
 use Rattle.hwp_step.specs.Boards.{Played, view_of, AreSeated}
 use Rattle.hwp_step.specs.Ranks.{Member, CostFalls, OtherHand, Pending, is_waits, top, words_at}
-use Rattle.hwp_sched.specs.Law.{IsScheduled}
+use Rattle.hwp_step.specs.Classes.{IsScheduled}
 use Rattle.hwp_sched.specs.Order.{Running, IsAt, TurnOf, level, levels, IsChosen, cpu_of, seat_of}
 use Rattle.hwp_sched.specs.Rank.{words_in, phi, has_one, yields, aborts_at, cost_at, number_of, rank}
 use Rattle.hwp_sched.specs.Ready.{Claimed, Ready, IsNext}

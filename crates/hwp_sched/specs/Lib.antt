@@ -1,4 +1,3 @@
-pub mod Law
 pub mod Order
 pub mod Rank
 pub mod Ready

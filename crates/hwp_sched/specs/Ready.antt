@@ -6,7 +6,7 @@ use Rattle.hwp_rule.specs.Rule.{Holds}
 use Rattle.hwp_step.specs.declared.Turn.{Turn}
 use Rattle.hwp_step.specs.Boards.{Played, view_of, AreSeated}
 use Rattle.hwp_step.specs.Ranks.{Member, Pending}
-use Rattle.hwp_sched.specs.Law.{IsScheduled}
+use Rattle.hwp_step.specs.Classes.{IsScheduled}
 use Rattle.hwp_sched.specs.Order.{Running, IsAt, IsChosen, TurnOf, cpu_of, levels, seat_of, told_of}
 use Rattle.hwp_sched.specs.Rank.{words_in}
 

@@ -1,8 +1,6 @@
 //! The order of turns: those of a schedule, word by word, and then the finishing order, by which all tasks come to an end.
 #![tactic(auto)]
 
-mod scheduled;
 mod scheduler;
 
-pub use scheduled::Scheduled;
 pub use scheduler::step_all;

@@ -1,14 +1,13 @@
 ghost use Rattle.std.specs.Prelude.{◌≡◌, ℕ, ◌<◌, ◌≤◌, ◌↔◌, List, length, take, get_or, All, IfOk, OnOk, OnErr, IsTrue};
 ghost use Rattle.hwp_script.specs.declared.Go.{Go as GoOf};
 ghost use Rattle.hwp_step.specs.Ranks.{member};
-ghost use Rattle.hwp_sched.specs.Law.{IsScheduled};
+ghost use Rattle.hwp_step.specs.Classes.{IsScheduled};
 ghost use Rattle.hwp_sched.specs.Order.{running, level, levels, IsNoMemory, EndsWord, Word, Finishing, InOrder, Grows, IsRefused, AreOver};
 ghost use Rattle.hwp_sched.specs.Ready.{IsCrew, InPlay, TurnTold, IsNext};
 
-use crate::scheduled::Scheduled;
 use hwp_geom::{Cpu, Kind, MAX_CPUS, OutOfMemory};
 use hwp_script::{Go, Until};
-use hwp_step::{Board, Turn};
+use hwp_step::{Board, Scheduled, Turn};
 use std::alloc::AllocError;
 
 /// The level of a task that is over, above all classes.

@@ -3,3 +3,4 @@ pub mod Turns
 pub mod Hands
 pub mod Boards
 pub mod Ranks
+pub mod Classes

@@ -7,6 +7,7 @@ mod driver;
 mod machine;
 mod ops;
 mod ranked;
+mod scheduled;
 mod turn;
 
 pub use board::Board;
@@ -14,4 +15,5 @@ pub use driver::advance;
 pub use machine::Machine;
 pub use ops::{Met, Ops};
 pub use ranked::Ranked;
+pub use scheduled::Scheduled;
 pub use turn::Turn;

@@ -1,8 +1,8 @@
 ghost use Rattle.std.specs.Prelude.{◌≡◌, ◌↔◌, IsTrue, Option, Some, None};
 ghost use Rattle.hwp_step.specs.Ranks.{member};
-ghost use Rattle.hwp_sched.specs.Law.{TellsClass};
+ghost use Rattle.hwp_step.specs.Classes.{TellsClass};
 
-use hwp_step::Ranked;
+use crate::ranked::Ranked;
 
 /// A task that a scheduler may run: its class tells what it holds.
 pub trait Scheduled: Ranked {

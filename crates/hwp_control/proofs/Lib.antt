@@ -1,0 +1,4 @@
+mod Glancing
+mod Reading
+mod Nesting
+mod Calling

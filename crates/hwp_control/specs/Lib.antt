@@ -1,0 +1,3 @@
+pub mod ReadStops
+pub mod Nesteds
+pub mod Prctls
