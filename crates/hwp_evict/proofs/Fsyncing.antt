@@ -18,6 +18,7 @@ use Rattle.hwp_step.specs.declared.Turn.TheVariants.{Moved, Answered}
 use Rattle.hwp_step.specs.Calls.{CanMake, Steps, IsOnTurn}
 use Rattle.hwp_step.specs.Hands.{Hand, hand_of, empty}
 use Rattle.hwp_step.specs.Ranks.{Member, member, IsRanked, is_waits, words_at}
+use Rattle.hwp_step.specs.Classes.{TellsClass}
 use Rattle.hwp_step.proofs.Ranking.{rank-of}
 use Rattle.hwp_step.proofs.Stepping.{on-turn-after, hand-planned, steps-planned, can-make}
 use Rattle.hwp_known.specs.Known.{Saw, SawStop, HasMadeNone}
@@ -28,6 +29,7 @@ use Rattle.hwp_evict.specs.declared.fsync.FsyncAt.{FsyncAt}
 use Rattle.hwp_evict.specs.declared.fsync.FsyncAt.TheVariants as at
 use Rattle.hwp_evict.specs.declared.fsync.FsyncAnswer.{FsyncAnswer}
 use Rattle.hwp_evict.specs.declared.fsync.FsyncAnswer.TheVariants as answers
+use Rattle.hwp_evict.proofs.Holdless.{no-frame, no-page}
 use Rattle.hwp_evict.specs.Fsyncs.{plan, plan_at, next, next_at, turn, turn_at, Fits, FitsAt, cost, cost_at}
 
 -- ---- the law of tasks
@@ -50,8 +52,8 @@ module _ {layout : Layout} {old new : View} (f : Fsync) {step : Step} {found : �
       hand (at.Over answer) e = absurd (none-some step e)
 
       none : (x : FsyncAt) → plan_at f.file x ≡ Some step → HasMadeNone new f.who
-      none at.LoadStop e = deeds-same tt (steps-planned e made) ∙ fits.made_none
-      none at.Report e = deeds-same tt (steps-planned e made) ∙ fits.made_none
+      none at.LoadStop e = deeds-same f.who tt (steps-planned e made) ∙ fits.made_none
+      none at.Report e = deeds-same f.who tt (steps-planned e made) ∙ fits.made_none
       none (at.Over answer) e = absurd (none-some step e)
 
       stopped : Saw new f.who places.Stop found → (b : Bool) → is_stopped found ≡ b → FitsAt new f.who f.file (cond b (at.Over answers.Stopped) at.Report)
@@ -113,3 +115,13 @@ pub fsync-ranked : IsRanked fsync-member
 fsync-ranked = rank-of fsync-member (λ s. refl) (λ s. (omega arith, omega arith)) (λ layout a seat s rule fits. let few : cost s (words_at layout a) ≤ 5 = fsync-below s (words_at layout a) in omega (arith, few))
     (λ layout seat a b s t turn made goes. subst (λ (x : Fsync). cost x (words_at layout b) < cost s (words_at layout a)) (sym made.follows.0) (falls s made.step made.found (words_at layout a) (words_at layout b) made.planned))
     (λ layout seat a b s t turn made is quiet. absurd (both_ways true (sym is ∙ ap is_waits made.follows.1 ∙ goes-on s made.found) refl))
+
+-- ---- the class
+
+-- nothing is held
+pub fsync-tells : TellsClass fsync-member
+fsync-tells = record {
+  frame = λ layout view s fits some. absurd (no-frame view fits.hand_is some);
+  page = λ layout view s fits some. absurd (no-page view fits.hand_is some);
+  claim = λ layout view s frame cycle fits none. absurd (none-some (frame, cycle) none);
+}

@@ -1,1 +1,2 @@
+pub mod Holdless
 pub mod Fsyncing

@@ -4,7 +4,7 @@ ghost use Rattle.hwp_evict.specs.Fsyncs.{begin, plan, answer, after_stop, after_
 use hwp_geom::{FileNo, Layout, Who};
 use hwp_page::Body;
 use hwp_rule::{Place, Step};
-use hwp_step::{Machine, Ranked, Turn};
+use hwp_step::{Machine, Ranked, Scheduled, Turn};
 use hwp_words::is_stopped;
 
 /// Takes the number of losses of a file since they were taken last (Linux errseq_t, of which this is a simple form).
@@ -143,4 +143,12 @@ impl Ranked for Fsync {
     }
 
     fn ranked(&self) {}
+}
+
+impl Scheduled for Fsync {
+    fn is_over(&self) -> bool {
+        matches!(self.at, FsyncAt::Over { .. })
+    }
+
+    fn tells(&self) {}
 }
