@@ -1,2 +1,5 @@
 pub mod Holdless
 pub mod Fsyncing
+pub mod Growing
+pub mod Vacating
+pub mod VacateCosts

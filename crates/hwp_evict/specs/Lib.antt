@@ -1,1 +1,2 @@
 pub mod Fsyncs
+pub mod Vacates

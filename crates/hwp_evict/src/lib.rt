@@ -3,5 +3,7 @@
 #![tactic(auto)]
 
 mod fsync;
+mod vacate;
 
 pub use fsync::{Fsync, FsyncAnswer};
+pub use vacate::Vacate;
