@@ -162,7 +162,7 @@ module _ {layout : Layout} {page : Page} {body : BodyValue} (who : Who) (frame :
   }
 
   -- the body can go home with the entry, to the frame
-  module _ (view : View) (handled poisoned : Bool) (hand : hand_of view ≡ holding page (Some frame) (trans layout body) taken handled poisoned) where
+  module _ (view : View) (handled poisoned : Bool) (hand : hand_of view ≡ holding page (Some frame) 1 (trans layout body) taken handled poisoned) where
     abbrev lock : PageLock
     lock = page_lock page (Some frame) (Some (trans layout body))
 

@@ -24,21 +24,20 @@ use Rattle.hwp_hold.specs.declared.give_up.GiveUpAt.TheVariants as give_up_at
 use Rattle.hwp_hold.specs.declared.refer.Refer.{Refer}
 use Rattle.hwp_hold.specs.declared.refer.ReferAt.{ReferAt}
 use Rattle.hwp_hold.specs.declared.refer.ReferAt.TheVariants as refer_at
-use Rattle.hwp_hold.specs.declared.release.Release.{Release}
-use Rattle.hwp_hold.specs.declared.release.ReleaseAt.{ReleaseAt}
-use Rattle.hwp_hold.specs.declared.release.ReleaseAt.TheVariants as release_at
 use Rattle.hwp_hold.specs.declared.take.Take.{Take}
 use Rattle.hwp_hold.specs.declared.take.TakeAt.{TakeAt}
 use Rattle.hwp_hold.specs.declared.take.TakeAt.TheVariants as take_at
 use Rattle.hwp_hold.specs.declared.unhold.Unhold.{Unhold}
+use Rattle.hwp_hold.specs.declared.unlock.Unlock.{Unlock}
 use Rattle.hwp_hold.specs.Fills as fills
 use Rattle.hwp_hold.specs.GiveUps as give_ups
 use Rattle.hwp_hold.specs.Refers as refers
-use Rattle.hwp_hold.specs.Releases as releases
 use Rattle.hwp_hold.specs.Takes as takes
 use Rattle.hwp_hold.specs.Unholds as unholds
+use Rattle.hwp_hold.specs.Unlocks as unlocks
 use Rattle.hwp_hold.proofs.Making.{IsMet, words_then, is-met}
-use Rattle.hwp_hold.proofs.Ranking.{met-own, left-own, stale-most, release-falls, release-small, release-class, unhold-falls, unhold-small, unhold-class}
+use Rattle.hwp_hold.proofs.Ranking.{met-own, left-own, stale-most, unhold-falls, unhold-small, unhold-class}
+use Rattle.hwp_hold.proofs.Unlocking.{unlock-falls, unlock-small, unlock-class}
 use Rattle.hwp_hold.proofs.TakeCosts as taking
 
 -- ---- more references
@@ -190,29 +189,24 @@ give-up-unhold u w = by (is_none (unholds.plan u))
     by true = omega arith
     by false = omega arith
 
-give-up-release : (r : Release) (w : Words) → give_ups.cost_at (give_ups.after_release r) w ≡ releases.cost r w + 1
-give-up-release r w = which r.at
+give-up-unlock : (u : Unlock) (w : Words) → give_ups.cost_at (give_ups.after_unlock u) w ≤ unlocks.cost u w + 1
+give-up-unlock u w = by (is_none (unlocks.plan u))
   where
-    which : (x : ReleaseAt) → give_ups.cost_at (give_ups.after_release (record r { at = x })) w ≡ releases.cost (record r { at = x }) w + 1
-    which release_at.Put = refl
-    which release_at.Give = refl
-    which release_at.Unreserve = refl
-    which release_at.Adopt = refl
-    which release_at.Retire = refl
-    which release_at.Back = refl
+    by : (over : Bool) → give_ups.cost_at (cond over give_up_at.GiveUp (give_up_at.Unlock u)) w ≤ unlocks.cost u w + 1
+    by true = omega arith
+    by false = omega arith
 
 pub give-up-falls : (w now : Words) (g : GiveUp) (step : Step) (found : ℕ) → give_ups.plan g ≡ Some step → give_ups.cost (give_ups.next (give_ups.bare g) found) now < give_ups.cost g w
 give-up-falls w now g step found is = which g.at is
   where
-    which : (x : GiveUpAt) → give_ups.plan_at x ≡ Some step → give_ups.cost_at (give_ups.next_at g.who (give_ups.bare_at x) found) now < give_ups.cost_at x w
+    which : (x : GiveUpAt) → give_ups.plan_at x ≡ Some step → give_ups.cost_at (give_ups.next_at (give_ups.bare_at x) found) now < give_ups.cost_at x w
     which (give_up_at.Unhold u) e =
         let less : unholds.cost (unholds.next (unholds.bare u) found) now < unholds.cost u w = unhold-falls w now u step found e in
         let more : give_ups.cost_at (give_ups.after_unhold (unholds.next (unholds.bare u) found)) now ≤ unholds.cost (unholds.next (unholds.bare u) found) now + 1 = give-up-unhold (unholds.next (unholds.bare u) found) now in
         omega (arith, less, more)
-    which (give_up_at.UnlockFrame frame body) e = omega arith
-    which (give_up_at.Release r) e =
-        let less : releases.cost (releases.next r found) now < releases.cost r w = release-falls w now r step found e in
-        let more : give_ups.cost_at (give_ups.after_release (releases.next r found)) now ≡ releases.cost (releases.next r found) now + 1 = give-up-release (releases.next r found) now in
+    which (give_up_at.Unlock u) e =
+        let less : unlocks.cost (unlocks.next (unlocks.bare u) found) now < unlocks.cost u w = unlock-falls w now u step found e in
+        let more : give_ups.cost_at (give_ups.after_unlock (unlocks.next (unlocks.bare u) found)) now ≤ unlocks.cost (unlocks.next (unlocks.bare u) found) now + 1 = give-up-unlock (unlocks.next (unlocks.bare u) found) now in
         omega (arith, less, more)
     which give_up_at.GiveUp e = omega arith
     which give_up_at.Over e = absurd (none-some step e)
@@ -222,8 +216,7 @@ give-up-small w g = which g.at
   where
     which : (x : GiveUpAt) → give_ups.cost_at x w ≤ 6
     which (give_up_at.Unhold u) = let few : unholds.cost u w ≤ 5 = unhold-small w u in omega (arith, few)
-    which (give_up_at.UnlockFrame frame body) = omega arith
-    which (give_up_at.Release r) = let few : releases.cost r w ≤ 3 = release-small w r in omega (arith, few)
+    which (give_up_at.Unlock u) = let few : unlocks.cost u w ≤ 4 = unlock-small w u in omega (arith, few)
     which give_up_at.GiveUp = omega arith
     which give_up_at.Over = omega arith
 
@@ -232,8 +225,7 @@ give-up-class g = which g.at
   where
     which : (x : GiveUpAt) → (1 ≤ give_ups.class_at x) × (give_ups.class_at x ≤ 4)
     which (give_up_at.Unhold u) = unhold-class u
-    which (give_up_at.UnlockFrame frame body) = (omega arith, omega arith)
-    which (give_up_at.Release r) = release-class r
+    which (give_up_at.Unlock u) = unlock-class u
     which give_up_at.GiveUp = (omega arith, omega arith)
     which give_up_at.Over = (omega arith, omega arith)
 
@@ -242,8 +234,7 @@ give-up-goes g = which g.at
   where
     which : (x : GiveUpAt) → is_waits (give_ups.turn_at (give_ups.bare_at x)) ≡ false
     which (give_up_at.Unhold u) = refl
-    which (give_up_at.UnlockFrame frame body) = refl
-    which (give_up_at.Release r) = refl
+    which (give_up_at.Unlock u) = refl
     which give_up_at.GiveUp = refl
     which give_up_at.Over = refl
 

@@ -9,6 +9,7 @@ use Rattle.hwp_geom.specs.declared.Page.{Page}
 use Rattle.hwp_geom.specs.declared.Who.{Who}
 use Rattle.hwp_page.specs.History.{BodyValue}
 use Rattle.hwp_rule.specs.declared.Ref.{Ref}
+use Rattle.hwp_rule.specs.declared.Place.TheVariants as places
 use Rattle.hwp_rule.specs.declared.Step.{Step}
 use Rattle.hwp_rule.specs.declared.Step.TheVariants as steps
 use Rattle.hwp_rule.specs.declared.View.{View}
@@ -17,11 +18,11 @@ use Rattle.hwp_rule.specs.Logs.{log_of}
 use Rattle.hwp_rule.specs.Views.{unpoisoned, refs_on, is_body_of, frame_in, with_named, less_refs}
 use Rattle.hwp_rule.proofs.Lists.{same-number}
 use Rattle.hwp_rule.proofs.Meeting.{cache-word, lock-knows}
-use Rattle.hwp_rule.proofs.Refs.{refs-cons}
 use Rattle.hwp_step.specs.declared.Turn.{Turn}
 use Rattle.hwp_step.specs.Calls.{CanMake, Steps, IsOnTurn}
 use Rattle.hwp_step.specs.Hands.{Hand, hand_of, body_in}
 use Rattle.hwp_step.proofs.Stepping.{on-turn-after, hand-planned, steps-planned, can-make}
+use Rattle.hwp_known.specs.Known.{Saw}
 use Rattle.hwp_hold.specs.declared.fill.Fill.{Fill}
 use Rattle.hwp_hold.specs.declared.fill.FillAt.{FillAt}
 use Rattle.hwp_hold.specs.declared.fill.FillAt.TheVariants as at
@@ -43,6 +44,7 @@ use Rattle.hwp_hold.specs.Unholds.{holding, HoldsAhead}
 use Rattle.hwp_hold.proofs.Bringing.{trans, goes-home}
 use Rattle.hwp_hold.proofs.Referring as referring
 use Rattle.hwp_hold.proofs.Taking as taking
+use Rattle.hwp_hold.proofs.Unholding.{refs-are}
 
 -- ---- what is held after each step
 
@@ -100,14 +102,6 @@ refer-on frame owner h (refer_at.Get seen) found on = by (found == seen)
     by false = refl
 refer-on frame owner h refer_at.Over found on = absurd (both_ways true on refl)
 
--- so many references to a frame, and no other
-refs-are : (frame : Frame) (count : ℕ) → refs_on frame.0 (record { frame = frame; count = count } ∷ []) ≡ count
-refs-are frame count =
-    let all : refs_on frame.0 (record { frame = frame; count = count } ∷ []) ≡ cond {A = ℕ} (frame.0 == frame.0) count 0 + refs_on frame.0 [] = refs-cons frame.0 (record { frame = frame; count = count }) [] in
-    let this : cond {A = ℕ} (frame.0 == frame.0) count 0 ≡ count = ap (λ (b : Bool). cond {A = ℕ} b count 0) (same-number frame.0 frame.0 refl) in
-    let none : refs_on frame.0 [] ≡ 0 = refl in
-    omega (arith, all, this, none)
-
 refs-held : {layout : Layout} {view : View} {page : Page} {body : BodyValue} {frame : Frame} {owner count : ℕ} → HoldsBoth layout view page body frame owner count → refs_on frame.0 view.refs ≡ count
 refs-held {frame} {count} has = ap (λ (h : Hand). refs_on frame.0 h.refs) has.hand_is ∙ refs-are frame count
 
@@ -159,7 +153,10 @@ module _ {layout : Layout} {new : View} {who : Who} {page : Page} {body : BodyVa
   take-moved t (take_at.LoadFree number) seen own hand fits = record { seen = seen; hand_is = hand; entry = entry; take = fits; own = own; under_way = refl }
   take-moved t (take_at.TakeBit frame) seen own hand fits = record { seen = seen; hand_is = hand; entry = entry; take = fits; own = own; under_way = refl }
   take-moved t (take_at.Adopt frame) seen own hand fits = record { seen = seen; hand_is = hand; entry = entry; take = fits; own = own; under_way = refl }
-  take-moved t (take_at.Over None) seen own hand fits = record { seen = seen; handled = false; poisoned = false; hand_is = hand; within = λ f none. absurd (none-some f none); body_is = entry.body_is }
+  take-moved t (take_at.Over None) seen own hand fits = (
+    record { seen = seen; handled = false; poisoned = false; hand_is = hand; within = λ f none. absurd (none-some f none); body_is = entry.body_is },
+    subst (λ (w : Who). Saw new w places.Available 0) own fits.at,
+  )
   take-moved t (take_at.Over (Some frame)) seen own hand fits = record { seen = seen; hand_is = hand; entry = entry; within = fits.at }
 
   -- once a step of the second reference is made
@@ -211,7 +208,7 @@ module _ {layout : Layout} {old new : View} {who : Who} {page : Page} {body : Bo
       none = same_Some found 0 (sym (cache-word layout made.told.board made.told.rule page found inside made.told.met)
           ∙ (lock-knows layout made.told.board made.told.rule made.told.seat old made.told.me (page_lock page None (Some (trans layout body))) (ap (λ (h : Hand). slice_get h.pages 0) has.hand_is)).cache 0 refl)
 
-      hand : hand_of new ≡ holding page (Some frame) (trans layout body) (body_in None (log_of body) has.seen) false false
+      hand : hand_of new ≡ holding page (Some frame) 1 (trans layout body) (body_in None (log_of body) has.seen) false false
       hand = hand-planned made refl has.hand_is
           ∙ ap (λ (n : ℕ). with-words layout page body has.seen frame (with_named (frame_in n) (less_refs frame 1 (record { frame = frame; count = 2 } ∷ []))) (page.0 == page.0)) none
           ∙ ap (λ (b : Bool). with-words layout page body has.seen frame (cond b (one_ref frame) (record { frame = frame; count = 2 } ∷ [])) (page.0 == page.0)) (same-number frame.0 frame.0 refl)
@@ -289,28 +286,31 @@ is-filled (Some (answers.Filled frame)) = true
 is-filled _ = false
 
 -- a page that was filled is let go with its frame, and with the entry
-pub filled-unholds : (layout : Layout) (view : View) (f : Fill) (frame : Frame) → answer f ≡ Some (answers.Filled frame) → Fits layout view f → unholds.Fits layout view (unholds.begin f.who f.page (Some frame) f.body)
-filled-unholds layout view f frame answered fits = record { on_turn = fits.on_turn; page = fits.page; at = which f.at answered fits.at }
+pub filled-unholds : (layout : Layout) (view : View) (f : Fill) (frame : Frame) → answer f ≡ Some (answers.Filled frame) → Fits layout view f → unholds.Fits layout view (unholds.begin f.who f.page (Some frame) 1 f.body)
+filled-unholds layout view f frame answered fits = let has = which f.at answered fits.at in record { on_turn = fits.on_turn; page = fits.page; at = (has.0, (omega arith, has.1)) }
   where
-    over-at : (x : Option Frame) → answer_at (at.Over x) ≡ Some (answers.Filled frame) → FitsAt layout view f.who f.page f.body (at.Over x) → HoldsAhead layout f.who view f.page (Some frame) (Some f.body) × (frame.0 < layout.frames)
+    over-at : (x : Option Frame) → answer_at (at.Over x) ≡ Some (answers.Filled frame) → FitsAt layout view f.who f.page f.body (at.Over x) → HoldsAhead layout f.who view f.page (Some frame) 1 (Some f.body) × (frame.0 < layout.frames)
     over-at None over has = absurd (both_ways true (sym (ap is-filled over)) refl)
-    over-at (Some other) over has = subst (λ (g : Frame). HoldsAhead layout f.who view f.page (Some g) (Some f.body) × (g.0 < layout.frames)) (ap (frame-or frame) over) has
+    over-at (Some other) over has = subst (λ (g : Frame). HoldsAhead layout f.who view f.page (Some g) 1 (Some f.body) × (g.0 < layout.frames)) (ap (frame-or frame) over) has
 
-    which : (x : FillAt) → answer_at x ≡ Some (answers.Filled frame) → FitsAt layout view f.who f.page f.body x → HoldsAhead layout f.who view f.page (Some frame) (Some f.body) × (frame.0 < layout.frames)
+    which : (x : FillAt) → answer_at x ≡ Some (answers.Filled frame) → FitsAt layout view f.who f.page f.body x → HoldsAhead layout f.who view f.page (Some frame) 1 (Some f.body) × (frame.0 < layout.frames)
     which (at.Take t) over has = absurd (none-some (answers.Filled frame) over)
     which (at.SetOwner other) over has = absurd (none-some (answers.Filled frame) over)
     which (at.Refer r) over has = absurd (none-some (answers.Filled frame) over)
     which (at.SetCache other) over has = absurd (none-some (answers.Filled frame) over)
     which (at.Over x) over has = over-at x over has
 
--- a page that was not is held as before
-pub unfilled-holds : (layout : Layout) (view : View) (f : Fill) → answer f ≡ Some answers.NoFrame → Fits layout view f → HoldsPage layout view f.page None f.body
-unfilled-holds layout view f answered fits = which f.at answered fits.at
+-- a page that was not is held as before, and the command saw that no frame was available
+pub unfilled : (layout : Layout) (view : View) (f : Fill) → answer f ≡ Some answers.NoFrame → Fits layout view f → HoldsPage layout view f.page None f.body × Saw view f.who places.Available 0
+unfilled layout view f answered fits = which f.at answered fits.at
   where
-    which : (x : FillAt) → answer_at x ≡ Some answers.NoFrame → FitsAt layout view f.who f.page f.body x → HoldsPage layout view f.page None f.body
+    which : (x : FillAt) → answer_at x ≡ Some answers.NoFrame → FitsAt layout view f.who f.page f.body x → HoldsPage layout view f.page None f.body × Saw view f.who places.Available 0
     which (at.Over None) over has = has
     which (at.Over (Some frame)) over has = absurd (both_ways true (ap is-filled over) refl)
     which (at.Take t) over has = absurd (none-some answers.NoFrame over)
     which (at.SetOwner frame) over has = absurd (none-some answers.NoFrame over)
     which (at.Refer r) over has = absurd (none-some answers.NoFrame over)
     which (at.SetCache frame) over has = absurd (none-some answers.NoFrame over)
+
+pub unfilled-holds : (layout : Layout) (view : View) (f : Fill) → answer f ≡ Some answers.NoFrame → Fits layout view f → HoldsPage layout view f.page None f.body
+unfilled-holds layout view f answered fits = (unfilled layout view f answered fits).0

@@ -22,6 +22,7 @@ use Rattle.hwp_rule.specs.Words.{index}
 use Rattle.hwp_rule.proofs.Lists.{same-number}
 use Rattle.hwp_rule.proofs.Meeting.{free-word, cache-words, cache-word, cached-frame, on-shelf, lock-knows, stays-referenced, in-slot}
 use Rattle.hwp_step.specs.declared.Turn.{Turn}
+use Rattle.hwp_known.proofs.Seeing.{saw-log-stays, saw-log-shelf, saw-log-frame}
 use Rattle.hwp_hold.specs.declared.hold.Hold.{Hold}
 use Rattle.hwp_hold.specs.declared.hold.HoldAt.{HoldAt}
 use Rattle.hwp_hold.specs.declared.hold.HoldAt.TheVariants as at
@@ -30,7 +31,7 @@ use Rattle.hwp_hold.specs.declared.pin.PinAt.{PinAt}
 use Rattle.hwp_hold.specs.declared.pin.PinAt.TheVariants as pin_at
 use Rattle.hwp_step.specs.Calls.{CanMake, Steps, IsOnTurn, logs}
 use Rattle.hwp_step.specs.Hands.{Hand, hand_of, empty, taking}
-use Rattle.hwp_hold.specs.Holds.{is_free, plan, plan_at, named_at, pinned, locked_at, next, next_at, ShowsAt, Shows, turn, page_lock, words_of, one_ref, locked, named, held, IsBodyOf, IsLocked, IsPinning, Fits, FitsAt}
+use Rattle.hwp_hold.specs.Holds.{is_free, plan, plan_at, named_at, pinned, locked_at, next, next_at, ShowsAt, Shows, turn, page_lock, words_of, one_ref, locked, named, held, IsBodyOf, IsLocked, IsPinning, SawBody, Fits, FitsAt}
 use Rattle.hwp_hold.specs.Pins as pins
 use Rattle.hwp_hold.specs.Pins.{is_gone}
 use Rattle.hwp_hold.proofs.Pinning as pinning
@@ -88,12 +89,19 @@ module _ (layout : Layout) (old new : View) (who : Who) (page : Page) (inside : 
     page-locked = which (is_free found) refl
       where
         which : (free : Bool) → is_free found ≡ free → FitsAt layout new who page (cond free (at.LoadCache got) at.LockPage)
-        which true is = record {
-          seen = length old.sights;
-          hand_is = after ∙ went (is_free found) true _ _ is ∙ ap (λ (c : Option Log). taking layout None c (length old.sights) (record empty { pages = bare page c ∷ [] })) (flow is)
-              ∙ taken got (length old.sights) (λ x e. (shelf is x e).page_is);
-          body_is = λ b e. shelf is b e;
-        }
+        which true is = (
+          record {
+            seen = length old.sights;
+            hand_is = after ∙ went (is_free found) true _ _ is ∙ ap (λ (c : Option Log). taking layout None c (length old.sights) (record empty { pages = bare page c ∷ [] })) (flow is)
+                ∙ taken got (length old.sights) (λ x e. (shelf is x e).page_is);
+            body_is = λ b e. shelf is b e;
+          },
+          saw got made,
+        )
+          where
+            saw : (g : Option BodyValue) → Steps layout who (steps.LockPage page) None old new found g → SawBody new who g
+            saw None m = tt
+            saw (Some b) m = saw-log-shelf m is (ap (λ (h : Hand). h.pages) none) inside
         which false is = after ∙ went (is_free found) false _ _ is
 
   -- ---- the cache word
@@ -105,8 +113,8 @@ module _ (layout : Layout) (old new : View) (who : Who) (page : Page) (inside : 
     loaded : (lock : PageLock) → lock.page ≡ page → cond (lock.page.0 == page.0) (record lock { cache = Some found }) lock ≡ record lock { cache = Some found }
     loaded lock is = ap (λ (b : Bool). cond b (record lock { cache = Some found }) lock) (same-number lock.page.0 page.0 (ap (λ (p : Page). p.0) is))
 
-    pub cache-loaded : (body : Option BodyValue) → IsOnTurn new who → IsLocked layout old page body → (frame_in found ≡ None → is_some body ≡ true) × FitsAt layout new who page (named_at who body (frame_in found))
-    cache-loaded None on has = (
+    pub cache-loaded : (body : Option BodyValue) → IsOnTurn new who → IsLocked layout old page body → SawBody old who body → (frame_in found ≡ None → is_some body ≡ true) × FitsAt layout new who page (named_at who body (frame_in found))
+    cache-loaded None on has saw = (
       (λ none. absurd (none-some frame.0 (sym none ∙ frame.3))),
       subst (λ (f : Option Frame). FitsAt layout new who page (named_at who None f)) (sym frame.3) (record {
         hand_is = hand;
@@ -125,16 +133,19 @@ module _ (layout : Layout) (old new : View) (who : Who) (page : Page) (inside : 
 
         hand : hand_of new ≡ named page frame.0 []
         hand = hand-planned made refl has.hand_is ∙ ap (λ (l : PageLock). record empty { pages = l ∷ [] }) (loaded (bare page None) refl ∙ ap (λ (n : ℕ). record (bare page None) { cache = Some n }) frame.1)
-    cache-loaded (Some body) on has = (
+    cache-loaded (Some body) on has saw = (
       (λ none. refl),
-      subst (λ (f : Option Frame). FitsAt layout new who page (named_at who (Some body) f)) (sym (ap frame_in zero)) (record {
-        seen = has.seen;
-        handled = false;
-        poisoned = false;
-        hand_is = hand-planned made refl has.hand_is ∙ ap (λ (l : PageLock). record (locked layout page (Some (log_of body)) has.seen) { pages = l ∷ [] }) (loaded (shelved layout page body) refl ∙ ap (λ (n : ℕ). record (shelved layout page body) { cache = Some n }) zero);
-        within = λ f none. absurd (none-some f none);
-        body_is = has.body_is body refl;
-      }),
+      subst (λ (f : Option Frame). FitsAt layout new who page (named_at who (Some body) f)) (sym (ap frame_in zero)) (
+        record {
+          seen = has.seen;
+          handled = false;
+          poisoned = false;
+          hand_is = hand-planned made refl has.hand_is ∙ ap (λ (l : PageLock). record (locked layout page (Some (log_of body)) has.seen) { pages = l ∷ [] }) (loaded (shelved layout page body) refl ∙ ap (λ (n : ℕ). record (shelved layout page body) { cache = Some n }) zero);
+          within = λ f none. absurd (none-some f none);
+          body_is = has.body_is body refl;
+        },
+        saw-log-stays made saw,
+      ),
     )
       where
         none : not (found == 0) ≡ false
@@ -208,21 +219,24 @@ module _ (layout : Layout) (old new : View) (who : Who) (page : Page) (inside : 
       where
         which : (free : Bool) → is_free found ≡ free → FitsAt layout new who page (cond free (locked_at frame got) (at.LockFrame frame))
         which false is = (after-lock ∙ went (is_free found) false _ _ is, has.1)
-        which true is = subst (λ (g : Option BodyValue). FitsAt layout new who page (locked_at frame g)) (sym body.1) (record {
-          seen = length old.sights;
-          handled = is_handled found;
-          poisoned = is_poisoned found;
-          hand_is = after-lock ∙ went (is_free found) true _ _ is ∙ ap (λ (c : Option Log). taking layout (Some frame) c (length old.sights) (record (named page frame (one_ref frame)) { locks = lock_found frame found ∷ [] })) (flow-of is ∙ ap logs body.1)
-              ∙ ap (λ (b : Bool). record (full (lock_found frame found).owner) { pages = cond b (knowing layout log (Some frame) lock-of) lock-of ∷ [] }) (same-number page.0 body.0.page.0 (sym (ap (λ (p : Page). p.0) body.2.0)))
-              ∙ ap full (slot is).0;
-          within = λ f is. subst (λ (g : Frame). g.0 < layout.frames) (same_Some frame f is) has.1;
-          body_is = record {
-            page_is = body.2.0;
-            layout_is = made.brings.layout_is body.0 body.1;
-            cached = ap not (ne_eqb (frame.0 + 1) 0 (λ e. omega (arith, e))) ∙ body.2.1;
-            replay = replay-of layout page body.0 body.2.0 (made.brings.layout_is body.0 body.1) (made.brings.kept body.0 body.1);
-          };
-        })
+        which true is = subst (λ (g : Option BodyValue). FitsAt layout new who page (locked_at frame g)) (sym body.1) (
+          record {
+            seen = length old.sights;
+            handled = is_handled found;
+            poisoned = is_poisoned found;
+            hand_is = after-lock ∙ went (is_free found) true _ _ is ∙ ap (λ (c : Option Log). taking layout (Some frame) c (length old.sights) (record (named page frame (one_ref frame)) { locks = lock_found frame found ∷ [] })) (flow-of is ∙ ap logs body.1)
+                ∙ ap (λ (b : Bool). record (full (lock_found frame found).owner) { pages = cond b (knowing layout log (Some frame) lock-of) lock-of ∷ [] }) (same-number page.0 body.0.page.0 (sym (ap (λ (p : Page). p.0) body.2.0)))
+                ∙ ap full (slot is).0;
+            within = λ f is. subst (λ (g : Frame). g.0 < layout.frames) (same_Some frame f is) has.1;
+            body_is = record {
+              page_is = body.2.0;
+              layout_is = made.brings.layout_is body.0 body.1;
+              cached = ap not (ne_eqb (frame.0 + 1) 0 (λ e. omega (arith, e))) ∙ body.2.1;
+              replay = replay-of layout page body.0 body.2.0 (made.brings.layout_is body.0 body.1) (made.brings.kept body.0 body.1);
+            };
+          },
+          saw-log-frame (subst (λ (g : Option BodyValue). Steps layout who (steps.LockFrame frame) None old new found g) body.1 made) is lock-of (ap (λ (h : Hand). slice_get h.pages 0) has.0) (sym body.2.0),
+        )
           where
             body : (b : BodyValue) × (got ≡ Some b) × ((b.page ≡ page) × (true ≡ (state_of layout (log_of b)).cached))
             body = there-is is
@@ -242,7 +256,7 @@ both layout old new h step found got fits is made = let all = which h.at is fits
 
     which : (x : HoldAt) → plan_at h.page x ≡ Some step → FitsAt layout old h.who h.page x → ShowsAt x found got × FitsAt layout new h.who h.page (next_at h.who x found got)
     which at.LockPage e at = (tt, page-locked layout old new h.who h.page fits.page found got (steps-planned e made) at)
-    which (at.LoadCache body) e at = cache-loaded layout old new h.who h.page fits.page found got (steps-planned e made) body on at
+    which (at.LoadCache body) e at = cache-loaded layout old new h.who h.page fits.page found got (steps-planned e made) body on at.0 at.1
     which (at.Pin p) e at = (tt, pin-moved layout old new h.who h.page fits.page found got p step e own at (pinning.moved layout old new p step found got at.pin e own))
       where
         own : Steps layout p.who step None old new found got

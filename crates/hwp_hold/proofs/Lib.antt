@@ -11,5 +11,6 @@ pub mod TakeCosts
 pub mod Referring
 pub mod Bringing
 pub mod Filling
+pub mod Unlocking
 pub mod GivingUp
 pub mod FillCosts

@@ -27,6 +27,7 @@ use Rattle.hwp_rule.specs.parts.Fits.{FitsWords}
 use Rattle.hwp_rule.specs.parts.Unpoisoned.{is_failure}
 use Rattle.hwp_rule.proofs.FittingWords.{fitting-at}
 use Rattle.hwp_rule.proofs.Lists.{same-number}
+use Rattle.hwp_known.specs.Known.{SawLog}
 use Rattle.hwp_hold.specs.declared.hold.Hold.{Hold}
 use Rattle.hwp_hold.specs.declared.hold.HoldAt.{HoldAt}
 use Rattle.hwp_hold.specs.declared.hold.HoldAt.TheVariants as at
@@ -116,7 +117,7 @@ module _ (layout : Layout) (view : View) (who : Who) (page : Page) (frame : Opti
   }
 
 -- what is held can be let go
-pub held-ahead : (layout : Layout) (view : View) (who : Who) (page : Page) (frame : Option Frame) (body : BodyValue) → HoldsPage layout view page frame body → HoldsAhead layout who view page frame (Some body)
+pub held-ahead : (layout : Layout) (view : View) (who : Who) (page : Page) (frame : Option Frame) (body : BodyValue) → HoldsPage layout view page frame body → HoldsAhead layout who view page frame 1 (Some body)
 held-ahead layout view who page None body has = record {
   body = body;
   given_is = refl;
@@ -144,32 +145,57 @@ held-ahead layout view who page (Some frame) body has = record {
   layout_is = has.body_is.layout_is;
 }
 
-pub held-unholds : (layout : Layout) (view : View) (who : Who) (page : Page) (frame : Option Frame) (body : BodyValue) → IsOnTurn view who → page.0 < length layout.pages → HoldsPage layout view page frame body → Fits layout view (begin who page frame body)
+pub held-unholds : (layout : Layout) (view : View) (who : Who) (page : Page) (frame : Option Frame) (body : BodyValue) → IsOnTurn view who → page.0 < length layout.pages → HoldsPage layout view page frame body → Fits layout view (begin who page frame 1 body)
 held-unholds layout view who page None body on inside has = record { on_turn = on; page = inside; at = held-ahead layout view who page None body has }
-held-unholds layout view who page (Some frame) body on inside has = record { on_turn = on; page = inside; at = (held-ahead layout view who page (Some frame) body has, has.within frame refl) }
+held-unholds layout view who page (Some frame) body on inside has = record { on_turn = on; page = inside; at = (held-ahead layout view who page (Some frame) body has, (omega arith, has.within frame refl)) }
+
+-- so can a page with so many references to its frame, and a body with more entries, where the body can go home
+pub ahead-unholds : (layout : Layout) (view : View) (who : Who) (page : Page) (frame : Option Frame) (count : ℕ) (body : BodyValue) → IsOnTurn view who → page.0 < length layout.pages → HoldsAhead layout who view page frame count (Some body)
+    → 0 < count → ((f : Frame) → frame ≡ Some f → f.0 < layout.frames) → Fits layout view (begin who page frame count body)
+ahead-unholds layout view who page None count body on inside has some within = record {
+  on_turn = on;
+  page = inside;
+  at = record {
+    body = has.body;
+    given_is = has.given_is;
+    trans = has.trans;
+    taken = has.taken;
+    handled = has.handled;
+    poisoned = has.poisoned;
+    hand_is = has.hand_is;
+    home = has.home;
+    page_is = has.page_is;
+    taken_is = has.taken_is;
+    layout_is = has.layout_is;
+  };
+}
+ahead-unholds layout view who page (Some frame) count body on inside has some within = record { on_turn = on; page = inside; at = (has, (some, within frame refl)) }
 
 -- so a hold that is over can be let go
-pub over-lets-go : (h : Hold) (u : Unhold) (frame : Option Frame) (body : BodyValue) → h.at ≡ at.Held frame body → u ≡ begin h.who h.page frame body → LetsGo h u
+pub over-lets-go : (h : Hold) (u : Unhold) (frame : Option Frame) (body : BodyValue) → h.at ≡ at.Held frame body → u ≡ begin h.who h.page frame 1 body → LetsGo h u
 over-lets-go h u frame body over is layout view fits = subst (Fits layout view) (sym is)
-    (held-unholds layout view h.who h.page frame body fits.on_turn fits.page (subst (FitsAt layout view h.who h.page) over fits.at))
+    (held-unholds layout view h.who h.page frame body fits.on_turn fits.page (subst (FitsAt layout view h.who h.page) over fits.at).0)
 
 held-at : (a : HoldAt) (frame : Option Frame) (body : BodyValue) → answer_at a ≡ Some frame → IsBodyAt a body → a ≡ at.Held frame body
 held-at (at.Held f b) frame body answered is = λ i. at.Held (same_Some f frame answered i) (sym is i)
 held-at a frame body answered is = absurd is
 
 -- with what it answers
-pub answered-lets-go : (h : Hold) (u : Unhold) (frame : Option Frame) (body : BodyValue) → answer h ≡ Some frame → IsBody h body → u ≡ begin h.who h.page frame body → LetsGo h u
+pub answered-lets-go : (h : Hold) (u : Unhold) (frame : Option Frame) (body : BodyValue) → answer h ≡ Some frame → IsBody h body → u ≡ begin h.who h.page frame 1 body → LetsGo h u
 answered-lets-go h u frame body answered is begun = over-lets-go h u frame body (held-at h.at frame body answered is) begun
 
 pub answered-holds : (layout : Layout) (view : View) (h : Hold) (frame : Option Frame) (body : BodyValue) → answer h ≡ Some frame → IsBody h body → holds.Fits layout view h → HoldsPage layout view h.page frame body
-answered-holds layout view h frame body answered is fits = subst (FitsAt layout view h.who h.page) (held-at h.at frame body answered is) fits.at
+answered-holds layout view h frame body answered is fits = (subst (FitsAt layout view h.who h.page) (held-at h.at frame body answered is) fits.at).0
+
+pub answered-saw : (layout : Layout) (view : View) (h : Hold) (frame : Option Frame) (body : BodyValue) → answer h ≡ Some frame → IsBody h body → holds.Fits layout view h → SawLog view h.who (log_of body)
+answered-saw layout view h frame body answered is fits = (subst (FitsAt layout view h.who h.page) (held-at h.at frame body answered is) fits.at).1
 
 -- an unhold that is over has left nothing held
 pub nothing-left : (layout : Layout) (view : View) (u : Unhold) → is_none (plan u) ≡ true → Fits layout view u → hand_of view ≡ empty
 nothing-left layout view u over fits = which u.at over fits.at
   where
     which : (a : UnholdAt) → is_none (plan_at u.page a) ≡ true → UnholdFitsAt layout view u.who u.page a → hand_of view ≡ empty
-    which (unhold_at.UnlockFrame frame body) over at = absurd (false≢true over)
+    which (unhold_at.UnlockFrame frame count body) over at = absurd (false≢true over)
     which (unhold_at.Release r) over at = absurd (false≢true (sym at.under_way ∙ over))
     which (unhold_at.UnlockPage body) over at = absurd (false≢true over)
     which unhold_at.Over over at = at

@@ -281,7 +281,7 @@ pub unhold-falls : (w now : Words) (u : Unhold) (step : Step) (found : ℕ) → 
 unhold-falls w now u step found is = which u.at is
   where
     which : (x : UnholdAt) → unholds.plan_at u.page x ≡ Some step → unholds.cost_at (unholds.next_at u.who (unholds.bare_at x) found) now < unholds.cost_at x w
-    which (unhold_at.UnlockFrame frame body) e = omega arith
+    which (unhold_at.UnlockFrame frame count body) e = omega arith
     which (unhold_at.Release r) e =
         let less : releases.cost (releases.next r found) now < releases.cost r w = release-falls w now r step found e in
         let more : unholds.cost_at (unholds.after_release (releases.next r found)) now ≡ releases.cost (releases.next r found) now + 1 = released-cost (releases.next r found) now in
@@ -293,7 +293,7 @@ pub unhold-small : (w : Words) (u : Unhold) → unholds.cost u w ≤ 5
 unhold-small w u = which u.at
   where
     which : (x : UnholdAt) → unholds.cost_at x w ≤ 5
-    which (unhold_at.UnlockFrame frame body) = omega arith
+    which (unhold_at.UnlockFrame frame count body) = omega arith
     which (unhold_at.Release r) = let most : releases.cost r w ≤ 3 = release-small w r in omega arith
     which (unhold_at.UnlockPage body) = omega arith
     which unhold_at.Over = omega arith
@@ -302,7 +302,7 @@ pub unhold-class : (u : Unhold) → (1 ≤ unholds.class u) × (unholds.class u 
 unhold-class u = which u.at
   where
     which : (x : UnholdAt) → (1 ≤ unholds.class_at x) × (unholds.class_at x ≤ 4)
-    which (unhold_at.UnlockFrame frame body) = (omega arith, omega arith)
+    which (unhold_at.UnlockFrame frame count body) = (omega arith, omega arith)
     which (unhold_at.Release r) = let some : 1 ≤ releases.class r = (release-class r).0 in (omega arith, omega arith)
     which (unhold_at.UnlockPage body) = (omega arith, omega arith)
     which unhold_at.Over = (omega arith, omega arith)

@@ -127,7 +127,7 @@ module _ (layout : Layout) (a : State) (seat : ℕ) (view : View) (found : ℕ) 
       at-step other e bound x less = subst (λ (s : Step). cost_at (length (words_then layout a s found).frees) x (words_then layout a s found) < bound) (same_Some other step e)
           (less (subst (λ (s : Step). IsMet layout a seat view s found) (sym (same_Some other step e)) on))
 
-      which : (x : TakeAt) → FitsAt layout view x → plan_at x ≡ Some step → cost_at (length (words_then layout a step found).frees) (next_at layout x found) (words_then layout a step found) < cost_at n x w
+      which : (x : TakeAt) → FitsAt layout view t.who x → plan_at x ≡ Some step → cost_at (length (words_then layout a step found).frees) (next_at layout x found) (words_then layout a step found) < cost_at n x w
       which take_at.LoadAvailable fit e = at-step (steps.Load places.Available) e _ _ available-falls
       which (take_at.Reserve seen) fit e = at-step (steps.Reserve seen) e _ _ (reserve-falls seen fit.0)
       which (take_at.LoadFree number) fit e = at-step (steps.Load (places.Free number)) e _ _ (scan-falls number fit.0 fit.1.0)

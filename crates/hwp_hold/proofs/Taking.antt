@@ -4,6 +4,7 @@ use Rattle.std.proofs.lemmas.Bool.{both_ways, ltb-true, eqb-true, eqb-false}
 use Rattle.std.proofs.lemmas.Option.{none-some, same_Some}
 use Rattle.hwp_geom.specs.declared.Frame.{Frame}
 use Rattle.hwp_geom.specs.declared.Layout.{Layout}
+use Rattle.hwp_geom.specs.declared.Who.{Who}
 use Rattle.hwp_page.specs.History.{BodyValue}
 use Rattle.hwp_words.specs.Frames.{is_handled, is_poisoned}
 use Rattle.hwp_rule.specs.declared.FrameInHand.{FrameInHand}
@@ -25,6 +26,8 @@ use Rattle.hwp_step.specs.declared.Turn.{Turn}
 use Rattle.hwp_step.specs.Calls.{CanMake, Steps}
 use Rattle.hwp_step.specs.Hands.{Hand, hand_of}
 use Rattle.hwp_step.proofs.Stepping.{on-turn-after, hand-planned, steps-planned, can-make}
+use Rattle.hwp_known.specs.Known.{Saw}
+use Rattle.hwp_known.proofs.Seeing.{saw-load, saw-reserve}
 use Rattle.hwp_hold.specs.declared.take.Take.{Take}
 use Rattle.hwp_hold.specs.declared.take.TakeAt.{TakeAt}
 use Rattle.hwp_hold.specs.declared.take.TakeAt.TheVariants as at
@@ -36,7 +39,7 @@ use Rattle.hwp_hold.proofs.Freeing.{lowest-shown}
 pub can : (layout : Layout) (view : View) (t : Take) (step : Step) → Fits layout view t → plan t ≡ Some step → CanMake layout t.who step None view
 can layout view t step fits is = which t.at fits.at is
   where
-    which : (x : TakeAt) → FitsAt layout view x → plan_at x ≡ Some step → CanMake layout t.who step None view
+    which : (x : TakeAt) → FitsAt layout view t.who x → plan_at x ≡ Some step → CanMake layout t.who step None view
     which at.LoadAvailable at e = can-make fits.on_turn e tt tt tt
     which (at.Reserve seen) at e = can-make fits.on_turn e tt tt (at.0, at.1.0)
     which (at.LoadFree number) at e = can-make fits.on_turn e tt at.0 tt
@@ -54,13 +57,14 @@ LockRoomIn h = length h.locks < 2
 same-room : (old new : View) → hand_of new ≡ hand_of old → HasRoom old × HasLockRoom old → HasRoom new × HasLockRoom new
 same-room old new same room = (subst RoomIn (sym same) room.0, subst LockRoomIn (sym same) room.1)
 
-number-shown : (layout : Layout) (view : View) (word : ℕ) (none : Bool) → (word == 0) ≡ none → HasRoom view × HasLockRoom view → FitsAt layout view (cond none (at.Over None) (at.Reserve word))
-number-shown layout view word true is room = tt
-number-shown layout view word false is room = (omega (arith, eqb-false word 0 is), room)
+number-shown : (layout : Layout) (view : View) (who : Who) (word : ℕ) (none : Bool) → (word == 0) ≡ none → Saw view who places.Available word → HasRoom view × HasLockRoom view
+    → FitsAt layout view who (cond none (at.Over None) (at.Reserve word))
+number-shown layout view who word true is saw room = subst (Saw view who places.Available) (eqb-true word 0 is) saw
+number-shown layout view who word false is saw room = (omega (arith, eqb-false word 0 is), room)
 
 module _ {layout : Layout} {old new : View} {step : Step} {found : ℕ} {got : Option BodyValue} (t : Take) (is : plan t ≡ Some step) (made : Steps layout t.who step None old new found got) where
   -- the lock of a frame that was in hand
-  lock-bare : (frame : Frame) → Some (steps.Adopt frame) ≡ Some step → FitsAt layout old (at.Adopt frame) → (is_poisoned found ≡ false) × (lock_found frame found ≡ new_lock frame)
+  lock-bare : (frame : Frame) → Some (steps.Adopt frame) ≡ Some step → FitsAt layout old t.who (at.Adopt frame) → (is_poisoned found ≡ false) × (lock_found frame found ≡ new_lock frame)
   lock-bare frame e at = (clean, λ i. record { frame = frame; owner = bare.unowned i; handled = unhandled i; poisoned = clean i })
     where
       own : Steps layout t.who (steps.Adopt frame) None old new found got
@@ -79,7 +83,7 @@ module _ {layout : Layout} {old new : View} {step : Step} {found : ℕ} {got : O
   pub held-after : (h : Hand) → Fits layout old t → hand_of old ≡ h → hand_of new ≡ hand_next t found h
   held-after h fits has = which t.at is fits.at
     where
-      which : (x : TakeAt) → plan_at x ≡ Some step → FitsAt layout old x → hand_of new ≡ hand_next_at x found h
+      which : (x : TakeAt) → plan_at x ≡ Some step → FitsAt layout old t.who x → hand_of new ≡ hand_next_at x found h
       which at.LoadAvailable e at = hand-planned made e has
       which (at.Reserve seen) e at = hand-planned made e has
       which (at.LoadFree number) e at = hand-planned made e has
@@ -88,17 +92,17 @@ module _ {layout : Layout} {old new : View} {step : Step} {found : ℕ} {got : O
           ∙ ap (λ (l : FrameLock). record h { hands = without (is_hand_of frame) h.hands; refs = with_refs frame 1 h.refs; locks = h.locks ++ l ∷ [] }) (lock-bare frame e at).1
       which (at.Over frame) e at = absurd (none-some step e)
 
-  moved : (x : TakeAt) → plan_at x ≡ Some step → FitsAt layout old x → hand_of new ≡ hand_next_at x found (hand_of old) → ShowsAt x found × FitsAt layout new (next_at layout x found)
-  moved at.LoadAvailable e fit hand = (tt, number-shown layout new found (found == 0) refl (same-room old new hand fit))
-  moved (at.Reserve seen) e fit hand = (tt, by (found == seen) hand)
+  moved : (x : TakeAt) → plan_at x ≡ Some step → FitsAt layout old t.who x → hand_of new ≡ hand_next_at x found (hand_of old) → ShowsAt x found × FitsAt layout new t.who (next_at layout x found)
+  moved at.LoadAvailable e fit hand = (tt, number-shown layout new t.who found (found == 0) refl (saw-load (steps-planned e made)) (same-room old new hand fit))
+  moved (at.Reserve seen) e fit hand = (tt, by (found == seen) refl hand)
     where
-      by : (b : Bool) → hand_of new ≡ cond b (record (hand_of old) { reserved = old.reserved + 1 }) (hand_of old) → FitsAt layout new (cond b (at.LoadFree 0) (at_available found))
-      by true hand =
+      by : (b : Bool) → (found == seen) ≡ b → hand_of new ≡ cond b (record (hand_of old) { reserved = old.reserved + 1 }) (hand_of old) → FitsAt layout new t.who (cond b (at.LoadFree 0) (at_available found))
+      by true same hand =
           let frames : 1 ≤ layout.frames = made.told.rule.sound.some_frame in
           let some : 0 < free_words layout = omega arith in
           let more : new.reserved ≡ old.reserved + 1 = ap (λ (h : Hand). h.reserved) hand in
           (some, (omega (arith, more), subst LockRoomIn (sym hand) fit.1.1))
-      by false hand = number-shown layout new found (found == 0) refl (same-room old new hand fit.1)
+      by false other hand = number-shown layout new t.who found (found == 0) refl (saw-reserve (steps-planned e made) other) (same-room old new hand fit.1)
   moved (at.LoadFree number) e fit hand = (small, by (found == 0) refl)
     where
       own : Steps layout t.who (steps.Load (places.Free number)) None old new found got
@@ -114,12 +118,12 @@ module _ {layout : Layout} {old new : View} {step : Step} {found : ℕ} {got : O
       after-within true less = ltb-true (number + 1) (free_words layout) less
       after-within false less = let inside : number < free_words layout = fit.0 in omega (arith, inside)
 
-      by : (none : Bool) → (found == 0) ≡ none → FitsAt layout new (cond none (at.LoadFree (after_word layout number)) (at.TakeBit (lowest_free number found)))
+      by : (none : Bool) → (found == 0) ≡ none → FitsAt layout new t.who (cond none (at.LoadFree (after_word layout number)) (at.TakeBit (lowest_free number found)))
       by true none = (after-within (nat_lt (number + 1) (free_words layout)) refl, room)
       by false some = ((lowest-shown layout own.told.board own.told.rule number found fit.0 own.told.met (omega (arith, eqb-false found 0 some)) own.told.fits).0, room)
   moved (at.TakeBit frame) e fit hand = (tt, by (has_bit frame found) hand)
     where
-      by : (b : Bool) → hand_of new ≡ cond b (record (hand_of old) { reserved = old.reserved - 1; hands = old.hands ++ views.unpoisoned frame ∷ [] }) (hand_of old) → FitsAt layout new (cond b (at.Adopt frame) (at.LoadFree (frame.0 / 64)))
+      by : (b : Bool) → hand_of new ≡ cond b (record (hand_of old) { reserved = old.reserved - 1; hands = old.hands ++ views.unpoisoned frame ∷ [] }) (hand_of old) → FitsAt layout new t.who (cond b (at.Adopt frame) (at.LoadFree (frame.0 / 64)))
       by true hand = (fit.0, (subst (λ (h : Hand). SomeMember (λ (f : FrameInHand). f.frame ≡ frame) h.hands) (sym hand) (some-last (λ (f : FrameInHand). f.frame ≡ frame) old.hands (views.unpoisoned frame) refl), subst LockRoomIn (sym hand) fit.1.1))
       by false hand =
           let inside : frame.0 < layout.frames = fit.0 in
@@ -131,7 +135,7 @@ module _ {layout : Layout} {old new : View} {step : Step} {found : ℕ} {got : O
 -- a step shows what is needed, and what follows fits again
 pub both : (layout : Layout) (old new : View) (t : Take) (step : Step) (found : ℕ) (got : Option BodyValue) → Fits layout old t → plan t ≡ Some step → Steps layout t.who step None old new found got → Shows t found × Fits layout new (next layout t found)
 both layout old new t step found got fits is made =
-    let all : ShowsAt t.at found × FitsAt layout new (next_at layout t.at found) = moved t is made t.at is fits.at (held-after t is made (hand_of old) fits refl) in
+    let all : ShowsAt t.at found × FitsAt layout new t.who (next_at layout t.at found) = moved t is made t.at is fits.at (held-after t is made (hand_of old) fits refl) in
     (all.0, record { on_turn = on-turn-after fits.on_turn made; at = all.1 })
 
 pub stays : (layout : Layout) (old new : View) (t : Take) (step : Step) (found : ℕ) (got : Option BodyValue) → Fits layout old t → plan t ≡ Some step → Steps layout t.who step None old new found got

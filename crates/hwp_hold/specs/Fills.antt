@@ -7,6 +7,7 @@ use Rattle.hwp_geom.specs.declared.Who.{Who}
 use Rattle.hwp_page.specs.declared.What.TheVariants.{FaultIn}
 use Rattle.hwp_page.specs.History.{BodyValue}
 use Rattle.hwp_page.specs.Step.{Allowed, after}
+use Rattle.hwp_rule.specs.declared.Place.TheVariants as places
 use Rattle.hwp_rule.specs.declared.Step.{Step}
 use Rattle.hwp_rule.specs.declared.Step.TheVariants as steps
 use Rattle.hwp_rule.specs.declared.View.{View}
@@ -17,6 +18,7 @@ use Rattle.hwp_step.specs.declared.Turn.{Turn}
 use Rattle.hwp_step.specs.declared.Turn.TheVariants.{Moved}
 use Rattle.hwp_step.specs.Calls.{IsOnTurn}
 use Rattle.hwp_step.specs.Hands.{Hand, hand_of}
+use Rattle.hwp_known.specs.Known.{Saw}
 use Rattle.hwp_hold.specs.declared.fill.Fill.{Fill}
 use Rattle.hwp_hold.specs.declared.fill.FillAt.{FillAt}
 use Rattle.hwp_hold.specs.declared.fill.FillAt.TheVariants as at
@@ -157,8 +159,8 @@ pub record IsReferring (layout : Layout) (view : View) (who : Who) (page : Page)
   pub under_way : is_none (refers.plan r) ≡ false
 
 abbrev pub FitsOver : Layout → View → Who → Page → BodyValue → Option Frame → Type 0
-FitsOver layout view who page body None = HoldsPage layout view page None body
-FitsOver layout view who page body (Some frame) = HoldsAhead layout who view page (Some frame) (Some body) × (frame.0 < layout.frames)
+FitsOver layout view who page body None = HoldsPage layout view page None body × Saw view who places.Available 0
+FitsOver layout view who page body (Some frame) = HoldsAhead layout who view page (Some frame) 1 (Some body) × (frame.0 < layout.frames)
 
 abbrev pub FitsAt : Layout → View → Who → Page → BodyValue → FillAt → Type 0
 FitsAt layout view who page body (at.Take t) = IsTaking layout view who page body t
@@ -167,7 +169,8 @@ FitsAt layout view who page body (at.Refer r) = IsReferring layout view who page
 FitsAt layout view who page body (at.SetCache frame) = HoldsBoth layout view page body frame (page.0 + 1) 2
 FitsAt layout view who page body (at.Over frame) = FitsOver layout view who page body frame
 
--- the page is held, and the frame once it is taken; there is room for the entry until it is appended
+-- the page is held, and the frame once it is taken; there is room for the entry until it is appended; where no frame was taken,
+-- the command saw that none was available
 pub record Fits (layout : Layout) (view : View) (f : Fill) : Type 0 where
   pub on_turn : IsOnTurn view f.who
   pub page : f.page.0 < length layout.pages

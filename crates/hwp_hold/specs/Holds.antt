@@ -19,6 +19,7 @@ use Rattle.hwp_rule.specs.Views.{frame_in}
 use Rattle.hwp_rule.specs.Words.{Words}
 use Rattle.hwp_step.specs.declared.Turn.{Turn}
 use Rattle.hwp_step.specs.declared.Turn.TheVariants.{Moved, Waits}
+use Rattle.hwp_known.specs.Known.{SawLog}
 use Rattle.hwp_hold.specs.declared.hold.Hold.{Hold}
 use Rattle.hwp_hold.specs.declared.hold.HoldAt.{HoldAt}
 use Rattle.hwp_hold.specs.declared.hold.HoldAt.TheVariants as at
@@ -115,9 +116,12 @@ page_lock page frame trans = record { page = page; resident = is_some frame; cac
 abbrev pub words_of : Layout → Option Frame → Log → Option (List ℕ)
 words_of layout frame log = Some (fitting layout log.page (state_of layout log) (frame_name frame))
 
--- one reference to the frame, and no other
+-- so many references to the frame, or one, and no other
+abbrev pub refs_to : Frame → ℕ → List Ref
+refs_to frame count = record { frame = frame; count = count } ∷ []
+
 abbrev pub one_ref : Frame → List Ref
-one_ref frame = record { frame = frame; count = 1 } ∷ []
+one_ref frame = refs_to frame 1
 
 -- the page alone is locked; what was on its shelf is in hand
 abbrev pub locked : Layout → Page → Option Log → ℕ → Hand
@@ -167,14 +171,19 @@ pub record HoldsPage (layout : Layout) (view : View) (page : Page) (frame : Opti
   pub within : (f : Frame) → frame ≡ Some f → f.0 < layout.frames
   pub body_is : IsBodyOf layout page frame body
 
+-- the command saw the history of the body that is the task's
+abbrev pub SawBody : View → Who → Option BodyValue → Type 0
+SawBody view who None = Unit {0}
+SawBody view who (Some body) = SawLog view who (log_of body)
+
 abbrev pub FitsAt : Layout → View → Who → Page → HoldAt → Type 0
 FitsAt layout view who page at.LockPage = hand_of view ≡ empty
-FitsAt layout view who page (at.LoadCache body) = IsLocked layout view page body
+FitsAt layout view who page (at.LoadCache body) = IsLocked layout view page body × SawBody view who body
 FitsAt layout view who page (at.Pin p) = IsPinning layout view who page p
 FitsAt layout view who page (at.LockFrame frame) = (hand_of view ≡ named page frame (one_ref frame)) × (frame.0 < layout.frames)
-FitsAt layout view who page (at.Held frame body) = HoldsPage layout view page frame body
+FitsAt layout view who page (at.Held frame body) = HoldsPage layout view page frame body × SawLog view who (log_of body)
 
--- the processor holds nothing at first, and then what the task took
+-- the processor holds nothing at first, and then what the task took; the command saw the history of the body that it has
 pub record Fits (layout : Layout) (view : View) (h : Hold) : Type 0 where
   pub on_turn : IsOnTurn view h.who
   pub page : h.page.0 < length layout.pages

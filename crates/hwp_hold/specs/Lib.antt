@@ -5,4 +5,5 @@ pub mod Unholds
 pub mod Takes
 pub mod Refers
 pub mod Fills
+pub mod Unlocks
 pub mod GiveUps

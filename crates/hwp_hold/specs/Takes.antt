@@ -20,6 +20,7 @@ use Rattle.hwp_step.specs.declared.Turn.TheVariants.{Moved, Changed}
 use Rattle.hwp_step.specs.Calls.{IsOnTurn}
 use Rattle.hwp_step.specs.Hands.{Hand}
 use Rattle.hwp_step.specs.Ranks.{stale}
+use Rattle.hwp_known.specs.Known.{Saw}
 use Rattle.hwp_hold.specs.declared.take.Take.{Take}
 use Rattle.hwp_hold.specs.declared.take.TakeAt.{TakeAt}
 use Rattle.hwp_hold.specs.declared.take.TakeAt.TheVariants as at
@@ -103,19 +104,20 @@ answer t = answer_at t.at
 abbrev pub HasLockRoom : View → Type 0
 HasLockRoom view = length view.locks < 2
 
-abbrev pub FitsAt : Layout → View → TakeAt → Type 0
-FitsAt layout view at.LoadAvailable = HasRoom view × HasLockRoom view
-FitsAt layout view (at.Reserve seen) = (0 < seen) × (HasRoom view × HasLockRoom view)
-FitsAt layout view (at.LoadFree number) = (number < free_words layout) × ((0 < view.reserved) × HasLockRoom view)
-FitsAt layout view (at.TakeBit frame) = (frame.0 < layout.frames) × ((0 < view.reserved) × HasLockRoom view)
-FitsAt layout view (at.Adopt frame) = (frame.0 < layout.frames) × (HasInHand view frame × HasLockRoom view)
-FitsAt layout view (at.Over None) = Unit {0}
-FitsAt layout view (at.Over (Some frame)) = frame.0 < layout.frames
+abbrev pub FitsAt : Layout → View → Who → TakeAt → Type 0
+FitsAt layout view who at.LoadAvailable = HasRoom view × HasLockRoom view
+FitsAt layout view who (at.Reserve seen) = (0 < seen) × (HasRoom view × HasLockRoom view)
+FitsAt layout view who (at.LoadFree number) = (number < free_words layout) × ((0 < view.reserved) × HasLockRoom view)
+FitsAt layout view who (at.TakeBit frame) = (frame.0 < layout.frames) × ((0 < view.reserved) × HasLockRoom view)
+FitsAt layout view who (at.Adopt frame) = (frame.0 < layout.frames) × (HasInHand view frame × HasLockRoom view)
+FitsAt layout view who (at.Over None) = Saw view who places.Available 0
+FitsAt layout view who (at.Over (Some frame)) = frame.0 < layout.frames
 
--- there is room for the frame until it is reserved, and for its lock until it is locked
+-- there is room for the frame until it is reserved, and for its lock until it is locked; where none is taken, the command saw
+-- that none was available
 pub record Fits (layout : Layout) (view : View) (t : Take) : Type 0 where
   pub on_turn : IsOnTurn view t.who
-  pub at : FitsAt layout view t.at
+  pub at : FitsAt layout view t.who t.at
 
 -- the lock of a frame just taken: it has no owner, and is neither handled nor poisoned
 abbrev pub new_lock : Frame → FrameLock

@@ -1,7 +1,7 @@
 ghost use Rattle.std.specs.Prelude.{◌≡◌, Option, is_none};
 
-use crate::release::Release;
 use crate::unhold::Unhold;
+use crate::unlock::Unlock;
 use hwp_geom::{Frame, Layout, Page, Who};
 use hwp_page::Body;
 use hwp_rule::Step;
@@ -19,23 +19,23 @@ pub struct GiveUp {
 #[derive(Drop)]
 enum GiveUpAt {
     Unhold { unhold: Unhold },
-    UnlockFrame { frame: Frame, body: Option<Body> },
-    Release { release: Release },
+    Unlock { unlock: Unlock },
     GiveUp,
     Over,
 }
 
 impl GiveUp {
-    ghost use Rattle.hwp_hold.specs.GiveUps.{with_page, with_frame, plan, after_unhold, after_release};
+    ghost use Rattle.hwp_hold.specs.GiveUps.{with_page, with_frame, plan, after_unhold, after_unlock};
 
-    /// The command holds the page, with the frame that it is in, if any, and its body.
-    pub fn with_page(who: Who, page: Page, frame: Option<Frame>, body: Body) -> GiveUp
-        ensures { result ≡ with_page who page frame body }
+    /// The command holds the page, with the frame that it is in, if any, so many references to that frame, and the page's
+    /// body.
+    pub fn with_page(who: Who, page: Page, frame: Option<Frame>, count: u32, body: Body) -> GiveUp
+        ensures { result ≡ with_page who page frame count body }
     {
         GiveUp {
             who,
             at: GiveUpAt::Unhold {
-                unhold: Unhold::new(who, page, frame, body),
+                unhold: Unhold::new(who, page, frame, count, body),
             },
         }
     }
@@ -46,9 +46,8 @@ impl GiveUp {
     {
         GiveUp {
             who,
-            at: GiveUpAt::UnlockFrame {
-                frame,
-                body: Some(body),
+            at: GiveUpAt::Unlock {
+                unlock: Unlock::new(who, frame, Some(body)),
             },
         }
     }
@@ -59,8 +58,8 @@ impl GiveUp {
     {
         match &self.at {
             GiveUpAt::Unhold { unhold } => unhold.is_over(),
-            GiveUpAt::Release { release } => release.is_over(),
-            GiveUpAt::UnlockFrame { .. } | GiveUpAt::GiveUp => false,
+            GiveUpAt::Unlock { unlock } => unlock.is_over(),
+            GiveUpAt::GiveUp => false,
             GiveUpAt::Over => true,
         }
     }
@@ -75,13 +74,13 @@ impl GiveUp {
         }
     }
 
-    fn after_release(release: Release) -> GiveUpAt
-        ensures { result ≡ after_release release }
+    fn after_unlock(unlock: Unlock) -> GiveUpAt
+        ensures { result ≡ after_unlock unlock }
     {
-        if release.is_over() {
+        if unlock.is_over() {
             GiveUpAt::GiveUp
         } else {
-            GiveUpAt::Release { release }
+            GiveUpAt::Unlock { unlock }
         }
     }
 }
@@ -111,8 +110,7 @@ impl Machine for GiveUp {
     fn plan(&self) -> Option<Step> {
         match &self.at {
             GiveUpAt::Unhold { unhold } => unhold.plan(),
-            GiveUpAt::UnlockFrame { frame, .. } => Some(Step::UnlockFrame { frame: *frame }),
-            GiveUpAt::Release { release } => release.plan(),
+            GiveUpAt::Unlock { unlock } => unlock.plan(),
             GiveUpAt::GiveUp => Some(Step::GiveUp),
             GiveUpAt::Over => None,
         }
@@ -125,13 +123,10 @@ impl Machine for GiveUp {
                 self.at = GiveUpAt::Unhold { unhold };
                 body
             }
-            GiveUpAt::UnlockFrame { frame, body } => {
-                self.at = GiveUpAt::UnlockFrame { frame, body: None };
+            GiveUpAt::Unlock { mut unlock } => {
+                let body = unlock.give();
+                self.at = GiveUpAt::Unlock { unlock };
                 body
-            }
-            GiveUpAt::Release { release } => {
-                self.at = GiveUpAt::Release { release };
-                None
             }
             GiveUpAt::GiveUp => {
                 self.at = GiveUpAt::GiveUp;
@@ -148,15 +143,9 @@ impl Machine for GiveUp {
                 self.at = GiveUp::after_unhold(unhold);
                 turn
             }
-            GiveUpAt::UnlockFrame { frame, .. } => {
-                self.at = GiveUpAt::Release {
-                    release: Release::new(self.who, frame, 1),
-                };
-                Turn::Moved
-            }
-            GiveUpAt::Release { mut release } => {
-                let turn = release.settle(layout, found, body);
-                self.at = GiveUp::after_release(release);
+            GiveUpAt::Unlock { mut unlock } => {
+                let turn = unlock.settle(layout, found, body);
+                self.at = GiveUp::after_unlock(unlock);
                 turn
             }
             GiveUpAt::GiveUp => Turn::NoMemory,
@@ -180,8 +169,7 @@ impl Ranked for GiveUp {
     fn class(&self) -> u8 {
         match &self.at {
             GiveUpAt::Unhold { unhold } => unhold.class(),
-            GiveUpAt::UnlockFrame { .. } => 1,
-            GiveUpAt::Release { release } => release.class(),
+            GiveUpAt::Unlock { unlock } => unlock.class(),
             GiveUpAt::GiveUp | GiveUpAt::Over => 4,
         }
     }

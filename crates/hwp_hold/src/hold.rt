@@ -75,7 +75,7 @@ impl Hold {
     {
         let Hold { who, page, at } = self;
         match at {
-            HoldAt::Held { frame, body } => Unhold::new(who, page, frame, body),
+            HoldAt::Held { frame, body } => Unhold::new(who, page, frame, 1, body),
             HoldAt::LockPage
             | HoldAt::LoadCache { .. }
             | HoldAt::Pin { .. }

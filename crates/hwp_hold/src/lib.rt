@@ -1,5 +1,5 @@
-//! The first tasks: a reference taken and given back, a page held and let go, a free frame taken and a page put into it,
-//! and a command given up.
+//! The first tasks: a reference taken and given back, a page held and let go, a frame let go, a free frame taken and a page
+//! put into it, and a command given up.
 #![tactic(auto)]
 
 mod fill;
@@ -10,6 +10,7 @@ mod refer;
 mod release;
 mod take;
 mod unhold;
+mod unlock;
 
 pub use fill::{Fill, FillAnswer};
 pub use give_up::GiveUp;
@@ -19,3 +20,4 @@ pub use refer::Refer;
 pub use release::Release;
 pub use take::{Take, TakeAnswer};
 pub use unhold::Unhold;
+pub use unlock::Unlock;

@@ -19,18 +19,27 @@ pub struct Unhold {
 
 #[derive(Drop)]
 enum UnholdAt {
-    UnlockFrame { frame: Frame, body: Option<Body> },
-    Release { release: Release },
-    UnlockPage { body: Option<Body> },
+    UnlockFrame {
+        frame: Frame,
+        count: u32,
+        body: Option<Body>,
+    },
+    Release {
+        release: Release,
+    },
+    UnlockPage {
+        body: Option<Body>,
+    },
     Over,
 }
 
 impl Unhold {
     ghost use Rattle.hwp_hold.specs.Unholds.{begin, plan, after_release};
 
-    /// The command lets the page go, with the frame that it is in, if any, and its body.
-    pub fn new(who: Who, page: Page, frame: Option<Frame>, body: Body) -> Unhold
-        ensures { result ≡ begin who page frame body }
+    /// The command lets the page go, with the frame that it is in, if any, so many references to that frame, and the
+    /// page's body.
+    pub fn new(who: Who, page: Page, frame: Option<Frame>, count: u32, body: Body) -> Unhold
+        ensures { result ≡ begin who page frame count body }
     {
         Unhold {
             who,
@@ -38,6 +47,7 @@ impl Unhold {
             at: match frame {
                 Some(frame) => UnholdAt::UnlockFrame {
                     frame,
+                    count,
                     body: Some(body),
                 },
                 None => UnholdAt::UnlockPage { body: Some(body) },
@@ -101,8 +111,12 @@ impl Machine for Unhold {
 
     fn give(&mut self) -> Option<Body> {
         match mem::replace(&mut self.at, UnholdAt::Over) {
-            UnholdAt::UnlockFrame { frame, body } => {
-                self.at = UnholdAt::UnlockFrame { frame, body: None };
+            UnholdAt::UnlockFrame { frame, count, body } => {
+                self.at = UnholdAt::UnlockFrame {
+                    frame,
+                    count,
+                    body: None,
+                };
                 body
             }
             UnholdAt::UnlockPage { body } => {
@@ -119,9 +133,9 @@ impl Machine for Unhold {
 
     fn settle(&mut self, layout: &Layout, found: u64, body: Option<Body>) -> Turn {
         match self.at {
-            UnholdAt::UnlockFrame { frame, .. } => {
+            UnholdAt::UnlockFrame { frame, count, .. } => {
                 self.at = UnholdAt::Release {
-                    release: Release::new(self.who, frame, 1),
+                    release: Release::new(self.who, frame, count),
                 };
                 Turn::Moved
             }

@@ -89,7 +89,7 @@ fn letting_go(board: &PlainBoard, hold: Hold) -> Option<Unhold>
     };
     let who = hold.who();
     let body = hold.body();
-    Some(Unhold::new(who, Page(0), frame, body))
+    Some(Unhold::new(who, Page(0), frame, 1, body))
 }
 
 /// One turn of a processor's task, which leaves what the other processor's task needs.
