@@ -2,8 +2,10 @@
 //! out; and the losses of a file reported.
 #![tactic(auto)]
 
+mod evict;
 mod fsync;
 mod vacate;
 
+pub use evict::{Evict, EvictAnswer, Eviction, Refusal};
 pub use fsync::{Fsync, FsyncAnswer};
 pub use vacate::Vacate;
