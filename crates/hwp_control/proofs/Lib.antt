@@ -1,4 +1,4 @@
-mod Glancing
-mod Reading
-mod Nesting
-mod Calling
+pub mod Glancing
+pub mod Reading
+pub mod Nesting
+pub mod Calling

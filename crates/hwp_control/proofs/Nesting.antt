@@ -11,19 +11,17 @@ use Rattle.hwp_rule.specs.declared.Step.{Step}
 use Rattle.hwp_rule.specs.declared.Step.TheVariants as steps
 use Rattle.hwp_rule.specs.declared.View.{View}
 use Rattle.hwp_rule.specs.Lists.{SomeMember}
-use Rattle.hwp_rule.specs.Views.{noted}
+use Rattle.hwp_rule.specs.Views.{noted, sighted, stamp_of}
 use Rattle.hwp_rule.proofs.Lists.{some-last}
 use Rattle.hwp_step.specs.declared.Turn.{Turn}
 use Rattle.hwp_step.specs.declared.Turn.TheVariants.{Moved, Changed, NoMemory}
 use Rattle.hwp_step.specs.Calls.{CanMake, Steps}
-use Rattle.hwp_step.specs.Hands.{hand_of, empty}
-use Rattle.hwp_step.specs.Ranks.{Member, member, IsRanked, is_waits, words_at}
+use Rattle.hwp_step.specs.Ranks.{Member, member, IsRanked, is_waits}
 use Rattle.hwp_step.proofs.Ranking.{rank-of}
 use Rattle.hwp_step.proofs.Stepping.{can-make, hand-planned, on-turn-after, steps-planned}
 use Rattle.hwp_step.specs.Classes.{TellsClass}
-use Rattle.hwp_known.specs.Known.{HasMadeNone, SawStop}
-use Rattle.hwp_known.proofs.Doing.{made-none-stays}
-use Rattle.hwp_known.proofs.Seeing.{saw-stop-word}
+use Rattle.hwp_known.specs.Known.{IsShown, SawStop}
+use Rattle.hwp_known.proofs.Listing.{deeds-same}
 use Rattle.hwp_control.specs.declared.nested.Nested.{Nested}
 use Rattle.hwp_control.specs.declared.nested.NestedAt.{NestedAt}
 use Rattle.hwp_control.specs.declared.nested.NestedAt.TheVariants as at
@@ -43,10 +41,15 @@ can layout view n step fits is = which n.at is
 module _ {layout : Layout} {who : Who} {old new : View} {found : ℕ} {got : Option BodyValue} (made : Steps layout who (steps.Stop who.cpu) None old new found got) where
   stopped : (found == 0) ≡ true → HasStopped new who
   stopped is = subst (SomeMember (λ (w : Who). w ≡ who)) (sym (ap (λ (v : View). v.stops) made.told.next
-      ∙ ap (λ (b : Bool). (cond b (record (noted who old) { stops = old.stops ++ who ∷ [] }) _).stops) is)) (some-last (λ (w : Who). w ≡ who) old.stops who refl)
+      ∙ ap (λ (b : Bool). (cond b (record (noted who old) { stops = old.stops ++ who ∷ [] }) (sighted who places.Stop found (noted who old))).stops) is)) (some-last (λ (w : Who). w ≡ who) old.stops who refl)
 
   was-stopped : (found == 0) ≡ false → is_stopped found ≡ true → SawStop new who
-  was-stopped other is = record { word = found; stopped = is; saw = saw-stop-word made other }
+  was-stopped other is = record {
+    word = found;
+    stopped = is;
+    saw = subst (SomeMember (IsShown who places.Stop found)) (sym (ap (λ (v : View). v.sights) made.told.next
+        ∙ ap (λ (b : Bool). (cond b (record (noted who old) { stops = old.stops ++ who ∷ [] }) (sighted who places.Stop found (noted who old))).sights) other)) (some-last (IsShown who places.Stop found) old.sights (record { stamp = stamp_of who (noted who old); place = places.Stop; word = found }) (refl, refl, refl));
+  }
 
 pub both : (layout : Layout) (old new : View) (n : Nested) (step : Step) (found : ℕ) (got : Option BodyValue) → Fits layout old n → plan n ≡ Some step → Steps layout n.who step None old new found got → Fits layout new (next n found)
 both layout old new n step found got fits is made = which n.at is
@@ -55,7 +58,7 @@ both layout old new n step found got fits is made = which n.at is
     which at.LoadStop e = record {
       on_turn = on-turn-after fits.on_turn made;
       hand_is = hand-planned made e fits.hand_is;
-      made = made-none-stays (steps-planned e made) tt fits.made;
+      made = deeds-same n.who tt (steps-planned e made) ∙ fits.made;
       at = by (is_stopped found) refl;
     }
       where
@@ -65,7 +68,7 @@ both layout old new n step found got fits is made = which n.at is
     which at.Stop e = record {
       on_turn = on-turn-after fits.on_turn made;
       hand_is = hand-planned made e fits.hand_is;
-      made = made-none-stays (steps-planned e made) tt fits.made;
+      made = deeds-same n.who tt (steps-planned e made) ∙ fits.made;
       at = by (found == 0) refl (is_stopped found) refl;
     }
       where
@@ -113,7 +116,7 @@ goes n found = which n.at
     which at.Stop = by (found == 0) (is_stopped found)
     which (at.Over answer) = refl
 
-abbrev the-member : Member Nested
+abbrev pub the-member : Member Nested
 the-member = member (λ n. n.who) plan (λ n. None) (λ n. n) (λ layout n found got after result. (after ≡ next n found) × (result ≡ turn n found)) Fits (λ n. 4) (λ n words. cost n) (λ n. false) (λ n. None)
 
 pub ranked : IsRanked the-member

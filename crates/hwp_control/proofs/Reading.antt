@@ -5,20 +5,16 @@ use Rattle.std.proofs.lemmas.Option.{none-some}
 use Rattle.hwp_geom.specs.declared.Layout.{Layout}
 use Rattle.hwp_page.specs.History.{BodyValue}
 use Rattle.hwp_words.specs.Stops.{is_stopped}
-use Rattle.hwp_rule.specs.declared.Place.TheVariants as places
 use Rattle.hwp_rule.specs.declared.Step.{Step}
-use Rattle.hwp_rule.specs.declared.Step.TheVariants as steps
 use Rattle.hwp_rule.specs.declared.View.{View}
 use Rattle.hwp_step.specs.declared.Turn.{Turn}
 use Rattle.hwp_step.specs.declared.Turn.TheVariants.{Moved}
 use Rattle.hwp_step.specs.Calls.{CanMake, Steps}
-use Rattle.hwp_step.specs.Hands.{hand_of, empty}
-use Rattle.hwp_step.specs.Ranks.{Member, member, IsRanked, is_waits, words_at}
+use Rattle.hwp_step.specs.Ranks.{Member, member, IsRanked, is_waits}
 use Rattle.hwp_step.proofs.Ranking.{rank-of}
 use Rattle.hwp_step.proofs.Stepping.{can-make, hand-planned, on-turn-after, steps-planned}
 use Rattle.hwp_step.specs.Classes.{TellsClass}
-use Rattle.hwp_known.specs.Known.{HasMadeNone}
-use Rattle.hwp_known.proofs.Doing.{made-none-stays}
+use Rattle.hwp_known.proofs.Listing.{deeds-same}
 use Rattle.hwp_control.specs.declared.read_stop.ReadStop.{ReadStop}
 use Rattle.hwp_control.specs.declared.read_stop.ReadStopAt.{ReadStopAt}
 use Rattle.hwp_control.specs.declared.read_stop.ReadStopAt.TheVariants as at
@@ -40,7 +36,7 @@ both layout old new r step found got fits is made = which r.at is
     which at.LoadStop e = record {
       on_turn = on-turn-after fits.on_turn made;
       hand_is = hand-planned made e fits.hand_is;
-      made = made-none-stays (steps-planned e made) tt fits.made;
+      made = deeds-same r.who tt (steps-planned e made) ∙ fits.made;
       at = by (is_stopped found) refl;
     }
       where
@@ -68,7 +64,7 @@ small r = which r.at
     which at.LoadStop = omega arith
     which (at.Over answer) = omega arith
 
-abbrev the-member : Member ReadStop
+abbrev pub the-member : Member ReadStop
 the-member = member (λ r. r.who) plan (λ r. None) (λ r. r) (λ layout r found got after result. (after ≡ next r found) × (result ≡ Moved)) Fits (λ r. 4) (λ r words. cost r) (λ r. false) (λ r. None)
 
 pub ranked : IsRanked the-member

@@ -7,13 +7,13 @@ use hwp_step::{Machine, Ranked, Scheduled, Turn};
 use hwp_words::is_stopped;
 
 /// A machine check inside a machine check, which shuts the processor down and so stops the machine (Intel SDM vol. 3).
-#[derive(Clone, Copy, Debug, PartialEq, Eq)]
+#[derive(Clone, Copy)]
 pub struct Nested {
     who: Who,
     at: NestedAt,
 }
 
-#[derive(Clone, Copy, Debug, PartialEq, Eq)]
+#[derive(Clone, Copy)]
 enum NestedAt {
     LoadStop,
     Stop,
@@ -21,7 +21,7 @@ enum NestedAt {
 }
 
 /// What a `Nested` came to (this project's rule).
-#[derive(Clone, Copy, Debug, PartialEq, Eq)]
+#[derive(Clone, Copy)]
 pub enum NestedAnswer {
     /// This command stopped the machine.
     Shutdown,

@@ -8,7 +8,7 @@ use hwp_step::{Machine, Ranked, Scheduled, Turn};
 use hwp_words::{PolicyWord, ProcessWord, is_stopped};
 
 /// A thread calls prctl(2), with PR_MCE_KILL or PR_MCE_KILL_GET where the arguments say so.
-#[derive(Clone, Copy, Debug, PartialEq, Eq)]
+#[derive(Clone, Copy)]
 pub struct Prctl {
     who: Who,
     thread: Thread,
@@ -17,7 +17,7 @@ pub struct Prctl {
     at: PrctlAt,
 }
 
-#[derive(Clone, Copy, Debug, PartialEq, Eq)]
+#[derive(Clone, Copy)]
 enum PrctlAt {
     LoadStop,
     LoadProcess,
@@ -27,7 +27,7 @@ enum PrctlAt {
 }
 
 /// What a `Prctl` came to (this project's rule).
-#[derive(Clone, Copy, Debug, PartialEq, Eq)]
+#[derive(Clone, Copy)]
 pub enum PrctlAnswer {
     /// The call was made, with this reply.
     Replied(Reply),

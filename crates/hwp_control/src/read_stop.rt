@@ -8,20 +8,20 @@ use hwp_words::is_stopped;
 
 /// A command that only looks whether the machine has stopped: all that it does else is its processor's own (this project's
 /// rule).
-#[derive(Clone, Copy, Debug, PartialEq, Eq)]
+#[derive(Clone, Copy)]
 pub struct ReadStop {
     who: Who,
     at: ReadStopAt,
 }
 
-#[derive(Clone, Copy, Debug, PartialEq, Eq)]
+#[derive(Clone, Copy)]
 enum ReadStopAt {
     LoadStop,
     Over { answer: ReadStopAnswer },
 }
 
 /// What a `ReadStop` came to (this project's rule).
-#[derive(Clone, Copy, Debug, PartialEq, Eq)]
+#[derive(Clone, Copy)]
 pub enum ReadStopAnswer {
     /// The machine goes on.
     Done,

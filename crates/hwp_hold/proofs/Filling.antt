@@ -215,13 +215,13 @@ module _ {layout : Layout} {old new : View} {who : Who} {page : Page} {body : Bo
           ∙ ap (λ (b : Bool). with-words layout page body has.seen frame (one_ref frame) b) (same-number page.0 page.0 refl)
 
 pub both : (layout : Layout) (old new : View) (f : Fill) (step : Step) (found : ℕ) (got : Option BodyValue) → Fits layout old f → plan f ≡ Some step → Steps layout f.who step None old new found got
-    → Shows f found × Fits layout new (next layout f found)
+    → Shows f found got × Fits layout new (next layout f found)
 both layout old new f step found got fits is made = (all.0, record { on_turn = on; page = fits.page; at = all.1 })
   where
     on : IsOnTurn new f.who
     on = on-turn-after fits.on_turn made
 
-    which : (x : FillAt) → plan_at f.page x ≡ Some step → FitsAt layout old f.who f.page f.body x → ShowsAt f.body x found × FitsAt layout new f.who f.page (body_next f.who x f.body) (next_at layout f.who x found)
+    which : (x : FillAt) → plan_at f.page x ≡ Some step → FitsAt layout old f.who f.page f.body x → ShowsAt f.body x found got × FitsAt layout new f.who f.page (body_next f.who x f.body) (next_at layout f.who x found)
     which (at.Take t) e has = (
       child.0,
       take-moved has.entry t (takes.next_at layout t.at found) has.seen has.own
@@ -231,7 +231,7 @@ both layout old new f step found got fits is made = (all.0, record { on_turn = o
         own : Steps layout t.who step None old new found got
         own = subst (λ (w : Who). Steps layout w step None old new found got) (sym has.own) made
 
-        child : takes.Shows t found × takes.Fits layout new (takes.next layout t found)
+        child : takes.Shows t found got × takes.Fits layout new (takes.next layout t found)
         child = taking.both layout old new t step found got has.take e own
     which (at.SetOwner frame) e has = (tt, owner-set on frame has (steps-planned e made))
     which (at.Refer r) e has = (
@@ -250,11 +250,11 @@ both layout old new f step found got fits is made = (all.0, record { on_turn = o
     which (at.SetCache frame) e has = (has.entry.room, cache-set on frame fits.page has (steps-planned e made))
     which (at.Over frame) e has = absurd (none-some step e)
 
-    all : ShowsAt f.body f.at found × FitsAt layout new f.who f.page (body_next f.who f.at f.body) (next_at layout f.who f.at found)
+    all : ShowsAt f.body f.at found got × FitsAt layout new f.who f.page (body_next f.who f.at f.body) (next_at layout f.who f.at found)
     all = which f.at is fits.at
 
 pub stays : (layout : Layout) (old new : View) (f : Fill) (step : Step) (found : ℕ) (got : Option BodyValue) → Fits layout old f → plan f ≡ Some step → Steps layout f.who step None old new found got
-    → Shows f found × ((after : Fill) (result : Turn) → (after ≡ next layout f found) × (result ≡ turn f found) → Fits layout new after × (after.who.cpu ≡ f.who.cpu))
+    → Shows f found got × ((after : Fill) (result : Turn) → (after ≡ next layout f found) × (result ≡ turn f found) → Fits layout new after × (after.who.cpu ≡ f.who.cpu))
 stays layout old new f step found got fits is made =
     let all = both layout old new f step found got fits is made in
     (all.0, λ after result follows. (subst (Fits layout new) (sym follows.0) all.1, ap (λ (x : Fill). x.who.cpu) follows.0))

@@ -12,6 +12,7 @@ use Rattle.hwp_geom.specs.declared.Page.{Page}
 use Rattle.hwp_geom.specs.declared.Who.{Who}
 use Rattle.hwp_page.specs.declared.Entry.{Entry}
 use Rattle.hwp_page.specs.History.{BodyValue, Leads}
+use Rattle.hwp_page.specs.Endings.{has_ending}
 use Rattle.hwp_words.specs.Names.{frame_name}
 use Rattle.hwp_rule.specs.declared.InHand.{InHand}
 use Rattle.hwp_rule.specs.declared.Log.{Log}
@@ -20,7 +21,7 @@ use Rattle.hwp_rule.specs.declared.Sight.{Sight}
 use Rattle.hwp_rule.specs.declared.View.{View}
 use Rattle.hwp_rule.specs.Asks.{Extends, PutFits, CanGoHome}
 use Rattle.hwp_rule.specs.Lists.{EachMember}
-use Rattle.hwp_rule.specs.Logs.{log_of, state_of, has_ending, fitting, fitting_word}
+use Rattle.hwp_rule.specs.Logs.{log_of, state_of, fitting, fitting_word}
 use Rattle.hwp_rule.specs.Views.{more_of, page_locks_on}
 use Rattle.hwp_rule.specs.parts.Entries.{HasSeen}
 use Rattle.hwp_rule.specs.parts.Fits.{FitsWords}

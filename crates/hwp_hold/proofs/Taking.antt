@@ -1,29 +1,35 @@
 -- The laws of `Take`.
-use Rattle.std.proofs.Common.{◌≡◌, ℕ, ◌+◌, ◌-◌, ◌/◌, ◌^◌, ◌<◌, ◌≤◌, ◌==◌, nat_lt, Bool, true, false, cond, [], ◌∷◌, ◌++◌, Option, Some, None, is_none, length, refl, sym, ap, ◌∙◌, subst, arith}
+use Rattle.std.proofs.Common.{◌≡◌, ℕ, ◌+◌, ◌-◌, ◌/◌, ◌^◌, ◌<◌, ◌≤◌, ◌==◌, nat_lt, Bool, true, false, cond, [], ◌∷◌, ◌++◌, Option, Some, None, is_none, length, slice_get, slice_index, refl, sym, ap, ◌∙◌, subst, arith}
 use Rattle.std.proofs.lemmas.Bool.{both_ways, ltb-true, eqb-true, eqb-false}
 use Rattle.std.proofs.lemmas.Option.{none-some, same_Some}
 use Rattle.hwp_geom.specs.declared.Frame.{Frame}
 use Rattle.hwp_geom.specs.declared.Layout.{Layout}
 use Rattle.hwp_geom.specs.declared.Who.{Who}
 use Rattle.hwp_page.specs.History.{BodyValue}
-use Rattle.hwp_words.specs.Frames.{is_handled, is_poisoned}
+use Rattle.hwp_words.specs.Frames.{is_handled, is_poisoned, owner_of}
 use Rattle.hwp_rule.specs.declared.FrameInHand.{FrameInHand}
 use Rattle.hwp_rule.specs.declared.FrameLock.{FrameLock}
+use Rattle.hwp_rule.specs.declared.Log.{Log}
 use Rattle.hwp_rule.specs.declared.Place.TheVariants as places
+use Rattle.hwp_rule.specs.declared.State.{State}
 use Rattle.hwp_rule.specs.declared.Step.{Step}
 use Rattle.hwp_rule.specs.declared.Step.TheVariants as steps
 use Rattle.hwp_rule.specs.declared.View.{View}
-use Rattle.hwp_rule.specs.Asks.{HasRoom}
+use Rattle.hwp_rule.specs.Asks.{HasInHand, HasRoom}
+use Rattle.hwp_rule.specs.Logs.{log_of}
+use Rattle.hwp_rule.specs.Rule.{Holds}
+use Rattle.hwp_rule.specs.Slots.{IsIn, frame_slot}
 use Rattle.hwp_rule.specs.Lists.{SomeMember}
 use Rattle.hwp_rule.specs.Views.{lock_found, with_refs, without, is_hand_of}
 use Rattle.hwp_rule.specs.Views as views
-use Rattle.hwp_rule.specs.Words.{free_words}
+use Rattle.hwp_rule.specs.Words.{free_words, index}
+use Rattle.hwp_rule.specs.parts.Bodies.{IsAtHome, content_name}
 use Rattle.hwp_rule.specs.Steps.{place_of}
 use Rattle.hwp_rule.specs.parts.Places.{IsBare}
 use Rattle.hwp_rule.proofs.Lists.{some-last}
-use Rattle.hwp_rule.proofs.Meeting.{unpoisoned, hand-bare}
+use Rattle.hwp_rule.proofs.Meeting.{unpoisoned, frame-word, hand-bare}
 use Rattle.hwp_step.specs.declared.Turn.{Turn}
-use Rattle.hwp_step.specs.Calls.{CanMake, Steps}
+use Rattle.hwp_step.specs.Calls.{CanMake, Steps, logs}
 use Rattle.hwp_step.specs.Hands.{Hand, hand_of}
 use Rattle.hwp_step.proofs.Stepping.{on-turn-after, hand-planned, steps-planned, can-make}
 use Rattle.hwp_known.specs.Known.{Saw}
@@ -62,6 +68,27 @@ number-shown : (layout : Layout) (view : View) (who : Who) (word : ℕ) (none : 
 number-shown layout view who word true is saw room = subst (Saw view who places.Available) (eqb-true word 0 is) saw
 number-shown layout view who word false is saw room = (omega (arith, eqb-false word 0 is), room)
 
+-- what is of no page is no body
+none-named : (content : Option Log) → content_name content ≡ 0 → content ≡ None
+none-named None e = refl
+none-named (Some log) e = absurd (omega arith)
+
+none-brought : (got : Option BodyValue) → logs got ≡ None → got ≡ None
+none-brought None e = refl
+none-brought (Some body) e = absurd (none-some (log_of body) (sym e))
+
+-- the slot of a frame in hand is empty
+hand-empty : (layout : Layout) (s : State) → Holds layout s → (seat : ℕ) (view : View) (frame : Frame) (found : ℕ) (content : Option Log) → slice_get s.views seat ≡ Some view → HasInHand view frame → frame.0 < layout.frames
+    → found ≡ slice_index s.words (index layout (places.Frame frame)) → IsIn s.homes (frame_slot frame) content → content ≡ None
+hand-empty layout s h seat view frame found content me has inside met there = none-named content
+    (ap content_name (same_Some content home.content (same_Some (Some content) (Some home.content) (sym there ∙ home.there))) ∙ home.named ∙ bare.unowned)
+  where
+    bare : IsBare found
+    bare = hand-bare layout s h seat view frame found me has inside met
+
+    home : IsAtHome s.homes frame.0 (owner_of found)
+    home = h.rule.pages.bodies.frame_home frame.0 found (frame-word layout s h frame found inside met) bare.unlocked
+
 module _ {layout : Layout} {old new : View} {step : Step} {found : ℕ} {got : Option BodyValue} (t : Take) (is : plan t ≡ Some step) (made : Steps layout t.who step None old new found got) where
   -- the lock of a frame that was in hand
   lock-bare : (frame : Frame) → Some (steps.Adopt frame) ≡ Some step → FitsAt layout old t.who (at.Adopt frame) → (is_poisoned found ≡ false) × (lock_found frame found ≡ new_lock frame)
@@ -78,6 +105,18 @@ module _ {layout : Layout} {old new : View} {step : Step} {found : ℕ} {got : O
 
       clean : is_poisoned found ≡ false
       clean = unpoisoned layout own.told.board own.told.rule frame found at.0 own.told.met
+
+  -- no step brings a body: the slot of a frame that was in hand is empty
+  brings-none : (x : TakeAt) → plan_at x ≡ Some step → FitsAt layout old t.who x → got ≡ None
+  brings-none at.LoadAvailable e at = (steps-planned e made).brings.none refl
+  brings-none (at.Reserve seen) e at = (steps-planned e made).brings.none refl
+  brings-none (at.LoadFree number) e at = (steps-planned e made).brings.none refl
+  brings-none (at.TakeBit frame) e at = (steps-planned e made).brings.none refl
+  brings-none (at.Adopt frame) e at = none-brought got (hand-empty layout own.told.board own.told.rule own.told.seat old frame found (logs got) own.told.me at.1.0 at.0 own.told.met own.told.slot)
+    where
+      own : Steps layout t.who (steps.Adopt frame) None old new found got
+      own = steps-planned e made
+  brings-none (at.Over frame) e at = absurd (none-some step e)
 
   -- what a step leaves of what is held
   pub held-after : (h : Hand) → Fits layout old t → hand_of old ≡ h → hand_of new ≡ hand_next t found h
@@ -133,13 +172,13 @@ module _ {layout : Layout} {old new : View} {step : Step} {found : ℕ} {got : O
   moved (at.Over frame) e fit hand = absurd (none-some step e)
 
 -- a step shows what is needed, and what follows fits again
-pub both : (layout : Layout) (old new : View) (t : Take) (step : Step) (found : ℕ) (got : Option BodyValue) → Fits layout old t → plan t ≡ Some step → Steps layout t.who step None old new found got → Shows t found × Fits layout new (next layout t found)
+pub both : (layout : Layout) (old new : View) (t : Take) (step : Step) (found : ℕ) (got : Option BodyValue) → Fits layout old t → plan t ≡ Some step → Steps layout t.who step None old new found got → Shows t found got × Fits layout new (next layout t found)
 both layout old new t step found got fits is made =
     let all : ShowsAt t.at found × FitsAt layout new t.who (next_at layout t.at found) = moved t is made t.at is fits.at (held-after t is made (hand_of old) fits refl) in
-    (all.0, record { on_turn = on-turn-after fits.on_turn made; at = all.1 })
+    ((all.0, brings-none t is made t.at is fits.at), record { on_turn = on-turn-after fits.on_turn made; at = all.1 })
 
 pub stays : (layout : Layout) (old new : View) (t : Take) (step : Step) (found : ℕ) (got : Option BodyValue) → Fits layout old t → plan t ≡ Some step → Steps layout t.who step None old new found got
-    → Shows t found × ((after : Take) (result : Turn) → (after ≡ next layout t found) × (result ≡ turn t found) → Fits layout new after × (after.who.cpu ≡ t.who.cpu))
+    → Shows t found got × ((after : Take) (result : Turn) → (after ≡ next layout t found) × (result ≡ turn t found) → Fits layout new after × (after.who.cpu ≡ t.who.cpu))
 stays layout old new t step found got fits is made =
     let all = both layout old new t step found got fits is made in
     (all.0, λ after result follows. (subst (Fits layout new) (sym follows.0) all.1, ap (λ (x : Take). x.who.cpu) follows.0))

@@ -94,8 +94,8 @@ pub can : (layout : Layout) (view : View) (u : Unlock) (step : Step) → Fits la
 can layout view u step fits is = which u.at fits.at is
   where
     which : (x : UnlockAt) → FitsAt layout view u.who x → plan_at x ≡ Some step → CanMake layout u.who step (put_at x) view
-    which (at.UnlockFrame frame None) has e = can-put fits.on_turn e tt has.within (can-free-empty has) (λ b none. absurd (none-some b none))
-    which (at.UnlockFrame frame (Some body)) has e = can-put fits.on_turn e tt has.within (can-free has) (body-fits has)
+    which (at.UnlockFrame frame None) has e = can-put fits.on_turn e tt has.within (can-free-empty has) (λ b none. absurd (none-some b none)) tt
+    which (at.UnlockFrame frame (Some body)) has e = can-put fits.on_turn e tt has.within (can-free has) (body-fits has) tt
     which (at.Release r) has e = subst (λ (w : Who). CanMake layout w step None view) has.own (releasing_laws.can layout view r step has.release e)
     which at.Over has e = absurd (none-some step e)
 

@@ -97,13 +97,13 @@ pub record HasRoomFor (body : BodyValue) : Type 0 where
   pub spare : 0 < body.spare
   pub allowed : Allowed body.layout body.page body.state FaultIn
 
-abbrev pub ShowsAt : BodyValue → FillAt → ℕ → Type 0
-ShowsAt body (at.Take t) found = takes.Shows t found
-ShowsAt body (at.SetCache frame) found = HasRoomFor body
-ShowsAt body _ found = Unit {0}
+abbrev pub ShowsAt : BodyValue → FillAt → ℕ → Option BodyValue → Type 0
+ShowsAt body (at.Take t) found got = takes.Shows t found got
+ShowsAt body (at.SetCache frame) found got = HasRoomFor body
+ShowsAt body _ found got = Unit {0}
 
-abbrev pub Shows : Fill → ℕ → Type 0
-Shows f found = ShowsAt f.body f.at found
+abbrev pub Shows : Fill → ℕ → Option BodyValue → Type 0
+Shows f found got = ShowsAt f.body f.at found got
 
 abbrev pub answer_of : Option Frame → FillAnswer
 answer_of None = answers.NoFrame

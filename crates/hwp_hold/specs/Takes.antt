@@ -5,6 +5,7 @@ use Rattle.std.specs.List.{list_all}
 use Rattle.hwp_geom.specs.declared.Frame.{Frame}
 use Rattle.hwp_geom.specs.declared.Layout.{Layout}
 use Rattle.hwp_geom.specs.declared.Who.{Who}
+use Rattle.hwp_page.specs.History.{BodyValue}
 use Rattle.hwp_words.specs.Frames.{is_poisoned}
 use Rattle.hwp_rule.specs.declared.FrameLock.{FrameLock}
 use Rattle.hwp_rule.specs.declared.Place.TheVariants as places
@@ -80,14 +81,14 @@ turn_at _ found = Moved
 abbrev pub turn : Take → ℕ → Turn
 turn t found = turn_at t.at found
 
--- a free word is one of the 2^10 that any layout has at most, and a frame in hand has no poison
+-- a free word is one of the 2^10 that any layout has at most, and a frame in hand has no poison; no step brings a body
 abbrev pub ShowsAt : TakeAt → ℕ → Type 0
 ShowsAt (at.LoadFree number) found = number < 2 ^ 10
 ShowsAt (at.Adopt frame) found = is_poisoned found ≡ false
 ShowsAt _ found = Unit {0}
 
-abbrev pub Shows : Take → ℕ → Type 0
-Shows t found = ShowsAt t.at found
+abbrev pub Shows : Take → ℕ → Option BodyValue → Type 0
+Shows t found got = ShowsAt t.at found × (got ≡ None)
 
 abbrev pub answer_of : Option Frame → TakeAnswer
 answer_of None = answers.NoFrame

@@ -120,7 +120,7 @@ impl Machine for Fill {
 
     ghost bare = { λ f. f };
 
-    ghost shows = { λ f found got. Shows f found };
+    ghost shows = { λ f found got. Shows f found got };
 
     ghost next = { λ layout f found got after result. (after ≡ next layout f found) × (result ≡ turn f found) };
 

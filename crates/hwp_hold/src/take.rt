@@ -118,7 +118,7 @@ impl Machine for Take {
 
     ghost bare = { λ t. t };
 
-    ghost shows = { λ t found got. Shows t found };
+    ghost shows = { λ t found got. Shows t found got };
 
     ghost next = { λ layout t found got after result. (after ≡ next layout t found) × (result ≡ turn t found) };
 

@@ -22,9 +22,12 @@ use Rattle.hwp_report.specs.declared.MarkLine.{MarkLine}
 use Rattle.hwp_report.specs.declared.MarkLine.TheVariants as marks
 use Rattle.hwp_report.specs.declared.Place.TheVariants as places
 use Rattle.hwp_report.specs.declared.Report.{Report}
-use Rattle.hwp_law.specs.Checks.{Happens, empty_banks}
+use Rattle.hwp_law.specs.Checks.{empty_banks}
+use Rattle.hwp_law.specs.Commands.{arrival_of}
+use Rattle.hwp_law.specs.Events.{AreEventsOf}
 use Rattle.hwp_law.specs.Lines.{events_of}
-use Rattle.hwp_law.specs.Records.{Alternates, AreRecorded, HaveEvents, IsMarkAt, entries_of, has_page, is_failure, is_failure_mark, is_required, marks_in, urgent_from}
+use Rattle.hwp_law.specs.Pairings.{AreRecorded, entries_of, has_page, is_failure, is_failure_mark, is_required, marks_in, urgent_from}
+use Rattle.hwp_law.specs.Records.{Alternates, HaveEvents, IsMarkAt}
 
 -- two frames, and one anonymous page of one process whose thread has a handler
 abbrev layout : Layout
@@ -125,7 +128,7 @@ pub failing_has_event : HaveEvents report (record { 0 = 0 }) (command 2)
 failing_has_event = refl
 
 -- the load's event is graded S9 and comes to the result of the mark, and the banks are empty after it
-pub load_checked : Happens script report (command 2) (commands.Load (record { 0 = 0 }) (record { 0 = 0 }) 5) empty_banks (events_of report (command 2)) empty_banks
+pub load_checked : AreEventsOf script report (command 2) (arrival_of (commands.Load (record { 0 = 0 }) (record { 0 = 0 }) 5)) (commands.Load (record { 0 = 0 }) (record { 0 = 0 }) 5) empty_banks (events_of report (command 2)) empty_banks
 load_checked = (
   record { 0 = 0 },
   events_of report (command 2),

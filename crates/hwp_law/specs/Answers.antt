@@ -1,7 +1,6 @@
 -- When the answers of a report are those of the script's commands.
-use Rattle.std.specs.Prelude.{◌≡◌, ◌≢◌, ◌⊎◌, ℕ, ◌+◌, ◌*◌, ◌==◌, Bool, true, false, ◌||◌, cond, nat_lt, List, [], ◌∷◌, flat_map, Option, Some, None, length, slice_get, filter_map, IsSome, IsSomeAnd, IsTrue, IsFalse}
+use Rattle.std.specs.Prelude.{◌≡◌, ℕ, ◌+◌, ◌*◌, ◌==◌, Bool, true, false, ◌||◌, cond, nat_lt, List, [], ◌∷◌, flat_map, Option, Some, None, length, slice_get, filter_map, IsSome, IsSomeAnd, IsTrue}
 use Rattle.std.specs.List.{list_any}
-use Rattle.std.specs.FinSet as set
 use Rattle.hwp_geom.specs.declared.Cpu.{Cpu}
 use Rattle.hwp_geom.specs.declared.Who.{Who}
 use Rattle.hwp_geom.specs.declared.Mask.{Mask}
@@ -9,7 +8,7 @@ use Rattle.hwp_geom.specs.declared.Layout.{Layout}
 use Rattle.hwp_geom.specs.declared.Page.{Page}
 use Rattle.hwp_geom.specs.declared.VSlot.{VSlot}
 use Rattle.hwp_banks.specs.Addresses.{frame_at}
-use Rattle.hwp_page.specs.declared.PageState.{PageState}
+use Rattle.hwp_page.specs.Refusals.{IsAway, IsDirty, IsMapped, IsUnused}
 use Rattle.hwp_page.specs.Step.{IsOf}
 use Rattle.hwp_page.specs.declared.At.{At}
 use Rattle.hwp_page.specs.declared.Entry.{Entry}
@@ -66,10 +65,6 @@ IsLoadAnswer script pages who slot line (answers.Value word at) = (mask : Mask) 
 IsLoadAnswer script pages who slot line answers.NoFrame = is_ample script ≡ false
 IsLoadAnswer script pages who slot line _ = ⊥
 
--- the page's content does not stand behind it
-abbrev pub IsUnsaved : PageState → Type 0
-IsUnsaved s = (s.dirty ≡ true) ⊎ (s.back ≡ None)
-
 -- the answer that a reply of prctl(2) gives
 abbrev pub reply_answer : Reply → Answer
 reply_answer (replies.Set policy) = answers.Done
@@ -79,7 +74,7 @@ reply_answer replies.Einval = answers.Einval
 -- the answer of a command that names a page: it was made, or the page was in no frame
 abbrev pub IsPageAnswer : Layout → List (List Entry) → Who → Page → What → Answer → Type 0
 IsPageAnswer layout pages who page what (answers.DoneAt at) = (at.page ≡ page) × StandsAt pages who at what
-IsPageAnswer layout pages who page what (answers.NotResident at) = (at.page ≡ page) × HadState layout pages at (λ s. s.cached ≡ false)
+IsPageAnswer layout pages who page what (answers.NotResident at) = (at.page ≡ page) × HadState layout pages at IsAway
 IsPageAnswer layout pages who page what _ = ⊥
 
 -- the report shows the cause of a command's answer
@@ -93,11 +88,11 @@ IsAnswer script pages stop who (commands.Store thread slot line word) (answers.S
 IsAnswer script pages stop who (commands.Store thread slot line word) answers.NoFrame = is_ample script ≡ false
 IsAnswer script pages stop who (commands.Free slot) (answers.DoneAt at) = StandsAt pages who at (entries.Free slot)
 IsAnswer script pages stop who (commands.Free slot) (answers.NotMapped at) =
-    IsOf script.layout at.page slot × HadState script.layout pages at (λ s. IsFalse (set.contains s.maps slot.0))
+    IsOf script.layout at.page slot × HadState script.layout pages at (IsUnused slot)
 IsAnswer script pages stop who (commands.Drop page) (answers.Dirty at) =
-    (at.page ≡ page) × HadState script.layout pages at (λ s. (s.cached ≡ true) × IsUnsaved s)
+    (at.page ≡ page) × HadState script.layout pages at IsDirty
 IsAnswer script pages stop who (commands.Drop page) (answers.Mapped at) =
-    (at.page ≡ page) × HadState script.layout pages at (λ s. (s.cached ≡ true) × (¬ IsUnsaved s) × (s.maps ≢ set.empty))
+    (at.page ≡ page) × HadState script.layout pages at IsMapped
 IsAnswer script pages stop who (commands.Drop page) answer = IsPageAnswer script.layout pages who page entries.Drop answer
 IsAnswer script pages stop who (commands.Sync page) answer = IsPageAnswer script.layout pages who page entries.Sync answer
 IsAnswer script pages stop who (commands.Out page) answer = IsPageAnswer script.layout pages who page entries.Out answer

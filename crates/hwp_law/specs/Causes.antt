@@ -16,6 +16,7 @@ use Rattle.hwp_page.specs.declared.Outcome.{Outcome}
 use Rattle.hwp_page.specs.declared.Outcome.TheVariants as outcomes
 use Rattle.hwp_page.specs.declared.What.{What}
 use Rattle.hwp_page.specs.declared.What.TheVariants as entries
+use Rattle.hwp_page.specs.Orders.{IsNotLater}
 use Rattle.hwp_script.specs.declared.Command.{Command}
 use Rattle.hwp_script.specs.declared.Command.TheVariants as commands
 use Rattle.hwp_script.specs.declared.Script.{Script}
@@ -24,18 +25,18 @@ use Rattle.hwp_report.specs.declared.Answer.TheVariants as answers
 use Rattle.hwp_report.specs.declared.CpuLine.{CpuLine}
 use Rattle.hwp_report.specs.declared.CpuLine.TheVariants as lines
 use Rattle.hwp_report.specs.declared.FrameLine.{FrameLine}
+use Rattle.hwp_report.specs.declared.How.{How}
 use Rattle.hwp_report.specs.declared.How.TheVariants as hows
 use Rattle.hwp_report.specs.declared.MarkLine.{MarkLine}
 use Rattle.hwp_report.specs.declared.MarkLine.TheVariants as marks
 use Rattle.hwp_report.specs.declared.Report.{Report}
 use Rattle.hwp_law.specs.Answers.{IsAnswer, StandsAt, is_ample}
-use Rattle.hwp_law.specs.Checks.{is_panic}
+use Rattle.hwp_law.specs.Checks.{is_panic, is_stopping}
 use Rattle.hwp_law.specs.Commands.{current_thread, is_kernels}
 use Rattle.hwp_law.specs.Endings.{IsGone}
-use Rattle.hwp_law.specs.Halts.{is_stopping}
 use Rattle.hwp_law.specs.Lines.{EventLine, bad_lines_of, events_of, marks_of}
 use Rattle.hwp_law.specs.Places.{entry_at}
-use Rattle.hwp_law.specs.Records.{IsNotLater, WasPoisoned, how_in, is_by_hardware, who_in}
+use Rattle.hwp_law.specs.Records.{WasPoisoned, how_in, is_by_hardware, outcome_in, who_in}
 use Rattle.hwp_law.specs.States.{HadState}
 
 -- the entry sent SIGBUS to the thread that met it: for a page that it may not use, or because memory failed under it
@@ -78,10 +79,9 @@ IsCopyAnswer script report who command page answer = IsAnswer script report.page
 abbrev pub HasMark : Report → Who → Frame → (MarkLine → Type 0) → Type 0
 HasMark report who frame Such = Any (λ (m : MarkLine). (who_in m ≡ who) × Such m) (marks_of report frame.0)
 
--- the mark is of a failure that came to this
+-- the mark tells this result
 abbrev pub ComesTo : Outcome → MarkLine → Type 0
-ComesTo outcome (marks.Poisoned cycle who (hows.Failure hardware situation other)) = other ≡ outcome
-ComesTo outcome _ = ⊥
+ComesTo outcome m = IsSomeAnd (how_in m) (λ (how : How). outcome_in how ≡ outcome)
 
 -- the mark is one that takes back a poisoning
 abbrev pub TakesBack : MarkLine → Type 0

@@ -1,33 +1,22 @@
--- The banks of a processor along its commands, and the event lines of its machine checks.
-use Rattle.std.specs.Prelude.{◌≡◌, ◌⊎◌, ℕ, zero, suc, ◌+◌, ◌-◌, ◌≤◌, nat_le, Bool, true, false, not, ◌||◌, List, [], ◌∷◌, ◌++◌, Option, Some, None, replicate, slice_get, slice_index_or, slice_set, IsBitSet, IsSomeAnd, MatchBool, Contains}
+-- The banks of a processor, and the event lines of one machine check.
+use Rattle.std.specs.Prelude.{◌≡◌, ◌⊎◌, ℕ, ◌+◌, nat_le, Bool, true, false, not, ◌||◌, List, [], ◌∷◌, Option, Some, None, replicate, slice_index_or, slice_set, MatchBool, Contains}
 use Rattle.std.specs.List.{list_any}
-use Rattle.hwp_geom.specs.declared.Cpu.{Cpu}
-use Rattle.hwp_geom.specs.declared.Frame.{Frame}
 use Rattle.hwp_geom.specs.declared.Who.{Who}
 use Rattle.hwp_banks.specs.declared.Event.{Event}
-use Rattle.hwp_banks.specs.declared.Origin.{Origin}
-use Rattle.hwp_banks.specs.declared.Origin.TheVariants as origins
 use Rattle.hwp_banks.specs.Addresses.{frame_at}
-use Rattle.hwp_banks.specs.Events.{bank_count, bank_of, own_event}
+use Rattle.hwp_banks.specs.Events.{bank_count}
 use Rattle.hwp_banks.specs.Logged.{logged}
 use Rattle.hwp_severity.specs.declared.Severity.{Severity}
 use Rattle.hwp_severity.specs.declared.Severity.TheVariants as severities
 use Rattle.hwp_severity.specs.Graded.{graded}
-use Rattle.hwp_page.specs.declared.What.{What}
-use Rattle.hwp_page.specs.declared.What.TheVariants as entries
-use Rattle.hwp_script.specs.declared.Command.{Command}
-use Rattle.hwp_script.specs.declared.Command.TheVariants as commands
 use Rattle.hwp_script.specs.declared.Script.{Script}
 use Rattle.hwp_report.specs.declared.Acted.{Acted}
 use Rattle.hwp_report.specs.declared.Acted.TheVariants as acts
-use Rattle.hwp_report.specs.declared.Answer.{Answer}
-use Rattle.hwp_report.specs.declared.Answer.TheVariants as answers
 use Rattle.hwp_report.specs.declared.MarkLine.{MarkLine}
 use Rattle.hwp_report.specs.declared.Report.{Report}
-use Rattle.hwp_law.specs.Commands.{Arrival, arrival_of}
-use Rattle.hwp_law.specs.Lines.{EventLine, answer_of, bad_lines_of, events_of, marks_of, weak_lines_of}
-use Rattle.hwp_law.specs.Places.{command_at}
-use Rattle.hwp_law.specs.Records.{IsEarlier, WasPoisoned, entries_of, hardware_marks, mark_results}
+use Rattle.hwp_law.specs.Commands.{Arrival}
+use Rattle.hwp_law.specs.Lines.{EventLine, marks_of}
+use Rattle.hwp_law.specs.Records.{WasPoisoned, hardware_marks, mark_results}
 
 -- what the banks of a processor hold, from bank 0 on
 abbrev pub Banks : Type 0
@@ -53,6 +42,11 @@ severity_of how event = (graded event.status how.mcg how.mode).severity
 abbrev pub is_stop : Severity → Bool
 is_stop severities.Stop = true
 is_stop _ = false
+
+-- what was done about an event stopped the machine; it was a panic
+abbrev pub is_stopping : Acted → Bool
+is_stopping acts.Stop = true
+is_stopping _ = false
 
 abbrev pub is_panic : Acted → Bool
 is_panic acts.Panic = true
@@ -104,116 +98,3 @@ has_stop how banks = list_any (λ (b : ℕ × Event). is_stop (severity_of how b
 -- these are the lines of one machine check that finds the banks so
 abbrev pub IsCheck : Script → Report → Who → Arrival → Banks → List EventLine → Type 0
 IsCheck script report who how banks lines = AreLinesOf script report who how (has_stop how banks) (held_from 0 banks) lines
-
--- the machine made an event of its own at this line of a frame where it is bad, or weak
-abbrev pub IsDamaged : Report → Origin → ℕ → ℕ → Type 0
-IsDamaged report origins.WeakLine frame line = IsBitSet (weak_lines_of report frame) line
-IsDamaged report _ frame line = IsBitSet (bad_lines_of report frame) line
-
--- the machine checks of so many accesses to a bad line, one after another. The line is bad in some frame, the page's at that
--- moment, and each check leaves the banks empty.
-abbrev pub AreAccessChecks : Script → Report → Who → Arrival → Origin → ℕ → ℕ → Banks → List EventLine → Banks → Type 0
-AreAccessChecks script report who how origin line zero banks lines after = (lines ≡ []) × (after ≡ banks)
-AreAccessChecks script report who how origin line (suc more) banks lines after =
-    (frame : Frame) × (now : List EventLine) × (later : List EventLine) × (lines ≡ now ++ later) × IsDamaged report origin frame.0 line
-    × IsCheck script report who how (log_in (bank_of origin) (own_event origin frame line) banks) now × AreAccessChecks script report who how origin line more empty_banks later after
-
--- a frame's bad line that the scrubber met, if it met one, is a machine check, which leaves the banks empty
-abbrev pub IsBadFound : Script → Report → Who → Arrival → Frame → Option ℕ → Banks → List EventLine → Banks → Type 0
-IsBadFound script report who how frame None banks lines after = (lines ≡ []) × (after ≡ banks)
-IsBadFound script report who how frame (Some line) banks lines after =
-    IsDamaged report origins.BadLine frame.0 line × (after ≡ empty_banks)
-    × IsCheck script report who how (log_in (bank_of origins.BadLine) (own_event origins.BadLine frame line) banks) lines
-
--- a frame's weak line that the scrubber met, if it met one, is logged in the scrubber's bank, told and taken out at once
-abbrev pub IsWeakFound : Script → Report → Who → Arrival → Frame → Option ℕ → Banks → List EventLine → Banks → Type 0
-IsWeakFound script report who how frame None banks lines after = (lines ≡ []) × (after ≡ banks)
-IsWeakFound script report who how frame (Some line) banks lines after =
-    (event : Event) × IsDamaged report origins.WeakLine frame.0 line
-    × (slice_get (log_in (bank_of origins.WeakLine) (own_event origins.WeakLine frame line) banks) (bank_of origins.WeakLine) ≡ Some (Some event))
-    × AreLinesOf script report who how false ((bank_of origins.WeakLine, event) ∷ []) lines × (after ≡ slice_set banks (bank_of origins.WeakLine) None)
-
--- the command of a mark of a line, by how it is damaged
-abbrev pub marking : Origin → Frame → ℕ → Command
-marking origins.WeakLine frame line = commands.Weak frame line
-marking _ frame line = commands.Bad frame line
-
--- a scrub that went to its end met each frame that an earlier command of its processor had marked, at no higher line
-abbrev pub MeetsMarked : Script → Report → Who → Origin → Frame → Option ℕ → Type 0
-MeetsMarked script report who origin frame met =
-    (n line : ℕ) (earlier : Who) → answer_of report who ≡ Some (answers.Scrubbed n) → IsEarlier earlier who → command_at script earlier ≡ Some (marking origin frame line) → IsSomeAnd met (λ (k : ℕ). k ≤ line)
-
--- the scrubber went over a frame
-pub record IsScrubbed (script : Script) (report : Report) (who : Who) (how : Arrival) (frame : Frame) (banks : Banks) (lines : List EventLine) (after : Banks) : Type 0 where
-  pub bad : Option ℕ
-  pub weak : Option ℕ
-  pub bad_lines : List EventLine
-  pub weak_lines : List EventLine
-  pub between : Banks
-  pub all : lines ≡ bad_lines ++ weak_lines
-  pub bad_found : IsBadFound script report who how frame bad banks bad_lines between
-  pub weak_found : IsWeakFound script report who how frame weak between weak_lines after
-  pub met_bad : MeetsMarked script report who origins.BadLine frame bad
-  pub met_weak : MeetsMarked script report who origins.WeakLine frame weak
-
--- the scrubber went over so many frames, from this one on
-abbrev pub AreScrubbed : Script → Report → Who → Arrival → ℕ → ℕ → Banks → List EventLine → Banks → Type 0
-AreScrubbed script report who how frame zero banks lines after = (lines ≡ []) × (after ≡ banks)
-AreScrubbed script report who how frame (suc more) banks lines after =
-    (now : List EventLine) × (later : List EventLine) × (between : Banks) × (lines ≡ now ++ later) × IsScrubbed script report who how (record { 0 = frame }) banks now between
-    × AreScrubbed script report who how (frame + 1) more between later after
-
--- a `raise` that was answered so, with these lines, was a machine check
-abbrev pub is_raised : Option Answer → List EventLine → Bool
-is_raised (Some (answers.Raised n)) lines = true
-is_raised (Some answers.Stopped) (line ∷ lines) = true
-is_raised _ lines = false
-
-abbrev pub IsRaise : Script → Report → Who → Arrival → Banks → List EventLine → Banks → Type 0
-IsRaise script report who how banks lines after =
-    MatchBool (is_raised (answer_of report who) lines) (IsCheck script report who how banks lines × (after ≡ empty_banks)) ((lines ≡ []) × (after ≡ banks))
-
--- the bank of raw events, and a raw event
-abbrev pub raw_bank : ℕ
-raw_bank = 1
-
-abbrev pub raw_event : ℕ → ℕ → ℕ → Event
-raw_event status addr misc = record { status = record { 0 = status }; addr = addr; misc = misc }
-
-abbrev pub logged_if_done : Option Answer → Event → Banks → Banks
-logged_if_done (Some answers.Done) event banks = log_in raw_bank event banks
-logged_if_done _ event banks = banks
-
--- the entry is a machine check of an access
-abbrev pub is_check : What → Bool
-is_check (entries.Mce slot line mask) = true
-is_check _ = false
-
--- the machine checks that an access made, by the entries that they left
-abbrev pub IsAccessChecked : Script → Report → Who → Arrival → Origin → ℕ → Banks → List EventLine → Banks → Type 0
-IsAccessChecked script report who how origin line banks lines after = AreAccessChecks script report who how origin line (entries_of report who is_check) banks lines after
-
--- the event lines of a command whose machine checks arrive so, and what it leaves in the banks
-abbrev pub HappensSo : Script → Report → Who → Arrival → Command → Banks → List EventLine → Banks → Type 0
-HappensSo script report who how (commands.Load thread slot line) banks lines after = IsAccessChecked script report who how origins.Access line banks lines after
-HappensSo script report who how (commands.Fetch thread slot line) banks lines after = IsAccessChecked script report who how origins.Fetch line banks lines after
-HappensSo script report who how (commands.KLoad thread slot line) banks lines after = IsAccessChecked script report who how origins.Access line banks lines after
-HappensSo script report who how (commands.Store thread slot line word) banks lines after = IsAccessChecked script report who how origins.Access line banks lines after
-HappensSo script report who how (commands.Scrub first last) banks lines after = AreScrubbed script report who how first.0 (last.0 + 1 - first.0) banks lines after
-HappensSo script report who how (commands.RaiseUser thread ripv eipv) banks lines after = IsRaise script report who how banks lines after
-HappensSo script report who how (commands.RaiseKernel ripv eipv) banks lines after = IsRaise script report who how banks lines after
-HappensSo script report who how (commands.Log status addr misc) banks lines after = (lines ≡ []) × (after ≡ logged_if_done (answer_of report who) (raw_event status addr misc) banks)
-HappensSo script report who how command banks lines after = (lines ≡ []) × (after ≡ banks)
-
-abbrev pub Happens : Script → Report → Who → Command → Banks → List EventLine → Banks → Type 0
-Happens script report who command banks lines after = HappensSo script report who (arrival_of command) command banks lines after
-
--- the events of a processor's commands from number n on, where its banks hold this
-abbrev pub Happen : Script → Report → Cpu → ℕ → List Command → Banks → Type 0
-Happen script report cpu n [] banks = Unit {0}
-Happen script report cpu n (command ∷ rest) banks =
-    (after : Banks) × Happens script report (record { cpu = cpu; seq = n }) command banks (events_of report (record { cpu = cpu; seq = n })) after × Happen script report cpu (n + 1) rest after
-
--- the banks of each processor are empty at first, and its event lines are those of its commands
-abbrev pub AreEvents : Script → Report → Type 0
-AreEvents script report = (cpu : Cpu) (list : List Command) → slice_get script.lists cpu.0 ≡ Some list → Happen script report cpu 0 list empty_banks

@@ -1,18 +1,12 @@
 -- Processes that a signal ended.
-use Rattle.std.specs.Prelude.{◌≡◌, ◌⊎◌, ◌==◌, ◌&&◌, Bool, true, false, not, Option, Some, None, slice_get}
-use Rattle.std.specs.List.{list_any}
-use Rattle.hwp_geom.specs.declared.Layout.{Layout}
+use Rattle.std.specs.Prelude.{◌≡◌, ◌⊎◌, true, Some}
 use Rattle.hwp_geom.specs.declared.Page.{Page}
 use Rattle.hwp_geom.specs.declared.Proc.{Proc}
-use Rattle.hwp_geom.specs.declared.Thread.{Thread}
-use Rattle.hwp_geom.specs.declared.ThreadDecl.{ThreadDecl}
 use Rattle.hwp_geom.specs.declared.Who.{Who}
-use Rattle.hwp_kill.specs.declared.Signal.{Signal}
 use Rattle.hwp_page.specs.declared.At.{At}
 use Rattle.hwp_page.specs.declared.Entry.{Entry}
-use Rattle.hwp_page.specs.declared.Met.TheVariants.{Sigbus}
-use Rattle.hwp_page.specs.declared.What.{What}
-use Rattle.hwp_page.specs.declared.What.TheVariants as entries
+use Rattle.hwp_page.specs.Endings.{is_ending}
+use Rattle.hwp_page.specs.Orders.{IsEarlier, IsNotLater}
 use Rattle.hwp_script.specs.declared.Script.{Script}
 use Rattle.hwp_report.specs.declared.Answer.{Answer}
 use Rattle.hwp_report.specs.declared.Answer.TheVariants as answers
@@ -20,22 +14,6 @@ use Rattle.hwp_report.specs.declared.Report.{Report}
 use Rattle.hwp_law.specs.Commands.{process_at}
 use Rattle.hwp_law.specs.Lines.{answer_of}
 use Rattle.hwp_law.specs.Places.{entry_at}
-use Rattle.hwp_law.specs.Records.{IsEarlier, IsNotLater}
-
--- the thread is one of the process and has no handler: a signal to it ends the process
-abbrev pub is_ended_by : Proc → Option ThreadDecl → Bool
-is_ended_by process None = false
-is_ended_by process (Some thread) = not thread.handler && (thread.process.0 == process.0)
-
-abbrev pub ends : Layout → Proc → Thread → Bool
-ends layout process thread = is_ended_by process (slice_get layout.threads thread.0)
-
--- the entry has a signal that ends the process
-abbrev pub is_ending : Layout → Proc → What → Bool
-is_ending layout process (entries.Load slot line (Sigbus thread)) = ends layout process thread
-is_ending layout process (entries.Store slot line (Sigbus thread)) = ends layout process thread
-is_ending layout process (entries.Fail situation required seen signals) = list_any (λ (s : Signal). ends layout process s.thread) signals
-is_ending layout process _ = false
 
 -- the history of the page has an ending signal of the process, of no later command of the processor
 pub record HasEnding (script : Script) (report : Report) (who : Who) (process : Proc) (page : Page) : Type 0 where

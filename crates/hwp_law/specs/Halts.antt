@@ -1,6 +1,6 @@
 -- When the stop record of a report fits its lines and answers.
-use Rattle.std.specs.Prelude.{◌≡◌, ℕ, ◌==◌, ◌&&◌, Bool, true, false, List, Some, IsSomeAnd, slice_get}
-use Rattle.std.specs.List.{find, list_any}
+use Rattle.std.specs.Prelude.{◌≡◌, ℕ, ◌==◌, ◌&&◌, nat_lt, Bool, true, false, List, Some, IsSomeAnd, slice_get, take}
+use Rattle.std.specs.List.{list_any}
 use Rattle.hwp_geom.specs.declared.Cpu.{Cpu}
 use Rattle.hwp_geom.specs.declared.Frame.{Frame}
 use Rattle.hwp_geom.specs.declared.Who.{Who}
@@ -8,29 +8,29 @@ use Rattle.hwp_banks.specs.Addresses.{frame_at}
 use Rattle.hwp_script.specs.declared.Command.{Command}
 use Rattle.hwp_script.specs.declared.Command.TheVariants as commands
 use Rattle.hwp_script.specs.declared.Script.{Script}
-use Rattle.hwp_report.specs.declared.Acted.{Acted}
-use Rattle.hwp_report.specs.declared.Acted.TheVariants as acts
 use Rattle.hwp_report.specs.declared.Answer.TheVariants as answers
 use Rattle.hwp_report.specs.declared.CpuLine.{CpuLine}
 use Rattle.hwp_report.specs.declared.Report.{Report}
 use Rattle.hwp_report.specs.declared.Stop.{Stop}
 use Rattle.hwp_report.specs.declared.StopCause.{StopCause}
 use Rattle.hwp_report.specs.declared.StopCause.TheVariants as causes
-use Rattle.hwp_law.specs.Checks.{is_panic}
+use Rattle.hwp_law.specs.Checks.{is_panic, is_stopping}
 use Rattle.hwp_law.specs.Commands.{arrival_of}
 use Rattle.hwp_law.specs.Lines.{EventLine, answer_of, events_of}
 use Rattle.hwp_law.specs.Places.{command_at}
 use Rattle.hwp_law.specs.Stops.{IsCause, StaysStopped}
 
-abbrev pub is_stopping : Acted → Bool
-is_stopping acts.Stop = true
-is_stopping _ = false
-
--- the line stopped the machine, by this bank, status and row
-pub record IsStopLine (row bank status : ℕ) (line : EventLine) : Type 0 where
+-- One of the lines stopped the machine, by this bank, status and row, and none before it did so by a lower bank: the lines of a
+-- machine check are in the order of the banks, and a later machine check of the same command has one line.
+pub record IsStoppedBy (row bank status : ℕ) (lines : List EventLine) : Type 0 where
+  pub place : ℕ
+  pub line : EventLine
+  pub there : slice_get lines place ≡ Some line
+  pub stops : is_stopping line.acted ≡ true
   pub bank_is : line.bank ≡ bank
   pub status_is : line.status ≡ status
   pub row_is : line.row ≡ row
+  pub lowest : list_any (λ (l : EventLine). is_stopping l.acted && nat_lt l.bank bank) (take place lines) ≡ false
 
 -- the failure of the frame was a panic
 abbrev pub is_panic_of : Frame → EventLine → Bool
@@ -41,11 +41,11 @@ abbrev pub Panics : Report → Who → Frame → Command → Type 0
 Panics report who frame (commands.Inject other) = other ≡ frame
 Panics report who frame command = list_any (is_panic_of frame) (events_of report who) ≡ true
 
--- The command can stop the machine for this cause. An event: the first line of the command that says so has this bank, status
--- and row, and the machine check arrived so. A panic: the machine doesn't recover, and the command met the failure.
+-- The command can stop the machine for this cause. An event: a line of the command says so of the lowest bank, and the machine
+-- check arrived so. A panic: the machine doesn't recover, and the command met the failure.
 abbrev pub CanStop : Script → Report → Who → Command → StopCause → Type 0
 CanStop script report who command (causes.Severity row bank status mcg mode) =
-    IsSomeAnd (find (λ (l : EventLine). is_stopping l.acted) (events_of report who)) (IsStopLine row bank status) × (arrival_of command ≡ record { mcg = mcg; mode = mode })
+    IsStoppedBy row bank status (events_of report who) × (arrival_of command ≡ record { mcg = mcg; mode = mode })
 CanStop script report who command (causes.Panic frame) = (script.layout.recovery ≡ false) × Panics report who frame command
 CanStop script report who command causes.Shutdown = IsCause command causes.Shutdown
 

@@ -12,14 +12,14 @@ use Rattle.hwp_report.specs.declared.FrameLine.{FrameLine}
 use Rattle.hwp_report.specs.declared.Report.{Report}
 use Rattle.hwp_law.specs.Answers.{AreInWindows, AreNamed}
 use Rattle.hwp_law.specs.Causes.{AreCaused}
-use Rattle.hwp_law.specs.Checks.{AreEvents}
+use Rattle.hwp_law.specs.Events.{AreEvents}
 use Rattle.hwp_law.specs.Endings.{EndingsStay}
 use Rattle.hwp_law.specs.Entries.{AreMadeBy}
 use Rattle.hwp_law.specs.Frames.{IsFrameLine, poisoned_count}
 use Rattle.hwp_law.specs.Halts.{StopAgrees}
 use Rattle.hwp_law.specs.History.{AreOrdered}
 use Rattle.hwp_law.specs.Losses.{LossesAgree}
-use Rattle.hwp_law.specs.Records.{AreRecorded}
+use Rattle.hwp_law.specs.Pairings.{AreRecorded}
 use Rattle.hwp_law.specs.Report.{IsHistory}
 use Rattle.hwp_law.specs.Seen.{AreSeen, SeenNeverFalls}
 

@@ -11,10 +11,12 @@ pub mod Commands
 pub mod Entries
 pub mod Seen
 pub mod Records
+pub mod Pairings
 pub mod Frames
 pub mod Losses
 pub mod Endings
 pub mod Checks
+pub mod Events
 pub mod Halts
 pub mod Causes
 pub mod Law

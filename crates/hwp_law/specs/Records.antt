@@ -1,16 +1,13 @@
 -- The records of frames: how often each was poisoned and unpoisoned, by which command, and what each mark has beside it.
-use Rattle.std.specs.Prelude.{◌≡◌, ℕ, ◌+◌, ◌/◌, ◌%◌, ◌<◌, ◌≤◌, ◌==◌, ◌&&◌, Bool, true, false, not, List, [], ◌∷◌, Option, Some, None, is_some, fold, length, take, filter, filter_map, count_by, sum_by, slice_get}
-use Rattle.std.specs.List.{zip}
+use Rattle.std.specs.Prelude.{◌≡◌, ℕ, ◌/◌, ◌%◌, ◌<◌, ◌≤◌, ◌==◌, ◌&&◌, Bool, true, false, List, Option, Some, None, is_some, fold, length, take, filter, filter_map, slice_get}
 use Rattle.hwp_geom.specs.declared.Frame.{Frame}
 use Rattle.hwp_geom.specs.declared.Who.{Who}
 use Rattle.hwp_banks.specs.Addresses.{frame_at}
-use Rattle.hwp_page.specs.declared.Entry.{Entry}
 use Rattle.hwp_page.specs.declared.Outcome.{Outcome}
 use Rattle.hwp_page.specs.declared.Outcome.TheVariants as outcomes
 use Rattle.hwp_page.specs.declared.Situation.{Situation}
 use Rattle.hwp_page.specs.declared.Situation.TheVariants as situations
-use Rattle.hwp_page.specs.declared.What.{What}
-use Rattle.hwp_page.specs.declared.What.TheVariants as entries
+use Rattle.hwp_page.specs.Orders.{IsEarlier}
 use Rattle.hwp_page.specs.Situations.{outcome_of}
 use Rattle.hwp_script.specs.declared.Command.TheVariants as commands
 use Rattle.hwp_script.specs.declared.Script.{Script}
@@ -18,7 +15,6 @@ use Rattle.hwp_report.specs.declared.Acted.{Acted}
 use Rattle.hwp_report.specs.declared.Acted.TheVariants as acts
 use Rattle.hwp_report.specs.declared.Answer.{Answer}
 use Rattle.hwp_report.specs.declared.Answer.TheVariants as answers
-use Rattle.hwp_report.specs.declared.FrameLine.{FrameLine}
 use Rattle.hwp_report.specs.declared.How.{How}
 use Rattle.hwp_report.specs.declared.How.TheVariants as hows
 use Rattle.hwp_report.specs.declared.MarkLine.{MarkLine}
@@ -71,6 +67,12 @@ IsFound kernel (hows.Failure hardware situation outcome) = (is_kernel_found situ
 IsFound kernel hows.Moved = kernel ≡ false
 IsFound kernel hows.TakenFree = kernel ≡ false
 
+-- the result that a mark tells: a soft offline recovers
+abbrev pub outcome_in : How → Outcome
+outcome_in (hows.Failure hardware situation outcome) = outcome
+outcome_in hows.Moved = outcomes.Recovered
+outcome_in hows.TakenFree = outcomes.Recovered
+
 -- the answer of an `inject` whose failure came to this
 abbrev pub outcome_answer : Outcome → Answer
 outcome_answer outcomes.Recovered = answers.Recovered
@@ -90,10 +92,6 @@ IsAnswered script report frame (marks.Poisoned cycle who (hows.Failure false sit
 IsAnswered script report frame (marks.Poisoned cycle who hows.Moved) = (command_at script who ≡ Some (commands.Soft frame)) × (is_moved (answer_of report who) ≡ true)
 IsAnswered script report frame (marks.Poisoned cycle who hows.TakenFree) = (command_at script who ≡ Some (commands.Soft frame)) × (answer_of report who ≡ Some answers.TakenFree)
 IsAnswered script report frame (marks.Unpoisoned cycle who) = (command_at script who ≡ Some (commands.Unpoison frame)) × (answer_of report who ≡ Some answers.Done)
-
--- the marks of a command that no bank's event caused
-abbrev pub is_commands : Who → MarkLine → Bool
-is_commands who m = is_same_command who (who_in m) && not (is_by_hardware m)
 
 -- how a frame's record says the result of an event, and an event line, where it says one
 abbrev pub outcome_act : Outcome → Acted
@@ -136,82 +134,6 @@ pub record IsFrameRecord (script : Script) (report : Report) (kernel : Bool) (fr
   pub found : (place : ℕ) (mark : MarkLine) (how : How) → slice_get (marks_of report frame.0) place ≡ Some mark → how_in mark ≡ Some how → IsFound kernel how
   pub answered : (place : ℕ) (mark : MarkLine) → slice_get (marks_of report frame.0) place ≡ Some mark → IsAnswered script report frame mark
   pub events : (who : Who) → HaveEvents report frame who
-
--- situations by numbers, so that they can be compared
-abbrev pub situation_number : Situation → ℕ
-situation_number situations.Free = 0
-situation_number situations.Kernel = 1
-situation_number situations.FileClean = 2
-situation_number situations.FileDirty = 3
-situation_number situations.AnonOnly = 4
-situation_number situations.SwapClean = 5
-situation_number situations.SwapDirty = 6
-
--- a page is in the frame
-abbrev pub has_page : Situation → Bool
-has_page situations.Free = false
-has_page situations.Kernel = false
-has_page _ = true
-
--- the mark is of a failure of this command in this situation
-abbrev pub finds : Situation → Option How → Bool
-finds situation (Some (hows.Failure hardware other outcome)) = situation_number other == situation_number situation
-finds situation _ = false
-
-abbrev pub is_failure_mark : Who → Situation → MarkLine → Bool
-is_failure_mark who situation m = is_same_command who (who_in m) && finds situation (how_in m)
-
--- the mark is of a soft offline by this command that moved the content
-abbrev pub is_move : Option How → Bool
-is_move (Some hows.Moved) = true
-is_move _ = false
-
-abbrev pub is_move_mark : Who → MarkLine → Bool
-is_move_mark who m = is_same_command who (who_in m) && is_move (how_in m)
-
--- the entry is a failure in this situation; one that a thread needed the page for; a soft offline
-abbrev pub is_failure : Situation → What → Bool
-is_failure situation (entries.Fail other required seen signals) = situation_number other == situation_number situation
-is_failure situation _ = false
-
-abbrev pub is_required : Situation → What → Bool
-is_required situation (entries.Fail other required seen signals) = (situation_number other == situation_number situation) && is_some required
-is_required situation _ = false
-
-abbrev pub is_soft : What → Bool
-is_soft entries.Soft = true
-is_soft _ = false
-
--- how many entries of a command, in all histories, are such, and how many marks in all records
-abbrev pub entries_of : Report → Who → (What → Bool) → ℕ
-entries_of report who test = sum_by (λ (list : List Entry). count_by (λ (e : Entry). is_same_command who e.who && test e.what) list) report.pages
-
-abbrev pub marks_in : Report → (MarkLine → Bool) → ℕ
-marks_in report test = sum_by (λ (l : FrameLine). count_by test l.marks) report.frames
-
--- the mark is of this situation, and the event line beside it has the row of an access that needs the page, S9
-abbrev pub is_urgent : Situation → MarkLine × EventLine → Bool
-is_urgent situation pair = finds situation (how_in pair.0) && (pair.1.row == 9)
-
--- how many marks of a command in this situation have such an event line beside them, in the frames from number n on
-abbrev pub urgent_from : Report → Who → Situation → ℕ → List FrameLine → ℕ
-urgent_from report who situation n [] = 0
-urgent_from report who situation n (l ∷ ls) = count_by (is_urgent situation) (zip (hardware_marks who l.marks) (result_lines report who n)) + urgent_from report who situation (n + 1) ls
-
--- what the marks of a command have in the histories, and its answer for one at most
-pub record AreRecorded (report : Report) (who : Who) : Type 0 where
-  pub failures : (situation : Situation) → has_page situation ≡ true → entries_of report who (is_failure situation) ≡ marks_in report (is_failure_mark who situation)
-  pub required : (situation : Situation) → has_page situation ≡ true → entries_of report who (is_required situation) ≡ urgent_from report who situation 0 report.frames
-  pub moves : entries_of report who is_soft ≡ marks_in report (is_move_mark who)
-  pub one : marks_in report (is_commands who) ≤ 1
-
--- the one is of an earlier command of the same processor
-abbrev pub IsEarlier : Who → Who → Type 0
-IsEarlier a b = (a.cpu ≡ b.cpu) × (a.seq < b.seq)
-
--- the one is of no later command of the same processor
-abbrev pub IsNotLater : Who → Who → Type 0
-IsNotLater a b = a.cpu ≡ b.cpu → a.seq ≤ b.seq
 
 -- while the command ran the record may have had these marks only: all of the processor's earlier commands, and none of its
 -- later ones; after them the frame is poisoned, or is not

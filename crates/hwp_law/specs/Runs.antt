@@ -1,10 +1,11 @@
 -- What the report of a run shows beside the report law. The law judges a report by itself; these hold of every run.
-use Rattle.std.specs.Prelude.{◌≡◌, ℕ, ◌≤◌, false, List, Option, Some, None, slice_get, option_and_then}
+use Rattle.std.specs.Prelude.{◌≡◌, ℕ, ◌≤◌, List, Option, Some, None, slice_get, option_and_then}
 use Rattle.hwp_geom.specs.declared.Cpu.{Cpu}
 use Rattle.hwp_geom.specs.declared.VSlot.{VSlot}
 use Rattle.hwp_geom.specs.declared.Who.{Who}
 use Rattle.hwp_page.specs.declared.At.{At}
 use Rattle.hwp_page.specs.declared.Entry.{Entry}
+use Rattle.hwp_page.specs.Refusals.{IsAway}
 use Rattle.hwp_page.specs.Step.{IsOf}
 use Rattle.hwp_script.specs.declared.Command.{Command}
 use Rattle.hwp_script.specs.declared.Command.TheVariants as commands
@@ -34,7 +35,7 @@ slot_of _ = None
 pub record WasOut (script : Script) (pages : List (List Entry)) (rows : List CpuLine) (who : Who) (slot : VSlot) : Type 0 where
   pub at : At
   pub of_slot : IsOf script.layout at.page slot
-  pub out : HadState script.layout pages at (λ s. s.cached ≡ false)
+  pub out : HadState script.layout pages at IsAway
   pub window : IsInWindow pages rows who at
 
 -- an access answers `noframe` only where its page was in no frame

@@ -3,3 +3,6 @@ pub mod Actions
 pub mod Step
 pub mod History
 pub mod Refusals
+pub mod Orders
+pub mod Endings
+pub mod Losses

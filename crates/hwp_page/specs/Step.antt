@@ -102,11 +102,6 @@ after s (Mce slot line mask) = s
 after s (Fail situation required seen signals) = acted s situation
 after s Soft = s
 
--- a step of a page from one state to the next
-pub record PageStep (layout : Layout) (page : Page) (s : PageState) (what : What) (next : PageState) : Type 0 where
-  pub allowed : Allowed layout page s what
-  pub next_is : next ≡ after s what
-
 -- the word that a page of this kind has on every line at opening
 abbrev pub first_word : PageKind → ℕ
 first_word Anon = 0

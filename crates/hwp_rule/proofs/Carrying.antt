@@ -10,6 +10,8 @@ use Rattle.hwp_geom.specs.declared.Layout.{Layout}
 use Rattle.hwp_geom.specs.declared.Page.{Page}
 use Rattle.hwp_geom.specs.declared.Proc.{Proc}
 use Rattle.hwp_page.specs.declared.Entry.{Entry}
+use Rattle.hwp_page.specs.Endings.{has_ending, is_ending}
+use Rattle.hwp_page.specs.Orders.{IsNotLater}
 use Rattle.hwp_rule.specs.declared.log.Log.{Log}
 use Rattle.hwp_rule.specs.declared.view.FrameLock.{FrameLock}
 use Rattle.hwp_rule.specs.declared.view.InHand.{InHand}
@@ -17,8 +19,8 @@ use Rattle.hwp_rule.specs.declared.view.Length.{Length}
 use Rattle.hwp_rule.specs.declared.view.PageLock.{PageLock}
 use Rattle.hwp_rule.specs.declared.view.Stamp.{Stamp}
 use Rattle.hwp_rule.specs.declared.view.View.{View}
-use Rattle.hwp_rule.specs.Lists.{Homes, EachBody, EachMember, SomeMember, StartsWith, IsNotLater, of_home, sum_all, sum_bodies}
-use Rattle.hwp_rule.specs.Logs.{has_ending, is_ending, losses_of}
+use Rattle.hwp_rule.specs.Lists.{Homes, EachBody, EachMember, SomeMember, StartsWith, of_home, sum_all, sum_bodies}
+use Rattle.hwp_rule.specs.Logs.{losses_of}
 use Rattle.hwp_rule.specs.Rule.{FrameRule, holder_of, losing_of, HistoryParts, FailureParts, ProcessorParts}
 use Rattle.hwp_rule.specs.Views.{page_locks_on, without, is_body_of}
 use Rattle.hwp_rule.specs.Words.{Words}

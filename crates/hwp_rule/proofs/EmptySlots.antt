@@ -3,6 +3,8 @@ use Rattle.std.proofs.Common.{◌≡◌, ℕ, ◌+◌, Bool, true, false, List, 
 use Rattle.std.specs.List.{sum_by, list_any}
 use Rattle.hwp_geom.specs.declared.Layout.{Layout}
 use Rattle.hwp_page.specs.declared.Entry.{Entry}
+use Rattle.hwp_page.specs.Endings.{has_ending, is_ending}
+use Rattle.hwp_page.specs.Orders.{IsNotLater}
 use Rattle.hwp_rule.specs.declared.log.Log.{Log}
 use Rattle.hwp_rule.specs.declared.view.InHand.{InHand}
 use Rattle.hwp_rule.specs.declared.view.Length.{Length}
@@ -10,8 +12,8 @@ use Rattle.hwp_rule.specs.declared.view.Made.{Made}
 use Rattle.hwp_rule.specs.declared.view.PageLock.{PageLock}
 use Rattle.hwp_rule.specs.declared.view.Sight.{Sight}
 use Rattle.hwp_rule.specs.declared.view.Spoiled.{Spoiled}
-use Rattle.hwp_rule.specs.Lists.{Homes, EachBody, SomeMember, IsNotLater, of_home, sum_all, sum_bodies}
-use Rattle.hwp_rule.specs.Logs.{has_ending, is_ending, losses_of}
+use Rattle.hwp_rule.specs.Lists.{Homes, EachBody, SomeMember, of_home, sum_all, sum_bodies}
+use Rattle.hwp_rule.specs.Logs.{losses_of}
 use Rattle.hwp_rule.specs.parts.Bodies.{content_name}
 use Rattle.hwp_rule.specs.parts.Endings.{EndingsAgree}
 use Rattle.hwp_rule.specs.parts.Entries.{EntriesListed, AreInOrder, weigh, Reaches}

@@ -7,13 +7,13 @@ use Rattle.hwp_geom.specs.declared.Layout.{Layout}
 use Rattle.hwp_geom.specs.declared.Proc.{Proc}
 use Rattle.hwp_geom.specs.declared.Who.{Who}
 use Rattle.hwp_page.specs.declared.Entry.{Entry}
+use Rattle.hwp_page.specs.Endings.{has_ending, is_ending}
 use Rattle.hwp_rule.specs.declared.log.Log.{Log}
 use Rattle.hwp_rule.specs.declared.view.InHand.{InHand}
 use Rattle.hwp_rule.specs.declared.view.PageLock.{PageLock}
 use Rattle.hwp_rule.specs.declared.view.View.{View}
 use Rattle.hwp_rule.specs.Asks.{CanGoHome, IsTurnOf}
 use Rattle.hwp_rule.specs.Lists.{Homes, SomeMember}
-use Rattle.hwp_rule.specs.Logs.{has_ending, is_ending}
 use Rattle.hwp_rule.specs.Rule.{FrameRule}
 use Rattle.hwp_rule.specs.Views.{made_from, stamp_of, more_of, page_locks_on, changed, listed, is_body_of}
 use Rattle.hwp_rule.specs.Words.{Words}

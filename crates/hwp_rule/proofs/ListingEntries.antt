@@ -12,6 +12,9 @@ use Rattle.hwp_geom.specs.declared.Page.{Page}
 use Rattle.hwp_geom.specs.declared.Proc.{Proc}
 use Rattle.hwp_geom.specs.declared.Who.{Who}
 use Rattle.hwp_page.specs.declared.Entry.{Entry}
+use Rattle.hwp_page.specs.Endings.{has_ending, is_ending}
+use Rattle.hwp_page.specs.Losses.{is_loss, is_same_file, losses_in}
+use Rattle.hwp_page.specs.Orders.{IsNotLater}
 use Rattle.hwp_rule.specs.declared.log.Log.{Log}
 use Rattle.hwp_rule.specs.declared.view.InHand.{InHand}
 use Rattle.hwp_rule.specs.declared.view.Length.{Length}
@@ -23,8 +26,8 @@ use Rattle.hwp_rule.specs.declared.view.Sight.{Sight}
 use Rattle.hwp_rule.specs.declared.view.Stamp.{Stamp}
 use Rattle.hwp_rule.specs.declared.view.View.{View}
 use Rattle.hwp_rule.specs.Asks.{Extends, HasSameWords, IsTurnOf}
-use Rattle.hwp_rule.specs.Lists.{Homes, EachBody, EachMember, SomeMember, StartsWith, IsNotLater, sum_all, sum_bodies}
-use Rattle.hwp_rule.specs.Logs.{state_of, has_ending, is_ending, is_loss, losses_in, losses_of, file_of, is_file}
+use Rattle.hwp_rule.specs.Lists.{Homes, EachBody, EachMember, SomeMember, StartsWith, sum_all, sum_bodies}
+use Rattle.hwp_rule.specs.Logs.{state_of, losses_of, file_of}
 use Rattle.hwp_rule.specs.Rule.{FrameRule, holder_of, losing_of}
 use Rattle.hwp_rule.specs.Views.{stamp_of, more_of, made_from, changed, is_body_of, body_of, listed, listed_of, page_locks_on}
 use Rattle.hwp_rule.specs.Words.{Words}
@@ -204,7 +207,7 @@ module _ (layout : Layout) (w : Words) (homes : Homes) (views : List View) (seat
         let same_owes : owed (losing_of u) ≡ owed (losing_of v) = refl in
         let all : losses_in log.entries ≡ losses_in body.log.entries + losses_in more = ap losses_in extends.longer ∙ sum_by-append (λ (e : Entry). from_bool (is_loss e.what)) body.log.entries more in
         let same : losses_in log.entries ≡ losses_in body.log.entries = omega (arith, no-loss) in
-        let of_log : losses_of layout file log ≡ losses_of layout file body.log = λ i. cond (is_file file (file_of layout (extends.page_is i))) (same i) 0 in
+        let of_log : losses_of layout file log ≡ losses_of layout file body.log = λ i. cond (is_same_file file (file_of layout (extends.page_is i))) (same i) 0 in
         omega (arith, sums (losses_of layout file));
     declared = each-set (λ (o : Losing). EachMember (λ (n : FileNo). n.0 < layout.files) o.owed) (map losing_of views) seat (losing_of u) (h.histories.losses.declared seat (losing_of v) my_losing) h.histories.losses.declared;
     poisoned = each-set IsPoisonLoss (map losing_of views) seat (losing_of u) poison-loss h.histories.losses.poisoned;

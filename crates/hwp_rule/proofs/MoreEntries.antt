@@ -18,8 +18,8 @@ use Rattle.hwp_rule.specs.declared.view.Made.{Made}
 use Rattle.hwp_rule.specs.declared.view.Sight.{Sight}
 use Rattle.hwp_rule.specs.declared.view.Stamp.{Stamp}
 use Rattle.hwp_rule.specs.Asks.{HasSameWords}
-use Rattle.hwp_rule.specs.Lists.{EachMember, SomeMember, IsNotLater}
-use Rattle.hwp_rule.specs.Logs.{state_of, is_loss, losses_in, file_of, fitting_word}
+use Rattle.hwp_rule.specs.Lists.{EachMember, SomeMember}
+use Rattle.hwp_rule.specs.Logs.{state_of, file_of, fitting_word}
 use Rattle.hwp_rule.specs.Steps.{policy_at}
 use Rattle.hwp_rule.specs.Views.{made_from, loss_made, losses_made}
 use Rattle.hwp_rule.specs.parts.Entries.{weigh_from, HasMask, HasPolicy, HasSeen, Shows, AreInOrder}
@@ -28,6 +28,8 @@ use Rattle.hwp_rule.specs.parts.Unpoisoned.{is_failure}
 use Rattle.hwp_rule.proofs.Lists.{each-weaken}
 use Rattle.std.specs.FinSet as sets
 use Rattle.hwp_page.specs.declared.What.TheVariants as entries
+use Rattle.hwp_page.specs.Losses.{is_loss, losses_in}
+use Rattle.hwp_page.specs.Orders.{IsNotLater}
 use Rattle.hwp_rule.specs.declared.place.Place.TheVariants as places
 use Rattle.hwp_kill.specs.declared.Seen.{Seen}
 

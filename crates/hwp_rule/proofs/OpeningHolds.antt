@@ -17,7 +17,7 @@ use Rattle.hwp_words.specs.Frames.{poison_of, count_of, owner_of, lock_of, handl
 use Rattle.hwp_rule.specs.declared.log.Log.{Log}
 use Rattle.hwp_rule.specs.declared.view.View.{View}
 use Rattle.hwp_rule.specs.Lists.{Homes, EachMember, EachListed, EachBody, of_home, sum_all}
-use Rattle.hwp_rule.specs.Logs.{opening_at, fitting_word, state_of, has_ending, losses_of, is_file, file_of}
+use Rattle.hwp_rule.specs.Logs.{opening_at, fitting_word, state_of, losses_of, file_of}
 use Rattle.hwp_rule.specs.Opening.{below, opening_frame, opening_free, opening_log, opening_homes, opening_view, opening_words, opening_available, opening_policy, opening}
 use Rattle.hwp_rule.specs.Rule.{FrameRule, Holds, holder_of, holdings_of, losing_of, count_debts_of}
 use Rattle.hwp_rule.specs.Words.{Words, words_of, free_words, free_bit, sum_below}
@@ -58,6 +58,8 @@ use Rattle.hwp_geom.specs.declared.FileNo.{FileNo}
 use Rattle.hwp_geom.specs.declared.Proc.{Proc}
 use Rattle.hwp_geom.specs.declared.Who.{Who}
 use Rattle.hwp_page.specs.declared.Entry.{Entry}
+use Rattle.hwp_page.specs.Endings.{has_ending}
+use Rattle.hwp_page.specs.Losses.{is_same_file}
 use Rattle.std.specs.FinSet as set
 use Rattle.hwp_words.specs.declared.Pte.TheVariants as ptes
 use Rattle.hwp_rule.specs.declared.place.Place.TheVariants as places
@@ -329,7 +331,7 @@ module _ (layout : Layout) (sound : IsSound layout) (w : Words) (o : AreOpening 
         let none : x ≡ 0 = is-zero w.losses layout.files file.0 x o.losses there in
         let reported : sum_by (λ (v : Losing). sum_by (λ (r : Reported). cond (r.file.0 == file.0) r.count 0) v.reported) (map losing_of (opening_views layout)) ≡ 0 = no-sum losing_of (λ (v : Losing). sum_by (λ (r : Reported). cond (r.file.0 == file.0) r.count 0) v.reported) (λ c. refl) in
         let owed : sum_by (λ (v : Losing). sum_by (λ (n : FileNo). from_bool (n.0 == file.0)) v.owed) (map losing_of (opening_views layout)) ≡ 0 = no-sum losing_of (λ (v : Losing). sum_by (λ (n : FileNo). from_bool (n.0 == file.0)) v.owed) (λ c. refl) in
-        let home : sum_by (of_home (losses_of layout file)) (opening_homes layout) ≡ 0 = homes-zero layout (losses_of layout file) (λ q. either-zero (is_file file (file_of layout (opening_log q).page))) in
+        let home : sum_by (of_home (losses_of layout file)) (opening_homes layout) ≡ 0 = homes-zero layout (losses_of layout file) (λ q. either-zero (is_same_file file (file_of layout (opening_log q).page))) in
         let hand : sum_all (λ (b : InHand). losses_of layout file b.log) (map (λ (v : View). v.bodies) (opening_views layout)) ≡ 0 = no-sum (λ (v : View). v.bodies) (sum_by (λ (b : InHand). losses_of layout file b.log)) (λ c. refl) in
         omega arith;
     declared = OpeningWords.each-view losing_of (λ (v : Losing). EachMember (λ (n : FileNo). n.0 < layout.files) v.owed) layout.cpus (λ c less. each-none (λ (n : FileNo). n.0 < layout.files));

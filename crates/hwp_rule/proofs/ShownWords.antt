@@ -9,6 +9,8 @@ use Rattle.hwp_geom.specs.declared.Layout.{Layout}
 use Rattle.hwp_geom.specs.declared.Proc.{Proc}
 use Rattle.hwp_geom.specs.declared.Thread.{Thread}
 use Rattle.hwp_page.specs.declared.Entry.{Entry}
+use Rattle.hwp_page.specs.Endings.{has_ending, is_ending}
+use Rattle.hwp_page.specs.Orders.{IsNotLater}
 use Rattle.hwp_words.specs.Counters.{hardware_of}
 use Rattle.hwp_rule.specs.declared.log.Log.{Log}
 use Rattle.hwp_rule.specs.declared.view.Mark.{Mark}
@@ -16,8 +18,7 @@ use Rattle.hwp_rule.specs.declared.view.Sight.{Sight}
 use Rattle.hwp_rule.specs.declared.view.Stamp.{Stamp}
 use Rattle.hwp_rule.specs.declared.view.View.{View}
 use Rattle.hwp_rule.specs.Asks.{IsTurnOf}
-use Rattle.hwp_rule.specs.Lists.{Homes, EachBody, EachMember, SomeMember, IsNotLater}
-use Rattle.hwp_rule.specs.Logs.{has_ending, is_ending}
+use Rattle.hwp_rule.specs.Lists.{Homes, EachBody, EachMember, SomeMember}
 use Rattle.hwp_rule.specs.Rule.{FrameRule, count_debts_of}
 use Rattle.hwp_rule.specs.Words.{Words}
 use Rattle.hwp_rule.specs.parts.Counter.{SomeHardware, is_by_hardware, CountDebts}

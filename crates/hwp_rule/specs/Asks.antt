@@ -15,6 +15,7 @@ use Rattle.hwp_geom.specs.Limits.{command_limit}
 use Rattle.hwp_page.specs.declared.Entry.{Entry}
 use Rattle.hwp_page.specs.declared.PageState.{PageState}
 use Rattle.hwp_page.specs.History.{Leads}
+use Rattle.hwp_page.specs.Endings.{has_ending}
 use Rattle.hwp_words.specs.declared.Pte.{Pte}
 use Rattle.hwp_words.specs.declared.Pte.TheVariants as ptes
 use Rattle.hwp_words.specs.Frames.{count_of, owner_of, lock_of, handled_of}
@@ -29,7 +30,7 @@ use Rattle.hwp_rule.specs.declared.view.PageLock.{PageLock}
 use Rattle.hwp_rule.specs.declared.view.InHand.{InHand}
 use Rattle.hwp_rule.specs.declared.view.Sight.{Sight}
 use Rattle.hwp_rule.specs.Lists.{EachMember, SomeMember}
-use Rattle.hwp_rule.specs.Logs.{log_of, state_of, has_ending, file_of}
+use Rattle.hwp_rule.specs.Logs.{log_of, state_of, file_of}
 use Rattle.hwp_rule.specs.Steps.{place_of, IsLoaded}
 use Rattle.hwp_rule.specs.Views.{frame_in, refs_on, locks_on, page_locks_on, body_of, more_of, listed, lost_by}
 use Rattle.hwp_rule.specs.Words.{IsPlace}

@@ -1,7 +1,6 @@
 -- Members of lists that views have, and bodies wherever they are.
-use Rattle.std.specs.Prelude.{◌≡◌, ℕ, ◌+◌, ◌≤◌, ◌++◌, List, Option, Some, None, slice_get}
+use Rattle.std.specs.Prelude.{◌≡◌, ℕ, ◌+◌, ◌++◌, List, Option, Some, None, slice_get}
 use Rattle.std.specs.List.{sum_by}
-use Rattle.hwp_geom.specs.declared.Who.{Who}
 use Rattle.hwp_rule.specs.declared.log.Log.{Log}
 use Rattle.hwp_rule.specs.declared.view.InHand.{InHand}
 
@@ -46,7 +45,3 @@ of_home f (Some (Some log)) = f log
 -- a sum over all bodies
 abbrev pub sum_bodies : (Log → ℕ) → Homes → List (List InHand) → ℕ
 sum_bodies f homes bodies = sum_by (of_home f) homes + sum_all (λ (b : InHand). f b.log) bodies
-
--- the one is of no later command than the other, where both are of one processor
-abbrev pub IsNotLater : Who → Who → Type 0
-IsNotLater who other = who.cpu ≡ other.cpu → who.seq ≤ other.seq

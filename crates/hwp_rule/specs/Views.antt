@@ -9,6 +9,7 @@ use Rattle.hwp_geom.specs.declared.Page.{Page}
 use Rattle.hwp_geom.specs.declared.Proc.{Proc}
 use Rattle.hwp_geom.specs.declared.Who.{Who}
 use Rattle.hwp_page.specs.declared.Entry.{Entry}
+use Rattle.hwp_page.specs.Losses.{is_loss}
 use Rattle.hwp_words.specs.Frames.{owner_of, cycle_of, is_handled, is_poisoned}
 use Rattle.hwp_words.specs.Names.{frame_name, frame_named}
 use Rattle.hwp_words.specs.Translations.{pte_word}
@@ -31,7 +32,7 @@ use Rattle.hwp_rule.specs.declared.view.Made.{Made}
 use Rattle.hwp_rule.specs.declared.view.MarkKind.{MarkKind}
 use Rattle.hwp_rule.specs.declared.view.MarkKind.TheVariants as mark_kinds
 use Rattle.hwp_rule.specs.Steps.{place_of, goes, is_last}
-use Rattle.hwp_rule.specs.Logs.{log_of, state_of, is_loss, file_of, fitting}
+use Rattle.hwp_rule.specs.Logs.{log_of, state_of, file_of, fitting}
 
 -- the list without the first member that the test finds
 abbrev pub without : {A : Type 0} → (A → Bool) → List A → List A

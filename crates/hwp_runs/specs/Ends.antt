@@ -1,11 +1,12 @@
 -- What a report says of the board on which a run ends.
-use Rattle.std.specs.Prelude.{◌≡◌, ℕ, ◌+◌, cond, Bool, false, List, Option, Some, None, slice_get}
+use Rattle.std.specs.Prelude.{◌≡◌, ℕ, ◌+◌, ◌^◌, cond, Bool, false, List, Option, Some, None, map, slice_get}
 use Rattle.std.specs.List.{sum_by}
 use Rattle.hwp_geom.specs.declared.Frame.{Frame}
 use Rattle.hwp_geom.specs.declared.Layout.{Layout}
 use Rattle.hwp_geom.specs.declared.Page.{Page}
 use Rattle.hwp_geom.specs.declared.Who.{Who}
 use Rattle.hwp_page.specs.declared.Entry.{Entry}
+use Rattle.hwp_words.specs.Counters.{biased_poisoned_of}
 use Rattle.hwp_words.specs.Frames.{is_handled, is_kernel, owner_of, poison_of}
 use Rattle.hwp_words.specs.Names.{page_named}
 use Rattle.hwp_words.specs.Stops.{stopper_of}
@@ -14,7 +15,7 @@ use Rattle.hwp_rule.specs.declared.Mark.{Mark}
 use Rattle.hwp_rule.specs.declared.MarkKind.TheVariants as kinds
 use Rattle.hwp_rule.specs.declared.State.{State}
 use Rattle.hwp_rule.specs.declared.View.{View}
-use Rattle.hwp_rule.specs.Lists.{SomeMember}
+use Rattle.hwp_rule.specs.Lists.{SomeListed, SomeMember}
 use Rattle.hwp_rule.specs.Words.{Words, words_of}
 use Rattle.hwp_report.specs.declared.FrameLine.{FrameLine}
 use Rattle.hwp_report.specs.declared.How.{How}
@@ -48,7 +49,7 @@ Tells frame (marks.Unpoisoned cycle who) m = (m.frame ≡ frame) × (m.cycle ≡
 
 -- a view lists the mark
 abbrev pub IsListed : List View → Mark → Type 0
-IsListed views mark = SomeMember (λ (v : View). SomeMember (λ (m : Mark). m ≡ mark) v.marks) views
+IsListed views mark = SomeListed (λ (m : Mark). m ≡ mark) (map (λ (v : View). v.marks) views)
 
 -- the lines of a frame's record are the marks of the frame that the views list
 pub record AreMarks (views : List View) (frame : Frame) (list : List MarkLine) : Type 0 where
@@ -71,12 +72,14 @@ pub record IsPageOn (state : State) (page : Page) (entries : List Entry) : Type 
 -- the stop record names the processor and the command that stopped the machine
 abbrev pub IsStopOn : ℕ → List View → Option Stop → Type 0
 IsStopOn word views None = stopper_of word ≡ 0
-IsStopOn word views (Some stop) = (stopper_of word ≡ stop.who.cpu.0 + 1) × SomeMember (λ (v : View). SomeMember (λ (w : Who). w ≡ stop.who) v.stops) views
+IsStopOn word views (Some stop) = (stopper_of word ≡ stop.who.cpu.0 + 1) × SomeListed (λ (w : Who). w ≡ stop.who) (map (λ (v : View). v.stops) views)
 
--- the frames, pages, files, the count and the stop of a report are what the board has at the end
+-- the frames, pages, files, the count and the stop of a report are what the board has at the end; the count is that of the
+-- counter word too
 pub record EndsWith (layout : Layout) (state : State) (report : Report) : Type 0 where
   pub frames : (frame : Frame) (line : FrameLine) → slice_get report.frames frame.0 ≡ Some line → IsFrameOn (words_of layout state.words) state.views frame line
   pub pages : (page : Page) (entries : List Entry) → slice_get report.pages page.0 ≡ Some entries → IsPageOn state page entries
   pub files : report.files ≡ (words_of layout state.words).losses
   pub count : report.count ≡ sum_by poison_of (words_of layout state.words).frames
+  pub counter : biased_poisoned_of (words_of layout state.words).counter ≡ 2 ^ 31 + report.count
   pub stop : IsStopOn (words_of layout state.words).stop state.views report.stop

@@ -1,9 +1,10 @@
 -- The event lines of a scrub, and the words of bad and weak lines that its steps showed.
-use Rattle.std.specs.Prelude.{◌≡◌, ◌↔◌, ℕ, ◌≤◌, List, Some}
+use Rattle.std.specs.Prelude.{◌≡◌, ◌↔◌, ℕ, ◌<◌, ◌≤◌, List, Some}
 use Rattle.hwp_geom.specs.declared.Frame.{Frame}
 use Rattle.hwp_geom.specs.declared.Layout.{Layout}
 use Rattle.hwp_geom.specs.declared.Who.{Who}
 use Rattle.hwp_geom.specs.Bits.{IsLowestBit}
+use Rattle.hwp_geom.specs.Limits.{line_limit}
 use Rattle.hwp_banks.specs.declared.Origin.{Origin}
 use Rattle.hwp_banks.specs.declared.Origin.TheVariants as origins
 use Rattle.hwp_banks.specs.Addresses.{line_address}
@@ -22,6 +23,7 @@ use Rattle.hwp_runs.specs.Turns.{Finds}
 
 -- the line tells the scrubber's event at this line of a frame
 pub record IsFoundAt (origin : Origin) (frame : Frame) (n : ℕ) (line : EventLine) : Type 0 where
+  pub within : n < line_limit
   pub bank : line.bank ≡ bank_of origin
   pub status : line.status ≡ own_status origin
   pub addr : line.addr ≡ line_address frame n

@@ -8,6 +8,7 @@ use Rattle.hwp_rule.specs.declared.Log.{Log}
 use Rattle.hwp_rule.specs.declared.Part.{Part}
 use Rattle.hwp_rule.specs.declared.Rec.{Rec}
 use Rattle.hwp_rule.specs.declared.Step.{Step}
+use Rattle.hwp_rule.specs.declared.Step.TheVariants as steps
 use Rattle.hwp_rule.specs.declared.View.{View}
 use Rattle.hwp_rule.specs.Asks.{Asks, IsTurnOf}
 use Rattle.hwp_rule.specs.Lists.{EachMember}
@@ -38,12 +39,19 @@ pub record IsOnTurn (view : View) (who : Who) : Type 0 where
 abbrev pub FitsLayout : Layout → Option BodyValue → Type 0
 FitsLayout layout body = (b : BodyValue) → body ≡ Some b → b.layout ≡ layout
 
+-- a body goes home only with a step that frees a lock
+abbrev pub GoesHome : Step → Option BodyValue → Type 0
+GoesHome (steps.UnlockFrame frame) put = Unit {0}
+GoesHome (steps.UnlockPage page) put = Unit {0}
+GoesHome step put = put ≡ None
+
 -- the processor can make the step of its command, with this body for the slot whose lock it frees
 pub record CanMake (layout : Layout) (who : Who) (step : Step) (put : Option BodyValue) (view : View) : Type 0 where
   pub served : IsServed step
   pub later : IsLater view who who.seq
   pub asks : Asks layout who step (logs put) view
   pub layout_is : FitsLayout layout put
+  pub goes_home : GoesHome step put
 
 -- the body that the step brought: none where it took no lock; and it is the machine's, with the state of its history
 pub record Brings (layout : Layout) (step : Step) (found : ℕ) (got : Option BodyValue) : Type 0 where

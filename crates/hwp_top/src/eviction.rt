@@ -2,7 +2,7 @@
 ghost use Rattle.std.specs.Prelude.{◌≡◌, ◌<◌, ◌↔◌, IsTrue, length, slice_get, true, false, IfOk, OnOk, Some};
 ghost use Rattle.std.specs.FinSet as set;
 ghost use Rattle.hwp_page.specs.History.{BodyValue};
-ghost use Rattle.hwp_law.specs.Answers.{IsUnsaved};
+ghost use Rattle.hwp_page.specs.Refusals.{IsUnsaved};
 ghost use Rattle.hwp_page.specs.Step.{Allowed};
 ghost use Rattle.hwp_top.specs.Bench.{Answers, Appended, IsBackedBy, Leaves, Machine, Serves, logs};
 

@@ -7,6 +7,7 @@ use Rattle.hwp_geom.specs.declared.FileNo.{FileNo}
 use Rattle.hwp_geom.specs.declared.Layout.{Layout}
 use Rattle.hwp_geom.specs.declared.Page.{Page}
 use Rattle.hwp_page.specs.declared.Entry.{Entry}
+use Rattle.hwp_page.specs.Losses.{is_loss, is_same_file, losses_in}
 use Rattle.hwp_rule.specs.declared.log.Log.{Log}
 use Rattle.hwp_rule.specs.declared.view.InHand.{InHand}
 use Rattle.hwp_rule.specs.declared.view.Made.{Made}
@@ -15,7 +16,7 @@ use Rattle.hwp_rule.specs.declared.view.Reported.{Reported}
 use Rattle.hwp_rule.specs.declared.view.Sight.{Sight}
 use Rattle.hwp_rule.specs.declared.view.View.{View}
 use Rattle.hwp_rule.specs.Lists.{Homes, of_home, sum_all, sum_bodies}
-use Rattle.hwp_rule.specs.Logs.{is_loss, losses_in, losses_of, file_of, is_file}
+use Rattle.hwp_rule.specs.Logs.{losses_of, file_of}
 use Rattle.hwp_rule.specs.Rule.{FrameRule, losing_of}
 use Rattle.hwp_rule.specs.Words.{Words, sum_below}
 use Rattle.hwp_rule.specs.parts.Counter.{is_poisoning}
@@ -76,7 +77,7 @@ module _ (layout : Layout) (w : Words) (homes : Homes) (views : List View) (wide
   of-one : (log : Log) → sum_below (λ f. of_file f log) n ≤ lost log
   of-one log = which (file_of layout log.page)
     where
-      which : (o : Option FileNo) → sum_below (λ f. cond (is_file (record { 0 = f }) o) (lost log) 0) n ≤ lost log
+      which : (o : Option FileNo) → sum_below (λ f. cond (is_same_file (record { 0 = f }) o) (lost log) 0) n ≤ lost log
       which None = let none : sum_below (λ f. 0) n ≡ 0 = below-zero (λ f. 0) n (λ i before. refl) in omega arith
       which (Some file) = hit-times file.0 (lost log) n
 

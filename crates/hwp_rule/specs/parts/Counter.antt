@@ -2,6 +2,7 @@
 use Rattle.std.specs.Prelude.{◌≡◌, ℕ, ◌+◌, ◌^◌, ◌<◌, ◌≤◌, Bool, true, false, List}
 use Rattle.std.specs.List.{sum_by}
 use Rattle.std.specs.Int.{from_bool}
+use Rattle.hwp_page.specs.Orders.{IsNotLater}
 use Rattle.hwp_words.specs.Counters.{hardware_of, biased_poisoned_of}
 use Rattle.hwp_words.specs.Frames.{poison_of}
 use Rattle.hwp_rule.specs.declared.place.Place.TheVariants as places
@@ -9,7 +10,7 @@ use Rattle.hwp_rule.specs.declared.view.Mark.{Mark}
 use Rattle.hwp_rule.specs.declared.view.MarkKind.{MarkKind}
 use Rattle.hwp_rule.specs.declared.view.MarkKind.TheVariants as kinds
 use Rattle.hwp_rule.specs.declared.view.Sight.{Sight}
-use Rattle.hwp_rule.specs.Lists.{EachMember, EachListed, SomeMember, IsNotLater}
+use Rattle.hwp_rule.specs.Lists.{EachMember, EachListed, SomeMember}
 
 abbrev pub is_by_hardware : MarkKind → Bool
 is_by_hardware (kinds.Poisoned hardware) = hardware

@@ -3,12 +3,13 @@ use Rattle.std.specs.Prelude.{◌≡◌, ◌≢◌, ℕ, ◌+◌, ◌≤◌, tru
 use Rattle.hwp_geom.specs.declared.Layout.{Layout}
 use Rattle.hwp_geom.specs.declared.Proc.{Proc}
 use Rattle.hwp_page.specs.declared.Entry.{Entry}
+use Rattle.hwp_page.specs.Endings.{has_ending, is_ending}
+use Rattle.hwp_page.specs.Orders.{IsNotLater}
 use Rattle.hwp_rule.specs.declared.log.Log.{Log}
 use Rattle.hwp_rule.specs.declared.place.Place.TheVariants as places
 use Rattle.hwp_rule.specs.declared.view.InHand.{InHand}
 use Rattle.hwp_rule.specs.declared.view.Sight.{Sight}
-use Rattle.hwp_rule.specs.Lists.{Homes, EachBody, EachMember, EachListed, SomeMember, IsNotLater}
-use Rattle.hwp_rule.specs.Logs.{has_ending, is_ending}
+use Rattle.hwp_rule.specs.Lists.{Homes, EachBody, EachMember, EachListed, SomeMember}
 
 -- the processes that a history ended have a word that is not 0
 abbrev pub AreEnded : Layout → List ℕ → List Entry → Type 0

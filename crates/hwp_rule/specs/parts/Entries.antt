@@ -9,6 +9,7 @@ use Rattle.hwp_page.specs.declared.Entry.{Entry}
 use Rattle.hwp_page.specs.declared.Met.TheVariants.{Word}
 use Rattle.hwp_page.specs.declared.What.{What}
 use Rattle.hwp_page.specs.declared.What.TheVariants as entries
+use Rattle.hwp_page.specs.Orders.{IsNotLater}
 use Rattle.hwp_rule.specs.declared.log.Log.{Log}
 use Rattle.hwp_rule.specs.declared.place.Place.{Place}
 use Rattle.hwp_rule.specs.declared.place.Place.TheVariants as places
@@ -17,7 +18,7 @@ use Rattle.hwp_rule.specs.declared.view.Length.{Length}
 use Rattle.hwp_rule.specs.declared.view.Made.{Made}
 use Rattle.hwp_rule.specs.declared.view.Sight.{Sight}
 use Rattle.hwp_rule.specs.declared.view.Stamp.{Stamp}
-use Rattle.hwp_rule.specs.Lists.{Homes, EachBody, EachListed, EachMember, SomeMember, StartsWith, IsNotLater, sum_bodies}
+use Rattle.hwp_rule.specs.Lists.{Homes, EachBody, EachListed, EachMember, SomeMember, StartsWith, sum_bodies}
 use Rattle.hwp_rule.specs.Steps.{policy_at}
 
 -- what f says of the entries of a page, from a place on

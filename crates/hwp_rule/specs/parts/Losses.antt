@@ -4,13 +4,14 @@ use Rattle.std.specs.List.{sum_by}
 use Rattle.std.specs.Int.{from_bool}
 use Rattle.hwp_geom.specs.declared.FileNo.{FileNo}
 use Rattle.hwp_geom.specs.declared.Layout.{Layout}
+use Rattle.hwp_page.specs.Losses.{is_loss}
 use Rattle.hwp_rule.specs.declared.view.InHand.{InHand}
 use Rattle.hwp_rule.specs.declared.view.Made.{Made}
 use Rattle.hwp_rule.specs.declared.view.Mark.{Mark}
 use Rattle.hwp_rule.specs.declared.view.Reported.{Reported}
 use Rattle.hwp_rule.specs.parts.Counter.{is_poisoning}
 use Rattle.hwp_rule.specs.Lists.{Homes, EachMember, sum_bodies}
-use Rattle.hwp_rule.specs.Logs.{is_loss, losses_of}
+use Rattle.hwp_rule.specs.Logs.{losses_of}
 
 -- what a view has to do with losses
 pub record Losing : Type 0 where

@@ -6,7 +6,7 @@ use Rattle.hwp_page.specs.declared.PageState.{PageState}
 use Rattle.hwp_page.specs.declared.What.TheVariants as entries
 use Rattle.hwp_script.specs.declared.Command.TheVariants as commands
 use Rattle.hwp_report.specs.declared.Answer.TheVariants as answers
-use Rattle.hwp_law.specs.Answers.{IsUnsaved}
+use Rattle.hwp_page.specs.Refusals.{IsUnsaved}
 use Rattle.hwp_top.specs.Bench.{Appended}
 use Rattle.hwp_top.proofs.Answering.{Answers-made, Answers-state, state-here}
 use Rattle.hwp_top.proofs.eviction.drop_page.Goals as goal
