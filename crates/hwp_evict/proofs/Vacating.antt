@@ -195,7 +195,7 @@ can layout view v step fits is = which v.at fits.at is
     })
     which (at.Release r) has e = subst (λ (w : Who). CanMake layout w step None view) has.own (releasing_laws.can layout view r step has.release e)
     which at.UnlockPage has e = can-put fits.on_turn e tt fits.page
-        (can-shelve has.goes (ap (λ (h : Hand). h.pages) has.hand_is) (ap (λ (h : Hand). h.bodies) has.hand_is) (ap (λ (h : Hand). h.locks) has.hand_is)) (body-fits has.goes)
+        (can-shelve has.goes (ap (λ (h : Hand). h.pages) has.hand_is) (ap (λ (h : Hand). h.bodies) has.hand_is) (ap (λ (h : Hand). h.locks) has.hand_is)) (body-fits has.goes) tt
     which at.Over has e = absurd (none-some step e)
 
 -- ---- what follows fits

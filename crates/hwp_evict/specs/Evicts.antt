@@ -1,13 +1,14 @@
 -- A page, or a part of it, that leaves its frame: the task's states, its steps and what they come to.
-use Rattle.std.specs.Prelude.{◌≡◌, ◌≢◌, ◌⊎◌, ℕ, ◌+◌, ◌<◌, ◌==◌, Bool, true, false, cond, List, [], ◌∷◌, ◌++◌, Option, Some, None, is_some, is_none, length, MatchBool, MatchOption}
+use Rattle.std.specs.Prelude.{◌≡◌, ◌≢◌, ◌⊎◌, ℕ, ◌+◌, ◌<◌, ◌≤◌, ◌==◌, Bool, true, false, cond, List, [], ◌∷◌, ◌++◌, Option, Some, None, is_some, is_none, length, MatchBool, MatchOption}
 use Rattle.hwp_geom.specs.declared.Frame.{Frame}
 use Rattle.hwp_geom.specs.declared.Layout.{Layout}
 use Rattle.hwp_geom.specs.declared.Page.{Page}
 use Rattle.hwp_geom.specs.declared.Who.{Who}
+use Rattle.hwp_geom.specs.Layout.{IsSound}
 use Rattle.hwp_page.specs.declared.At.{At}
 use Rattle.hwp_page.specs.declared.Entry.{Entry}
 use Rattle.hwp_page.specs.declared.What.{What}
-use Rattle.hwp_page.specs.History.{BodyValue}
+use Rattle.hwp_page.specs.History.{BodyValue, IsReplay}
 use Rattle.hwp_page.specs.Step.{Allowed, after}
 use Rattle.hwp_words.specs.Stops.{is_stopped}
 use Rattle.hwp_words.specs.declared.Pte.TheVariants as ptes
@@ -118,9 +119,13 @@ entered who page evictions.Sync frame body done = at.Unhold (unholds.begin who p
 entered who page evictions.Drop frame body done = at.Vacate (vacates.begin who page frame 2 body) done
 
 -- the entry is made, or memory for it is refused
+pub record IsEntered (who : Who) (page : Page) (what : Eviction) (frame : Frame) (body : BodyValue) (x : EvictAt) : Type 0 where
+  pub now : BodyValue
+  pub made : now ≡ with_entry who (entry_of what) body now.spare
+  pub next_is : x ≡ entered who page what frame now (place page body)
+
 abbrev pub Enters : Who → Page → Eviction → Frame → BodyValue → EvictAt → Type 0
-Enters who page what frame body x =
-    (x ≡ given_up who page frame body) ⊎ ((spare : ℕ) × (x ≡ entered who page what frame (with_entry who (entry_of what) body spare) (place page body)))
+Enters who page what frame body x = (x ≡ given_up who page frame body) ⊎ IsEntered who page what frame body x
 
 -- the page is held in the frame, and lets the command go on, or doesn't
 abbrev pub GoesOn : Who → Page → Eviction → Frame → BodyValue → EvictAt → Type 0
@@ -202,8 +207,10 @@ pub record IsHolding (layout : Layout) (view : View) (who : Who) (page : Page) (
   pub made_none : HasMadeNone view who
 
 -- the page is held, and the command saw its history
-pub record IsReading (layout : Layout) (view : View) (who : Who) (page : Page) (frame : Frame) (body : BodyValue) : Type 0 where
+pub record IsReading (layout : Layout) (view : View) (who : Who) (page : Page) (what : Eviction) (frame : Frame) (body : BodyValue) : Type 0 where
+  pub copying : copies what ≡ true
   pub page_held : HoldsPage layout view page (Some frame) body
+  pub few : page_held.seen ≤ length view.sights
   pub saw : SawLog view who (log_of body)
   pub made_none : HasMadeNone view who
 
@@ -213,6 +220,7 @@ pub record HasEntry (layout : Layout) (who : Who) (page : Page) (what : Eviction
   pub log_is : log_of body ≡ record { page = log.page; entries = log.entries ++ (record { who = who; what = entry_of what }) ∷ [] }
   pub layout_is : body.layout ≡ layout
   pub cached : (state_of layout log).cached ≡ true
+  pub replay : IsReplay layout page log.entries (state_of layout log)
   pub allowed : Allowed layout page (state_of layout log) (entry_of what)
   pub done_is : done ≡ record { page = page; entry = length log.entries }
 
@@ -224,6 +232,7 @@ pub record IsFreeing (layout : Layout) (view : View) (who : Who) (page : Page) (
   pub poisoned : Bool
   pub hand_is : hand_of view ≡ held layout page (Some frame) log seen handled poisoned
   pub entry : HasEntry layout who page what log done body
+  pub sound : IsSound layout
   pub within : frame.0 < layout.frames
   pub made_none : HasMadeNone view who
 
@@ -268,7 +277,7 @@ pub record IsGivingUp (layout : Layout) (view : View) (who : Who) (g : GiveUp) :
 abbrev pub FitsAt : Layout → View → Who → Page → Eviction → EvictAt → Type 0
 FitsAt layout view who page what at.LoadStop = (hand_of view ≡ empty) × HasMadeNone view who
 FitsAt layout view who page what (at.Hold h) = IsHolding layout view who page h
-FitsAt layout view who page what (at.LoadBad frame body) = IsReading layout view who page frame body
+FitsAt layout view who page what (at.LoadBad frame body) = IsReading layout view who page what frame body
 FitsAt layout view who page what (at.SetPte slot frame body done) = (what ≡ evictions.Free slot) × IsFreeing layout view who page what frame body done
 FitsAt layout view who page what (at.Vacate v done) = IsVacating layout view who page what v done
 FitsAt layout view who page what (at.Unhold u answer) = IsLettingGo layout view who page what u answer

@@ -1,8 +1,8 @@
-ghost use Rattle.std.specs.Prelude.{◌≡◌, ◌↔◌, IsTrue};
+ghost use Rattle.std.specs.Prelude.{◌≡◌, ◌↔◌, IsTrue, MatchResult};
 ghost use Rattle.std.specs.FinSet as set;
 ghost use Rattle.hwp_evict.specs.declared.evict.Eviction.TheVariants as evictions;
 ghost use Rattle.hwp_evict.specs.Evictions.{entry_of, copies, absence, IsJudged};
-ghost use Rattle.hwp_evict.specs.Evicts.{begin, answer, CanEnter, CanEnterHeld, CanMakeEntry, after_stop, AfterHold, AfterHeld, AfterBad, Enters, refused, after_vacate, after_unhold, turn_after};
+ghost use Rattle.hwp_evict.specs.Evicts.{begin, answer, CanEnter, CanEnterHeld, CanMakeEntry, after_stop, AfterHold, AfterHeld, AfterBad, Enters, refused, entered, with_entry, after_vacate, after_unhold, turn_after};
 
 use crate::vacate::Vacate;
 use hwp_geom::{Frame, Layout, Mask, Page, VSlot, Who};
@@ -269,25 +269,35 @@ fn refused(
     }
 }
 
-/// The command makes its entry, or gives up where memory for it is refused.
-fn enter(who: Who, page: Page, what: Eviction, frame: Frame, body: Body) -> EvictAt
+/// The body with the command's entry; or as it was, where memory for the entry is refused.
+fn make_entry(who: Who, what: Eviction, body: Body) -> Result<Body, Body>
     requires { CanMakeEntry what body }
-    ensures { Enters who page what frame body result }
+    ensures { MatchResult result (λ b. b ≡ with_entry who (entry_of what) body b.spare) (λ b. b ≡ body) }
 {
     let mut body = body;
-    let done = At {
-        page,
-        entry: body.len(),
-    };
-    if body.room().is_err() {
-        return EvictAt::GiveUp {
-            give_up: GiveUp::with_page(who, page, Some(frame), 1, body),
-        };
+    match body.room() {
+        Err(_) => Err(body),
+        Ok(()) => {
+            body.append(Entry {
+                who,
+                what: what.entry(),
+            });
+            Ok(body)
+        }
     }
-    body.append(Entry {
-        who,
-        what: what.entry(),
-    });
+}
+
+/// What the command does once its entry is made.
+fn entered(
+    who: Who,
+    page: Page,
+    what: Eviction,
+    frame: Frame,
+    body: Body,
+    done: At,
+) -> EvictAt
+    ensures { result ≡ entered who page what frame body done }
+{
     match what {
         Eviction::Free { slot } => EvictAt::SetPte {
             slot,
@@ -302,6 +312,23 @@ fn enter(who: Who, page: Page, what: Eviction, frame: Frame, body: Body) -> Evic
         Eviction::Drop => EvictAt::Vacate {
             vacate: Vacate::new(who, page, frame, 2, body),
             done,
+        },
+    }
+}
+
+/// The command makes its entry, or gives up where memory for it is refused.
+fn enter(who: Who, page: Page, what: Eviction, frame: Frame, body: Body) -> EvictAt
+    requires { CanMakeEntry what body }
+    ensures { Enters who page what frame body result }
+{
+    let done = At {
+        page,
+        entry: body.len(),
+    };
+    match make_entry(who, what, body) {
+        Ok(body) => entered(who, page, what, frame, body, done),
+        Err(body) => EvictAt::GiveUp {
+            give_up: GiveUp::with_page(who, page, Some(frame), 1, body),
         },
     }
 }

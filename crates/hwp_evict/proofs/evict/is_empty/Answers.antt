@@ -1,5 +1,5 @@
-use Rattle.hwp_page.proofs.Gathering.{is_empty_is}
+use Rattle.hwp_evict.proofs.Emptiness.{tells-empty}
 use Rattle.hwp_evict.proofs.evict.is_empty.Goals as goal
 
 pub returns : goal.returns
-returns c = is_empty_is c.args.slots.now c.lowest_from.result c.is_none.result c.lowest_from.ensures.lowest c.is_none.ensures
+returns c = tells-empty c.args.slots.now c.lowest_from.result c.is_none.result c.lowest_from.ensures.lowest c.is_none.ensures
