@@ -41,36 +41,36 @@ use Rattle.hwp_evict.specs.declared.evict.Refusal.TheVariants as refusals
 use Rattle.hwp_evict.specs.Evictions.{entry_of, SawLines, SawRefusal, IsCaused}
 use Rattle.hwp_evict.specs.Evicts.{Comes, IsAhead, KnowsPut}
 
-module _ {layout : Layout} {by who : Who} {step : Step} {put : Option Log} {old new : View} {found : ℕ} {got : Option BodyValue} (made : Steps layout by step put old new found got) where
-  lines-stay : (refusal : Refusal) → SawLines old who refusal → SawLines new who refusal
-  lines-stay refusals.NotMapped saw = tt
-  lines-stay refusals.NotResident saw = tt
-  lines-stay refusals.Dirty saw = tt
-  lines-stay refusals.Mapped saw = tt
-  lines-stay (refusals.BadLines mask) saw = (saw.0, (saw.1.0, saw-stays made saw.1.1))
+module _ {layout : Layout} {by : Who} {step : Step} {put : Option Log} {old new : View} {found : ℕ} {got : Option BodyValue} (made : Steps layout by step put old new found got) where
+  lines-stay : (who : Who) (refusal : Refusal) → SawLines old who refusal → SawLines new who refusal
+  lines-stay who refusals.NotMapped saw = tt
+  lines-stay who refusals.NotResident saw = tt
+  lines-stay who refusals.Dirty saw = tt
+  lines-stay who refusals.Mapped saw = tt
+  lines-stay who (refusals.BadLines mask) saw = (saw.0, (saw.1.0, saw-stays made saw.1.1))
 
-  pub refusal-stays : {page : Page} {what : Eviction} {refusal : Refusal} {at : At} → SawRefusal layout old who page what refusal at → SawRefusal layout new who page what refusal at
-  refusal-stays {refusal} saw = record { page_is = saw.page_is; state = saw-state-stays made saw.state; lines = lines-stay refusal saw.lines }
+  pub refusal-stays : {who : Who} {page : Page} {what : Eviction} {refusal : Refusal} {at : At} → SawRefusal layout old who page what refusal at → SawRefusal layout new who page what refusal at
+  refusal-stays {who} {page} {what} {refusal} saw = record { page_is = saw.page_is; state = saw-state-stays made saw.state; lines = lines-stay who refusal saw.lines }
 
   -- where no entry more is the command's, what it answers stays so
-  pub caused-stays : {page : Page} {what : Eviction} (answer : EvictAnswer) → deeds who new ≡ deeds who old → IsCaused layout old who page what answer → IsCaused layout new who page what answer
-  caused-stays answers.Stopped same is = (same ∙ is.0, record { word = is.1.word; saw = saw-stays made is.1.saw; stopped = is.1.stopped })
-  caused-stays (answers.Done at) same is = (is.0, has-made-stays same is.1)
-  caused-stays (answers.Refused refusal at) same is = (same ∙ is.0, refusal-stays is.1)
+  pub caused-stays : (who : Who) (page : Page) (what : Eviction) (answer : EvictAnswer) → deeds who new ≡ deeds who old → IsCaused layout old who page what answer → IsCaused layout new who page what answer
+  caused-stays who page what answers.Stopped same is = (same ∙ is.0, record { word = is.1.word; saw = saw-stays made is.1.saw; stopped = is.1.stopped })
+  caused-stays who page what (answers.Done at) same is = (is.0, has-made-stays who old new same is.1)
+  caused-stays who page what (answers.Refused refusal at) same is = (same ∙ is.0, refusal-stays is.1)
 
   -- and what it will answer too, while its body stays in hand
-  comes-stay : {page : Page} {what : Eviction} (answer : EvictAnswer) {taken : InHand} {body : BodyValue} → Comes layout old who page what answer taken body → Comes layout new who page what answer taken body
-  comes-stay answers.Stopped comes = absurd comes
-  comes-stay (answers.Done at) comes = comes
-  comes-stay (answers.Refused refusal at) comes = (comes.0, refusal-stays comes.1)
+  comes-stay : (who : Who) (page : Page) (what : Eviction) (answer : EvictAnswer) (taken : InHand) (body : BodyValue) → Comes layout old who page what answer taken body → Comes layout new who page what answer taken body
+  comes-stay who page what answers.Stopped taken body comes = absurd comes
+  comes-stay who page what (answers.Done at) taken body comes = comes
+  comes-stay who page what (answers.Refused refusal at) taken body comes = (comes.0, refusal-stays comes.1)
 
-  pub ahead-stays : {page : Page} {what : Eviction} {answer : EvictAnswer} {body : BodyValue} → deeds who new ≡ deeds who old → new.bodies ≡ old.bodies → IsAhead layout old who page what answer body → IsAhead layout new who page what answer body
-  ahead-stays {page} {what} {answer} {body} same bodies ahead = record {
+  pub ahead-stays : {who : Who} {page : Page} {what : Eviction} {answer : EvictAnswer} {body : BodyValue} → deeds who new ≡ deeds who old → new.bodies ≡ old.bodies → IsAhead layout old who page what answer body → IsAhead layout new who page what answer body
+  ahead-stays {who} {page} {what} {answer} {body} same bodies ahead = record {
     taken = ahead.taken;
     there = subst (λ (l : List InHand). find (is_body_of body.page) l ≡ Some ahead.taken) (sym bodies) ahead.there;
     page_is = ahead.page_is;
     made_none = same ∙ ahead.made_none;
-    comes = comes-stay answer ahead.comes;
+    comes = comes-stay who page what answer ahead.taken body ahead.comes;
   }
 
 -- when the body is home, the command has made what it answers
@@ -83,12 +83,12 @@ module _ {layout : Layout} {who : Who} {page : Page} {what : Eviction} {step : S
 
       which : (a : EvictAnswer) → Comes layout old who page what a ahead.taken body → IsCaused layout new who page what a
       which answers.Stopped comes = absurd comes
-      which (answers.Refused refusal at) comes = (deeds-none lists comes.0 ∙ ahead.made_none, refusal-stays made comes.1)
-      which (answers.Done at) comes = subst (λ (a : At). (a.page ≡ page) × HasMade (λ (m : Made). ⊥) new who page a.entry (entry_of what)) (sym comes.1) (refl, has-made one.0 one.1.0
-          (subst (λ (p : Page). IsAt p (length ahead.taken.log.entries) (entry_of what) one.0) ahead.page_is one.1.1) none)
+      which (answers.Refused refusal at) comes = (deeds-none who lists comes.0 ∙ ahead.made_none, refusal-stays made comes.1)
+      which (answers.Done at) comes = subst (λ (a : At). (a.page ≡ page) × HasMade (λ (m : Made). ⊥) new who page a.entry (entry_of what)) (sym comes.1) (refl, has-made who old new one.0 one.1
+          (subst (λ (p : Page). IsAt p (length ahead.taken.log.entries) (entry_of what) one.0) ahead.page_is one.2) none)
         where
           one : (m : Made) × (deeds who new ≡ deeds who old ++ m ∷ []) × IsAt body.page (length ahead.taken.log.entries) (entry_of what) m
-          one = deeds-one lists (record { who = who; what = entry_of what }) comes.0 refl
+          one = deeds-one who lists (record { who = who; what = entry_of what }) comes.0 refl
 
 module _ {layout : Layout} {who : Who} {page : Page} {what : Eviction} {old new : View} {found : ℕ} {got : Option BodyValue} {answer : EvictAnswer} {body : BodyValue} (ahead : IsAhead layout old who page what answer body) where
   pub home-by-frame : {frame : Frame} → Steps layout who (steps.UnlockFrame frame) (Some (log_of body)) old new found got → IsCaused layout new who page what answer
@@ -119,14 +119,14 @@ home-after u found = which u.at
     which unhold_at.Over = refl
 
 -- a step by which a page is let go leaves the answer caused, or causes it
-pub unhold-causes : {layout : Layout} {old new : View} {page : Page} {what : Eviction} (u : Unhold) {step : Step} {found : ℕ} {got : Option BodyValue} (answer : EvictAnswer) → unholds.plan u ≡ Some step → IsServed step
+pub unhold-causes : {layout : Layout} {old new : View} (page : Page) (what : Eviction) (u : Unhold) {step : Step} {found : ℕ} {got : Option BodyValue} (answer : EvictAnswer) → unholds.plan u ≡ Some step → IsServed step
     → Steps layout u.who step (logs (unholds.put u)) old new found got → KnowsPut layout old u.who page what answer (unholds.put u) → IsCaused layout new u.who page what answer
-unhold-causes {layout} {old} {new} {page} {what} u {step} {found} {got} answer is served made knows = which u.at is made knows
+unhold-causes {layout} {old} {new} page what u {step} {found} {got} answer is served made knows = which u.at is made knows
   where
     which : (x : UnholdAt) → unholds.plan_at u.page x ≡ Some step → Steps layout u.who step (logs (unholds.put_at x)) old new found got → KnowsPut layout old u.who page what answer (unholds.put_at x) → IsCaused layout new u.who page what answer
-    which (unhold_at.UnlockFrame frame count None) e made knows = caused-stays made answer (deeds-same u.who served made) knows
+    which (unhold_at.UnlockFrame frame count None) e made knows = caused-stays made u.who page what answer (deeds-same u.who served made) knows
     which (unhold_at.UnlockFrame frame count (Some body)) e made knows = home-by-frame knows (steps-planned e made)
-    which (unhold_at.Release r) e made knows = caused-stays made answer (deeds-same u.who served made) knows
-    which (unhold_at.UnlockPage None) e made knows = caused-stays made answer (deeds-same u.who served made) knows
+    which (unhold_at.Release r) e made knows = caused-stays made u.who page what answer (deeds-same u.who served made) knows
+    which (unhold_at.UnlockPage None) e made knows = caused-stays made u.who page what answer (deeds-same u.who served made) knows
     which (unhold_at.UnlockPage (Some body)) e made knows = home-by-page knows (steps-planned e made)
     which unhold_at.Over e made knows = absurd (none-some step e)

@@ -45,8 +45,8 @@ use Rattle.hwp_evict.proofs.Entering.{extends, goes-home, kills-none, one-more, 
 use Rattle.hwp_evict.proofs.Judging.{allows, is-cached, replay-is, state-is}
 
 -- the body that is in hand is the page's
-in-hand : {view : View} {page : Page} (taken : InHand) → view.bodies ≡ taken ∷ [] → taken.log.page ≡ page → find (is_body_of page) view.bodies ≡ Some taken
-in-hand {view} {page} taken bodies own = ap (find (is_body_of page)) bodies ∙ ap (λ (b : Bool). cond b (Some taken) None) (same-number taken.log.page.0 page.0 (ap (λ (p : Page). p.0) own))
+in-hand : (view : View) {page : Page} (taken : InHand) → view.bodies ≡ taken ∷ [] → taken.log.page ≡ page → find (is_body_of page) view.bodies ≡ Some taken
+in-hand view {page} taken bodies own = ap (find (is_body_of page)) bodies ∙ ap (λ (b : Bool). cond b (Some taken) None) (same-number taken.log.page.0 page.0 (ap (λ (p : Page). p.0) own))
 
 held-bodies : (layout : Layout) (page : Page) (frame : Option Frame) (log : Log) (seen : ℕ) (handled poisoned : Bool) → (held layout page frame log seen handled poisoned).bodies ≡ body_in frame log seen ∷ []
 held-bodies layout page None log seen handled poisoned = refl
@@ -57,7 +57,7 @@ begins-with : (who : Who) (page : Page) (frame : Option Frame) (count : ℕ) (bo
 begins-with who page None count body = (refl, refl)
 begins-with who page (Some frame) count body = (refl, refl)
 
-module _ {layout : Layout} {view : View} {who : Who} {page : Page} {what : Eviction} (on : IsOnTurn view who) (inside : page.0 < length layout.pages) where
+module _ {layout : Layout} {view : View} {who : Who} {page : Page} (what : Eviction) (on : IsOnTurn view who) (inside : page.0 < length layout.pages) where
   -- ---- a refusal
   pub refused-fits : (frame : Option Frame) (body : BodyValue) (refusal : Refusal) → HoldsPage layout view page frame body → SawLog view who (log_of body) → HasMadeNone view who → IsWhy what refusal (state_of layout (log_of body)) → SawLines view who refusal
       → FitsAt layout view who page what (refused who page frame body refusal)
@@ -67,7 +67,7 @@ module _ {layout : Layout} {view : View} {who : Who} {page : Page} {what : Evict
     under_way = (begins-with who page frame 1 body).1;
     knows = subst (λ (b : Option BodyValue). KnowsPut layout view who page what (answers.Refused refusal (place page body)) b) (sym (begins-with who page frame 1 body).0) (record {
       taken = body_in frame (log_of body) has.seen;
-      there = in-hand (body_in frame (log_of body) has.seen) (ap (λ (h : Hand). h.bodies) has.hand_is ∙ held-bodies layout page frame (log_of body) has.seen has.handled has.poisoned) refl;
+      there = in-hand view (body_in frame (log_of body) has.seen) (ap (λ (h : Hand). h.bodies) has.hand_is ∙ held-bodies layout page frame (log_of body) has.seen has.handled has.poisoned) refl;
       page_is = has.body_is.page_is;
       made_none = none;
       comes = (
@@ -106,7 +106,7 @@ module _ {layout : Layout} {view : View} {who : Who} {page : Page} {what : Evict
     ahead : (now : BodyValue) → HasEntry layout who page what (log_of body) (place page body) now → IsAhead layout view who page what (answers.Done (place page body)) now
     ahead now entry = record {
       taken = body_in (Some frame) (log_of body) has.seen;
-      there = in-hand (body_in (Some frame) (log_of body) has.seen) bodies (sym (ap (λ (l : Log). l.page) entry.log_is));
+      there = in-hand view (body_in (Some frame) (log_of body) has.seen) bodies (sym (ap (λ (l : Log). l.page) entry.log_is));
       page_is = ap (λ (l : Log). l.page) entry.log_is ∙ entry.page_is;
       made_none = none;
       comes = (one-more entry frame has.seen, refl);

@@ -15,6 +15,6 @@ tells-empty slots None true none tells = (λ yes. set.same_set nat_cmp_total nat
 tells-empty slots None false none tells = absurd (both_ways true (sym tells) refl)
 tells-empty slots (Some v) true low tells = absurd (both_ways true tells refl)
 tells-empty slots (Some v) false low tells = (
-  λ no. absurd (both_ways true no refl),
+  λ no. absurd (both_ways true (sym no) refl),
   λ same. absurd (true≢false (sym low.member ∙ ap (λ s. set.contains s v.0) same ∙ set.contains-empty nat_cmp v.0)),
 )

@@ -38,15 +38,15 @@ module _ {layout : Layout} {view : View} {who : Who} {page : Page} (on : IsOnTur
     made_none = none;
   })
   made-fits evictions.Sync kind passes few saw now entry =
-      let-go on inside frame body has none kind passes sound few saw now entry (same-words entry frame has.seen (is-cached has.body_is) refl refl)
+      let-go evictions.Sync on inside frame body has none kind passes sound few saw now entry (same-words entry frame has.seen (is-cached has.body_is) refl refl)
   made-fits evictions.Drop kind passes few saw now entry =
-      leaves on inside frame body has none kind passes sound few saw now entry (shelf-words entry frame has.seen refl unused unused refl) (ap (λ (s : PageState). s.maps) (state-after entry frame has.seen) ∙ unused)
+      leaves evictions.Drop on inside frame body has none kind passes sound few saw now entry (shelf-words entry frame has.seen refl unused unused refl) (ap (λ (s : PageState). s.maps) (state-after entry frame has.seen) ∙ unused)
     where
       unused : (state_of layout (log_of body)).maps ≡ set.empty
       unused = ap (λ (s : PageState). s.maps) (state-is has.body_is) ∙ passes.1
 
   pub enters-fits : (what : Eviction) → IsOfKind layout page what → Passes what body.state → has.seen ≤ length view.sights → HasSeen (drop has.seen view.sights) who (Some frame) (entry_of what)
       → (x : EvictAt) → Enters who page what frame body x → FitsAt layout view who page what x
-  enters-fits what kind passes few saw x (inl is) = subst (FitsAt layout view who page what) (sym is) (given-up-fits on inside frame body has none kind passes)
+  enters-fits what kind passes few saw x (inl is) = subst (FitsAt layout view who page what) (sym is) (given-up-fits what on inside frame body has none kind passes)
   enters-fits what kind passes few saw x (inr is) = subst (FitsAt layout view who page what) (sym is.next_is) (made-fits what kind passes few saw is.now
-      (subst (HasEntry layout who page what (log_of body) (place page body)) (sym is.made) (has-entry on inside frame body has none kind passes is.now.spare)))
+      (subst (HasEntry layout who page what (log_of body) (place page body)) (sym is.made) (has-entry what on inside frame body has none kind passes is.now.spare)))

@@ -16,9 +16,12 @@ use Rattle.hwp_rule.specs.Steps.{place_of, word_after}
 use Rattle.hwp_rule.specs.Words.{Words, read}
 use Rattle.hwp_step.specs.declared.Turn.{Turn}
 use Rattle.hwp_step.specs.declared.Turn.TheVariants.{Moved, Answered, Waits}
+use Rattle.hwp_rule.specs.Moves.{Move}
 use Rattle.hwp_step.specs.Boards.{view_of}
+use Rattle.hwp_step.specs.Calls.{rec_of}
+use Rattle.hwp_step.specs.Hands.{hand_of, empty}
 use Rattle.hwp_step.specs.Classes.{TellsClass}
-use Rattle.hwp_step.specs.Ranks.{Member, member, Made, CostFalls, IsRanked, Quiet, HasFrame, HasPage, is_waits, words_at}
+use Rattle.hwp_step.specs.Ranks.{Member, member, Made, CostFalls, IsRanked, OtherHand, Quiet, HasFrame, HasPage, is_waits, words_at}
 use Rattle.hwp_step.proofs.Ranking.{met, words-kept, steps-on, rank-of}
 use Rattle.hwp_hold.specs.declared.give_up.GiveUp.{GiveUp}
 use Rattle.hwp_hold.specs.declared.give_up.GiveUpAt.{GiveUpAt}
@@ -30,9 +33,11 @@ use Rattle.hwp_hold.specs.declared.unhold.Unhold.{Unhold}
 use Rattle.hwp_hold.specs.GiveUps as give_ups
 use Rattle.hwp_hold.specs.Holds as holds
 use Rattle.hwp_hold.specs.Unholds as unholds
-use Rattle.hwp_hold.proofs.FillCosts.{give-up-falls, give-up-small, give-up-class, give-up-goes}
+use Rattle.hwp_hold.specs.Unlocks as unlocks
+use Rattle.hwp_hold.proofs.FillCosts.{give-up-falls, give-up-ranked}
+use Rattle.hwp_hold.proofs.Unlocking.{unlock-small}
 use Rattle.hwp_hold.proofs.Ranking.{hold-falls, hold-small, hold-class, hold-ranked, unhold-falls, unhold-small, unhold-class}
-use Rattle.hwp_hold.proofs.Telling.{Tells, hold-tells, unhold-tells, give-up-tells, empty-tells, frame-tells, no-frame, no-page}
+use Rattle.hwp_hold.proofs.Telling.{Tells, hold-tells, unhold-tells, give-up-tells, frame-tells, no-frame, no-page}
 use Rattle.hwp_evict.specs.declared.evict.Evict.{Evict}
 use Rattle.hwp_evict.specs.declared.evict.EvictAnswer.{EvictAnswer}
 use Rattle.hwp_evict.specs.declared.evict.EvictAnswer.TheVariants as answers
@@ -41,14 +46,24 @@ use Rattle.hwp_evict.specs.declared.evict.EvictAt.TheVariants as at
 use Rattle.hwp_evict.specs.declared.evict.Eviction.{Eviction}
 use Rattle.hwp_evict.specs.declared.evict.Eviction.TheVariants as evictions
 use Rattle.hwp_evict.specs.declared.evict.Refusal.{Refusal}
+use Rattle.hwp_evict.specs.declared.evict.Refusal.TheVariants as refusals
 use Rattle.hwp_evict.specs.declared.vacate.Vacate.{Vacate}
 use Rattle.hwp_evict.specs.Evictions.{copies, absence}
-use Rattle.hwp_evict.specs.Evicts.{AfterBad, AfterHeld, AfterHold, AfterHoldAt, Enters, Fits, FitsAt, Follows, FollowsAt, Shows, after_stop, after_unhold, after_vacate, bare, bare_at, begin, class, class_at, cost, cost_at, entered, given_up, place, plan, plan_at, put, refused, turn_after}
+use Rattle.hwp_evict.specs.Evicts.{AfterBad, AfterHeld, AfterHold, AfterHoldAt, Enters, Fits, FitsAt, Follows, FollowsAt, Shows, ShowsAt, after_stop, after_unhold, after_vacate, bare, bare_at, begin, class, class_at, cost, cost_at, entered, given_up, place, plan, plan_at, put, refused, turn_after}
 use Rattle.hwp_evict.specs.Vacates as vacates
 use Rattle.hwp_evict.proofs.Evicting.{both}
 use Rattle.hwp_evict.proofs.VacateCosts.{vacate-falls, vacate-small, vacate-class, vacate-tells}
 
 -- ---- what the next states cost
+
+give-up-small : (w : Words) (g : GiveUp) → give_ups.cost g w ≤ 6
+give-up-small w g = which g.at
+  where
+    which : (x : GiveUpAt) → give_ups.cost_at x w ≤ 6
+    which (give_up_at.Unhold u) = let few : unholds.cost u w ≤ 5 = unhold-small w u in omega (arith, few)
+    which (give_up_at.Unlock u) = let few : unlocks.cost u w ≤ 4 = unlock-small w u in omega (arith, few)
+    which give_up_at.GiveUp = omega arith
+    which give_up_at.Over = omega arith
 
 begun-cost : (who : Who) (page : Page) (frame : Option Frame) (count : ℕ) (body : BodyValue) (w : Words) → unholds.cost (unholds.begin who page frame count body) w ≤ 5
 begun-cost who page frame count body w = unhold-small w (unholds.begin who page frame count body)
@@ -91,9 +106,9 @@ hold-cost who page what h w y follows = which h.at follows
 bad-cost : (who : Who) (page : Page) (what : Eviction) (frame : Frame) (body : BodyValue) (found : ℕ) (w : Words) (y : EvictAt) → AfterBad who page what frame body found y → cost_at y w ≤ 7
 bad-cost who page what frame body found w y is = which (found == 0) is
   where
-    which : (b : Bool) → MatchBool b (Enters who page what frame body y) (y ≡ refused who page (Some frame) body _) → cost_at y w ≤ 7
+    which : (b : Bool) → MatchBool b (Enters who page what frame body y) (y ≡ refused who page (Some frame) body (refusals.BadLines (record { 0 = found }))) → cost_at y w ≤ 7
     which true is = enters-cost who page what frame body w y is
-    which false is = subst (λ (x : EvictAt). cost_at x w ≤ 7) (sym is) (refused-cost who page (Some frame) body _ w)
+    which false is = subst (λ (x : EvictAt). cost_at x w ≤ 7) (sym is) (refused-cost who page (Some frame) body (refusals.BadLines (record { 0 = found })) w)
 
 unhold-cost : (u : Unhold) (answer : EvictAnswer) (w : Words) → cost_at (after_unhold u answer) w ≤ unholds.cost u w
 unhold-cost u answer w = which (is_none (unholds.plan u))
@@ -166,5 +181,116 @@ evict-class e = which e.at
     which (at.SetPte slot frame body done) = (omega arith, omega arith)
     which (at.Vacate v done) = vacate-class v
     which (at.Unhold u answer) = unhold-class u
-    which (at.GiveUp g) = give-up-class g
+    which (at.GiveUp g) = give-up-ranked.classes g
     which (at.Over answer) = (omega arith, omega arith)
+
+-- only a page that is being held waits
+give-up-goes : (g : GiveUp) → is_waits (give_ups.turn g) ≡ false
+give-up-goes g = which g.at
+  where
+    which : (x : GiveUpAt) → is_waits (give_ups.turn_at x) ≡ false
+    which (give_up_at.Unhold u) = refl
+    which (give_up_at.Unlock u) = refl
+    which give_up_at.GiveUp = refl
+    which give_up_at.Over = refl
+
+after-goes : (x : EvictAt) → is_waits (turn_after x) ≡ false
+after-goes at.LoadStop = refl
+after-goes (at.Hold h) = refl
+after-goes (at.LoadBad frame body) = refl
+after-goes (at.SetPte slot frame body done) = refl
+after-goes (at.Vacate v done) = refl
+after-goes (at.Unhold u answer) = refl
+after-goes (at.GiveUp g) = refl
+after-goes (at.Over answer) = refl
+
+abbrev evict-member : Member Evict
+evict-member = member (λ e. e.who) plan put bare (λ layout e found got after result. Follows e found got after result) Fits class cost (λ e. false) (λ e. None)
+
+module _ {layout : Layout} {seat : ℕ} {a b : State} {s t : Evict} {turn : Turn} (made : Made evict-member layout seat a b s t turn) where
+  cost-falls : is_waits turn ≡ false → CostFalls evict-member layout a b s t
+  cost-falls goes = evict-falls (words_at layout a) (words_at layout b) s made.step made.found made.got t turn made.planned
+      (both layout (view_of a seat) _ s made.step made.found made.got made.fits made.planned (steps-on made)).0 (met made) (words-kept made) made.follows goes
+
+  waits-falls : is_waits turn ≡ true → Quiet (class s) layout a seat → CostFalls evict-member layout a b s t
+  waits-falls is quiet = which s.at made quiet
+    where
+      never : {x : Turn} {n m : ℕ} → turn ≡ x → is_waits x ≡ false → n < m
+      never same goes = absurd (both_ways true (sym is ∙ ap is_waits same ∙ goes) refl)
+
+      which : (x : EvictAt) → Made evict-member layout seat a b (record s { at = x }) t turn → Quiet (class_at x) layout a seat → cost_at t.at (words_at layout b) < cost_at x (words_at layout a)
+      which at.LoadStop m quiet = never m.follows.1.1 (after-goes (after_stop s.who s.page m.found))
+      which (at.Hold h) m quiet = by (hold-ranked.waits layout seat a b h (holds.next h m.found m.got) turn (record {
+        step = m.step;
+        found = m.found;
+        got = m.got;
+        rule = m.rule;
+        kept = m.kept;
+        fits = m.fits.at.hold;
+        planned = m.planned;
+        move = subst (λ (w : Who). Move layout seat (rec_of layout w m.step None m.found m.got) a b) (sym m.fits.at.own) m.move;
+        brings = m.brings;
+        follows = (refl, m.follows.1.1);
+      }) is quiet)
+        where
+          by : (holds.cost (holds.next h m.found m.got) (words_at layout b) < holds.cost h (words_at layout a)) ⊎ ((false ≡ true) × OtherHand a seat) → cost_at t.at (words_at layout b) < holds.cost h (words_at layout a) + 9
+          by (inl less) = let more : _ = hold-cost s.who s.page s.what (holds.next h m.found m.got) (words_at layout b) t.at m.follows.1.0 in omega (arith, less, more)
+          by (inr aborts) = absurd (both_ways true (sym aborts.0) refl)
+      which (at.LoadBad frame body) m quiet = never m.follows.1.1 refl
+      which (at.SetPte slot frame body done) m quiet = never m.follows.1.1 refl
+      which (at.Vacate v done) m quiet = never m.follows.1.1 (after-goes (after_vacate (vacates.next (vacates.bare v) m.found) done))
+      which (at.Unhold u answer) m quiet = never m.follows.1.1 (after-goes (after_unhold (unholds.next (unholds.bare u) m.found) answer))
+      which (at.GiveUp g) m quiet = never m.follows.1.1 (give-up-goes (give_ups.bare g))
+      which (at.Over answer) m quiet = never m.follows.1.1 refl
+
+pub evict-ranked : IsRanked evict-member
+evict-ranked = rank-of evict-member (λ s. refl) evict-class (λ layout a seat s rule fits. let few : _ = evict-below (words_at layout a) s in omega (arith, few))
+    (λ layout seat a b s t turn made goes. cost-falls made goes) (λ layout seat a b s t turn made is quiet. waits-falls made is quiet)
+
+-- ---- the class
+
+-- a task that has a frame or a page is under way, and its class tells
+abbrev TellsAt : View → EvictAt → Type 0
+TellsAt view x = (HasFrame view → (class_at x ≡ 1) × (plan_at x ≢ None)) × (HasPage view → (class_at x ≤ 2) × (plan_at x ≢ None))
+
+under-way : (view : View) (x : EvictAt) → Tells view (class_at x) → (plan_at x ≢ None) → TellsAt view x
+under-way view x tells on = ((λ some. (tells.0 some, on)), (λ some. (tells.1 some, on)))
+
+goes : (p : Option Step) → is_none p ≡ false → p ≢ None
+goes p on none = both_ways (is_none p) on (ap (λ (q : Option Step). is_none q) none)
+
+nothing-tells : (view : View) (x : EvictAt) → hand_of view ≡ empty → TellsAt view x
+nothing-tells view x is = ((λ some. absurd (no-frame view is refl refl refl some)), (λ some. absurd (no-page view is refl some)))
+
+gave-up : (layout : Layout) (view : View) (g : GiveUp) → give_ups.Fits layout view g → is_none (give_ups.plan g) ≡ true → hand_of view ≡ empty
+gave-up layout view g fits over = which g.at fits.at over
+  where
+    which : (x : GiveUpAt) → give_ups.FitsAt layout view g.who x → is_none (give_ups.plan_at x) ≡ true → hand_of view ≡ empty
+    which (give_up_at.Unhold u) has over = absurd (both_ways (is_none (unholds.plan u)) has.under_way over)
+    which (give_up_at.Unlock u) has over = absurd (both_ways (is_none (unlocks.plan u)) has.under_way over)
+    which give_up_at.GiveUp has over = has
+    which give_up_at.Over has over = has
+
+tells-at : (layout : Layout) (view : View) (e : Evict) → Fits layout view e → TellsAt view e.at
+tells-at layout view e fits = which e.at fits.at
+  where
+    which : (x : EvictAt) → FitsAt layout view e.who e.page e.what x → TellsAt view x
+    which at.LoadStop has = nothing-tells view at.LoadStop has.0
+    which (at.Hold h) has = under-way view (at.Hold h) (hold-tells layout view h has.hold has.under_way) (goes (holds.plan h) has.under_way)
+    which (at.LoadBad frame body) has = under-way view (at.LoadBad frame body) (frame-tells view) (goes (plan_at (at.LoadBad frame body)) refl)
+    which (at.SetPte slot frame body done) has = under-way view (at.SetPte slot frame body done) (frame-tells view) (goes (plan_at (at.SetPte slot frame body done)) refl)
+    which (at.Vacate v done) has = under-way view (at.Vacate v done) (vacate-tells layout view v has.vacate has.under_way) (goes (vacates.plan v) has.under_way)
+    which (at.Unhold u answer) has = under-way view (at.Unhold u answer) (unhold-tells layout view u has.unhold has.under_way) (goes (unholds.plan u) has.under_way)
+    which (at.GiveUp g) has = by (is_none (give_ups.plan g)) refl
+      where
+        by : (b : Bool) → is_none (give_ups.plan g) ≡ b → TellsAt view (at.GiveUp g)
+        by true over = nothing-tells view (at.GiveUp g) (gave-up layout view g has.give_up over)
+        by false on = under-way view (at.GiveUp g) (give-up-tells layout view g has.give_up on) (goes (give_ups.plan g) on)
+    which (at.Over answer) has = nothing-tells view (at.Over answer) has.0
+
+pub evict-tells : TellsClass evict-member
+evict-tells = record {
+  frame = λ layout view s fits some. (tells-at layout view s fits).0 some;
+  page = λ layout view s fits some. (tells-at layout view s fits).1 some;
+  claim = λ layout view s frame cycle fits none. absurd (none-some (frame, cycle) none);
+}

@@ -66,7 +66,7 @@ use Rattle.hwp_evict.proofs.Vacating as vacating
 slot-within : (layout : Layout) (page : Page) (slot : VSlot) → IsOf layout page slot → slot.0 < length layout.trans
 slot-within layout page slot own =
     let decl : (t : TransDecl) × (slice_get layout.trans slot.0 ≡ Some t) × (t.page ≡ page) = declared-of (λ (t : TransDecl). t.page ≡ page) (slice_get layout.trans slot.0) own in
-    slice_get_within layout.trans slot.0 decl.0 decl.1.0
+    slice_get_within layout.trans slot.0 decl.0 decl.1
 
 pub can : (layout : Layout) (view : View) (e : Evict) (step : Step) → Fits layout view e → plan e ≡ Some step → CanMake layout e.who step (put e) view
 can layout view e step fits is = which e.at fits.at is
@@ -86,10 +86,10 @@ can layout view e step fits is = which e.at fits.at is
 
 -- ---- what follows fits
 
-module _ {layout : Layout} {old new : View} {who : Who} {page : Page} {what : Eviction} {step : Step} {found : ℕ} {got : Option BodyValue} where
+module _ {layout : Layout} {old new : View} {who : Who} {page : Page} {found : ℕ} {got : Option BodyValue} where
   -- the stop word is read
-  stop-fits : IsOnTurn new who → page.0 < length layout.pages → hand_of old ≡ empty → HasMadeNone old who → Steps layout who (steps.Load places.Stop) None old new found got → FitsAt layout new who page what (after_stop who page found)
-  stop-fits on inside hand none made = which (is_stopped found) refl
+  stop-fits : (what : Eviction) → IsOnTurn new who → page.0 < length layout.pages → hand_of old ≡ empty → HasMadeNone old who → Steps layout who (steps.Load places.Stop) None old new found got → FitsAt layout new who page what (after_stop who page found)
+  stop-fits what on inside hand none made = which (is_stopped found) refl
     where
       still : hand_of new ≡ empty
       still = hand-planned made refl hand
@@ -101,6 +101,7 @@ module _ {layout : Layout} {old new : View} {who : Who} {page : Page} {what : Ev
       which true is = (still, (none-still, record { word = found; saw = saw-load made; stopped = is }))
       which false is = record { hold = record { on_turn = on; page = inside; at = still }; own = refl; page_is = refl; under_way = refl; made_none = none-still }
 
+module _ {layout : Layout} {old new : View} {who : Who} {page : Page} {what : Eviction} {step : Step} {found : ℕ} {got : Option BodyValue} where
   -- a step by which the page is let go
   unhold-fits : (u : Unhold) (answer : EvictAnswer) → IsLettingGo layout old who page what u answer → unholds.plan u ≡ Some step → Steps layout who step (logs (unholds.put u)) old new found got
       → FitsAt layout new who page what (after_unhold (unholds.next (unholds.bare u) found) answer)
@@ -117,7 +118,7 @@ module _ {layout : Layout} {old new : View} {who : Who} {page : Page} {what : Ev
 
       caused : IsCaused layout new who page what answer
       caused = subst (λ (w : Who). IsCaused layout new w page what answer) has.own
-          (unhold-causes u answer is (unholding.can layout old u step has.unhold is).served own (subst (λ (w : Who). KnowsPut layout old w page what answer (unholds.put u)) (sym has.own) has.knows))
+          (unhold-causes page what u answer is (unholding.can layout old u step has.unhold is).served own (subst (λ (w : Who). KnowsPut layout old w page what answer (unholds.put u)) (sym has.own) has.knows))
 
       which : (b : Bool) → is_none (unholds.plan (unholds.next (unholds.bare u) found)) ≡ b → FitsAt layout new who page what (cond b (at.Over answer) (at.Unhold (unholds.next (unholds.bare u) found) answer))
       which true over = (nothing-left layout new (unholds.next (unholds.bare u) found) over fits, caused)
@@ -134,16 +135,13 @@ release-goes v r release_at.Adopt over = both_ways true (sym over) refl
 release-goes v r release_at.Retire over = both_ways true (sym over) refl
 release-goes v r release_at.Back over = both_ways true (sym over) refl
 
+-- while it is under way its body stays in hand, and when it is over the body is home
+abbrev Ends : Layout → View → Page → Eviction → EvictAnswer → BodyValue → Vacate → ℕ → VacateAt → Type 0
+Ends layout view page what answer body v found x =
+    (is_none (vacates.plan_at v.page v.frame (vacates.next_at v.who v.frame v.count x found)) ≡ true → IsCaused layout view v.who page what answer)
+    × (is_none (vacates.plan_at v.page v.frame (vacates.next_at v.who v.frame v.count x found)) ≡ false → (vacates.left_at v.body x ≡ Some body) × IsAhead layout view v.who page what answer body)
+
 module _ {layout : Layout} {old new : View} {page : Page} {what : Eviction} {answer : EvictAnswer} {body : BodyValue} (v : Vacate) {step : Step} {found : ℕ} {got : Option BodyValue} (ahead : IsAhead layout old v.who page what answer body) (given : v.body ≡ Some body) (served : IsServed step) where
-  -- while it is under way its body stays in hand
-  abbrev Still : VacateAt → Type 0
-  Still x = (vacates.left_at v.body x ≡ Some body) × IsAhead layout new v.who page what answer body
-
-  -- and when it is over, the body is home
-  abbrev Ends : VacateAt → Type 0
-  Ends x = (is_none (vacates.plan_at v.page v.frame (vacates.next_at v.who v.frame v.count x found)) ≡ true → IsCaused layout new v.who page what answer)
-      × (is_none (vacates.plan_at v.page v.frame (vacates.next_at v.who v.frame v.count x found)) ≡ false → Still x)
-
   stays-ahead : Steps layout v.who step None old new found got → new.bodies ≡ old.bodies → IsAhead layout new v.who page what answer body
   stays-ahead made bodies = ahead-stays made (deeds-same v.who served made) bodies ahead
 
@@ -158,7 +156,7 @@ module _ {layout : Layout} {old new : View} {page : Page} {what : Eviction} {ans
       which release_at.Retire e = ap (λ (x : View). x.bodies) (steps-planned e made).told.next
       which release_at.Back e = absurd (none-some step e)
 
-  pub vacate-ends : (x : VacateAt) → vacates.plan_at v.page v.frame x ≡ Some step → Steps layout v.who step (logs (vacates.put_at v.body x)) old new found got → Ends x
+  pub vacate-ends : (x : VacateAt) → vacates.plan_at v.page v.frame x ≡ Some step → Steps layout v.who step (logs (vacates.put_at v.body x)) old new found got → Ends layout new page what answer body v found x
   vacate-ends vacate_at.SetCache e made = ((λ over. absurd (both_ways true (sym over) refl)), (λ on. (given, stays-ahead made (ap (λ (x : View). x.bodies) (steps-planned e made).told.next))))
   vacate-ends vacate_at.SetOwner e made = ((λ over. absurd (both_ways true (sym over) refl)), (λ on. (given, stays-ahead made (ap (λ (x : View). x.bodies) (steps-planned e made).told.next))))
   vacate-ends vacate_at.UnlockFrame e made = ((λ over. absurd (both_ways true (sym over) refl)), (λ on. (given, stays-ahead made (ap (λ (x : View). x.bodies) (steps-planned e made).told.next))))
@@ -218,9 +216,9 @@ both layout old new e step found got fits is made = which e.at is fits.at made
 
     which : (x : EvictAt) → plan_at x ≡ Some step → FitsAt layout old e.who e.page e.what x → Steps layout e.who step (logs (put_at x)) old new found got
         → ShowsAt e.what (bare_at x) found got × ((y : EvictAt) (turn : Turn) → FollowsAt e.who e.page e.what (bare_at x) found got y turn → FitsAt layout new e.who e.page e.what y)
-    which at.LoadStop p has made = (tt, λ y turn follows. to follows.0 (stop-fits on fits.page has.0 has.1 (steps-planned p made)))
-    which (at.Hold h) p has made = ((all.0, held-enters (holds.next h found got) has.page_is fits.kind all.1), λ y turn follows.
-        hold-fits on fits.page own.told.rule.sound fits.kind none (holds.next h found got) has.own has.page_is all.1 (recent-held h has.hold p own) y follows.0)
+    which at.LoadStop p has made = (tt, λ y turn follows. to follows.0 (stop-fits e.what on fits.page has.0 has.1 (steps-planned p made)))
+    which (at.Hold h) p has made = ((all.0, held-enters e.what (holds.next h found got) has.page_is fits.kind all.1), λ y turn follows.
+        hold-fits e.what on fits.page own.told.rule.sound fits.kind none (holds.next h found got) has.own has.page_is all.1 (recent-held h has.hold p own) y follows.0)
       where
         own : Steps layout h.who step None old new found got
         own = subst (λ (w : Who). Steps layout w step None old new found got) (sym has.own) made

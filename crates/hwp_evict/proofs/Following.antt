@@ -136,12 +136,12 @@ sees-nothing sights who frame (evictions.Free slot) is = tt
 sees-nothing sights who frame evictions.Sync is = absurd (both_ways true is refl)
 sees-nothing sights who frame evictions.Drop is = tt
 
-module _ {layout : Layout} {view : View} {who : Who} {page : Page} {what : Eviction} (on : IsOnTurn view who) (inside : page.0 < length layout.pages) (sound : IsSound layout) (kind : IsOfKind layout page what) (none : HasMadeNone view who) where
+module _ {layout : Layout} {view : View} {who : Who} {page : Page} (what : Eviction) (on : IsOnTurn view who) (inside : page.0 < length layout.pages) (sound : IsSound layout) (kind : IsOfKind layout page what) (none : HasMadeNone view who) where
   -- ---- the page is held
   held-fits : (frame : Option Frame) (body : BodyValue) → HoldsPage layout view page frame body → SawLog view who (log_of body) → IsRecent view (hold_at.Held frame body) → (y : EvictAt) → AfterHeld who page what frame body y → FitsAt layout view who page what y
-  held-fits None body has saw recent y follows = subst (FitsAt layout view who page what) (sym follows) (refused-fits on inside None body (absence what) has saw none (away-why what has.body_is) (away-lines view who what))
+  held-fits None body has saw recent y follows = subst (FitsAt layout view who page what) (sym follows) (refused-fits what on inside None body (absence what) has saw none (away-why what has.body_is) (away-lines view who what))
   held-fits (Some frame) body has saw recent y (inr barred) = subst (FitsAt layout view who page what) (sym barred.next_is)
-      (refused-fits on inside (Some frame) body barred.refusal has saw none (bars-why what barred.refusal has.body_is barred.bars) (bars-lines view who what body.state barred.refusal barred.bars))
+      (refused-fits what on inside (Some frame) body barred.refusal has saw none (bars-why what barred.refusal has.body_is barred.bars) (bars-lines view who what body.state barred.refusal barred.bars))
   held-fits (Some frame) body has saw recent y (inl (passes , goes)) = which (copies what) refl goes
     where
       few : has.seen ≤ length view.sights
@@ -166,8 +166,8 @@ module _ {layout : Layout} {view : View} {who : Who} {page : Page} {what : Evict
           (subst (λ (p : Page). HoldsPage layout view p frame body) its fits.at.0) (subst (λ (w : Who). SawLog view w (log_of body)) own fits.at.1) recent y follows
 
 -- where the command goes on, its entry is allowed
-pub held-enters : {layout : Layout} {view : View} {page : Page} {what : Eviction} (h : Hold) → h.page ≡ page → IsOfKind layout page what → holds.Fits layout view h → CanEnterHeld what h.at
-held-enters {layout} {view} {page} {what} h its kind fits = which h.at fits.at
+pub held-enters : {layout : Layout} {view : View} {page : Page} (what : Eviction) (h : Hold) → h.page ≡ page → IsOfKind layout page what → holds.Fits layout view h → CanEnterHeld what h.at
+held-enters {layout} {view} {page} what h its kind fits = which h.at fits.at
   where
     which : (x : HoldAt) → holds.FitsAt layout view h.who h.page x → CanEnterHeld what x
     which hold_at.LockPage has = tt
@@ -194,7 +194,7 @@ module _ {layout : Layout} {old new : View} {who : Who} {page : Page} {what : Ev
   more : new.sights ≡ old.sights ++ (record { stamp = stamp_of who (noted who old); place = places.Bad frame; word = found }) ∷ []
   more = ap (λ (v : View). v.sights) made.told.next
 
-  page-still : HoldsPage layout new page (Some frame) body
+  abbrev page-still : HoldsPage layout new page (Some frame) body
   page-still = record {
     seen = has.page_held.seen;
     handled = has.page_held.handled;
@@ -225,5 +225,5 @@ module _ {layout : Layout} {old new : View} {who : Who} {page : Page} {what : Ev
       which : (b : Bool) → (found == 0) ≡ b → MatchBool b (Enters who page what frame body y) (y ≡ refused who page (Some frame) body (refusals.BadLines (record { 0 = found }))) → FitsAt layout new who page what y
       which true zero follows = enters-fits on inside made.told.rule.sound frame body page-still none-still what kind (copying-passes what body.state has.copying) few-still
           (mask-seen (drop has.page_held.seen new.sights) who frame what has.copying (seen-zero (eqb-true found 0 zero))) y follows
-      which false some follows = subst (FitsAt layout new who page what) (sym follows) (refused-fits on inside (Some frame) body (refusals.BadLines (record { 0 = found })) page-still (saw-log-stays made has.saw) none-still
+      which false some follows = subst (FitsAt layout new who page what) (sym follows) (refused-fits what on inside (Some frame) body (refusals.BadLines (record { 0 = found })) page-still (saw-log-stays made has.saw) none-still
           (lines-why what found (state_of layout (log_of body)) has.copying (is-cached has.page_held.body_is)) (eqb-false found 0 some, (frame, saw-load made)))

@@ -78,7 +78,7 @@ module _ {layout : Layout} {old : View} {who : Who} {page : Page} {slot : VSlot}
   used = has.entry.allowed
 
   names-frame : slice_get before slot.0 ≡ Some (frame.0 + 1)
-  names-frame = fitting-at has.log.page state (frame.0 + 1) 0 layout.trans slot.0 decl.0 decl.1.0 (decl.1.1 ∙ sym has.entry.page_is)
+  names-frame = fitting-at has.log.page state (frame.0 + 1) 0 layout.trans slot.0 decl.0 decl.1 (decl.2 ∙ sym has.entry.page_is)
       ∙ ap (λ (n : ℕ). Some (fitting_word state (frame.0 + 1) n)) (let first : 0 + slot.0 ≡ slot.0 = omega arith in first)
       ∙ ap (λ (b : Bool). Some (cond b (frame.0 + 1) (cond (set.contains state.bar slot.0) (pte_word ptes.Poison) 0))) used
 
@@ -91,11 +91,11 @@ module _ {layout : Layout} {old : View} {who : Who} {page : Page} {slot : VSlot}
   pub can-write : CanSetPte layout old slot ptes.Empty
   can-write = record {
     decl = decl.0;
-    declared = decl.1.0;
+    declared = decl.1;
     page_held = record {
-      lock = record { lock = page_lock page (Some frame) (Some before); listed = ap (λ l. slice_get l 0) pages; page_is = sym decl.1.1 };
+      lock = record { lock = page_lock page (Some frame) (Some before); listed = ap (λ l. slice_get l 0) pages; page_is = sym decl.2 };
       body = taken;
-      body_is = ap (λ (h : Hand). find (is_body_of decl.0.page) h.bodies) has.hand_is ∙ ap (λ (b : Bool). cond b (Some taken) None) (same-number has.log.page.0 decl.0.page.0 (ap (λ (p : Page). p.0) (has.entry.page_is ∙ sym decl.1.1)));
+      body_is = ap (λ (h : Hand). find (is_body_of decl.0.page) h.bodies) has.hand_is ∙ ap (λ (b : Bool). cond b (Some taken) None) (same-number has.log.page.0 decl.0.page.0 (ap (λ (p : Page). p.0) (has.entry.page_is ∙ sym decl.2)));
       cache = frame.0 + 1;
       cache_is = refl;
       trans = before;
@@ -120,7 +120,7 @@ module _ {layout : Layout} {old : View} {who : Who} {page : Page} {slot : VSlot}
 
     word : found ≡ frame.0 + 1
     word = same_Some found (frame.0 + 1) (sym (trans-word layout made.told.board made.told.rule slot found within made.told.met)
-        ∙ sym ((lock-knows layout made.told.board made.told.rule made.told.seat old made.told.me (page_lock page (Some frame) (Some before)) (ap (λ l. slice_get l 0) pages)).words before refl slot.0 decl.0 decl.1.0 decl.1.1)
+        ∙ sym ((lock-knows layout made.told.board made.told.rule made.told.seat old made.told.me (page_lock page (Some frame) (Some before)) (ap (λ l. slice_get l 0) pages)).words before refl slot.0 decl.0 decl.1 decl.2)
         ∙ names-frame)
 
     hand : hand_of new ≡ holding page (Some frame) 2 now taken has.handled has.poisoned

@@ -29,7 +29,7 @@ use Rattle.hwp_evict.specs.declared.fsync.FsyncAt.{FsyncAt}
 use Rattle.hwp_evict.specs.declared.fsync.FsyncAt.TheVariants as at
 use Rattle.hwp_evict.specs.declared.fsync.FsyncAnswer.{FsyncAnswer}
 use Rattle.hwp_evict.specs.declared.fsync.FsyncAnswer.TheVariants as answers
-use Rattle.hwp_evict.proofs.Holdless.{no-frame, no-page}
+use Rattle.hwp_hold.proofs.Telling.{no-frame, no-page}
 use Rattle.hwp_evict.specs.Fsyncs.{plan, plan_at, next, next_at, turn, turn_at, Fits, FitsAt, cost, cost_at}
 
 -- ---- the law of tasks
@@ -121,7 +121,7 @@ fsync-ranked = rank-of fsync-member (λ s. refl) (λ s. (omega arith, omega arit
 -- nothing is held
 pub fsync-tells : TellsClass fsync-member
 fsync-tells = record {
-  frame = λ layout view s fits some. absurd (no-frame view fits.hand_is some);
-  page = λ layout view s fits some. absurd (no-page view fits.hand_is some);
+  frame = λ layout view s fits some. absurd (no-frame view fits.hand_is refl refl refl some);
+  page = λ layout view s fits some. absurd (no-page view fits.hand_is refl some);
   claim = λ layout view s frame cycle fits none. absurd (none-some (frame, cycle) none);
 }

@@ -1,4 +1,3 @@
-pub mod Holdless
 pub mod Fsyncing
 pub mod Growing
 pub mod Vacating
@@ -12,3 +11,4 @@ pub mod Entered
 pub mod Freeing
 pub mod Following
 pub mod Evicting
+pub mod EvictCosts

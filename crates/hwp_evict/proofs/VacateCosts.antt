@@ -8,18 +8,20 @@ use Rattle.hwp_rule.specs.declared.View.{View}
 use Rattle.hwp_rule.specs.Words.{Words}
 use Rattle.hwp_step.specs.declared.Turn.{Turn}
 use Rattle.hwp_step.specs.declared.Turn.TheVariants.{Moved}
-use Rattle.hwp_step.specs.Hands.{Hand, hand_of}
-use Rattle.hwp_step.specs.Ranks.{Member, member, IsRanked, HasFrame, HasPage, is_waits, words_at}
+use Rattle.hwp_rule.specs.declared.InHand.{InHand}
+use Rattle.hwp_step.specs.Hands.{hand_of}
+use Rattle.hwp_step.specs.Ranks.{Member, member, IsRanked, is_waits, words_at}
 use Rattle.hwp_step.proofs.Ranking.{rank-of}
 use Rattle.hwp_hold.specs.declared.release.Release.{Release}
 use Rattle.hwp_hold.specs.declared.release.ReleaseAt.{ReleaseAt}
 use Rattle.hwp_hold.specs.declared.release.ReleaseAt.TheVariants as release_at
 use Rattle.hwp_hold.specs.Releases as releases
 use Rattle.hwp_hold.proofs.Ranking.{release-falls, release-small}
+use Rattle.hwp_hold.proofs.Telling.{Tells, frame-tells, page-tells}
 use Rattle.hwp_evict.specs.declared.vacate.Vacate.{Vacate}
 use Rattle.hwp_evict.specs.declared.vacate.VacateAt.{VacateAt}
 use Rattle.hwp_evict.specs.declared.vacate.VacateAt.TheVariants as at
-use Rattle.hwp_evict.specs.Vacates.{plan, plan_at, put, bare, after_release, next, next_at, releasing, Fits, FitsAt, class, class_at, cost, cost_at}
+use Rattle.hwp_evict.specs.Vacates.{plan, plan_at, put, bare, after_release, next, next_at, page_held, releasing, Fits, FitsAt, class, class_at, cost, cost_at}
 
 -- the state after a step of the release costs one more than the release
 release-cost : (r : Release) (w : Words) → cost_at (after_release r) w ≡ releases.cost r w + 1
@@ -88,28 +90,21 @@ vacate-ranked = rank-of vacate-member (λ s. refl) vacate-class (λ layout a sea
 
 -- ---- the class
 
--- no frame is held
-bare-hand : (view : View) (h : Hand) → hand_of view ≡ h → h.locks ≡ [] → h.hands ≡ [] → h.reserved ≡ 0 → HasFrame view → ⊥
-bare-hand view h is locks hands reserved (inl some) = some (ap (λ (x : Hand). x.locks) is ∙ locks)
-bare-hand view h is locks hands reserved (inr (inl some)) = some (ap (λ (x : Hand). x.hands) is ∙ hands)
-bare-hand view h is locks hands reserved (inr (inr some)) = some (ap (λ (x : Hand). x.reserved) is ∙ reserved)
-
--- the class of a task under way, of which a frame or a page is held
-pub vacate-tells : (layout : Layout) (view : View) (v : Vacate) → Fits layout view v → is_none (plan v) ≡ false → (HasFrame view → class v ≡ 1) × (HasPage view → class v ≤ 2)
+pub vacate-tells : (layout : Layout) (view : View) (v : Vacate) → Fits layout view v → is_none (plan v) ≡ false → Tells view (class v)
 vacate-tells layout view v fits on = which v.at fits.at on
   where
-    by : (r : Release) (x : ReleaseAt) (h : Hand) → h.locks ≡ [] → h.hands ≡ [] → h.reserved ≡ 0 → hand_of view ≡ releasing r.frame r.count x h → (HasFrame view → min (releases.class_at x) 2 ≡ 1) × (HasPage view → min (releases.class_at x) 2 ≤ 2)
-    by r release_at.Put h locks hands reserved is = ((λ some. absurd (bare-hand view _ is locks hands reserved some)), (λ some. omega arith))
-    by r release_at.Give h locks hands reserved is = ((λ some. refl), (λ some. omega arith))
-    by r release_at.Unreserve h locks hands reserved is = ((λ some. refl), (λ some. omega arith))
-    by r release_at.Adopt h locks hands reserved is = ((λ some. refl), (λ some. omega arith))
-    by r release_at.Retire h locks hands reserved is = ((λ some. refl), (λ some. omega arith))
-    by r release_at.Back h locks hands reserved is = ((λ some. absurd (bare-hand view _ is locks hands reserved some)), (λ some. omega arith))
+    by : (r : Release) (x : ReleaseAt) (trans : List ℕ) (taken : InHand) → hand_of view ≡ releasing r.frame r.count x (page_held v.page None trans taken) → Tells view (min (releases.class_at x) 2)
+    by r release_at.Put trans taken is = page-tells view is 2 refl refl refl (omega arith)
+    by r release_at.Give trans taken is = frame-tells view
+    by r release_at.Unreserve trans taken is = frame-tells view
+    by r release_at.Adopt trans taken is = frame-tells view
+    by r release_at.Retire trans taken is = frame-tells view
+    by r release_at.Back trans taken is = page-tells view is 2 refl refl refl (omega arith)
 
-    which : (x : VacateAt) → FitsAt layout view (record v { at = x }) x → is_none (plan_at v.page v.frame x) ≡ false → (HasFrame view → class_at x ≡ 1) × (HasPage view → class_at x ≤ 2)
-    which at.SetCache has on = ((λ some. refl), (λ some. omega arith))
-    which at.SetOwner has on = ((λ some. refl), (λ some. omega arith))
-    which at.UnlockFrame has on = ((λ some. refl), (λ some. omega arith))
-    which (at.Release r) has on = by r r.at _ refl refl refl has.leaving.hand_is
-    which at.UnlockPage has on = ((λ some. absurd (bare-hand view _ has.hand_is refl refl refl some)), (λ some. omega arith))
+    which : (x : VacateAt) → FitsAt layout view (record v { at = x }) x → is_none (plan_at v.page v.frame x) ≡ false → Tells view (class_at x)
+    which at.SetCache has on = frame-tells view
+    which at.SetOwner has on = frame-tells view
+    which at.UnlockFrame has on = frame-tells view
+    which (at.Release r) has on = by r r.at has.leaving.trans has.leaving.taken has.leaving.hand_is
+    which at.UnlockPage has on = page-tells view has.hand_is 2 refl refl refl (omega arith)
     which at.Over has on = absurd (both_ways true on refl)

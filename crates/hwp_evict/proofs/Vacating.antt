@@ -97,7 +97,7 @@ module _ {view : View} {page : Page} (frame : Option Frame) {trans : List ℕ} {
     trans_is = refl;
   }
 
-abbrev lock-held : {view : View} {frame : Frame} (lock : FrameLock) → view.locks ≡ lock ∷ [] → lock.frame ≡ frame → HasLock view frame
+abbrev pub lock-held : {view : View} {frame : Frame} (lock : FrameLock) → view.locks ≡ lock ∷ [] → lock.frame ≡ frame → HasLock view frame
 lock-held lock locks is = record { lock = lock; listed = (0, lock, ap (λ l. slice_get l 0) locks, refl); frame_is = is }
 
 -- a frame's name fits a cache word
