@@ -5,3 +5,8 @@ mod Unfailed
 pub mod Loading
 pub mod Faulting
 pub mod FaultCosts
+pub mod Translating
+pub mod Reaching
+pub mod Accessing
+pub mod AccessCosts
+pub mod Rooming

@@ -1,5 +1,5 @@
 -- A translation brought into use: the task's states, its steps and what they come to.
-use Rattle.std.specs.Prelude.{◌≡◌, ◌⊎◌, ℕ, ◌+◌, ◌-◌, ◌<◌, Bool, false, List, [], ◌∷◌, ◌++◌, Option, Some, None, is_none, length, drop, slice_get}
+use Rattle.std.specs.Prelude.{◌≡◌, ◌⊎◌, ℕ, ◌+◌, ◌-◌, ◌<◌, Bool, true, false, List, [], ◌∷◌, ◌++◌, Option, Some, None, is_none, length, drop, slice_get}
 use Rattle.hwp_geom.specs.declared.Frame.{Frame}
 use Rattle.hwp_geom.specs.declared.Layout.{Layout}
 use Rattle.hwp_geom.specs.declared.Page.{Page}
@@ -42,6 +42,13 @@ plan_at slot frame at.Over = None
 
 abbrev pub plan : MapIn → Option Step
 plan m = plan_at m.slot m.frame m.at
+
+abbrev pub is_over_at : MapInAt → Bool
+is_over_at at.Over = true
+is_over_at _ = false
+
+abbrev pub is_over : MapIn → Bool
+is_over m = is_over_at m.at
 
 -- once the second reference is taken, the translation is to lead to the frame
 abbrev pub after_refer_at : Refer → ReferAt → MapInAt

@@ -1,4 +1,4 @@
-ghost use Rattle.std.specs.Prelude.{◌≡◌, is_none};
+ghost use Rattle.std.specs.Prelude.{◌≡◌};
 ghost use Rattle.hwp_fault.specs.MapIns.{HasRoomFor, mapped};
 
 use hwp_geom::{Frame, Layout, Page, VSlot, Who};
@@ -27,7 +27,7 @@ enum MapInAt {
 }
 
 impl MapIn {
-    ghost use Rattle.hwp_fault.specs.MapIns.{begin, plan, after_refer};
+    ghost use Rattle.hwp_fault.specs.MapIns.{begin, is_over, after_refer};
 
     /// The command brings the translation into use: it is to lead to the frame that the page is in. The body has room for
     /// one entry more.
@@ -48,11 +48,10 @@ impl MapIn {
 
     /// Whether the translation is in use.
     pub fn is_over(&self) -> bool
-        ensures { result ≡ is_none (plan self.now) }
+        ensures { result ≡ is_over self.now }
     {
         match self.at {
-            MapInAt::Refer { refer } => refer.is_over(),
-            MapInAt::SetPte => false,
+            MapInAt::Refer { .. } | MapInAt::SetPte => false,
             MapInAt::Over => true,
         }
     }
