@@ -281,30 +281,75 @@ module _ {layout : Layout} {seat : ℕ} {a b : State} {f t : Fault} {turned : Tu
       → Lowers (turn_at (bare_at x) made.found) (class_at x) layout a seat → cost_at f.slot (next_at layout f.who f.page f.slot (bare_at x) made.found made.got spare) now < cost_at f.slot x w
   which-falls (at.Hold h) spare has e move lowers =
       let less : holds.cost (holds.next h made.found made.got) now < holds.cost h w = part-falls hold-ranked refl (record {
-        step = made.step; found = made.found; got = made.got; rule = made.rule; kept = made.kept; fits = has.hold; planned = e; move = move-by None h.who has.own move; brings = made.brings; follows = (refl, refl);
+        step = made.step;
+        found = made.found;
+        got = made.got;
+        rule = made.rule;
+        kept = made.kept;
+        fits = has.hold;
+        planned = e;
+        move = move-by None h.who has.own move;
+        brings = made.brings;
+        follows = (refl, refl);
       }) lowers in
       let more : cost_at f.slot (after_hold (holds.next h made.found made.got)) now ≡ holds.cost (holds.next h made.found made.got) now + length now.frees + 14 + owed = hold-cost f.slot (holds.next h made.found made.got) now in
       omega (arith, less, more, same-number-of)
   which-falls (at.LoadPte frame body) spare has e move lowers = pte-falls frame body spare has e
   which-falls (at.Fill g) spare has e move lowers =
       let less : fills.cost (fills.next layout g made.found) now < fills.cost g w = part-falls fill-ranked refl (record {
-        step = made.step; found = made.found; got = made.got; rule = made.rule; kept = made.kept; fits = has.fill; planned = e; move = move-by None g.who has.own move; brings = made.brings; follows = (refl, refl);
+        step = made.step;
+        found = made.found;
+        got = made.got;
+        rule = made.rule;
+        kept = made.kept;
+        fits = has.fill;
+        planned = e;
+        move = move-by None g.who has.own move;
+        brings = made.brings;
+        follows = (refl, refl);
       }) lowers in
       let more : cost_at f.slot (after_fill f.who f.page f.slot (fills.next layout g made.found) spare) now ≤ fills.cost (fills.next layout g made.found) now + 3 + 4096 = fill-cost f.who f.page f.slot (fills.next layout g made.found) spare now in
       omega (arith, less, more)
   which-falls (at.MapIn m) spare has e move lowers = map-cost m has m.at e has.map_in.at (part-falls map-in-ranked refl (record {
-    step = made.step; found = made.found; got = made.got; rule = made.rule; kept = made.kept; fits = has.map_in; planned = e; move = move-by None m.who has.own move; brings = made.brings; follows = (refl, refl);
+    step = made.step;
+    found = made.found;
+    got = made.got;
+    rule = made.rule;
+    kept = made.kept;
+    fits = has.map_in;
+    planned = e;
+    move = move-by None m.who has.own move;
+    brings = made.brings;
+    follows = (refl, refl);
   }) lowers)
   which-falls (at.Unhold u answer) spare has e move lowers =
       let less : unholds.cost (unholds.next (unholds.bare u) made.found) now < unholds.cost u w = part-falls unhold-ranked refl (record {
-        step = made.step; found = made.found; got = made.got; rule = made.rule; kept = made.kept; fits = has.unhold; planned = e; move = move-by (unholds.put u) u.who has.own move; brings = made.brings; follows = (refl, refl);
+        step = made.step;
+        found = made.found;
+        got = made.got;
+        rule = made.rule;
+        kept = made.kept;
+        fits = has.unhold;
+        planned = e;
+        move = move-by (unholds.put u) u.who has.own move;
+        brings = made.brings;
+        follows = (refl, refl);
       }) lowers in
       let more : cost_at f.slot (after_unhold (unholds.next (unholds.bare u) made.found) answer) now ≤ unholds.cost (unholds.next (unholds.bare u) made.found) now + rest f.slot answer now = unhold-cost f.slot (unholds.next (unholds.bare u) made.found) answer now in
       let same : rest f.slot answer now ≡ rest f.slot answer w = rest-stays u answer e in
       omega (arith, less, more, same)
   which-falls (at.GiveUp g) spare has e move lowers =
       let less : give_ups.cost (give_ups.next (give_ups.bare g) made.found) now < give_ups.cost g w = part-falls give-up-ranked refl (record {
-        step = made.step; found = made.found; got = made.got; rule = made.rule; kept = made.kept; fits = has.give_up; planned = e; move = move-by (give_ups.put g) g.who has.own move; brings = made.brings; follows = (refl, refl);
+        step = made.step;
+        found = made.found;
+        got = made.got;
+        rule = made.rule;
+        kept = made.kept;
+        fits = has.give_up;
+        planned = e;
+        move = move-by (give_ups.put g) g.who has.own move;
+        brings = made.brings;
+        follows = (refl, refl);
       }) lowers in
       let more : cost_at f.slot (after_give_up (give_ups.next (give_ups.bare g) made.found)) now ≤ give_ups.cost (give_ups.next (give_ups.bare g) made.found) now = give-up-cost f.slot (give_ups.next (give_ups.bare g) made.found) now in
       omega (arith, less, more)

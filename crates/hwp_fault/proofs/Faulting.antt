@@ -1,5 +1,5 @@
 -- The laws of `Fault`, and what stands before it and after it.
-use Rattle.std.proofs.Common.{◌≡◌, ◌⊎◌, inl, inr, ℕ, zero, suc, ◌+◌, ◌<◌, ◌≤◌, ◌==◌, Bool, true, false, not, cond, List, [], ◌∷◌, ◌++◌, Option, Some, None, is_none, filter, length, drop, slice_get, refl, sym, ap, ◌∙◌, subst, arith}
+use Rattle.std.proofs.Common.{◌≡◌, ◌≢◌, ◌⊎◌, inl, inr, ℕ, zero, suc, ◌+◌, ◌<◌, ◌≤◌, ◌==◌, Bool, true, false, not, cond, List, [], ◌∷◌, ◌++◌, Option, Some, None, is_none, filter, length, drop, slice_get, refl, sym, ap, ◌∙◌, subst, arith}
 use Rattle.std.proofs.Math.Seq.{drop-append_seam}
 use Rattle.std.proofs.lemmas.Bool.{both_ways, ne_eqb}
 use Rattle.std.proofs.lemmas.List.{drop_all}
@@ -36,6 +36,7 @@ use Rattle.hwp_step.specs.declared.Turn.{Turn}
 use Rattle.hwp_step.specs.Calls.{CanMake, Steps, IsOnTurn, logs}
 use Rattle.hwp_step.specs.Hands.{Hand, hand_of, body_in, empty}
 use Rattle.hwp_step.proofs.Stepping.{on-turn-after, hand-planned, steps-planned, can-make}
+use Rattle.hwp_step.specs.Ranks.{HasFrame, HasPage}
 use Rattle.hwp_known.specs.Known.{Saw, SawLog, HasOnly, BringsIn, deeds, is_by}
 use Rattle.hwp_known.proofs.Listing.{Lists, deeds-same, frame-lists, page-lists, made-kept, has-only-stays}
 use Rattle.hwp_known.proofs.Seeing.{saw-stays, saw-log-stays, saw-state-stays}
@@ -79,6 +80,7 @@ use Rattle.hwp_hold.proofs.Filling as filling
 use Rattle.hwp_hold.proofs.GivingUp as giving_up
 use Rattle.hwp_hold.proofs.Holding as holding
 use Rattle.hwp_hold.proofs.Linking.{ahead-unholds, held-ahead, held-unholds, nothing-left}
+use Rattle.hwp_hold.proofs.Telling.{Tells, no-frame, no-page, page-tells, frame-tells, hold-tells, unhold-tells, give-up-tells}
 use Rattle.hwp_hold.proofs.Unholding as unholding
 use Rattle.hwp_fault.specs.declared.fault.Fault.{Fault}
 use Rattle.hwp_fault.specs.declared.fault.FaultAt.{FaultAt}
@@ -90,7 +92,7 @@ use Rattle.hwp_fault.specs.declared.map_in.MapInAt.{MapInAt}
 use Rattle.hwp_fault.specs.declared.map_in.MapInAt.TheVariants as map_in_at
 use Rattle.hwp_fault.specs.MapIns as map_ins
 use Rattle.hwp_fault.specs.MapIns.{IsBringing, HoldsWithFrame, CanMapIn, added}
-use Rattle.hwp_fault.specs.Faults.{begin, plan, plan_at, put, put_at, bare, bare_at, answer, answer_at, let_go, with_room, after_hold, after_pte, is_poison, after_fill, after_map_in, after_unhold, after_give_up, next, next_at, IsRoom, Follows, Shows, ShowsAt, AddsOnly, IsFree, IsHeld, IsFilling, IsWhy, FitsOver, Fits, FitsAt}
+use Rattle.hwp_fault.specs.Faults.{begin, plan, plan_at, put, put_at, bare, bare_at, answer, answer_at, let_go, with_room, after_hold, after_pte, is_poison, after_fill, after_map_in, after_unhold, after_give_up, next, next_at, IsRoom, Follows, Shows, ShowsAt, AddsOnly, IsFree, IsHeld, IsFilling, IsWhy, FitsOver, Fits, FitsAt, class, class_at}
 use Rattle.hwp_fault.proofs.Appending.{state-more, ahead-with-frame}
 use Rattle.hwp_fault.proofs.Loading.{IsNowhere, LeadsTo, bodies, state-is, unlost, inside, pte-met, reads-frame}
 use Rattle.hwp_fault.proofs.MappingIn as mapping
@@ -441,8 +443,7 @@ module _ (layout : Layout) (old new : View) (f : Fault) (step : Step) (found : �
 
   which : (x : FaultAt) → FitsAt layout old f.who f.page f.slot x → plan_at f.slot x ≡ Some step → Steps layout f.who step (logs (put_at x)) old new found got → Given x
   which (at.Hold h) has e made =
-      let child = holding.both layout old new h step found got has.hold e (steps-by h.who has.own made) in
-      (
+      let child = holding.both layout old new h step found got has.hold e (steps-by h.who has.own made) in (
         child.0,
         λ spare room. subst (λ (p : Page). FitsAt layout new f.who p f.slot (after_hold (holds.next h found got))) has.of
             (subst (λ (w : Who). FitsAt layout new w h.page f.slot (after_hold (holds.next h found got))) has.own (hold-on f.slot (holds.next h found got) (holds.next_at h.who h.at found got) child.1)),
@@ -450,16 +451,14 @@ module _ (layout : Layout) (old new : View) (f : Fault) (step : Step) (found : �
   which (at.LoadPte frame body) has e made = pte-loaded f.slot on fits.page fits.slot frame body has (steps-planned e made)
   which (at.Fill g) has e made =
       let child = filling.both layout old new g step found got has.fill e (steps-by g.who has.own made) in
-      let saw : SawLog new g.who (log_of g.body) = subst (λ (w : Who). SawLog new w (log_of g.body)) (sym has.own) (saw-log-stays made has.saw) in
-      (
+      let saw : SawLog new g.who (log_of g.body) = subst (λ (w : Who). SawLog new w (log_of g.body)) (sym has.own) (saw-log-stays made has.saw) in (
         child.0,
         λ spare room. subst (λ (p : Page). FitsAt layout new f.who p f.slot (after_fill f.who p f.slot (fills.next layout g found) spare)) has.of
             (subst (λ (w : Who). FitsAt layout new w g.page f.slot (after_fill w g.page f.slot (fills.next layout g found) spare)) has.own
             (fill-moved f.slot g (subst (λ (p : Page). IsOf layout p f.slot) (sym has.of) fits.slot) spare room g.at e has.fill.at (steps-by g.who has.own made) saw has.free child.1)),
       )
   which (at.MapIn m) has e made =
-      let child = mapping.both layout old new m step found got has.map_in e (steps-by m.who has.own made) in
-      (
+      let child = mapping.both layout old new m step found got has.map_in e (steps-by m.who has.own made) in (
         child.0,
         λ spare room. subst (λ (s : VSlot). FitsAt layout new f.who f.page s (after_map_in f.who f.page (map_ins.next m found))) has.slot_is
             (subst (λ (p : Page). FitsAt layout new f.who p m.slot (after_map_in f.who p (map_ins.next m found))) has.of
@@ -490,14 +489,16 @@ module _ (layout : Layout) (old new : View) (f : Fault) (step : Step) (found : �
 
   pub both : Shows (bare f) found got × ((spare : Option ℕ) → IsRoom spare → Fits layout new (next layout (bare f) found got spare))
   both =
-      let all : Given f.at = which f.at fits.at is made in
-      (all.0, λ spare room. record {
-        on_turn = on;
-        page = fits.page;
-        slot = fits.slot;
-        only = only-by fits.only step (put f) (can layout old f step fits is) made (adds f.at fits.at);
-        at = all.1 spare room;
-      })
+      let all : Given f.at = which f.at fits.at is made in (
+        all.0,
+        λ spare room. record {
+          on_turn = on;
+          page = fits.page;
+          slot = fits.slot;
+          only = only-by fits.only step (put f) (can layout old f step fits is) made (adds f.at fits.at);
+          at = all.1 spare room;
+        },
+      )
 
 pub stays : (layout : Layout) (old new : View) (f : Fault) (step : Step) (found : ℕ) (got : Option BodyValue) → Fits layout old f → plan f ≡ Some step → Steps layout f.who step (logs (put f)) old new found got
     → Shows (bare f) found got × ((after : Fault) (result : Turn) → Follows layout (bare f) found got after result → Fits layout new after × (after.who.cpu ≡ f.who.cpu))
@@ -528,3 +529,47 @@ over-fits {layout} {view} f over fits = which f.at over fits.at
     which (at.Unhold u answer) over has = absurd (both_ways (is_none (unholds.plan u)) has.under_way over)
     which (at.GiveUp g) over has = absurd (both_ways (is_none (give_ups.plan g)) has.under_way over)
     which (at.Over answer) over has = has
+
+-- ---- what its class tells
+
+-- a task under way has a step
+under-way : {view : View} {class : ℕ} (planned : Option Step) → Tells view class → is_none planned ≡ false → (HasFrame view → (class ≡ 1) × (planned ≢ None)) × (HasPage view → (class ≤ 2) × (planned ≢ None))
+under-way planned tells on = ((λ some. (tells.0 some, left)), (λ some. (tells.1 some, left)))
+  where
+    left : planned ≢ None
+    left e = both_ways (is_none planned) on (ap is_none e)
+
+take-tells : (layout : Layout) (view : View) (page : Page) (log : Log) (seen : ℕ) (x : TakeAt) → hand_of view ≡ fills.with_take x (holds.locked layout page (Some log) seen) → is_none (takes.plan_at x) ≡ false → Tells view (fills.with_page (takes.class_at x))
+take-tells layout view page log seen take_at.LoadAvailable is on = page-tells view is 2 refl refl refl (omega arith)
+take-tells layout view page log seen (take_at.Reserve word) is on = page-tells view is 2 refl refl refl (omega arith)
+take-tells layout view page log seen (take_at.LoadFree number) is on = frame-tells view
+take-tells layout view page log seen (take_at.TakeBit frame) is on = frame-tells view
+take-tells layout view page log seen (take_at.Adopt frame) is on = frame-tells view
+take-tells layout view page log seen (take_at.Over frame) is on = absurd (both_ways true on refl)
+
+fill-tells : (layout : Layout) (view : View) (f : Fill) → fills.Fits layout view f → is_none (fills.plan f) ≡ false → Tells view (fills.class f)
+fill-tells layout view f fits on = which f.at fits.at on
+  where
+    which : (x : FillAt) → fills.FitsAt layout view f.who f.page f.body x → is_none (fills.plan_at f.page x) ≡ false → Tells view (fills.class_at x)
+    which (fill_at.Take t) has on = take-tells layout view f.page (log_of f.body) has.seen t.at has.hand_is has.under_way
+    which (fill_at.SetOwner frame) has on = frame-tells view
+    which (fill_at.Refer r) has on = frame-tells view
+    which (fill_at.SetCache frame) has on = frame-tells view
+    which (fill_at.Over frame) has on = absurd (both_ways true on refl)
+
+pub tells : (layout : Layout) (view : View) (f : Fault) → Fits layout view f → (HasFrame view → (class f ≡ 1) × (plan f ≢ None)) × (HasPage view → (class f ≤ 2) × (plan f ≢ None))
+tells layout view f fits = which f.at fits.at
+  where
+    nothing : hand_of view ≡ empty → (planned : Option Step) → (HasFrame view → (4 ≡ 1) × (planned ≢ None)) × (HasPage view → (4 ≤ 2) × (planned ≢ None))
+    nothing is planned = ((λ some. absurd (no-frame view is refl refl refl some)), (λ some. absurd (no-page view is refl some)))
+
+    which : (x : FaultAt) → FitsAt layout view f.who f.page f.slot x → (HasFrame view → (class_at x ≡ 1) × (plan_at f.slot x ≢ None)) × (HasPage view → (class_at x ≤ 2) × (plan_at f.slot x ≢ None))
+    which (at.Hold h) has = under-way (holds.plan h) (hold-tells layout view h has.hold has.under_way) has.under_way
+    which (at.LoadPte None body) has = under-way (Some (steps.Load (places.Trans f.slot))) (page-tells view has.held.hand_is 2 refl refl refl (omega arith)) refl
+    which (at.LoadPte (Some frame) body) has = under-way (Some (steps.Load (places.Trans f.slot))) (frame-tells view) refl
+    which (at.Fill g) has = under-way (fills.plan g) (fill-tells layout view g has.fill has.under_way) has.under_way
+    which (at.MapIn m) has = under-way (map_ins.plan m) (frame-tells view) has.under_way
+    which (at.Unhold u answer) has = under-way (unholds.plan u) (unhold-tells layout view u has.unhold has.under_way) has.under_way
+    which (at.GiveUp g) has = under-way (give_ups.plan g) (give-up-tells layout view g has.give_up has.under_way) has.under_way
+    which (at.Over None) has = nothing has None
+    which (at.Over (Some answer)) has = nothing has.0 None

@@ -94,13 +94,7 @@ impl Fault {
     }
 
     /// Makes room for an entry, and goes on to the part that appends it; or gives up.
-    fn with_room(
-        who: Who,
-        page: Page,
-        slot: VSlot,
-        frame: Option<Frame>,
-        mut body: Body,
-    ) -> FaultAt
+    fn with_room(who: Who, page: Page, slot: VSlot, frame: Option<Frame>, mut body: Body) -> FaultAt
         ensures { IsRoomed who page slot frame body result }
     {
         match body.room() {

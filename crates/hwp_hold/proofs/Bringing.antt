@@ -24,6 +24,7 @@ use Rattle.hwp_page.specs.declared.What.TheVariants as entries
 use Rattle.hwp_page.specs.Actions.{acted}
 use Rattle.hwp_page.specs.History.{BodyValue, IsReplay, Leads, state_after}
 use Rattle.hwp_page.specs.Step.{Allowed, after, opening_of}
+use Rattle.hwp_page.proofs.Histories.{Leads-state}
 use Rattle.hwp_page.specs.Endings.{has_ending}
 use Rattle.hwp_words.specs.Names.{frame_name}
 use Rattle.hwp_words.specs.Translations.{pte_word}
@@ -78,14 +79,10 @@ unused-led : (layout : Layout) (page : Page) (s t : PageState) (list : List Entr
 unused-led layout page s t [] leads was = subst IsUnused leads was
 unused-led layout page s t (e ∷ es) leads was = unused-led layout page (after s e.what) t es leads.1 (unused-after layout page s e.what was leads.0)
 
-led-state : (layout : Layout) (page : Page) (s t : PageState) (list : List Entry) → Leads layout page s list t → state_after s list ≡ t
-led-state layout page s t [] leads = leads
-led-state layout page s t (e ∷ es) leads = led-state layout page (after s e.what) t es leads.1
-
 module _ {layout : Layout} {page : Page} {list : List Entry} {state : PageState} (replay : IsReplay layout page list state) where
   -- a body's state is that of its history
   pub replay-state : state_of layout (record { page = page; entries = list }) ≡ state
-  replay-state = ap (λ (k : Option PageKind). state_after (opening_at k) list) replay.declared ∙ led-state layout page (opening_of replay.kind) state list replay.leads
+  replay-state = ap (λ (k : Option PageKind). state_after (opening_at k) list) replay.declared ∙ Leads-state layout page (opening_of replay.kind) state list replay.leads
 
   -- a page that is in no frame has no translation in use
   pub replay-unused : state.cached ≡ false → state.maps ≡ set.empty

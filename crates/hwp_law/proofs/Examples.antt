@@ -1,6 +1,6 @@
 -- One memory failure on one processor, by hand: a thread stores 77 at line 5, the line goes bad in frame 0, a load of it is a
 -- machine check that takes the frame and sends the thread SIGBUS, and so is a later load. The report has these lines.
-use Rattle.std.proofs.Common.{◌≡◌, ◌≢◌, ℕ, suc, zero, true, false, List, [], ◌∷◌, Some, None, refl, sym, subst, inr, lit<, lit≤, true≢false, IsBitSet, arith}
+use Rattle.std.proofs.Common.{◌≡◌, ℕ, suc, zero, true, false, List, [], ◌∷◌, Some, None, refl, sym, subst, inr, lit<, lit≤, true≢false, IsBitSet, arith}
 use Rattle.std.proofs.lemmas.Option.{same_Some, none-some}
 use Rattle.hwp_geom.specs.declared.Layout.{Layout}
 use Rattle.hwp_geom.specs.declared.PageKind.TheVariants.{Anon}
@@ -30,7 +30,7 @@ use Rattle.hwp_law.specs.Pairings.{AreRecorded, entries_of, has_page, is_failure
 use Rattle.hwp_law.specs.Records.{Alternates, HaveEvents, IsMarkAt}
 
 -- two frames, and one anonymous page of one process whose thread has a handler
-abbrev layout : Layout
+abbrev pub layout : Layout
 layout = record {
   cpus = 1;
   frames = 2;
@@ -45,7 +45,7 @@ layout = record {
 }
 
 -- `store 0 0 5 77`, `bad 0 5`, `load 0 0 5`, `load 0 0 6`
-abbrev script : Script
+abbrev pub script : Script
 script = record {
   layout = layout;
   lists =
@@ -58,10 +58,10 @@ script = record {
 }
 
 -- a command of processor 0
-abbrev command : ℕ → Who
+abbrev pub command : ℕ → Who
 command n = record { cpu = record { 0 = 0 }; seq = n }
 
-abbrev history : List Entry
+abbrev pub history : List Entry
 history =
     (record { who = command 0; what = entries.FaultIn })
     ∷ (record { who = command 0; what = entries.Map (record { 0 = 0 }) })
@@ -72,10 +72,10 @@ history =
     ∷ []
 
 -- `poisoned 0 0 2 hw anononly recovered`
-abbrev mark : MarkLine
+abbrev pub mark : MarkLine
 mark = marks.Poisoned 0 (command 2) (hows.Failure true situations.AnonOnly outcomes.Recovered)
 
-abbrev report : Report
+abbrev pub report : Report
 report = record {
   stop = None;
   count = 1;

@@ -2,3 +2,4 @@ pub mod Growth
 pub mod Windows
 pub mod Extents
 pub mod Examples
+pub mod Forgeries

@@ -8,7 +8,7 @@ use Rattle.hwp_geom.specs.Layout.{IsSound}
 use Rattle.hwp_page.specs.declared.state.PageState.{PageState}
 use Rattle.hwp_page.specs.declared.entry.Entry.{Entry}
 use Rattle.hwp_page.specs.Step.{Allowed, after, opening_of}
-use Rattle.hwp_page.specs.History.{Leads, IsReplay, IsKept}
+use Rattle.hwp_page.specs.History.{Leads, IsReplay, IsKept, state_after}
 
 Leads-more : (layout : Layout) (page : Page) (s : PageState) (es : List Entry) (t : PageState) (e : Entry)
     → Leads layout page s es t → Allowed layout page t e.what → Leads layout page s (es ++ e ∷ []) (after t e.what)
@@ -29,6 +29,11 @@ IsReplay-more {layout = layout} {page = page} {log = log} {state = state} e repl
 pub IsKept-more : {layout : Layout} {page : Page} {log : List Entry} {state : PageState} (e : Entry)
     → IsKept layout page log state → Allowed layout page state e.what → IsKept layout page (log ++ e ∷ []) (after state e.what)
 IsKept-more e kept allowed = record { sound = kept.sound; replay = IsReplay-more e kept.replay allowed }
+
+-- what a history leads to is the state after it
+pub Leads-state : (layout : Layout) (page : Page) (s t : PageState) (es : List Entry) → Leads layout page s es t → state_after s es ≡ t
+Leads-state layout page s t [] leads = leads
+Leads-state layout page s t (e ∷ es) leads = Leads-state layout page (after s e.what) t es leads.1
 
 -- the kind that a page's declaration gives, read by its number
 declared_at : (layout : Layout) (page : Page) (pages : List PageKind) (at : ℕ) (d : PageKind)

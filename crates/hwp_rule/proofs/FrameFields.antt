@@ -24,7 +24,7 @@ use Rattle.hwp_rule.specs.parts.Places.{HasOnePlace, IsBare, IsApart, in_hand, I
 use Rattle.hwp_rule.specs.parts.Unpoisoned.{NothingPoisonedYet}
 use Rattle.hwp_rule.proofs.Lists.{at_set, set_here, set_else, same-or, sum-set, each-set, term-le, same-number}
 use Rattle.hwp_rule.specs.declared.view.FrameInHand.{FrameInHand}
-use Rattle.hwp_rule.specs.Rule.{FailureParts, count_debts_of}
+use Rattle.hwp_rule.specs.Rule.{FailureParts, PageParts, count_debts_of, holder_of}
 use Rattle.hwp_rule.specs.declared.view.View.{View}
 use Rattle.hwp_rule.specs.parts.Handled.{HandledIsPoisoned}
 use Rattle.hwp_rule.specs.parts.Locks.{FrameLocksHeld, IsLocked}
@@ -128,6 +128,17 @@ module _ (frames : List ℕ) (f w u : ℕ) (there : slice_get frames f ≡ Some 
     shelf_out = h.shelf_out;
     one = h.one;
     in_hand = h.in_hand;
+  }
+
+  -- all parts on pages
+  pub pages-kept : owner_of u ≡ owner_of w → lock_of u ≡ lock_of w → {layout : Layout} {trans caches pages : List ℕ} {homes : Homes} {views : List View}
+      → PageParts layout frames trans caches pages homes views → PageParts layout (set frames f u) trans caches pages homes views
+  pages-kept owner lock {layout} {trans} {caches} {pages} {homes} {views} h = record {
+    page_locks = h.page_locks;
+    translations = translations-kept owner layout.trans trans h.translations;
+    caches = caches-kept owner caches (map (λ (v : View). (v.locks, v.pages)) views) h.caches;
+    bodies = bodies-kept owner lock layout caches pages homes (map holder_of views) h.bodies;
+    fits = h.fits;
   }
 
   -- ---- parts that read the poison

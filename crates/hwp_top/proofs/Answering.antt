@@ -27,6 +27,7 @@ use Rattle.hwp_page.specs.declared.Situation.TheVariants as situations
 use Rattle.hwp_page.specs.Actions.{acted}
 use Rattle.hwp_page.specs.Step.{Allowed, after, is_file, opening_of}
 use Rattle.hwp_page.specs.History.{BodyValue, Leads, state_after}
+use Rattle.hwp_page.proofs.Histories.{Leads-state}
 use Rattle.hwp_script.specs.declared.Command.{Command}
 use Rattle.hwp_script.specs.declared.Script.{Script}
 use Rattle.hwp_report.specs.declared.Answer.{Answer}
@@ -41,11 +42,6 @@ use Rattle.hwp_top.specs.Bench.{Answers, Appended, IsBackedBy, IsNow, Leaves, Ma
 use Rattle.hwp_top.proofs.Following.{Answers-entry, Answers-refused, NamesNow, OneMore-appended}
 use Rattle.hwp_top.proofs.Machines.{IsStill, Machine-left}
 use Rattle.hwp_top.proofs.Serving.{made-by, none_passes, read-at}
-
--- what a history leads to is the state after it
-Leads-state : (layout : Layout) (page : Page) (s t : PageState) (log : List Entry) → Leads layout page s log t → state_after s log ≡ t
-Leads-state layout page s t [] leads = leads
-Leads-state layout page s t (e ∷ log) leads = Leads-state layout page (after s e.what) t log leads.1
 
 -- what a body's state is like now, its page was like after all its entries
 pub HadState-now : (layout : Layout) (bodies : List BodyValue) (frames : List Place) (page : Page) (at : At) (P : PageState → Type 0) → Machine layout bodies frames → (now : IsNow bodies page at) → P now.body.state → HadState layout (logs bodies) at P

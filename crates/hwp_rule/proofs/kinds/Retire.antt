@@ -25,7 +25,7 @@ use Rattle.hwp_rule.specs.parts.Places.{HasOnePlace, in_hand}
 use Rattle.hwp_rule.proofs.Keeps.{Keeps}
 use Rattle.hwp_rule.proofs.Kept
 use Rattle.hwp_rule.proofs.Lists.{change, at_map, at_set, set_here, set-set, same-or, sum-set, term-le, each-set}
-use Rattle.hwp_rule.proofs.FrameFields.{translations-kept, caches-kept, bodies-kept, handed-kept, placed-kept, failures-kept, unlocked-kept}
+use Rattle.hwp_rule.proofs.FrameFields.{pages-kept, handed-kept, placed-kept, failures-kept, unlocked-kept}
 use Rattle.hwp_rule.proofs.Refs
 use Rattle.hwp_rule.proofs.WordsByKind.{word-there}
 use Rattle.hwp_rule.proofs.kinds.UnlockFrame
@@ -133,13 +133,7 @@ module _ (layout : Layout) (w : Words) (homes : Homes) (views : List View) (seat
       free = Kept.kept-free views seat v u me refl h.frames.free;
       holdings = change holdings_of (HoldingsBounded layout) views seat u (record { bounded = each-set (IsBounded layout) (map holdings_of views) seat (holdings_of u) bounded h.frames.holdings.bounded });
     };
-    pages = Kept.same-pages views seat v u me refl (record {
-      page_locks = h.pages.page_locks;
-      translations = translations-kept w.frames frame.0 word now there are.owner layout.trans w.trans h.pages.translations;
-      caches = caches-kept w.frames frame.0 word now there are.owner w.caches (map (λ (v : View). (v.locks, v.pages)) views) h.pages.caches;
-      bodies = bodies-kept w.frames frame.0 word now there are.owner are.lock layout w.caches w.pages homes (map holder_of views) h.pages.bodies;
-      fits = h.pages.fits;
-    });
+    pages = Kept.same-pages views seat v u me refl (pages-kept w.frames frame.0 word now there are.owner are.lock h.pages);
     histories = Kept.same-histories views seat v u me refl h.histories;
     failures = Kept.same-failures views seat v u me refl (failures-kept w.frames frame.0 word now there are.poison are.cycle out-of-use h.failures);
     processors = Kept.same-processors views seat v u me refl h.processors;

@@ -46,7 +46,7 @@ use Rattle.hwp_rule.specs.parts.Marks.{MarksAlternate, IsBefore, poisonings, rev
 use Rattle.hwp_rule.specs.parts.Places.{HasOnePlace, IsHanded, in_hand}
 use Rattle.hwp_rule.proofs.Counting.{below-le}
 use Rattle.hwp_rule.proofs.bounds.CycleBounds.{cycles-few}
-use Rattle.hwp_rule.proofs.FrameFields.{translations-kept, caches-kept, bodies-kept, unlocked-kept, placed-kept}
+use Rattle.hwp_rule.proofs.FrameFields.{pages-kept, unlocked-kept, placed-kept}
 use Rattle.hwp_rule.proofs.Keeps.{Keeps}
 use Rattle.hwp_rule.proofs.Kept
 use Rattle.hwp_rule.proofs.Lists.{change, keep, at_map, at_set, set_here, set_else, set_again, same-or, same-number, sum-set, term-le, each-set, each-push, some-set, some-push}
@@ -380,13 +380,7 @@ module _ (layout : Layout) (w : Words) (homes : Homes) (views : List View) (seat
       free = Kept.kept-free views seat v u me refl h.frames.free;
       holdings = change holdings_of (HoldingsBounded layout) views seat u (record { bounded = each-set (IsBounded layout) (map holdings_of views) seat (holdings_of u) bounded h.frames.holdings.bounded });
     };
-    pages = Kept.same-pages views seat v u me refl (record {
-      page_locks = h.pages.page_locks;
-      translations = translations-kept w.frames frame.0 word now there are.owner layout.trans w.trans h.pages.translations;
-      caches = caches-kept w.frames frame.0 word now there are.owner w.caches (map (λ (v : View). (v.locks, v.pages)) views) h.pages.caches;
-      bodies = bodies-kept w.frames frame.0 word now there are.owner are.lock layout w.caches w.pages homes (map holder_of views) h.pages.bodies;
-      fits = h.pages.fits;
-    });
+    pages = Kept.same-pages views seat v u me refl (pages-kept w.frames frame.0 word now there are.owner are.lock h.pages);
     histories = record {
       entries = Kept.kept-entries views seat v u me refl refl refl refl h.histories.entries;
       endings = Kept.kept-endings views seat v u me refl refl h.histories.endings;
