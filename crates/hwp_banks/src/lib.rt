@@ -15,6 +15,3 @@ pub use bitflags::Flags;
 pub use event::{Event, Origin};
 pub use mcg::{Mcg, Shutdown};
 pub use status::Status;
-
-#[cfg(test)]
-mod tests;

@@ -4,6 +4,3 @@
 mod handling;
 
 pub use handling::{Decision, handle};
-
-#[cfg(test)]
-mod tests;

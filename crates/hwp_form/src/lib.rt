@@ -10,8 +10,6 @@ mod lines;
 mod numbers;
 mod printing;
 mod sentences;
-#[cfg(test)]
-mod tests;
 mod turns;
 mod words;
 

@@ -24,6 +24,3 @@ pub use text::Text;
 
 /// Want of memory: the one answer that no clause ties to a cause.
 pub type OutOfMemory = std::alloc::AllocError;
-
-#[cfg(test)]
-mod tests;

@@ -13,6 +13,3 @@ pub use reading::{Bytes, ReadAll, read_all};
 pub use standard::{StdSink, StdSource};
 pub use traits::{Failed, Sink, Source};
 pub use writing::{WriteFault, write_all};
-
-#[cfg(test)]
-mod tests;

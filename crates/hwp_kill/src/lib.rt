@@ -18,6 +18,3 @@ pub use reading::are_policies_read;
 pub use signal_list::{MAX_SIGNALS, SignalList};
 pub use slots::{SLOTS, Slots};
 pub use types::{Code, Policy, Reply, Seen, Signal};
-
-#[cfg(test)]
-mod tests;

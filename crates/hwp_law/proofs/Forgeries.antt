@@ -1,5 +1,5 @@
 -- What the law refuses: small changes of the example's report, each against the clause that sees it.
-use Rattle.std.proofs.Common.{◌≡◌, ℕ, suc, zero, ◌+◌, ◌<◌, ◌≤◌, Bool, true, false, List, [], ◌∷◌, ◌++◌, Some, None, take, ◌&&◌, nat_lt, slice_get, refl, sym, ap, ◌∙◌, inl, lit<, true≢false, arith}
+use Rattle.std.proofs.Common.{◌≡◌, ℕ, suc, zero, ◌<◌, ◌≤◌, Bool, true, false, List, [], ◌∷◌, Some, None, take, ◌&&◌, nat_lt, slice_get, refl, sym, ap, ◌∙◌, inl, lit<, true≢false, arith}
 use Rattle.std.proofs.lemmas.Option.{none-some, same_Some}
 use Rattle.std.specs.List.{list_any}
 use Rattle.hwp_kill.specs.declared.Policy.{Policy}

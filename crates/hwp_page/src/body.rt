@@ -132,6 +132,3 @@ impl Body {
         self.log.get(number as usize)
     }
 }
-
-#[cfg(test)]
-mod tests;

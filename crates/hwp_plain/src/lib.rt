@@ -11,6 +11,3 @@ mod trail;
 mod turns;
 
 pub use board::PlainBoard;
-
-#[cfg(test)]
-mod tests;

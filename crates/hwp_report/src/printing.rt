@@ -17,8 +17,6 @@ use terms::{bit, cause_word, mode_word, outcome_word, situation_word};
 mod answers;
 mod entries;
 mod terms;
-#[cfg(test)]
-mod tests;
 
 /// The one text of a report.
 pub fn print(alloc: Global, report: &Report) -> Result<Text, OutOfMemory>

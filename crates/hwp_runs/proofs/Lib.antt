@@ -1,0 +1,11 @@
+pub mod Leading
+pub mod Knowing
+pub mod Telling
+pub mod SameEntries
+pub mod Histories
+pub mod Adding
+pub mod Homes
+pub mod Rising
+pub mod Legal
+pub mod Placed
+pub mod Reported

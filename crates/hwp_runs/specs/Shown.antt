@@ -1,5 +1,5 @@
 -- The words and lengths that answers rest on: each stands at a step of its own command.
-use Rattle.std.specs.Prelude.{◌≡◌, ◌≢◌, ◌⊎◌, ℕ, ◌+◌, ◌<◌, Bool, true, false, List, Some, length}
+use Rattle.std.specs.Prelude.{◌≡◌, ◌≢◌, ◌⊎◌, ℕ, ◌+◌, ◌<◌, Bool, true, false, List, Some, IsSomeAnd, length}
 use Rattle.hwp_geom.specs.declared.Frame.{Frame}
 use Rattle.hwp_geom.specs.declared.Layout.{Layout}
 use Rattle.hwp_geom.specs.declared.Page.{Page}
@@ -14,8 +14,9 @@ use Rattle.hwp_words.specs.Frames.{count_of, is_handled, is_kernel, is_poisoned,
 use Rattle.hwp_words.specs.Stops.{stopper_of}
 use Rattle.hwp_rule.specs.declared.Log.{Log}
 use Rattle.hwp_rule.specs.declared.Place.TheVariants as places
-use Rattle.hwp_rule.specs.declared.State.{State}
+use Rattle.hwp_rule.specs.declared.Rec.{Rec}
 use Rattle.hwp_rule.specs.declared.Step.TheVariants as steps
+use Rattle.hwp_rule.specs.declared.View.{View}
 use Rattle.hwp_rule.specs.Lists.{EachMember}
 use Rattle.hwp_rule.specs.Logs.{state_of}
 use Rattle.hwp_step.specs.Boards.{Played}
@@ -36,11 +37,15 @@ use Rattle.hwp_runs.specs.Turns.{Finds, FindsBad, SawPage, TurnBy}
 abbrev pub StopShown : Layout → List Played → Who → Type 0
 StopShown layout turns who =
     Finds layout turns who places.Stop (λ (word : ℕ). stopper_of word ≢ 0)
-    ⊎ TurnBy layout turns who (λ (board : State) (turn : Played). (turn.made.step ≡ steps.Stop who.cpu) × (turn.made.found ≡ 0))
+    ⊎ TurnBy layout turns who (λ (made : Rec) (view : View). (made.step ≡ steps.Stop who.cpu) × (made.found ≡ 0))
 
--- the process of the command's thread has this word
-abbrev pub ProcessShown : Script → List Played → Who → ℕ → Type 0
-ProcessShown script turns who word = (process : Proc) → process_at script who ≡ Some process → Finds script.layout turns who (places.Process process) (λ (found : ℕ). found ≡ word)
+-- the process has this word
+abbrev pub ProcessShown : Layout → List Played → Who → Proc → ℕ → Type 0
+ProcessShown layout turns who process word = Finds layout turns who (places.Process process) (λ (found : ℕ). found ≡ word)
+
+-- the process of the command's thread had ended, by a signal in this page's history
+abbrev pub GoneShown : Script → List Played → Who → Page → Type 0
+GoneShown script turns who page = IsSomeAnd (process_at script who) (λ (process : Proc). ProcessShown script.layout turns who process (page.0 + 1))
 
 -- the frame's poison, or that it has none
 abbrev pub PoisonShown : Layout → List Played → Who → Frame → Bool → Type 0
@@ -61,11 +66,11 @@ pub record IsRevivable (word : ℕ) : Type 0 where
 abbrev pub UseShown : Layout → List Played → Who → Frame → ℕ → Type 0
 UseShown layout turns who frame count = Finds layout turns who (places.Frame frame) (λ (word : ℕ). (¬ IsRevivable word) × (count_of word ≡ count))
 
--- so many entries of the page, under the page's lock
+-- so many entries of the page, whose lock and body the seat had
 abbrev pub LengthShown : Layout → List Played → Who → At → Type 0
 LengthShown layout turns who at = SawPage layout turns who at.page (λ (log : Log). length log.entries ≡ at.entry)
 
--- no frame was available, and an access found its page in none, under the page's lock
+-- no frame was available, and an access found its page in none, when its seat had the page's lock and body
 pub record NoFrameShown (script : Script) (turns : List Played) (who : Who) (command : Command) : Type 0 where
   pub available : Finds script.layout turns who places.Available (λ (word : ℕ). word ≡ 0)
   pub out : (slot : VSlot) (page : Page) → slot_of command ≡ Some slot → IsOf script.layout page slot → SawPage script.layout turns who page (λ (log : Log). (state_of script.layout log).cached ≡ false)
@@ -78,7 +83,7 @@ FrameAnswerShown layout turns who frame answers.HardwareSeen = Finds layout turn
 FrameAnswerShown layout turns who frame (answers.HasBad mask) = BadShown layout turns who frame mask.0
 FrameAnswerShown layout turns who frame (answers.InUse count) = UseShown layout turns who frame count
 FrameAnswerShown layout turns who frame answers.Kernel = Finds layout turns who (places.Frame frame) (λ (word : ℕ). is_kernel word ≡ true)
-FrameAnswerShown layout turns who frame (answers.Moved other at) = TurnBy layout turns who (λ (board : State) (turn : Played). turn.made.step ≡ steps.Adopt other)
+FrameAnswerShown layout turns who frame (answers.Moved other at) = TurnBy layout turns who (λ (made : Rec) (view : View). made.step ≡ steps.Adopt other)
 FrameAnswerShown layout turns who frame _ = Unit {0}
 
 -- what an answer of a command with this one rests on
@@ -93,7 +98,7 @@ CommandAnswerShown layout turns who command answer = Unit {0}
 -- the words and lengths that an answer rests on were shown to its command
 abbrev pub AnswerShown : Script → List Played → Who → Command → Answer → Type 0
 AnswerShown script turns who command answers.Stopped = StopShown script.layout turns who
-AnswerShown script turns who command (answers.Gone page) = ProcessShown script turns who (page.0 + 1)
+AnswerShown script turns who command (answers.Gone page) = GoneShown script turns who page
 AnswerShown script turns who command answers.NoFrame = NoFrameShown script turns who command
 AnswerShown script turns who command (answers.NotResident at) = LengthShown script.layout turns who at
 AnswerShown script turns who command (answers.NotMapped at) = LengthShown script.layout turns who at
@@ -103,10 +108,10 @@ AnswerShown script turns who command (answers.BadLines mask at) = LengthShown sc
 AnswerShown script turns who command answer = CommandAnswerShown script.layout turns who command answer
 
 -- every other answer of a thread's command than `gone` and `stopped` found its process going on
-abbrev pub GoesOn : Script → List Played → Who → Answer → Type 0
-GoesOn script turns who answers.Stopped = Unit {0}
-GoesOn script turns who (answers.Gone page) = Unit {0}
-GoesOn script turns who answer = ProcessShown script turns who 0
+abbrev pub GoesOn : Layout → List Played → Who → Proc → Answer → Type 0
+GoesOn layout turns who process answers.Stopped = Unit {0}
+GoesOn layout turns who process (answers.Gone page) = Unit {0}
+GoesOn layout turns who process answer = ProcessShown layout turns who process 0
 
 -- an event's frame that was poisoned already was seen so
 abbrev pub AlreadyShown : Layout → List Played → Who → EventLine → Type 0
@@ -115,5 +120,5 @@ AlreadyShown layout turns who line = line.acted ≡ acts.Already → PoisonShown
 -- each answer, and each event line, rests on what its command was shown
 pub record IsShown (script : Script) (report : Report) (turns : List Played) : Type 0 where
   pub answers : (who : Who) (command : Command) (answer : Answer) → command_at script who ≡ Some command → answer_of report who ≡ Some answer → AnswerShown script turns who command answer
-  pub going : (who : Who) (answer : Answer) → answer_of report who ≡ Some answer → GoesOn script turns who answer
+  pub going : (who : Who) (process : Proc) (answer : Answer) → process_at script who ≡ Some process → answer_of report who ≡ Some answer → GoesOn script.layout turns who process answer
   pub events : (who : Who) → EachMember (AlreadyShown script.layout turns who) (events_of report who)

@@ -1,5 +1,5 @@
 -- A run as a list of turns: where they lead, and what the steps of one command found.
-use Rattle.std.specs.Prelude.{◌≡◌, ◌⊎◌, ℕ, ◌+◌, List, [], ◌∷◌, ◌++◌, Option, Some, slice_get}
+use Rattle.std.specs.Prelude.{◌≡◌, ℕ, ◌+◌, List, [], ◌∷◌, ◌++◌, Some, slice_get}
 use Rattle.hwp_geom.specs.declared.Frame.{Frame}
 use Rattle.hwp_geom.specs.declared.Layout.{Layout}
 use Rattle.hwp_geom.specs.declared.Page.{Page}
@@ -10,6 +10,7 @@ use Rattle.hwp_rule.specs.declared.Log.{Log}
 use Rattle.hwp_rule.specs.declared.PageLock.{PageLock}
 use Rattle.hwp_rule.specs.declared.Place.{Place}
 use Rattle.hwp_rule.specs.declared.Place.TheVariants as places
+use Rattle.hwp_rule.specs.declared.Rec.{Rec}
 use Rattle.hwp_rule.specs.declared.State.{State}
 use Rattle.hwp_rule.specs.declared.View.{View}
 use Rattle.hwp_rule.specs.Lists.{SomeMember}
@@ -24,46 +25,37 @@ abbrev pub Leads : Layout → State → List Played → State → Type 0
 Leads layout a [] b = b ≡ a
 Leads layout a (turn ∷ later) b = (mid : State) × Move layout turn.seat turn.made a mid × Holds layout mid × Leads layout mid later b
 
--- one of the turns is of this command, and it and the board that it was made on are such
-pub record TurnBy (layout : Layout) (turns : List Played) (who : Who) (Such : State → Played → Type 0) : Type 0 where
+-- one of the turns is of this command, and its step and what its seat knows after it are such
+pub record TurnBy (layout : Layout) (turns : List Played) (who : Who) (Such : Rec → View → Type 0) : Type 0 where
   pub before : List Played
   pub turn : Played
   pub after : List Played
-  pub board : State
   pub all : turns ≡ before ++ turn ∷ after
-  pub led : Leads layout (opening layout) before board
+  pub board : State
+  pub led : Leads layout (opening layout) (before ++ turn ∷ []) board
+  pub view : View
+  pub knows : slice_get board.views turn.seat ≡ Some view
   pub own : turn.made.who ≡ who
-  pub such : Such board turn
+  pub such : Such turn.made view
 
 -- a step of the command found such a word at the place
 abbrev pub Finds : Layout → List Played → Who → Place → (ℕ → Type 0) → Type 0
-Finds layout turns who place Such = TurnBy layout turns who (λ (board : State) (turn : Played). (place_of turn.made.step ≡ place) × Such turn.made.found)
+Finds layout turns who place Such = TurnBy layout turns who (λ (made : Rec) (view : View). (place_of made.step ≡ place) × Such made.found)
 
--- the history is that of a body of the board, at home or as the view that has it in hand lists it
-abbrev pub IsBodyOn : State → View → Log → Type 0
-IsBodyOn board view log = SomeMember (λ (content : Option (Option Log)). content ≡ Some (Some log)) board.homes ⊎ SomeMember (λ (b : InHand). b.log ≡ log) view.bodies
-
--- the seat whose turn it is has the page's lock, and the page's history is such
-pub record SeesPage (page : Page) (Such : Log → Type 0) (board : State) (turn : Played) : Type 0 where
-  pub view : View
-  pub me : slice_get board.views turn.seat ≡ Some view
+-- the seat has the page's lock and the page's body, whose history is such
+pub record SeesPage (page : Page) (Such : Log → Type 0) (view : View) : Type 0 where
   pub locked : SomeMember (λ (l : PageLock). l.page ≡ page) view.pages
-  pub log : Log
-  pub body : IsBodyOn board view log
-  pub page_is : log.page ≡ page
-  pub such : Such log
+  pub body : SomeMember (λ (b : InHand). (b.log.page ≡ page) × Such b.log) view.bodies
 
--- a step of the command was made under the page's lock, when the page's history was such
+-- after a step of the command its seat had the page's lock and the page's body, whose history was such
 abbrev pub SawPage : Layout → List Played → Who → Page → (Log → Type 0) → Type 0
-SawPage layout turns who page Such = TurnBy layout turns who (SeesPage page Such)
+SawPage layout turns who page Such = TurnBy layout turns who (λ (made : Rec) (view : View). SeesPage page Such view)
 
--- the seat whose turn it is has the lock of a frame that the page owns
-pub record HasFrameOf (page : Page) (frame : Frame) (board : State) (turn : Played) : Type 0 where
-  pub view : View
-  pub me : slice_get board.views turn.seat ≡ Some view
-  pub locked : SomeMember (λ (l : FrameLock). (l.frame ≡ frame) × (l.owner ≡ page.0 + 1)) view.locks
+-- the seat has the lock of a frame that the page owns
+abbrev pub HasFrameOf : Page → Frame → View → Type 0
+HasFrameOf page frame view = SomeMember (λ (l : FrameLock). (l.frame ≡ frame) × (l.owner ≡ page.0 + 1)) view.locks
 
 -- a step of the command, made under the lock of the page's frame, showed these bad lines of it
 abbrev pub FindsBad : Layout → List Played → Who → Page → Frame → ℕ → Type 0
 FindsBad layout turns who page frame mask =
-    TurnBy layout turns who (λ (board : State) (turn : Played). (place_of turn.made.step ≡ places.Bad frame) × (turn.made.found ≡ mask) × HasFrameOf page frame board turn)
+    TurnBy layout turns who (λ (made : Rec) (view : View). (place_of made.step ≡ places.Bad frame) × (made.found ≡ mask) × HasFrameOf page frame view)

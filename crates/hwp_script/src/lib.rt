@@ -8,8 +8,6 @@ mod faults;
 mod judging;
 mod reading;
 mod script;
-#[cfg(test)]
-mod tests;
 mod why;
 
 pub use hwp_form::{Command, Go, PrctlArgs, Until};

@@ -2,7 +2,5 @@
 #![tactic(auto)]
 
 mod printing;
-#[cfg(test)]
-mod tests;
 
 pub use printing::print;

@@ -7,6 +7,3 @@ mod types;
 
 pub use grading::grade;
 pub use types::{Grade, McgBits, Severity};
-
-#[cfg(test)]
-mod tests;

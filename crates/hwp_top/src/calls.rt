@@ -183,6 +183,3 @@ fn tell_memory<E: Sink>(err: &mut E) -> u8
     tell(err, OUT_OF_MEMORY);
     6
 }
-
-#[cfg(test)]
-mod tests;

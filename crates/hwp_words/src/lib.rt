@@ -17,6 +17,3 @@ pub use policy::PolicyWord;
 pub use single::{AvailableWord, CacheWord, DamageWord, FreeWord, LossWord, PageWord, ProcessWord};
 pub use stop::{StopWord, is_stopped};
 pub use translation::Pte;
-
-#[cfg(test)]
-mod tests;

@@ -1,0 +1,4 @@
+pub mod Fsyncs
+pub mod Vacates
+pub mod Evictions
+pub mod Evicts

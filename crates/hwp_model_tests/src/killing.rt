@@ -1,0 +1,319 @@
+//! The kill table, the policies that it reads, and prctl(2).
+
+ghost use Rattle.hwp_geom.specs.Layout.{IsSound};
+
+use hwp_geom::{Cpu, Layout, List, Page, PageKind, Proc, Thread, ThreadDecl, TransDecl, VSlot};
+use hwp_kill::{
+    Code, Policy, Reply, Seen, Signal, SignalList, Slots, are_policies_read, prctl, signals,
+};
+use std::alloc::Global;
+use std::process::Abort;
+
+/// Process 0 has threads 0 and 1 and translation 0, process 1 threads 2 and 3 and translations 1 and 2, process 2 thread 4
+/// and translation 3. `early` is the system default.
+fn three_processes(rt: &impl Abort, alloc: Global, early: bool) -> Layout
+    ensures { IsSound result }
+{
+    let thread = |process| ThreadDecl {
+        process: Proc(process),
+        cpu: Cpu(0),
+        handler: true,
+    };
+    let translation = |process| TransDecl {
+        process: Proc(process),
+        page: Page(0),
+    };
+    let threads = [thread(0), thread(0), thread(1), thread(1), thread(2)].to_vec(alloc);
+    let trans = [
+        translation(0),
+        translation(1),
+        translation(1),
+        translation(2),
+    ]
+    .to_vec(alloc);
+    Layout {
+        cpus: 1,
+        frames: 1,
+        kernel: List::from_vec([false].to_vec(alloc).expect(rt, "memory")),
+        recovery: true,
+        early,
+        files: 0,
+        procs: 3,
+        threads: List::from_vec(threads.expect(rt, "memory")),
+        pages: List::from_vec([PageKind::Anon].to_vec(alloc).expect(rt, "memory")),
+        trans: List::from_vec(trans.expect(rt, "memory")),
+    }
+}
+
+/// The set of these translations, which are below 512.
+fn in_use(slots: &[u16]) -> Slots {
+    let mut maps = Slots::new();
+    for slot in slots {
+        if *slot < 512 {
+            maps.insert(VSlot(*slot));
+        }
+    }
+    maps
+}
+
+/// The policies that were seen, each after one setting.
+fn all_seen(rt: &impl Abort, alloc: Global, policies: &[(u8, Policy)]) -> List<Seen> {
+    let mut seen = List::new(alloc);
+    for (thread, policy) in policies {
+        let read = Seen {
+            thread: Thread(*thread),
+            policy: *policy,
+            n: 1,
+        };
+        seen.push(read).expect(rt, "memory");
+    }
+    seen
+}
+
+/// What a failure finds: the translations in use, whether it signals at all, the current thread, the policies it reads;
+/// and the signals that it sends.
+type Sent<'a> = (
+    &'a [u16],
+    bool,
+    Option<u8>,
+    &'a [(u8, Policy)],
+    &'a [Signal],
+);
+
+/// A failure of the page of three processes sends what each row says.
+fn sends(rt: &impl Abort, alloc: Global, early: bool, rows: &[Sent<'_>]) {
+    let layout = three_processes(rt, alloc, early);
+    for (slots, at_all, current, policies, want) in rows {
+        let maps = in_use(slots);
+        let seen = all_seen(rt, alloc, policies);
+        let mut out = SignalList::new();
+        signals(
+            &layout,
+            &maps,
+            *at_all,
+            current.map(Thread),
+            &seen,
+            &mut out,
+        );
+        assert_eq!(rt; out.as_slice(), *want);
+    }
+}
+
+const LATE_0: (u8, Policy) = (0, Policy::Late);
+
+const EARLY_0: (u8, Policy) = (0, Policy::Early);
+
+const LATE_1: (u8, Policy) = (1, Policy::Late);
+
+const EARLY_1: (u8, Policy) = (1, Policy::Early);
+
+const DEFAULT_1: (u8, Policy) = (1, Policy::Default);
+
+const LATE_2: (u8, Policy) = (2, Policy::Late);
+
+const EARLY_2: (u8, Policy) = (2, Policy::Early);
+
+const DEFAULT_2: (u8, Policy) = (2, Policy::Default);
+
+const LATE_4: (u8, Policy) = (4, Policy::Late);
+
+const EARLY_4: (u8, Policy) = (4, Policy::Early);
+
+const DEFAULT_4: (u8, Policy) = (4, Policy::Default);
+
+const LATE_5: (u8, Policy) = (5, Policy::Late);
+
+const AR_TO_0: Signal = Signal {
+    process: Proc(0),
+    thread: Thread(0),
+    code: Code::Ar,
+    slot: VSlot(0),
+};
+
+const AO_TO_1: Signal = Signal {
+    process: Proc(0),
+    thread: Thread(1),
+    code: Code::Ao,
+    slot: VSlot(0),
+};
+
+const AO_TO_2: Signal = Signal {
+    process: Proc(1),
+    thread: Thread(2),
+    code: Code::Ao,
+    slot: VSlot(1),
+};
+
+const AR_TO_3: Signal = Signal {
+    process: Proc(1),
+    thread: Thread(3),
+    code: Code::Ar,
+    slot: VSlot(1),
+};
+
+const AR_TO_3_AT_2: Signal = Signal {
+    process: Proc(1),
+    thread: Thread(3),
+    code: Code::Ar,
+    slot: VSlot(2),
+};
+
+const AO_TO_4: Signal = Signal {
+    process: Proc(2),
+    thread: Thread(4),
+    code: Code::Ao,
+    slot: VSlot(3),
+};
+
+/// Where the system default is early.
+#[rattlefmt::skip]
+const SENT: &[Sent<'static>] = &[
+    // the current thread, and an early one of another process
+    (&[0, 1], true, Some(0), &[EARLY_2], &[AR_TO_0, AO_TO_2]),
+    // late, then early
+    (&[0], true, None, &[LATE_0, EARLY_1], &[AO_TO_1]),
+    // no thread is early; no translation is in use; no signals at all
+    (&[0], true, None, &[LATE_0, LATE_1], &[]),
+    (&[], true, Some(3), &[], &[]),
+    (&[0, 1, 2, 3], false, Some(3), &[], &[]),
+    // the current thread alone
+    (&[1, 2], true, Some(3), &[], &[AR_TO_3]),
+    // each process once
+    (&[0, 1, 2, 3], true, Some(3), &[LATE_0, DEFAULT_1, EARLY_4], &[AO_TO_1, AR_TO_3, AO_TO_4]),
+    // two processes
+    (&[0, 2], true, Some(3), &[LATE_0, EARLY_1], &[AO_TO_1, AR_TO_3_AT_2]),
+    // the current thread is elsewhere
+    (&[0], true, Some(3), &[LATE_0, EARLY_1], &[AO_TO_1]),
+    // who is early
+    (&[3], true, None, &[LATE_4], &[]),
+    (&[3], true, None, &[EARLY_4], &[AO_TO_4]),
+    (&[3], true, None, &[DEFAULT_4], &[AO_TO_4]),
+];
+
+/// Where the system default is late.
+#[rattlefmt::skip]
+const SENT_WHERE_LATE: &[Sent<'static>] = &[
+    (&[3], true, None, &[LATE_4], &[]),
+    (&[3], true, None, &[EARLY_4], &[AO_TO_4]),
+    (&[3], true, None, &[DEFAULT_4], &[]),
+];
+
+#[test]
+fn whom_a_failure_signals(rt: HostRuntime) {
+    sends(&rt, rt.alloc(), true, SENT);
+    sends(&rt, rt.alloc(), false, SENT_WHERE_LATE);
+}
+
+/// Translations in use, the current thread, and policies; whether they are those that a failure reads.
+type Read<'a> = (&'a [u16], Option<u8>, &'a [(u8, Policy)], bool);
+
+/// The policies of each row are those that a failure reads, or not.
+fn reads(rt: &impl Abort, alloc: Global, rows: &[Read<'_>]) {
+    let layout = three_processes(rt, alloc, true);
+    for (slots, current, policies, want) in rows {
+        let maps = in_use(slots);
+        let seen = all_seen(rt, alloc, policies);
+        let read = are_policies_read(&layout, &maps, current.map(Thread), &seen);
+        assert_eq!(rt; read, *want, "{policies:?}");
+    }
+}
+
+/// All translations.
+const ALL: &[u16] = &[0, 1, 2, 3];
+
+#[rattlefmt::skip]
+const READ: &[Read<'static>] = &[
+    (ALL, Some(3), &[LATE_0, LATE_1, LATE_4], true),
+    (ALL, Some(3), &[LATE_0, DEFAULT_1, EARLY_4], true),
+    (ALL, Some(3), &[EARLY_0, LATE_4], true),
+    // past an early one; threads, and processes, that fall; a process, and a thread, left out
+    (ALL, Some(3), &[EARLY_0, LATE_1, LATE_4], false),
+    (ALL, Some(3), &[LATE_1, LATE_0, LATE_4], false),
+    (ALL, Some(3), &[LATE_4, LATE_0, LATE_1], false),
+    (ALL, Some(3), &[LATE_0, LATE_1], false),
+    (ALL, Some(3), &[LATE_0, LATE_4], false),
+    // a thread of the current process; one twice; one that isn't declared
+    (ALL, Some(3), &[LATE_0, LATE_1, LATE_2, LATE_4], false),
+    (ALL, Some(3), &[LATE_0, LATE_0, LATE_1, LATE_4], false),
+    (ALL, Some(3), &[LATE_0, LATE_1, LATE_4, LATE_5], false),
+    // no current thread; no translation in use
+    (&[1], None, &[DEFAULT_2], true),
+    (&[], None, &[], true),
+];
+
+#[test]
+fn whose_policies_are_read(rt: HostRuntime) {
+    reads(&rt, rt.alloc(), READ);
+}
+
+/// What prctl(2) answers to a thread with the policy `Early`.
+fn replies(rt: &impl Abort, rows: &[([u64; 5], Reply)]) {
+    for (arguments, want) in rows {
+        assert_eq!(rt; prctl(Policy::Early, *arguments), *want, "{arguments:?}");
+    }
+}
+
+#[rattlefmt::skip]
+const REPLIES: &[([u64; 5], Reply)] = &[
+    ([33, 0, 0, 0, 0], Reply::Set(Policy::Default)),
+    ([33, 1, 0, 0, 0], Reply::Set(Policy::Late)),
+    ([33, 1, 1, 0, 0], Reply::Set(Policy::Early)),
+    ([33, 1, 2, 0, 0], Reply::Set(Policy::Default)),
+    ([34, 0, 0, 0, 0], Reply::Is(Policy::Early)),
+    ([33, 1, 3, 0, 0], Reply::Einval),
+    ([33, 2, 0, 0, 0], Reply::Einval),
+    ([33, 0, 1, 0, 0], Reply::Einval),
+    ([33, 0, 0, 1, 0], Reply::Einval),
+    ([33, 0, 0, 0, 1], Reply::Einval),
+    ([33, 1, 1, 1, 0], Reply::Einval),
+    ([33, 1, 1, 0, 1], Reply::Einval),
+    ([34, 1, 0, 0, 0], Reply::Einval),
+    ([34, 0, 1, 0, 0], Reply::Einval),
+    ([34, 0, 0, 1, 0], Reply::Einval),
+    ([34, 0, 0, 0, 1], Reply::Einval),
+    ([32, 1, 1, 0, 0], Reply::Einval),
+    ([35, 0, 0, 0, 0], Reply::Einval),
+];
+
+#[test]
+fn what_prctl_answers(rt: HostRuntime) {
+    replies(&rt, REPLIES);
+}
+
+#[test]
+fn policies_have_their_numbers(rt: HostRuntime) {
+    let numbers = [Policy::Late, Policy::Early, Policy::Default].map(Policy::number);
+    assert_eq!(rt; numbers, [0, 1, 2]);
+}
+
+/// The lowest translation of the set from this one on.
+fn lowest_from(set: &Slots, from: u16) -> Option<u16> {
+    set.lowest_from(VSlot(from)).map(|found| found.0)
+}
+
+#[test]
+fn members_across_words(rt: HostRuntime) {
+    let mut set = in_use(&[511, 64, 63, 130]);
+    set.remove(VSlot(63));
+    set.remove(VSlot(600));
+    let has = [0, 63, 64, 65, 130, 511, 512].map(|slot| set.has(VSlot(slot)));
+    assert_eq!(rt; has, [false, false, true, false, true, true, false]);
+    let lowest = [0, 64, 65, 131, 512].map(|from| lowest_from(&set, from));
+    assert_eq!(rt; lowest, [Some(64), Some(64), Some(130), Some(511), None]);
+}
+
+#[test]
+fn a_list_takes_sixteen_signals(rt: HostRuntime) {
+    let mut list = SignalList::new();
+    for process in 0..16 {
+        if list.as_slice().len() < 16 {
+            list.push(Signal {
+                process: Proc(process),
+                ..AO_TO_4
+            });
+        }
+    }
+    let copy = list.copy();
+    let last = copy.as_slice().last().map(|signal| signal.process);
+    assert_eq!(rt; (copy.as_slice().len(), last), (16, Some(Proc(15))));
+}

@@ -1,0 +1,11 @@
+//! Tests of the texts: the lines of a script, the script read and printed, and the report printed.
+#![tactic(auto)]
+
+#[cfg(test)]
+mod lines;
+#[cfg(test)]
+mod printed;
+#[cfg(test)]
+mod reports;
+#[cfg(test)]
+mod scripts;
