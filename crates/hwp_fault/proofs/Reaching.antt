@@ -14,6 +14,7 @@ use Rattle.hwp_geom.specs.declared.Page.{Page}
 use Rattle.hwp_geom.specs.declared.Proc.{Proc}
 use Rattle.hwp_geom.specs.declared.VSlot.{VSlot}
 use Rattle.hwp_geom.specs.declared.Who.{Who}
+use Rattle.hwp_page.specs.Endings.{has_ending}
 use Rattle.hwp_page.specs.declared.Entry.{Entry}
 use Rattle.hwp_page.specs.declared.PageState.{PageState}
 use Rattle.hwp_page.specs.declared.What.{What}
@@ -28,7 +29,7 @@ use Rattle.hwp_rule.specs.declared.Sight.{Sight}
 use Rattle.hwp_rule.specs.declared.View.{View}
 use Rattle.hwp_rule.specs.Asks.{Extends, HasSameWords, CanGoHome}
 use Rattle.hwp_rule.specs.Lists.{EachMember, SomeMember}
-use Rattle.hwp_rule.specs.Logs.{log_of, opening_at, state_of, has_ending}
+use Rattle.hwp_rule.specs.Logs.{log_of, opening_at, state_of}
 use Rattle.hwp_rule.specs.Views.{is_body_of, body_of, more_of, noted, stamp_of}
 use Rattle.hwp_rule.specs.parts.Entries.{HasSeen, Shows}
 use Rattle.hwp_rule.specs.parts.Unpoisoned.{is_failure}
