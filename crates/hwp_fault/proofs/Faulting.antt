@@ -533,8 +533,8 @@ over-fits {layout} {view} f over fits = which f.at over fits.at
 -- ---- what its class tells
 
 -- a task under way has a step
-under-way : (view : View) {class : ℕ} (planned : Option Step) → Tells view class → is_none planned ≡ false → (HasFrame view → (class ≡ 1) × (planned ≢ None)) × (HasPage view → (class ≤ 2) × (planned ≢ None))
-under-way view planned tells on = ((λ some. (tells.0 some, left)), (λ some. (tells.1 some, left)))
+under-way : (view : View) (class : ℕ) (planned : Option Step) → Tells view class → is_none planned ≡ false → (HasFrame view → (class ≡ 1) × (planned ≢ None)) × (HasPage view → (class ≤ 2) × (planned ≢ None))
+under-way view class planned tells on = ((λ some. (tells.0 some, left)), (λ some. (tells.1 some, left)))
   where
     left : planned ≢ None
     left e = both_ways (is_none planned) on (ap is_none e)
@@ -560,16 +560,16 @@ fill-tells layout view f fits on = which f.at fits.at on
 pub tells : (layout : Layout) (view : View) (f : Fault) → Fits layout view f → (HasFrame view → (class f ≡ 1) × (plan f ≢ None)) × (HasPage view → (class f ≤ 2) × (plan f ≢ None))
 tells layout view f fits = which f.at fits.at
   where
-    nothing : hand_of view ≡ empty → (planned : Option Step) → (HasFrame view → (◌≡◌ {A = ℕ} 4 1) × (planned ≢ None)) × (HasPage view → (4 ≤ 2) × (planned ≢ None))
-    nothing is planned = ((λ some. absurd (no-frame view is refl refl refl some)), (λ some. absurd (no-page view is refl some)))
+    nothing : hand_of view ≡ empty → (class : ℕ) (planned : Option Step) → (HasFrame view → (class ≡ 1) × (planned ≢ None)) × (HasPage view → (class ≤ 2) × (planned ≢ None))
+    nothing is class planned = ((λ some. absurd (no-frame view is refl refl refl some)), (λ some. absurd (no-page view is refl some)))
 
     which : (x : FaultAt) → FitsAt layout view f.who f.page f.slot x → (HasFrame view → (class_at x ≡ 1) × (plan_at f.slot x ≢ None)) × (HasPage view → (class_at x ≤ 2) × (plan_at f.slot x ≢ None))
-    which (at.Hold h) has = under-way view (holds.plan h) (hold-tells layout view h has.hold has.under_way) has.under_way
-    which (at.LoadPte None body) has = under-way view (Some (steps.Load (places.Trans f.slot))) (page-tells view has.held.hand_is 2 refl refl refl (omega arith)) refl
-    which (at.LoadPte (Some frame) body) has = under-way view (Some (steps.Load (places.Trans f.slot))) (frame-tells view) refl
-    which (at.Fill g) has = under-way view (fills.plan g) (fill-tells layout view g has.fill has.under_way) has.under_way
-    which (at.MapIn m) has = under-way view (map_ins.plan m) (frame-tells view) has.under_way
-    which (at.Unhold u answer) has = under-way view (unholds.plan u) (unhold-tells layout view u has.unhold has.under_way) has.under_way
-    which (at.GiveUp g) has = under-way view (give_ups.plan g) (give-up-tells layout view g has.give_up has.under_way) has.under_way
-    which (at.Over None) has = nothing has None
-    which (at.Over (Some answer)) has = nothing has.0 None
+    which (at.Hold h) has = under-way view (holds.class h) (holds.plan h) (hold-tells layout view h has.hold has.under_way) has.under_way
+    which (at.LoadPte None body) has = under-way view 2 (Some (steps.Load (places.Trans f.slot))) (page-tells view has.held.hand_is 2 refl refl refl (omega arith)) refl
+    which (at.LoadPte (Some frame) body) has = under-way view 1 (Some (steps.Load (places.Trans f.slot))) (frame-tells view) refl
+    which (at.Fill g) has = under-way view (fills.class g) (fills.plan g) (fill-tells layout view g has.fill has.under_way) has.under_way
+    which (at.MapIn m) has = under-way view 1 (map_ins.plan m) (frame-tells view) has.under_way
+    which (at.Unhold u answer) has = under-way view (unholds.class u) (unholds.plan u) (unhold-tells layout view u has.unhold has.under_way) has.under_way
+    which (at.GiveUp g) has = under-way view (give_ups.class g) (give_ups.plan g) (give-up-tells layout view g has.give_up has.under_way) has.under_way
+    which (at.Over None) has = nothing has 4 None
+    which (at.Over (Some answer)) has = nothing has.0 4 None
