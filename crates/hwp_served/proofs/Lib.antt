@@ -3,3 +3,5 @@ pub mod Ending
 pub mod Made
 pub mod Seen
 pub mod Windows
+pub mod Losses
+pub mod Stops

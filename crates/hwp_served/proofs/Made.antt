@@ -24,10 +24,10 @@ use Rattle.hwp_served.proofs.Deeds.{IsDeed, are-deeds}
 use Rattle.hwp_served.proofs.Ending.{IsEnd, IsOf, of-deeds, of-made}
 
 -- what there is has the property
-some-so : {A : Type 0} (P : A → Type 0) (o : Option A) (x : A) → o ≡ Some x → P x → IsSomeAnd o P
+pub some-so : {A : Type 0} (P : A → Type 0) (o : Option A) (x : A) → o ≡ Some x → P x → IsSomeAnd o P
 some-so P o x is here = subst (λ (y : Option _). IsSomeAnd y P) (sym is) here
 
-command-is : (script : Script) (who : Who) (list : List Command) (command : Command) → slice_get script.lists who.cpu.0 ≡ Some list → slice_get list who.seq ≡ Some command → command_at script who ≡ Some command
+pub command-is : (script : Script) (who : Who) (list : List Command) (command : Command) → slice_get script.lists who.cpu.0 ≡ Some list → slice_get list who.seq ≡ Some command → command_at script who ≡ Some command
 command-is script who list command list_is there = ap (λ (o : Option (List Command)). option_and_then (λ (l : List Command). slice_get l who.seq) o) list_is ∙ there
 
 -- an entry of the report, its command and what it is of it
