@@ -84,8 +84,11 @@ module _ {layout : Layout} {who : Who} {page : Page} {what : Eviction} {step : S
       which : (a : EvictAnswer) → Comes layout old who page what a ahead.taken body → IsCaused layout new who page what a
       which answers.Stopped comes = absurd comes
       which (answers.Refused refusal at) comes = (deeds-none who lists comes.0 ∙ ahead.made_none, refusal-stays made comes.1)
-      which (answers.Done at) comes = subst (λ (a : At). (a.page ≡ page) × HasMade (λ (m : Made). ⊥) new who page a.entry (entry_of what)) (sym comes.1) (refl, has-made who old new one.0 one.1
-          (subst (λ (p : Page). IsAt p (length ahead.taken.log.entries) (entry_of what) one.0) ahead.page_is one.2) none)
+      which (answers.Done at) comes = subst (λ (a : At). (a.page ≡ page) × HasMade (λ (m : Made). ⊥) new who page a.entry (entry_of what)) (sym comes.1) (
+        refl,
+        has-made who old new one.0 one.1
+            (subst (λ (p : Page). IsAt p (length ahead.taken.log.entries) (entry_of what) one.0) ahead.page_is one.2) none,
+      )
         where
           one : (m : Made) × (deeds who new ≡ deeds who old ++ m ∷ []) × IsAt body.page (length ahead.taken.log.entries) (entry_of what) m
           one = deeds-one who lists (record { who = who; what = entry_of what }) comes.0 refl

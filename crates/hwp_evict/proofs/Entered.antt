@@ -26,17 +26,20 @@ use Rattle.hwp_evict.proofs.Judging.{is-cached, state-is}
 module _ {layout : Layout} {view : View} {who : Who} {page : Page} (on : IsOnTurn view who) (inside : page.0 < length layout.pages) (sound : IsSound layout) (frame : Frame) (body : BodyValue) (has : HoldsPage layout view page (Some frame) body) (none : HasMadeNone view who) where
   made-fits : (what : Eviction) → IsOfKind layout page what → Passes what body.state → has.seen ≤ length view.sights → HasSeen (drop has.seen view.sights) who (Some frame) (entry_of what)
       → (now : BodyValue) → HasEntry layout who page what (log_of body) (place page body) now → FitsAt layout view who page what (entered who page what frame now (place page body))
-  made-fits (evictions.Free slot) kind passes few saw now entry = (refl, record {
-    log = log_of body;
-    seen = has.seen;
-    handled = has.handled;
-    poisoned = has.poisoned;
-    hand_is = has.hand_is;
-    entry = entry;
-    sound = sound;
-    within = has.within frame refl;
-    made_none = none;
-  })
+  made-fits (evictions.Free slot) kind passes few saw now entry = (
+    refl,
+    record {
+      log = log_of body;
+      seen = has.seen;
+      handled = has.handled;
+      poisoned = has.poisoned;
+      hand_is = has.hand_is;
+      entry = entry;
+      sound = sound;
+      within = has.within frame refl;
+      made_none = none;
+    },
+  )
   made-fits evictions.Sync kind passes few saw now entry =
       let-go evictions.Sync on inside frame body has none kind passes sound few saw now entry (same-words entry frame has.seen (is-cached has.body_is) refl refl)
   made-fits evictions.Drop kind passes few saw now entry =

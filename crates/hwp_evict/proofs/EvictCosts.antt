@@ -83,7 +83,7 @@ enters-cost who page what frame body w y (inr is) = subst (λ (x : EvictAt). cos
 held-cost : (who : Who) (page : Page) (what : Eviction) (frame : Option Frame) (body : BodyValue) (w : Words) (y : EvictAt) → AfterHeld who page what frame body y → cost_at y w ≤ 8
 held-cost who page what None body w y is = subst (λ (x : EvictAt). cost_at x w ≤ 8) (sym is) (let few : _ = refused-cost who page None body (absence what) w in omega (arith, few))
 held-cost who page what (Some frame) body w y (inr is) = subst (λ (x : EvictAt). cost_at x w ≤ 8) (sym is.next_is) (let few : _ = refused-cost who page (Some frame) body is.refusal w in omega (arith, few))
-held-cost who page what (Some frame) body w y (inl (passes , goes)) = which (copies what) goes
+held-cost who page what (Some frame) body w y (inl (passes, goes)) = which (copies what) goes
   where
     which : (b : Bool) → MatchBool b (y ≡ at.LoadBad frame body) (Enters who page what frame body y) → cost_at y w ≤ 8
     which true is = subst (λ (x : EvictAt). cost_at x w ≤ 8) (sym is) (omega arith)

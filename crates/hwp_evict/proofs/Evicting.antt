@@ -217,8 +217,11 @@ both layout old new e step found got fits is made = which e.at is fits.at made
     which : (x : EvictAt) → plan_at x ≡ Some step → FitsAt layout old e.who e.page e.what x → Steps layout e.who step (logs (put_at x)) old new found got
         → ShowsAt e.what (bare_at x) found got × ((y : EvictAt) (turn : Turn) → FollowsAt e.who e.page e.what (bare_at x) found got y turn → FitsAt layout new e.who e.page e.what y)
     which at.LoadStop p has made = (tt, λ y turn follows. to follows.0 (stop-fits e.what on fits.page has.0 has.1 (steps-planned p made)))
-    which (at.Hold h) p has made = ((all.0, held-enters e.what (holds.next h found got) has.page_is fits.kind all.1), λ y turn follows.
-        hold-fits e.what on fits.page own.told.rule.sound fits.kind none (holds.next h found got) has.own has.page_is all.1 (recent-held h has.hold p own) y follows.0)
+    which (at.Hold h) p has made = (
+      (all.0, held-enters e.what (holds.next h found got) has.page_is fits.kind all.1),
+      λ y turn follows.
+          hold-fits e.what on fits.page own.told.rule.sound fits.kind none (holds.next h found got) has.own has.page_is all.1 (recent-held h has.hold p own) y follows.0,
+    )
       where
         own : Steps layout h.who step None old new found got
         own = subst (λ (w : Who). Steps layout w step None old new found got) (sym has.own) made
@@ -229,23 +232,32 @@ both layout old new e step found got fits is made = which e.at is fits.at made
         none : HasMadeNone new e.who
         none = deeds-same e.who (holding_laws.can layout old h step has.hold p).served made ∙ has.made_none
     which (at.LoadBad frame body) p has made = (can-enter e.what has.page_held.body_is fits.kind (copying-passes e.what body.state has.copying), λ y turn follows. bad-fits on fits.page fits.kind has (steps-planned p made) y follows.0)
-    which (at.SetPte slot frame body done) p has made = (tt, λ y turn follows. to follows.0
-        (subst (λ (w : Eviction). FitsAt layout new e.who e.page w (at.Unhold (unholds.begin e.who e.page (Some frame) 2 body) (answers.Done done))) (sym has.0)
-        (freed (subst (λ (w : Eviction). IsFreeing layout old e.who e.page w frame body done) has.0 has.1) own on fits.page (slot-within layout e.page slot own) (steps-planned p made))))
+    which (at.SetPte slot frame body done) p has made = (
+      tt,
+      λ y turn follows. to follows.0
+          (subst (λ (w : Eviction). FitsAt layout new e.who e.page w (at.Unhold (unholds.begin e.who e.page (Some frame) 2 body) (answers.Done done))) (sym has.0)
+          (freed (subst (λ (w : Eviction). IsFreeing layout old e.who e.page w frame body done) has.0 has.1) own on fits.page (slot-within layout e.page slot own) (steps-planned p made))),
+    )
       where
         own : IsOf layout e.page slot
         own = subst (IsOfKind layout e.page) has.0 fits.kind
     which (at.Vacate v done) p has made = (tt, λ y turn follows. to follows.0 (vacate-fits v done has p made))
     which (at.Unhold u answer) p has made = (tt, λ y turn follows. to follows.0 (unhold-fits u answer has p made))
-    which (at.GiveUp g) p has made = (tt, λ y turn follows. to follows.0 (record {
-      give_up = giving_up.moved layout old new g step found got has.give_up p (subst (λ (w : Who). Steps layout w step (logs (give_ups.put g)) old new found got) (sym has.own) made);
-      own = has.own;
-    }))
+    which (at.GiveUp g) p has made = (
+      tt,
+      λ y turn follows. to follows.0 (record {
+        give_up = giving_up.moved layout old new g step found got has.give_up p (subst (λ (w : Who). Steps layout w step (logs (give_ups.put g)) old new found got) (sym has.own) made);
+        own = has.own;
+      }),
+    )
     which (at.Over answer) p has made = absurd (none-some step p)
 
 pub stays : (layout : Layout) (old new : View) (e : Evict) (step : Step) (found : ℕ) (got : Option BodyValue) → Fits layout old e → plan e ≡ Some step → Steps layout e.who step (logs (put e)) old new found got
     → Shows (bare e) found got × ((after : Evict) (turn : Turn) → Follows (bare e) found got after turn → Fits layout new after × (after.who.cpu ≡ e.who.cpu))
-stays layout old new e step found got fits is made = let all = both layout old new e step found got fits is made in (all.0, λ after turn follows. (
-  subst (Fits layout new) (sym follows.0) (record { on_turn = on-turn-after fits.on_turn made; page = fits.page; kind = fits.kind; at = all.1 after.at turn follows.1 }),
-  ap (λ (x : Evict). x.who.cpu) follows.0,
-))
+stays layout old new e step found got fits is made = let all = both layout old new e step found got fits is made in (
+  all.0,
+  λ after turn follows. (
+    subst (Fits layout new) (sym follows.0) (record { on_turn = on-turn-after fits.on_turn made; page = fits.page; kind = fits.kind; at = all.1 after.at turn follows.1 }),
+    ap (λ (x : Evict). x.who.cpu) follows.0,
+  ),
+)

@@ -142,7 +142,7 @@ module _ {layout : Layout} {view : View} {who : Who} {page : Page} (what : Evict
   held-fits None body has saw recent y follows = subst (FitsAt layout view who page what) (sym follows) (refused-fits what on inside None body (absence what) has saw none (away-why what has.body_is) (away-lines view who what))
   held-fits (Some frame) body has saw recent y (inr barred) = subst (FitsAt layout view who page what) (sym barred.next_is)
       (refused-fits what on inside (Some frame) body barred.refusal has saw none (bars-why what barred.refusal has.body_is barred.bars) (bars-lines view who what body.state barred.refusal barred.bars))
-  held-fits (Some frame) body has saw recent y (inl (passes , goes)) = which (copies what) refl goes
+  held-fits (Some frame) body has saw recent y (inl (passes, goes)) = which (copies what) refl goes
     where
       few : has.seen ≤ length view.sights
       few = recent (body_in (Some frame) (log_of body) has.seen) (ap (λ (h : Hand). slice_get h.bodies 0) has.hand_is)

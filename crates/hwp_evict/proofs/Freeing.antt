@@ -57,7 +57,7 @@ declared-of P None has = absurd has
 declared-of P (Some x) has = (x, refl, has)
 
 -- the word of a translation that a step met
-trans-word : (layout : Layout) (s : State) (h : Holds layout s) (slot : VSlot) (found : ℕ) → slot.0 < length layout.trans → found ≡ slice_index s.words (index layout (places.Trans slot)) → slice_get (words_of layout s.words).trans slot.0 ≡ Some found
+pub trans-word : (layout : Layout) (s : State) (h : Holds layout s) (slot : VSlot) (found : ℕ) → slot.0 < length layout.trans → found ≡ slice_index s.words (index layout (places.Trans slot)) → slice_get (words_of layout s.words).trans slot.0 ≡ Some found
 trans-word layout s h slot found inside met =
     slice_get-get_or (words_of layout s.words).trans slot.0 0 (subst (λ (n : ℕ). slot.0 < n) (sym (shaped layout s h).trans) inside) ∙ ap (λ (n : ℕ). Some n) (words-read layout s.words (places.Trans slot) inside ∙ sym met)
 

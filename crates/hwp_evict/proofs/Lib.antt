@@ -9,6 +9,7 @@ pub mod Answering
 pub mod Beginning
 pub mod Entered
 pub mod Freeing
+pub mod Clearing
 pub mod Following
 pub mod Evicting
 pub mod EvictCosts

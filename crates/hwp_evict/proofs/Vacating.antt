@@ -180,13 +180,16 @@ can layout view v step fits is = which v.at fits.at is
         λ new none. absurd (none-some new none),
       );
     })
-    which at.SetOwner has e = can-make fits.on_turn e tt fits.frame (fits.page, record {
-      has = lock-held _ (ap (λ (h : Hand). h.locks) has.hand_is) refl;
-      owned = refl;
-      page_held = page-held None (ap (λ (h : Hand). h.pages) has.hand_is) (ap (λ (h : Hand). h.bodies) has.hand_is) has.goes.taken_is;
-      uncached = λ zero. omega (arith, zero);
-      unmapped = names-none has.goes v.frame small;
-    })
+    which at.SetOwner has e = can-make fits.on_turn e tt fits.frame (
+      fits.page,
+      record {
+        has = lock-held _ (ap (λ (h : Hand). h.locks) has.hand_is) refl;
+        owned = refl;
+        page_held = page-held None (ap (λ (h : Hand). h.pages) has.hand_is) (ap (λ (h : Hand). h.bodies) has.hand_is) has.goes.taken_is;
+        uncached = λ zero. omega (arith, zero);
+        unmapped = names-none has.goes v.frame small;
+      },
+    )
     which at.UnlockFrame has e = can-make fits.on_turn e tt fits.frame (record {
       has = lock-held _ (ap (λ (h : Hand). h.locks) has.hand_is) refl;
       named = refl;

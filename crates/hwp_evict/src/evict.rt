@@ -63,13 +63,33 @@ pub struct Evict {
 #[derive(Drop)]
 enum EvictAt {
     LoadStop,
-    Hold { hold: Hold },
-    LoadBad { frame: Frame, body: Body },
-    SetPte { slot: VSlot, frame: Frame, body: Body, done: At },
-    Vacate { vacate: Vacate, done: At },
-    Unhold { unhold: Unhold, answer: EvictAnswer },
-    GiveUp { give_up: GiveUp },
-    Over { answer: EvictAnswer },
+    Hold {
+        hold: Hold,
+    },
+    LoadBad {
+        frame: Frame,
+        body: Body,
+    },
+    SetPte {
+        slot: VSlot,
+        frame: Frame,
+        body: Body,
+        done: At,
+    },
+    Vacate {
+        vacate: Vacate,
+        done: At,
+    },
+    Unhold {
+        unhold: Unhold,
+        answer: EvictAnswer,
+    },
+    GiveUp {
+        give_up: GiveUp,
+    },
+    Over {
+        answer: EvictAnswer,
+    },
 }
 
 impl Eviction {
@@ -110,7 +130,11 @@ impl Eviction {
     {
         match self {
             Eviction::Free { slot } => {
-                if state.maps.has(slot) { None } else { Some(Refusal::NotMapped) }
+                if state.maps.has(slot) {
+                    None
+                } else {
+                    Some(Refusal::NotMapped)
+                }
             }
             Eviction::Sync => None,
             Eviction::Drop => {
@@ -231,14 +255,7 @@ fn held(who: Who, page: Page, what: Eviction, frame: Option<Frame>, body: Body) 
 }
 
 /// The bad lines of the frame are read: with none the command goes on.
-fn after_bad(
-    who: Who,
-    page: Page,
-    what: Eviction,
-    frame: Frame,
-    body: Body,
-    word: u64,
-) -> EvictAt
+fn after_bad(who: Who, page: Page, what: Eviction, frame: Frame, body: Body, word: u64) -> EvictAt
     requires { CanMakeEntry what body }
     ensures { AfterBad who page what frame body word result }
 {
@@ -250,13 +267,7 @@ fn after_bad(
 }
 
 /// The command is refused, and lets the page go.
-fn refused(
-    who: Who,
-    page: Page,
-    frame: Option<Frame>,
-    body: Body,
-    refusal: Refusal,
-) -> EvictAt
+fn refused(who: Who, page: Page, frame: Option<Frame>, body: Body, refusal: Refusal) -> EvictAt
     ensures { result ≡ refused who page frame body refusal }
 {
     let at = At {
@@ -288,14 +299,7 @@ fn make_entry(who: Who, what: Eviction, body: Body) -> Result<Body, Body>
 }
 
 /// What the command does once its entry is made.
-fn entered(
-    who: Who,
-    page: Page,
-    what: Eviction,
-    frame: Frame,
-    body: Body,
-    done: At,
-) -> EvictAt
+fn entered(who: Who, page: Page, what: Eviction, frame: Frame, body: Body, done: At) -> EvictAt
     ensures { result ≡ entered who page what frame body done }
 {
     match what {
@@ -348,14 +352,22 @@ fn after_vacate(vacate: Vacate, done: At) -> EvictAt
 fn after_unhold(unhold: Unhold, answer: EvictAnswer) -> EvictAt
     ensures { result ≡ after_unhold unhold answer }
 {
-    if unhold.is_over() { EvictAt::Over { answer } } else { EvictAt::Unhold { unhold, answer } }
+    if unhold.is_over() {
+        EvictAt::Over { answer }
+    } else {
+        EvictAt::Unhold { unhold, answer }
+    }
 }
 
 /// The turn that ended the command answers it.
 fn turn_after(at: &EvictAt) -> Turn
     ensures { result ≡ turn_after at.now }
 {
-    if matches!(at, EvictAt::Over { .. }) { Turn::Answered } else { Turn::Moved }
+    if matches!(at, EvictAt::Over { .. }) {
+        Turn::Answered
+    } else {
+        Turn::Moved
+    }
 }
 
 impl Machine for Evict {

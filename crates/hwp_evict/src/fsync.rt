@@ -72,7 +72,11 @@ impl Fsync {
         ensures { result ≡ after_report word }
     {
         FsyncAt::Over {
-            answer: if word == 0 { FsyncAnswer::Done } else { FsyncAnswer::Eio(word) },
+            answer: if word == 0 {
+                FsyncAnswer::Done
+            } else {
+                FsyncAnswer::Eio(word)
+            },
         }
     }
 }
@@ -115,7 +119,11 @@ impl Machine for Fsync {
         match self.at {
             FsyncAt::LoadStop => {
                 self.at = Fsync::after_stop(found);
-                if is_stopped(found) { Turn::Answered } else { Turn::Moved }
+                if is_stopped(found) {
+                    Turn::Answered
+                } else {
+                    Turn::Moved
+                }
             }
             FsyncAt::Report => {
                 self.at = Fsync::after_report(found);

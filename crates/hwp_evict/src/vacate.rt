@@ -63,7 +63,11 @@ impl Vacate {
     fn after_release(release: Release) -> VacateAt
         ensures { result ≡ after_release release }
     {
-        if release.is_over() { VacateAt::UnlockPage } else { VacateAt::Release { release } }
+        if release.is_over() {
+            VacateAt::UnlockPage
+        } else {
+            VacateAt::Release { release }
+        }
     }
 }
 

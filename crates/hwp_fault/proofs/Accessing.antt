@@ -366,8 +366,11 @@ module _ {layout : Layout} {a : Request} {old new : View} {found : ℕ} {got : O
 
   -- a frame without owner is no translation's
   led-nowhere : unlocks.HoldsEmptyFrame layout old frame → leads_to frame found ≡ true → ⊥
-  led-nowhere has leads = omega (arith, lock-owner layout made.told.board made.told.rule a.slot names.decl names.declared found at-word frame (leads-named leads) made.told.seat old made.told.me
-      (record { frame = frame; owner = 0; handled = has.handled; poisoned = has.poisoned }) (ap (λ (h : Hand). slice_get h.locks 0) has.hand_is) refl)
+  led-nowhere has leads = omega (
+    arith,
+    lock-owner layout made.told.board made.told.rule a.slot names.decl names.declared found at-word frame (leads-named leads) made.told.seat old made.told.me
+        (record { frame = frame; owner = 0; handled = has.handled; poisoned = has.poisoned }) (ap (λ (h : Hand). slice_get h.locks 0) has.hand_is) refl,
+  )
 
   locked-still : (body : Option BodyValue) → HasLocked layout old frame body → HasLocked layout new frame body
   locked-still None has = record { handled = has.handled; poisoned = has.poisoned; hand_is = still ∙ has.hand_is; within = has.within }
@@ -424,12 +427,17 @@ module _ (layout : Layout) (a : Request) (new : View) where
   reply-answered : (kind : AccessKind) → a.kind ≡ kind → (word place mask : ℕ) → Saw new a.who (places.Process a.process) 0 → ¬ IsBitSet mask a.line → HasMade (BringsIn a.page a.slot) new a.who a.page place (what_of a mask word)
       → Answered layout new a (reply_by kind word a.page place)
   reply-answered kinds.Load is word place mask alive good made = (is, refl, record { alive = alive; mask = mask; good = good; made = made })
-  reply-answered (kinds.Store stored) is word place mask alive good made = (stored, is, refl, record {
-    alive = alive;
-    mask = mask;
-    good = good;
-    made = subst (λ (w : What). HasMade (BringsIn a.page a.slot) new a.who a.page place w) (by word ∙ sym (by stored)) made;
-  })
+  reply-answered (kinds.Store stored) is word place mask alive good made = (
+    stored,
+    is,
+    refl,
+    record {
+      alive = alive;
+      mask = mask;
+      good = good;
+      made = subst (λ (w : What). HasMade (BringsIn a.page a.slot) new a.who a.page place w) (by word ∙ sym (by stored)) made;
+    },
+  )
     where
       by : (w : ℕ) → what_of a mask w ≡ what_by (kinds.Store stored) a.slot a.line (record { 0 = mask }) w
       by w = ap (λ (k : AccessKind). what_by k a.slot a.line (record { 0 = mask }) w) is
@@ -599,11 +607,13 @@ both layout old new a step found got fits is made = which a.at is fits.at made
 pub stays : (layout : Layout) (old new : View) (a : Access) (step : Step) (found : ℕ) (got : Option BodyValue) → Fits layout old a → plan a ≡ Some step → Steps layout a.request.who step (logs (put a)) old new found got
     → Shows (bare a) found got × ((after : Access) (result : Turn) → Next layout (bare a) found got after result → Fits layout new after × (after.request.who.cpu ≡ a.request.who.cpu))
 stays layout old new a step found got fits is made =
-    let all = both layout old new a step found got fits is made in
-    (all.0, λ after result next. (
-      subst (Fits layout new) (sym next.rest) (record { on_turn = on-turn-after fits.on_turn made; names = fits.names; at = all.1 after.at result next.at }),
-      ap (λ (x : Access). x.request.who.cpu) next.rest,
-    ))
+    let all = both layout old new a step found got fits is made in (
+      all.0,
+      λ after result next. (
+        subst (Fits layout new) (sym next.rest) (record { on_turn = on-turn-after fits.on_turn made; names = fits.names; at = all.1 after.at result next.at }),
+        ap (λ (x : Access). x.request.who.cpu) next.rest,
+      ),
+    )
 
 -- ---- before it and after it
 

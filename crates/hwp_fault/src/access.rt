@@ -1,7 +1,6 @@
 ghost use Rattle.std.specs.Prelude.{◌≡◌, Option, is_none};
 
 use crate::fault::{Fault, FaultAnswer};
-
 use hwp_geom::{Frame, Layout, Line, Mask, Page, Proc, Thread, VSlot, Who};
 use hwp_hold::{GiveUp, Pin, PinAnswer, Unlock};
 use hwp_page::{Body, Entry, Met, What};
@@ -59,14 +58,33 @@ enum AccessAt {
     LoadStop,
     LoadProcess,
     LoadTranslation,
-    Pin { pin: Pin },
-    LockFrame { frame: Frame },
-    LoadAgain { frame: Frame, body: Option<Body> },
-    LoadBad { frame: Frame, body: Body },
-    Unlock { unlock: Unlock, then: Option<AccessAnswer> },
-    Fault { fault: Fault },
-    GiveUp { give_up: GiveUp },
-    Over { answer: AccessAnswer },
+    Pin {
+        pin: Pin,
+    },
+    LockFrame {
+        frame: Frame,
+    },
+    LoadAgain {
+        frame: Frame,
+        body: Option<Body>,
+    },
+    LoadBad {
+        frame: Frame,
+        body: Body,
+    },
+    Unlock {
+        unlock: Unlock,
+        then: Option<AccessAnswer>,
+    },
+    Fault {
+        fault: Fault,
+    },
+    GiveUp {
+        give_up: GiveUp,
+    },
+    Over {
+        answer: AccessAnswer,
+    },
 }
 
 impl Access {

@@ -44,7 +44,7 @@ use Rattle.hwp_runs.proofs.Rising.{Rising}
 pub record IsLast (layout : Layout) (last : State) (report : Report) : Type 0 where
   pub holds : Holds layout last
   pub legal : AreLegal layout last
-  pub rises : EachMember Rising last.views
+  pub rises : EachMember (Rising layout) last.views
   pub empty : EachMember (λ (v : View). v.bodies ≡ []) last.views
   pub unlocked : EachMember (λ (v : View). v.locks ≡ []) last.views
   pub ends : EndsWith layout last report
@@ -179,8 +179,9 @@ module _ (layout : Layout) (last : State) (report : Report) (l : IsLast layout l
         (l.rises i v view).follows j x seen n y (sym (ap (λ (z : View). slice_get z.lengths n) is) ∙ saw) page_is (same, earlier)
 
     -- the page was then in the state that was seen
-    pub seen-had : (P : PageState → Type 0) → x.log.page.0 < length layout.pages → P (state_of layout x.log) → HadState layout report.pages (record { page = x.log.page; entry = length x.log.entries }) P
-    seen-had P within had =
+    pub seen-had : (P : PageState → Type 0) → P (state_of layout x.log) → HadState layout report.pages (record { page = x.log.page; entry = length x.log.entries }) P
+    seen-had P had =
+        let within : x.log.page.0 < length layout.pages = (l.rises i v view).inside j x seen in
         let told = there-is report.pages x.log.page.0 (subst (λ (n : ℕ). x.log.page.0 < n) (sym l.pages_fit) within) in
         let home = home-of x.log.page told.0 told.1 in
         let kind = kind-of x.log.page within in
