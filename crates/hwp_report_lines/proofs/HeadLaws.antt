@@ -1,10 +1,9 @@
 -- The first word of a line says which kind of line it is.
-use Rattle.std.proofs.Common.{◌≡◌, ◌≢◌, ℕ, ◌<◌, ◌≤◌, ◌==◌, ◌⊎◌, Bool, true, false, if◌then◌else◌, inl, inr, List, [], ◌∷◌, length, get_or, Option, Some, None, codes, refl, sym, ap, subst, ◌∙◌, arith}
+use Rattle.std.proofs.Common.{◌≡◌, ℕ, ◌≤◌, ◌==◌, ◌⊎◌, if◌then◌else◌, inl, inr, List, [], ◌∷◌, get_or, Option, Some, None, codes, refl, sym, ap, subst, ◌∙◌, arith}
 use Rattle.hwp_geom.specs.declared.Who.{Who}
 use Rattle.hwp_page.specs.declared.What.{What}
 use Rattle.hwp_page.specs.declared.What.TheVariants as whats
 use Rattle.hwp_report.specs.declared.CpuLine.{CpuLine}
-use Rattle.hwp_report.specs.declared.CpuLine.TheVariants as lines
 use Rattle.hwp_report.specs.declared.MarkLine.TheVariants as marks
 use Rattle.hwp_report.specs.Text.{entry_words, cpu_line_words}
 use Rattle.hwp_report_lines.specs.declared.form.Form.{Form}
@@ -15,7 +14,6 @@ use Rattle.hwp_report_lines.specs.declared.heads.Verb.TheVariants as verbs
 use Rattle.hwp_report_lines.specs.Fits.{CpuLineFits}
 use Rattle.hwp_report_lines.specs.Forms.{FormFits, IsFormRead, IsRestRead, form_words}
 use Rattle.hwp_report_lines.specs.Heads.{head_of, head_text, verb_of, verb_text}
-use Rattle.hwp_report_lines.specs.Reads.{IsReadAs}
 use Rattle.hwp_report_lines.proofs.SameWords.{tag, word_at}
 use Rattle.hwp_report_lines.proofs.SameForms.{cpu_line_low}
 

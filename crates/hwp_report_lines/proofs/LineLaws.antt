@@ -1,12 +1,12 @@
 -- A line is read by its words.
-use Rattle.std.proofs.Common.{◌≡◌, ℕ, ◌==◌, List, [], ◌∷◌, ◌++◌, Option, Some, None, refl, sym, ap, ◌∙◌}
-use Rattle.std.specs.List.{slice_split, join_with_byte}
+use Rattle.std.proofs.Common.{◌≡◌, ℕ, List, [], ◌∷◌, ◌++◌, Option, Some, None, refl, sym, ap, ◌∙◌}
+use Rattle.std.specs.List.{join_with_byte}
 use Rattle.std.proofs.lemmas.List.{append_cancel_right}
 use Rattle.std.proofs.lemmas.List.Splits.{join_with_byte-slice_split}
 use Rattle.hwp_geom.specs.Words.{IsLine, line, cut}
 use Rattle.hwp_geom.proofs.Cuts.{joined, line-joined, cut-joined_line}
 use Rattle.hwp_report_lines.specs.declared.form.Form.{Form}
-use Rattle.hwp_report_lines.specs.Forms.{FormFits, form_words, IsFormRead, IsLineRead}
+use Rattle.hwp_report_lines.specs.Forms.{form_words, IsFormRead, IsLineRead}
 use Rattle.hwp_report_lines.proofs.WordsPut.{line_of_form}
 
 joined_with_spaces : (ws : List (List ℕ)) → joined ws ≡ join_with_byte 32 ws

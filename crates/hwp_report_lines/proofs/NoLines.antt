@@ -1,15 +1,10 @@
 -- Words that are no line of a kind, by what is missing.
-use Rattle.std.proofs.Common.{◌≡◌, ◌≢◌, ℕ, ◌<◌, ◌≤◌, ◌^◌, ◌-◌, Bool, true, false, List, [], ◌∷◌, ◌++◌, length, get_or, map, take, drop, Option, Some, None, codes, decimal, refl, sym, ap, ◌∙◌, arith}
+use Rattle.std.proofs.Common.{◌≡◌, ℕ, ◌<◌, ◌≤◌, ◌^◌, ◌-◌, List, [], ◌∷◌, ◌++◌, length, get_or, map, take, drop, Option, Some, None, codes, decimal, refl, sym, ap, ◌∙◌, arith}
 use Rattle.std.proofs.lemmas.List.{drop-map, take_rest}
-use Rattle.hwp_geom.specs.Words.{hex}
 use Rattle.hwp_geom.specs.declared.Mask.{Mask}
-use Rattle.hwp_geom.specs.declared.Page.{Page}
 use Rattle.hwp_geom.specs.declared.Thread.{Thread}
 use Rattle.hwp_geom.specs.declared.VSlot.{VSlot}
 use Rattle.hwp_geom.specs.declared.Who.{Who}
-use Rattle.hwp_kill.specs.declared.Code.{Code}
-use Rattle.hwp_kill.specs.declared.Signal.{Signal}
-use Rattle.hwp_page.specs.declared.Entry.{Entry}
 use Rattle.hwp_page.specs.declared.Met.{Met}
 use Rattle.hwp_page.specs.declared.Met.TheVariants as mets
 use Rattle.hwp_page.specs.declared.What.{What}
@@ -19,8 +14,6 @@ use Rattle.hwp_report.specs.declared.Answer.{Answer}
 use Rattle.hwp_report.specs.declared.Answer.TheVariants as answers
 use Rattle.hwp_report.specs.declared.CpuLine.{CpuLine}
 use Rattle.hwp_report.specs.declared.CpuLine.TheVariants as lines
-use Rattle.hwp_report.specs.declared.How.{How}
-use Rattle.hwp_report.specs.declared.MarkLine.{MarkLine}
 use Rattle.hwp_report.specs.declared.MarkLine.TheVariants as marks
 use Rattle.hwp_report.specs.declared.StopCause.{StopCause}
 use Rattle.hwp_report.specs.declared.StopCause.TheVariants as causes
@@ -29,17 +22,15 @@ use Rattle.hwp_geom.specs.declared.Mode.{Mode}
 use Rattle.hwp_page.specs.declared.At.{At}
 use Rattle.hwp_report.specs.declared.Place.{Place}
 use Rattle.hwp_report.specs.declared.Place.TheVariants as places
-use Rattle.hwp_report.specs.Text.{answer_words, cause_words, cpu_line_words, entry_words, how_words, mark_words, met_words, place_words, required_words, verb_words}
-use Rattle.hwp_report_lines.specs.declared.form.Failure.{Failure}
+use Rattle.hwp_report.specs.Text.{answer_words, cause_words, cpu_line_words, entry_words, met_words, place_words, required_words, verb_words}
 use Rattle.hwp_report_lines.specs.declared.form.Form.{Form}
 use Rattle.hwp_report_lines.specs.declared.form.Form.TheVariants as forms
 use Rattle.hwp_report_lines.specs.declared.heads.Head.{Head}
 use Rattle.hwp_report_lines.specs.declared.heads.Head.TheVariants as heads
-use Rattle.hwp_report_lines.specs.declared.heads.Verb.{Verb}
 use Rattle.hwp_report_lines.specs.declared.heads.Verb.TheVariants as verbs
-use Rattle.hwp_report_lines.specs.Fits.{AccessFits, AnswerFits, AtFits, CauseFits, CpuLineFits, MarkFits, MetFits, WhoFits}
-use Rattle.hwp_report_lines.specs.Forms.{FailFits, FormFits, IsFormRead, IsPageless, IsRestRead, MasksFit, MceFits, PlainEntryFits, PlainFits, access_words, failure_words, form_words, masks_words, mce_words}
-use Rattle.hwp_report_lines.specs.Heads.{head_of, head_text, mark_head, verb_of, verb_text}
+use Rattle.hwp_report_lines.specs.Fits.{AccessFits, AnswerFits, AtFits, CauseFits, CpuLineFits, MetFits}
+use Rattle.hwp_report_lines.specs.Forms.{FormFits, IsFormRead, IsPageless, IsRestRead, MasksFit, MceFits, PlainFits, access_words, form_words, masks_words, mce_words}
+use Rattle.hwp_report_lines.specs.Heads.{head_of, head_text, verb_of}
 use Rattle.hwp_report_lines.specs.Reads.{AreBelow, IsReadAs, two_words}
 use Rattle.hwp_report_lines.specs.Answers.{IsShort, IsUsual, counted_text, placed_text, reply, valued_text}
 use Rattle.hwp_report_lines.specs.declared.replies.Counted.{Counted}

@@ -1,6 +1,5 @@
 -- No two lines that fit have the same words.
-use Rattle.std.proofs.Common.{◌≡◌, ◌≢◌, ℕ, ◌+◌, ◌<◌, ◌≤◌, ◌^◌, ◌==◌, ◌⊎◌, Bool, true, false, if◌then◌else◌, inl, inr, List, [], ◌∷◌, ◌++◌, length, get_or, drop, Option, Some, None, decimal, codes, refl, sym, ap, ◌∙◌, arith}
-use Rattle.std.specs.Prelude.{IfSome}
+use Rattle.std.proofs.Common.{◌≡◌, ℕ, ◌<◌, ◌≤◌, ◌^◌, ◌==◌, ◌⊎◌, if◌then◌else◌, inl, inr, List, [], ◌∷◌, length, get_or, drop, Some, None, decimal, codes, refl, sym, ap, ◌∙◌, arith}
 use Rattle.std.specs.Char.{digit_value}
 use Rattle.std.specs.Str.Parse.{AllDigits}
 use Rattle.std.proofs.lemmas.Bool.Decides.{nat_tests}
@@ -11,7 +10,7 @@ use Rattle.hwp_page.specs.declared.What.TheVariants as whats
 use Rattle.hwp_report.specs.declared.CpuLine.{CpuLine}
 use Rattle.hwp_report.specs.declared.CpuLine.TheVariants as lines
 use Rattle.hwp_report.specs.declared.MarkLine.TheVariants as marks
-use Rattle.hwp_report.specs.Text.{entry_words, cpu_line_words}
+use Rattle.hwp_report.specs.Text.{cpu_line_words}
 use Rattle.hwp_report_lines.specs.declared.form.Failure.{Failure}
 use Rattle.hwp_report_lines.specs.declared.form.Form.{Form}
 use Rattle.hwp_report_lines.specs.declared.form.Form.TheVariants as forms

@@ -1,9 +1,9 @@
 -- No two lines of a report have the same words.
-use Rattle.std.proofs.Common.{◌≡◌, ◌≢◌, ℕ, ◌+◌, ◌*◌, ◌<◌, ◌≤◌, ◌^◌, Bool, true, false, List, [], ◌∷◌, ◌++◌, length, get_or, drop, Option, Some, None, decimal, refl, sym, ap, ◌∙◌, arith}
+use Rattle.std.proofs.Common.{◌≡◌, ◌≢◌, ℕ, ◌+◌, ◌*◌, ◌<◌, ◌^◌, Bool, true, false, List, [], ◌∷◌, ◌++◌, length, get_or, drop, Option, Some, None, decimal, refl, sym, ap, ◌∙◌, arith}
 use Rattle.std.specs.Prelude.{IfSome, codes}
 use Rattle.std.specs.Char.{digit_value}
 use Rattle.std.proofs.lemmas.Bool.Decides.{nat_tests}
-use Rattle.std.proofs.lemmas.Fmt.{decimal_injective, digits_is_IsNumeral, decimal_is_IsNumeral}
+use Rattle.std.proofs.lemmas.Fmt.{decimal_injective, digits_is_IsNumeral}
 use Rattle.std.specs.Str.Parse.{AllDigits, digits_value}
 use Rattle.hwp_geom.specs.Words.{hex}
 use Rattle.hwp_geom.specs.declared.Mode.{Mode}
@@ -39,7 +39,7 @@ use Rattle.hwp_report.specs.declared.StopCause.{StopCause}
 use Rattle.hwp_report.specs.declared.StopCause.TheVariants as causes
 use Rattle.hwp_report.specs.declared.Stop.{Stop}
 use Rattle.hwp_report.specs.Terms.{bit_word, mode_word, policy_word, code_word, situation_word, outcome_word, cause_word, acted_word}
-use Rattle.hwp_report.specs.Text.{row_word, cause_words, stop_words, place_words, how_words, mark_words, met_words, required_words, entry_words, seen_words, signal_words, answer_words, cpu_line_words}
+use Rattle.hwp_report.specs.Text.{row_word, cause_words, stop_words, place_words, how_words, mark_words, met_words, required_words, entry_words, answer_words, cpu_line_words}
 use Rattle.hwp_report_lines.specs.Fits.{WhoFits, AtFits, CauseFits, StopFits, PlaceFits, MarkFits, MetFits, ThreadFits, AnswerFits, CpuLineFits}
 use Rattle.hwp_report_lines.specs.Forms.{PlainFits}
 

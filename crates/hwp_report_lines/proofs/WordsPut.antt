@@ -1,5 +1,5 @@
 -- The words of each line of a report are words: none is empty, and none has a space or a line feed in it.
-use Rattle.std.proofs.Common.{ℕ, ◌≡◌, ◌≢◌, ◌<◌, ◌≤◌, ◌^◌, ◌++◌, ◌==◌, nat_lt, ◌&&◌, not, Bool, true, false, List, [], ◌∷◌, length, map, Option, Some, None, decimal, codes, refl, arith}
+use Rattle.std.proofs.Common.{ℕ, ◌≡◌, ◌≢◌, ◌<◌, ◌≤◌, ◌^◌, ◌++◌, nat_lt, ◌&&◌, Bool, true, false, List, [], ◌∷◌, length, Option, Some, None, decimal, refl, arith}
 use Rattle.std.specs.Prelude.{All, IfSome}
 use Rattle.std.specs.Char.{digit_value}
 use Rattle.std.specs.Str.Parse.{AllDigits}
@@ -43,7 +43,7 @@ use Rattle.hwp_report.specs.declared.Stop.{Stop}
 use Rattle.hwp_report.specs.declared.StopCause.{StopCause}
 use Rattle.hwp_report.specs.declared.StopCause.TheVariants as causes
 use Rattle.hwp_report.specs.Terms.{bit_word, mode_word, policy_word, code_word, situation_word, outcome_word, cause_word, acted_word}
-use Rattle.hwp_report.specs.Text.{row_word, cause_words, stop_words, place_words, how_words, mark_words, met_words, required_words, entry_words, seen_words, signal_words, answer_words, cpu_line_words}
+use Rattle.hwp_report.specs.Text.{row_word, cause_words, stop_words, place_words, how_words, mark_words, met_words, required_words, entry_words, answer_words, cpu_line_words}
 use Rattle.hwp_report_lines.specs.declared.form.Form.{Form}
 use Rattle.hwp_report_lines.specs.declared.form.Form.TheVariants as forms
 use Rattle.hwp_report_lines.specs.Fits.{AtFits, CauseFits, StopFits, PlaceFits, MarkFits, MetFits, ThreadFits, AnswerFits, CpuLineFits}

@@ -4,7 +4,5 @@
 mod cuts;
 mod partial;
 mod reading;
-#[cfg(test)]
-mod tests;
 
 pub use reading::{BadReport, read};

@@ -1,10 +1,12 @@
-//! Tests of the texts: the lines of a script, the script read and printed, and the report printed.
+//! Tests of the texts: the lines of a script, the script read and printed, and the report printed and read.
 #![tactic(auto)]
 
 #[cfg(test)]
 mod lines;
 #[cfg(test)]
 mod printed;
+#[cfg(test)]
+mod readings;
 #[cfg(test)]
 mod reports;
 #[cfg(test)]

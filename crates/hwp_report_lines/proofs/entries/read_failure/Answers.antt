@@ -1,5 +1,5 @@
 use Rattle.std.proofs.Common.{◌∙◌, sym, ap, drop}
-use Rattle.hwp_report_lines.proofs.NoLines.{need_rest, rest_of}
+use Rattle.hwp_report_lines.proofs.NoLines.{rest_of}
 use Rattle.hwp_report_lines.proofs.entries.read_failure.Goals as goal
 
 pub returns-in_default-read_need : goal.returns-in_default-read_need

@@ -1,4 +1,4 @@
-use Rattle.hwp_report_lines.proofs.NoLines.{no_state, no_masks, stands}
+use Rattle.hwp_report_lines.proofs.NoLines.{no_state, no_masks}
 use Rattle.hwp_report_lines.proofs.frames.read_pageless.Goals as goal
 
 pub returns-in_default : goal.returns-in_default

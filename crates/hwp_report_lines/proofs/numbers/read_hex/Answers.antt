@@ -1,4 +1,4 @@
-use Rattle.std.proofs.Common.{◌≡◌, ◌≢◌, codes, arith, rules}
+use Rattle.std.proofs.Common.{◌≢◌, codes, arith, rules}
 use Rattle.hwp_report_lines.proofs.HexLaws.{hex_word, zero_word}
 use Rattle.hwp_report_lines.proofs.numbers.read_hex.Goals as goal
 

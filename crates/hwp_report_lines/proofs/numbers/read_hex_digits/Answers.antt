@@ -1,4 +1,4 @@
-use Rattle.std.proofs.Common.{◌≡◌, ◌<◌, ℕ, arith}
+use Rattle.std.proofs.Common.{arith}
 use Rattle.hwp_report_lines.proofs.HexLaws.{no_hex, hex_room, more_hex, all_hex, no_glyph}
 use Rattle.hwp_report_lines.proofs.numbers.read_hex_digits.Goals as goal
 
