@@ -1,6 +1,6 @@
 use Rattle.std.proofs.Common.{◌≡◌}
 use Rattle.hwp_step.specs.Boards.{view_of}
-use Rattle.hwp_plain.proofs.tests.races.race.Given as goal
+use Rattle.hwp_model_tests.proofs.races.race.Given as goal
 
 abbrev pub invariant-loop-turn : goal.invariant-loop-turn
 invariant-loop-turn g l =

@@ -5,8 +5,8 @@ use Rattle.hwp_rule.specs.declared.View.{View}
 use Rattle.hwp_hold.specs.declared.Take.{Take}
 use Rattle.hwp_hold.specs.Takes.{Fits, begin}
 use Rattle.hwp_step.specs.Boards.{view_of}
-use Rattle.hwp_plain.proofs.Beginning.{take-open}
-use Rattle.hwp_plain.proofs.tests.taking.Goals as goal
+use Rattle.hwp_model_tests.proofs.Beginning.{take-open}
+use Rattle.hwp_model_tests.proofs.turns.taking.Goals as goal
 
 abbrev first : ℕ → Who
 first cpu = record { cpu = record { 0 = cpu }; seq = 0 }

@@ -5,8 +5,8 @@ use Rattle.hwp_rule.specs.declared.View.{View}
 use Rattle.hwp_hold.specs.declared.Pin.{Pin}
 use Rattle.hwp_hold.specs.Pins.{Fits, begin}
 use Rattle.hwp_step.specs.Boards.{view_of}
-use Rattle.hwp_plain.proofs.Beginning.{pin-open}
-use Rattle.hwp_plain.proofs.tests.races.pinning.Goals as goal
+use Rattle.hwp_model_tests.proofs.Beginning.{pin-open}
+use Rattle.hwp_model_tests.proofs.races.pinning.Goals as goal
 
 abbrev first : ℕ → Who
 first cpu = record { cpu = record { 0 = cpu }; seq = 0 }
