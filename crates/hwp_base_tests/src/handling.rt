@@ -30,7 +30,8 @@ const BOTH: McgBits = McgBits {
 fn decides(rt: &impl Abort, statuses: [u64; 3], stop: Option<u8>, acts: [Grade; 3]) {
     let banks = statuses.map(bank_after);
     let decision = handle(&banks, BOTH, Mode::User);
-    assert_eq!(rt; (decision.stop, decision.acts), (stop, acts));
+    assert_eq!(rt; decision.stop, stop);
+    assert_eq!(rt; decision.acts, acts);
 }
 
 #[test]

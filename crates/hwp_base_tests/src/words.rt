@@ -60,7 +60,8 @@ const FRAMES: [(u64, FrameWord); 5] = [
 
 fn are_frames(rt: &impl Abort, rows: &[(u64, FrameWord)]) {
     for (word, want) in rows {
-        assert_eq!(rt; (FrameWord::unpack(*word), want.pack()), (*want, *word));
+        let read = FrameWord::unpack(*word);
+        assert_eq!(rt; (read, read.pack()), (*want, *word));
     }
 }
 
@@ -72,7 +73,8 @@ fn a_frame_word_has_its_fields_from_bit_0_up(rt: HostRuntime) {
 /// The word says so many hardware failures and poisoned frames.
 fn counts(rt: &impl Abort, word: u64, hardware: u32, poisoned: i32) {
     let want = CounterWord { hardware, poisoned };
-    assert_eq!(rt; (CounterWord::unpack(word), want.pack()), (want, word));
+    let read = CounterWord::unpack(word);
+    assert_eq!(rt; (read, read.pack()), (want, word));
 }
 
 #[test]
@@ -88,7 +90,8 @@ fn the_poisoned_frames_of_a_counter_word_have_a_sign(rt: HostRuntime) {
 
 /// The word of a translation says this.
 fn leads(rt: &impl Abort, word: u64, want: Pte) {
-    assert_eq!(rt; (Pte::unpack(word), want.pack()), (want, word));
+    let read = Pte::unpack(word);
+    assert_eq!(rt; (read, read.pack()), (want, word));
 }
 
 #[test]
@@ -102,7 +105,8 @@ fn a_translation_word_is_empty_a_frame_or_poison(rt: HostRuntime) {
 /// The word of a thread says this policy, after so many settings.
 fn has_policy(rt: &impl Abort, word: u64, policy: Policy, settings: u64) {
     let want = PolicyWord { policy, settings };
-    assert_eq!(rt; (PolicyWord::unpack(word), want.pack()), (want, word));
+    let read = PolicyWord::unpack(word);
+    assert_eq!(rt; (read, read.pack()), (want, word));
 }
 
 #[test]
@@ -121,7 +125,8 @@ fn a_policy_word_counts_settings_above_its_policy(rt: HostRuntime) {
 /// The stop word names this processor, and says whether memory was wanting.
 fn stops(rt: &impl Abort, word: u64, cpu: Option<Cpu>, no_memory: bool) {
     let want = StopWord { cpu, no_memory };
-    assert_eq!(rt; (StopWord::unpack(word), want.pack()), (want, word));
+    let read = StopWord::unpack(word);
+    assert_eq!(rt; (read, read.pack()), (want, word));
 }
 
 #[test]
@@ -140,13 +145,14 @@ fn is_of_one_value(
     frame: Option<Frame>,
     ended_by: Option<Page>,
 ) {
-    let page = PageWord { locked };
-    let cache = CacheWord { frame };
-    let process = ProcessWord { ended_by };
+    let page = PageWord::unpack(word);
+    let cache = CacheWord::unpack(word);
+    let process = ProcessWord::unpack(word);
+    assert_eq!(rt;
+        (page.locked, cache.frame, process.ended_by),
+        (locked, frame, ended_by)
+    );
     assert_eq!(rt; [page.pack(), cache.pack(), process.pack()], [word; 3]);
-    assert_eq!(rt; PageWord::unpack(word), page);
-    assert_eq!(rt; CacheWord::unpack(word), cache);
-    assert_eq!(rt; ProcessWord::unpack(word), process);
 }
 
 #[test]

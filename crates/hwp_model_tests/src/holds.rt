@@ -6,8 +6,8 @@ ghost use Rattle.hwp_step.specs.Boards.{view_of};
 ghost use Rattle.hwp_hold.specs.Holds.{Fits as HoldFits};
 ghost use Rattle.hwp_hold.specs.Unholds.{Fits as UnholdFits};
 
-use crate::turns::{first_command, is_turn, opened, turn_of};
-use hwp_geom::{Frame, Kind, Page};
+use crate::turns::{is_turn, opened, turn_of};
+use hwp_geom::{Cpu, Frame, Kind, Page, Who};
 use hwp_hold::{Hold, Unhold};
 use hwp_plain::PlainBoard;
 use hwp_rule::Place;
@@ -43,7 +43,13 @@ fn holding(board: &PlainBoard, cpu: u8) -> Hold
     ensures own { (result.who.cpu.0 ≡ cpu) × (result.page.0 ≡ 0) }
 {
     let _board = board;
-    Hold::new(first_command(cpu), Page(0))
+    Hold::new(
+        Who {
+            cpu: Cpu(cpu),
+            seq: 0,
+        },
+        Page(0),
+    )
 }
 
 /// A task that lets go what the other held, if it is over.

@@ -5,8 +5,8 @@ ghost use Rattle.hwp_rule.specs.Opening.{opening_view};
 ghost use Rattle.hwp_step.specs.Boards.{view_of};
 ghost use Rattle.hwp_hold.specs.Pins.{Fits};
 
-use crate::turns::{first_command, opened, taking};
-use hwp_geom::{Cpu, Frame};
+use crate::turns::{opened, taking};
+use hwp_geom::{Cpu, Frame, Who};
 use hwp_hold::{Pin, PinAnswer, Take, TakeAnswer};
 use hwp_plain::PlainBoard;
 use hwp_rule::Place;
@@ -39,7 +39,13 @@ fn pinning(board: &PlainBoard, cpu: u8) -> Pin
     ensures who { result.who.cpu.0 ≡ cpu }
 {
     let _board = board;
-    Pin::new(first_command(cpu), Frame(0))
+    Pin::new(
+        Who {
+            cpu: Cpu(cpu),
+            seq: 0,
+        },
+        Frame(0),
+    )
 }
 
 /// One turn of the first task, of processor 0, or of the other, of processor 1.

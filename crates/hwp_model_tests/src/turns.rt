@@ -51,17 +51,10 @@ pub(crate) fn taking(board: &PlainBoard, cpu: u8) -> Take
     ensures who { result.who.cpu.0 ≡ cpu }
 {
     let _board = board;
-    Take::new(first_command(cpu))
-}
-
-/// The first command of the processor.
-pub(crate) fn first_command(cpu: u8) -> Who
-    ensures { (result.cpu.0 ≡ cpu) × (result.seq ≡ 0) }
-{
-    Who {
+    Take::new(Who {
         cpu: Cpu(cpu),
         seq: 0,
-    }
+    })
 }
 
 /// One turn of a processor's task, which leaves what the other processor's task needs.

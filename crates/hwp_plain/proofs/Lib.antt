@@ -4,4 +4,3 @@ mod Meeting
 mod Trailing
 mod Stepped
 mod Turning
-mod Beginning
