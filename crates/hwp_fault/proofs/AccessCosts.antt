@@ -1,6 +1,6 @@
 -- Each turn of an access lowers its cost, and its class tells what it holds.
-use Rattle.std.proofs.Common.{◌≡◌, ◌≢◌, ℕ, ◌+◌, ◌*◌, ◌/◌, ◌%◌, ◌^◌, ◌<◌, ◌≤◌, ◌==◌, ◌||◌, ◌⊎◌, inl, inr, Bool, true, false, not, cond, [], ◌∷◌, Option, Some, None, is_none, is_some, length, slice_get, slice_index, refl, sym, ap, ◌∙◌, subst, arith}
-use Rattle.std.proofs.lemmas.Bool.{both_ways, cases_lt, eqb-true, ne_eqb}
+use Rattle.std.proofs.Common.{◌≡◌, ◌≢◌, ℕ, ◌+◌, ◌/◌, ◌<◌, ◌≤◌, ◌==◌, ◌||◌, ◌⊎◌, inl, inr, Bool, true, false, cond, [], Option, Some, None, is_none, is_some, length, slice_get, slice_index, refl, sym, ap, ◌∙◌, subst, arith}
+use Rattle.std.proofs.lemmas.Bool.{both_ways, eqb-true, ne_eqb}
 use Rattle.std.proofs.lemmas.List.{length-set}
 use Rattle.std.proofs.lemmas.Option.{none-some, same_Some, slice_get-get_or}
 use Rattle.hwp_geom.specs.declared.Frame.{Frame}
@@ -14,7 +14,6 @@ use Rattle.hwp_words.specs.Names.{page_named}
 use Rattle.hwp_words.specs.Stops.{is_stopped}
 use Rattle.hwp_rule.specs.declared.Place.{Place}
 use Rattle.hwp_rule.specs.declared.Place.TheVariants as places
-use Rattle.hwp_rule.specs.declared.Rec.{Rec}
 use Rattle.hwp_rule.specs.declared.State.{State}
 use Rattle.hwp_rule.specs.declared.Step.{Step}
 use Rattle.hwp_rule.specs.declared.Step.TheVariants as steps
@@ -25,16 +24,16 @@ use Rattle.hwp_rule.specs.Steps.{place_of, word_after}
 use Rattle.hwp_rule.specs.Views.{frame_in}
 use Rattle.hwp_rule.specs.Words.{Words, read, put as put_word, index, free_words}
 use Rattle.hwp_rule.proofs.Lists.{same-number}
-use Rattle.hwp_rule.proofs.Meeting.{frame-word, frame-free, same-frame}
+use Rattle.hwp_rule.proofs.Meeting.{frame-free, same-frame}
 use Rattle.hwp_rule.proofs.Moving.{shaped}
 use Rattle.hwp_step.specs.declared.Turn.{Turn}
-use Rattle.hwp_step.specs.declared.Turn.TheVariants.{Moved, Changed, Waits}
+use Rattle.hwp_step.specs.declared.Turn.TheVariants.{Moved, Waits}
 use Rattle.hwp_step.specs.Boards.{view_of}
 use Rattle.hwp_step.specs.Calls.{logs, rec_of}
 use Rattle.hwp_step.specs.Classes.{TellsClass}
-use Rattle.hwp_step.specs.Hands.{Hand, hand_of, empty}
+use Rattle.hwp_step.specs.Hands.{Hand, hand_of}
 use Rattle.hwp_step.specs.Ranks.{Member, member, Made, CostFalls, IsRanked, Quiet, OtherHand, HasFrame, HasPage, is_waits, stale, words_at}
-use Rattle.hwp_step.proofs.Ranking.{met, words-after, words-kept, steps-on, no-lock, rank-of}
+use Rattle.hwp_step.proofs.Ranking.{met, words-after, words-kept, no-lock, rank-of}
 use Rattle.hwp_hold.specs.declared.GiveUp.{GiveUp}
 use Rattle.hwp_hold.specs.declared.give_up.GiveUpAt.{GiveUpAt}
 use Rattle.hwp_hold.specs.declared.give_up.GiveUpAt.TheVariants as give_up_at
@@ -66,11 +65,10 @@ use Rattle.hwp_fault.specs.declared.access.AccessAnswer.TheVariants as answers
 use Rattle.hwp_fault.specs.declared.fault.Fault.{Fault}
 use Rattle.hwp_fault.specs.declared.fault.FaultAt.{FaultAt}
 use Rattle.hwp_fault.specs.declared.fault.FaultAt.TheVariants as fault_at
-use Rattle.hwp_fault.specs.declared.fault.FaultAnswer.{FaultAnswer}
 use Rattle.hwp_fault.specs.declared.fault.FaultAnswer.TheVariants as fault_answers
-use Rattle.hwp_fault.specs.Accesses.{plan, plan_at, put, put_at, bare, bare_at, at_start, after_process, at_process, leading, at_translation, pinned, pinned_at, ended, unlocked, after_fault, is_frame, leads_to, Prepares, LooksOf, LooksAgain, Next, NextAt, ShowsAt, FaultStepped, IsDeclared, IsPinned, IsFaulting, IsOfFrame, Fits, FitsAt, class, class_at, moved_away, then_cost, cost, cost_at}
+use Rattle.hwp_fault.specs.Accesses.{plan, plan_at, put, put_at, bare, bare_at, at_start, after_process, at_process, leading, at_translation, pinned, ended, unlocked, after_fault, is_frame, leads_to, Prepares, LooksOf, LooksAgain, Next, NextAt, FaultStepped, IsPinned, IsFaulting, IsOfFrame, Fits, FitsAt, class, class_at, moved_away, then_cost, cost, cost_at}
 use Rattle.hwp_fault.specs.Faults as faults
-use Rattle.hwp_fault.proofs.Accessing.{both, slot-within}
+use Rattle.hwp_fault.proofs.Accessing.{slot-within}
 use Rattle.hwp_fault.proofs.FaultCosts.{fault-ranked, fault-below, fault-class}
 use Rattle.hwp_fault.proofs.Faulting as faulting
 use Rattle.hwp_fault.proofs.Translating.{named-referenced}

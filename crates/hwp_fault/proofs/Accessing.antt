@@ -1,5 +1,5 @@
 -- The laws of `Access`.
-use Rattle.std.proofs.Common.{◌≡◌, ◌≢◌, ℕ, ◌+◌, ◌-◌, ◌%◌, ◌^◌, ◌<◌, ◌≤◌, ◌==◌, Bool, true, false, not, cond, List, [], ◌∷◌, ◌++◌, Option, Some, None, is_none, is_some, IsSomeAnd, length, slice_get, slice_index, refl, sym, ap, ◌∙◌, subst, arith}
+use Rattle.std.proofs.Common.{◌≡◌, ℕ, ◌+◌, ◌-◌, ◌%◌, ◌^◌, ◌<◌, ◌≤◌, ◌==◌, Bool, true, false, not, cond, List, [], ◌∷◌, ◌++◌, Option, Some, None, is_none, is_some, IsSomeAnd, length, slice_get, refl, sym, ap, ◌∙◌, subst, arith}
 use Rattle.std.proofs.lemmas.Bool.{both_ways, eqb-true}
 use Rattle.std.proofs.lemmas.List.{length-append}
 use Rattle.std.proofs.lemmas.Option.{none-some, same_Some, slice_get_within}
@@ -20,7 +20,6 @@ use Rattle.hwp_words.specs.Frames.{is_locked, is_handled, is_poisoned, owner_of}
 use Rattle.hwp_words.specs.Names.{page_named}
 use Rattle.hwp_words.specs.Stops.{is_stopped}
 use Rattle.hwp_rule.specs.declared.FrameLock.{FrameLock}
-use Rattle.hwp_rule.specs.declared.InHand.{InHand}
 use Rattle.hwp_rule.specs.declared.Log.{Log}
 use Rattle.hwp_rule.specs.declared.Made.{Made}
 use Rattle.hwp_rule.specs.declared.Place.TheVariants as places
@@ -29,7 +28,7 @@ use Rattle.hwp_rule.specs.declared.Step.{Step}
 use Rattle.hwp_rule.specs.declared.Step.TheVariants as steps
 use Rattle.hwp_rule.specs.declared.View.{View}
 use Rattle.hwp_rule.specs.Lists.{EachMember}
-use Rattle.hwp_rule.specs.Logs.{log_of, state_of}
+use Rattle.hwp_rule.specs.Logs.{log_of}
 use Rattle.hwp_rule.specs.Served.{IsServed}
 use Rattle.hwp_rule.specs.Slots.{frame_slot, is_out, moved_out}
 use Rattle.hwp_rule.specs.Steps.{goes}
@@ -68,7 +67,6 @@ use Rattle.hwp_hold.specs.Unlocks as unlocks
 use Rattle.hwp_hold.proofs.Bringing.{replay-state}
 use Rattle.hwp_hold.proofs.GivingUp as giving_up
 use Rattle.hwp_hold.proofs.Pinning as pinning
-use Rattle.hwp_hold.proofs.Releasing as releasing
 use Rattle.hwp_hold.proofs.Unlocking as unlocking
 use Rattle.hwp_fault.specs.declared.access.Access.{Access}
 use Rattle.hwp_fault.specs.declared.access.Request.{Request}
@@ -83,7 +81,7 @@ use Rattle.hwp_fault.specs.declared.fault.FaultAt.{FaultAt}
 use Rattle.hwp_fault.specs.declared.fault.FaultAt.TheVariants as fault_at
 use Rattle.hwp_fault.specs.declared.fault.FaultAnswer.{FaultAnswer}
 use Rattle.hwp_fault.specs.declared.fault.FaultAnswer.TheVariants as fault_answers
-use Rattle.hwp_fault.specs.Accesses.{begin, answer, answer_at, plan, plan_at, put, put_at, bare, bare_at, at_start, after_process, at_process, leading, at_translation, pinned, ended, unlocked, after_fault_at, after_fault, is_frame, leads_to, what_by, what_of, word_in, reply, reply_by, reached, Reaches, Prepares, LooksOf, LooksAgain, FaultStepped, Next, NextAt, Shows, ShowsAt, GoesOn, HasReached, Answered, HasTaken, HasLocked, HasToList, IsReady, IsReached, FitsThen, IsBegun, IsLooking, IsPinning, IsPinned, IsLocked, IsUnlocking, IsFaulting, IsOfFrame, IsGivingUp, IsAnswered, IsDeclared, Fits, FitsAt}
+use Rattle.hwp_fault.specs.Accesses.{begin, answer, answer_at, plan, plan_at, put, put_at, bare, bare_at, at_start, after_process, at_process, leading, at_translation, pinned, ended, unlocked, after_fault_at, after_fault, is_frame, leads_to, what_by, what_of, word_in, reply, reply_by, reached, Reaches, Prepares, LooksOf, LooksAgain, FaultStepped, Next, NextAt, Shows, ShowsAt, GoesOn, HasReached, Answered, HasTaken, HasLocked, HasToList, IsReady, FitsThen, IsBegun, IsLooking, IsPinning, IsPinned, IsLocked, IsUnlocking, IsFaulting, IsOfFrame, IsAnswered, IsDeclared, Fits, FitsAt}
 use Rattle.hwp_fault.specs.Faults as faults
 use Rattle.hwp_fault.proofs.Faulting as faulting
 use Rattle.hwp_fault.proofs.Reaching.{in-hand, still-held, still-more, one-more, reached-held, taken-still, bad-shown}

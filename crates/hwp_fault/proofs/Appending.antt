@@ -1,14 +1,13 @@
 -- A body in hand that goes on with the entries of a fault can go home.
-use Rattle.std.proofs.Common.{◌≡◌, ◌≢◌, ◌⊎◌, inl, inr, ℕ, zero, suc, ◌+◌, ◌<◌, ◌≤◌, ◌==◌, ◌||◌, nat_eq, Bool, true, false, not, cond, List, [], ◌∷◌, ◌++◌, Option, Some, None, length, drop, set, slice_get, refl, sym, ap, ◌∙◌, subst, arith}
-use Rattle.std.proofs.Math.Seq.{drop-append_seam}
+use Rattle.std.proofs.Common.{◌≡◌, ◌≢◌, ◌⊎◌, inl, inr, ℕ, suc, ◌+◌, ◌<◌, ◌==◌, ◌||◌, Bool, true, false, cond, List, [], ◌∷◌, ◌++◌, Option, Some, None, length, drop, set, slice_get, refl, sym, ap, ◌∙◌, subst, arith}
 use Rattle.std.proofs.lemmas.Bool.{both_ways, ne_eqb}
-use Rattle.std.proofs.lemmas.List.{append_assoc, drop-append-le, drop_all, length-append}
+use Rattle.std.proofs.lemmas.List.{append_assoc, drop-append-le, length-append}
 use Rattle.std.proofs.lemmas.List.Sums.{fold-append, sum_by-cons}
-use Rattle.std.proofs.lemmas.Option.{none-some, same_Some}
+use Rattle.std.proofs.lemmas.Option.{same_Some}
 use Rattle.std.specs.Cmp.{nat_cmp_total, unsigned_tied}
 use Rattle.std.specs.FinSet as sets
 use Rattle.std.specs.Int.{from_bool}
-use Rattle.std.specs.List.{find, list_any}
+use Rattle.std.specs.List.{find}
 use Rattle.hwp_geom.specs.declared.Frame.{Frame}
 use Rattle.hwp_geom.specs.declared.Layout.{Layout}
 use Rattle.hwp_geom.specs.declared.Page.{Page}
@@ -38,7 +37,7 @@ use Rattle.hwp_rule.specs.parts.Entries.{HasSeen}
 use Rattle.hwp_rule.specs.parts.Fits.{FitsWords}
 use Rattle.hwp_rule.specs.parts.Unpoisoned.{is_failure}
 use Rattle.hwp_rule.proofs.Lists.{at_set, each-push, same-number}
-use Rattle.hwp_step.specs.Hands.{Hand, hand_of, body_in}
+use Rattle.hwp_step.specs.Hands.{Hand, body_in}
 use Rattle.hwp_hold.specs.Holds.{page_lock}
 use Rattle.hwp_hold.specs.Unholds.{holding, HoldsAhead}
 use Rattle.hwp_fault.specs.MapIns.{IsBringing, added, BringsOn, HoldsWithFrame}

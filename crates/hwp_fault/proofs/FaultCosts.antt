@@ -1,5 +1,5 @@
 -- The cost of a fault falls.
-use Rattle.std.proofs.Common.{◌≡◌, ◌⊎◌, inl, inr, ℕ, ◌+◌, ◌/◌, ◌^◌, ◌<◌, ◌≤◌, ◌==◌, Bool, true, false, not, cond, List, [], ◌∷◌, Option, Some, None, is_none, is_some, length, set, slice_get, slice_index, refl, sym, ap, ◌∙◌, subst, arith}
+use Rattle.std.proofs.Common.{◌≡◌, ◌⊎◌, inl, inr, ℕ, ◌+◌, ◌/◌, ◌^◌, ◌<◌, ◌≤◌, ◌==◌, Bool, true, false, not, cond, List, Option, Some, None, is_none, is_some, length, set, slice_get, slice_index, refl, sym, ap, ◌∙◌, subst, arith}
 use Rattle.std.proofs.lemmas.Bool.{both_ways}
 use Rattle.std.proofs.lemmas.Option.{none-some, same_Some, slice_get_within, slice_get-get_or, get_or_from_slice_get}
 use Rattle.hwp_geom.specs.declared.Frame.{Frame}
@@ -26,7 +26,6 @@ use Rattle.hwp_rule.proofs.Lists.{set_here}
 use Rattle.hwp_rule.proofs.Meeting.{frame-named}
 use Rattle.hwp_rule.proofs.Moving.{shaped}
 use Rattle.hwp_step.specs.declared.Turn.{Turn}
-use Rattle.hwp_step.specs.declared.Turn.TheVariants.{Moved}
 use Rattle.hwp_step.specs.Boards.{view_of}
 use Rattle.hwp_step.specs.Calls.{logs, rec_of}
 use Rattle.hwp_step.specs.Ranks.{Member, member, Made, CostFalls, IsRanked, Quiet, is_waits, stale, words_at}
@@ -71,8 +70,8 @@ use Rattle.hwp_fault.specs.declared.map_in.MapIn.{MapIn}
 use Rattle.hwp_fault.specs.declared.map_in.MapInAt.{MapInAt}
 use Rattle.hwp_fault.specs.declared.map_in.MapInAt.TheVariants as map_in_at
 use Rattle.hwp_fault.specs.MapIns as map_ins
-use Rattle.hwp_fault.specs.Faults.{plan, plan_at, put, put_at, bare, bare_at, with_room, after_hold, after_pte, after_fill, after_map_in, after_unhold, after_give_up, next_at, turn_at, Follows, Fits, FitsAt, class, class_at, again, owed, rest, rest_of, cost, cost_at}
-use Rattle.hwp_fault.proofs.Loading.{IsNowhere, LeadsTo, inside, pte-met, reads-frame}
+use Rattle.hwp_fault.specs.Faults.{plan, plan_at, put, put_at, bare, bare_at, with_room, after_hold, after_pte, after_fill, after_map_in, after_unhold, after_give_up, next_at, turn_at, Follows, Fits, FitsAt, class, class_at, again, owed, rest, cost, cost_at}
+use Rattle.hwp_fault.proofs.Loading.{pte-met, reads-frame}
 use Rattle.hwp_fault.proofs.MapInCosts.{map-in-ranked, map-in-small}
 use Rattle.hwp_fault.proofs.MappingIn.{declared}
 

@@ -1,5 +1,5 @@
 -- The laws of `Fault`, and what stands before it and after it.
-use Rattle.std.proofs.Common.{◌≡◌, ◌≢◌, ◌⊎◌, inl, inr, ℕ, zero, suc, ◌+◌, ◌<◌, ◌≤◌, ◌==◌, Bool, true, false, not, cond, List, [], ◌∷◌, ◌++◌, Option, Some, None, is_none, filter, length, drop, slice_get, refl, sym, ap, ◌∙◌, subst, arith}
+use Rattle.std.proofs.Common.{◌≡◌, ◌≢◌, inl, inr, ℕ, zero, suc, ◌+◌, ◌<◌, ◌≤◌, ◌==◌, Bool, true, false, not, cond, List, [], ◌∷◌, Option, Some, None, is_none, filter, length, refl, sym, ap, ◌∙◌, subst, arith}
 use Rattle.std.proofs.Math.Seq.{drop-append_seam}
 use Rattle.std.proofs.lemmas.Bool.{both_ways, ne_eqb}
 use Rattle.std.proofs.lemmas.List.{drop_all}
@@ -10,13 +10,11 @@ use Rattle.hwp_geom.specs.declared.Layout.{Layout}
 use Rattle.hwp_geom.specs.declared.Page.{Page}
 use Rattle.hwp_geom.specs.declared.VSlot.{VSlot}
 use Rattle.hwp_geom.specs.declared.Who.{Who}
-use Rattle.hwp_page.specs.declared.Entry.{Entry}
 use Rattle.hwp_page.specs.declared.PageState.{PageState}
 use Rattle.hwp_page.specs.declared.What.TheVariants as entries
 use Rattle.hwp_page.specs.History.{BodyValue, IsReplay}
 use Rattle.hwp_page.specs.Step.{IsOf, after}
 use Rattle.hwp_words.specs.declared.Pte.{Pte}
-use Rattle.hwp_words.specs.declared.Pte.TheVariants as ptes
 use Rattle.hwp_words.specs.Names.{frame_name}
 use Rattle.hwp_words.specs.Translations.{pte_reading}
 use Rattle.hwp_rule.specs.declared.InHand.{InHand}
@@ -28,7 +26,7 @@ use Rattle.hwp_rule.specs.declared.Step.{Step}
 use Rattle.hwp_rule.specs.declared.Step.TheVariants as steps
 use Rattle.hwp_rule.specs.declared.View.{View}
 use Rattle.hwp_rule.specs.Lists.{EachMember}
-use Rattle.hwp_rule.specs.Logs.{log_of, state_of}
+use Rattle.hwp_rule.specs.Logs.{log_of}
 use Rattle.hwp_rule.specs.Views.{body_of, is_body_of, made_from, more_of}
 use Rattle.hwp_rule.proofs.MoreEntries.{each-append, made-each}
 use Rattle.hwp_rule.proofs.Without.{find-is}
@@ -37,7 +35,7 @@ use Rattle.hwp_step.specs.Calls.{CanMake, Steps, IsOnTurn, logs}
 use Rattle.hwp_step.specs.Hands.{Hand, hand_of, body_in, empty}
 use Rattle.hwp_step.proofs.Stepping.{on-turn-after, hand-planned, steps-planned, can-make}
 use Rattle.hwp_step.specs.Ranks.{HasFrame, HasPage}
-use Rattle.hwp_known.specs.Known.{Saw, SawLog, HasOnly, BringsIn, deeds, is_by}
+use Rattle.hwp_known.specs.Known.{SawLog, HasOnly, BringsIn, deeds, is_by}
 use Rattle.hwp_known.proofs.Listing.{Lists, deeds-same, frame-lists, page-lists, made-kept, has-only-stays}
 use Rattle.hwp_known.proofs.Seeing.{saw-stays, saw-log-stays, saw-state-stays}
 use Rattle.hwp_hold.specs.declared.Fill.{Fill}
@@ -92,9 +90,9 @@ use Rattle.hwp_fault.specs.declared.map_in.MapInAt.{MapInAt}
 use Rattle.hwp_fault.specs.declared.map_in.MapInAt.TheVariants as map_in_at
 use Rattle.hwp_fault.specs.MapIns as map_ins
 use Rattle.hwp_fault.specs.MapIns.{IsBringing, HoldsWithFrame, CanMapIn, added}
-use Rattle.hwp_fault.specs.Faults.{begin, plan, plan_at, put, put_at, bare, bare_at, answer, answer_at, let_go, with_room, after_hold, after_pte, is_poison, after_fill, after_map_in, after_unhold, after_give_up, next, next_at, IsRoom, Follows, Shows, ShowsAt, AddsOnly, IsFree, IsHeld, IsFilling, IsWhy, FitsOver, Fits, FitsAt, class, class_at}
+use Rattle.hwp_fault.specs.Faults.{begin, plan, plan_at, put, put_at, bare, bare_at, answer, answer_at, let_go, with_room, after_hold, after_pte, is_poison, after_fill, after_map_in, after_unhold, after_give_up, next, next_at, IsRoom, Follows, Shows, ShowsAt, AddsOnly, IsFree, IsHeld, IsWhy, FitsOver, Fits, FitsAt, class, class_at}
 use Rattle.hwp_fault.proofs.Appending.{state-more, ahead-with-frame}
-use Rattle.hwp_fault.proofs.Loading.{IsNowhere, LeadsTo, bodies, state-is, unlost, inside, pte-met, reads-frame}
+use Rattle.hwp_fault.proofs.Loading.{bodies, state-is, unlost, inside, pte-met, reads-frame}
 use Rattle.hwp_fault.proofs.MappingIn as mapping
 
 -- ---- lists

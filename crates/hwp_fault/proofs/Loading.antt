@@ -1,7 +1,7 @@
 -- The word of a translation, loaded while its page is held.
-use Rattle.std.proofs.Common.{◌≡◌, ◌⊎◌, inl, inr, ℕ, ◌+◌, ◌%◌, ◌^◌, ◌<◌, ◌≤◌, ◌==◌, Bool, true, false, not, cond, List, [], ◌∷◌, Option, Some, None, if◌then◌else◌, length, map, slice_get, slice_index, refl, sym, ap, ◌∙◌, subst, arith}
+use Rattle.std.proofs.Common.{◌≡◌, ◌⊎◌, inl, inr, ℕ, ◌+◌, ◌%◌, ◌^◌, ◌<◌, ◌≤◌, ◌==◌, Bool, true, false, not, cond, List, [], ◌∷◌, Option, Some, None, if◌then◌else◌, length, slice_get, slice_index, refl, sym, ap, ◌∙◌, subst, arith}
 use Rattle.std.proofs.lemmas.Bool.{both_ways, ne_eqb}
-use Rattle.std.proofs.lemmas.Option.{none-some, same_Some, slice_get_within, slice_get-get_or}
+use Rattle.std.proofs.lemmas.Option.{same_Some, slice_get_within, slice_get-get_or}
 use Rattle.std.specs.FinSet as sets
 use Rattle.std.specs.List.{list_any}
 use Rattle.std.specs.Ordering.{nat_cmp}
@@ -14,20 +14,16 @@ use Rattle.hwp_page.specs.declared.Entry.{Entry}
 use Rattle.hwp_page.specs.declared.PageState.{PageState}
 use Rattle.hwp_page.specs.History.{BodyValue, IsReplay}
 use Rattle.hwp_page.specs.Step.{IsOf}
-use Rattle.hwp_words.specs.declared.Pte.{Pte}
 use Rattle.hwp_words.specs.declared.Pte.TheVariants as ptes
 use Rattle.hwp_words.specs.Fields.{field}
 use Rattle.hwp_words.specs.Names.{frame_name, frame_named}
 use Rattle.hwp_words.specs.Translations.{pte_word, pte_reading, pte_poison_bit, pte_frame_field, leading}
 use Rattle.hwp_rule.specs.declared.InHand.{InHand}
-use Rattle.hwp_rule.specs.declared.Log.{Log}
-use Rattle.hwp_rule.specs.declared.PageLock.{PageLock}
 use Rattle.hwp_rule.specs.declared.Place.TheVariants as places
 use Rattle.hwp_rule.specs.declared.State.{State}
 use Rattle.hwp_rule.specs.declared.View.{View}
 use Rattle.hwp_rule.specs.Logs.{log_of, state_of, fitting, fitting_word}
 use Rattle.hwp_rule.specs.Rule.{Holds}
-use Rattle.hwp_rule.specs.Views.{frame_in}
 use Rattle.hwp_rule.specs.Words.{index, words_of}
 use Rattle.hwp_rule.specs.parts.Unpoisoned.{is_failure}
 use Rattle.hwp_rule.proofs.FittingWords.{fitting-at}
@@ -35,7 +31,7 @@ use Rattle.hwp_rule.proofs.Lists.{at_map}
 use Rattle.hwp_rule.proofs.Meeting.{frame-named, lock-knows}
 use Rattle.hwp_rule.proofs.Moving.{shaped}
 use Rattle.hwp_rule.proofs.WordsByKind.{words-read}
-use Rattle.hwp_step.specs.Hands.{Hand, hand_of, body_in}
+use Rattle.hwp_step.specs.Hands.{Hand, body_in}
 use Rattle.hwp_hold.specs.Holds as holds
 use Rattle.hwp_hold.specs.Holds.{HoldsPage, held, page_lock}
 use Rattle.hwp_hold.proofs.Bringing.{replay-state, replay-unused}

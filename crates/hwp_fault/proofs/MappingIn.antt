@@ -1,5 +1,5 @@
 -- The laws of `MapIn`, and what stands before it and after it.
-use Rattle.std.proofs.Common.{◌≡◌, ℕ, ◌+◌, ◌-◌, ◌%◌, ◌^◌, ◌<◌, ◌≤◌, ◌==◌, Bool, true, false, cond, List, [], ◌∷◌, ◌++◌, Option, Some, None, is_none, length, inr, set, slice_get, slice_index, refl, sym, ap, ◌∙◌, subst, arith}
+use Rattle.std.proofs.Common.{◌≡◌, ℕ, ◌+◌, ◌<◌, ◌≤◌, ◌==◌, Bool, true, false, cond, List, [], ◌∷◌, Option, Some, None, is_none, length, inr, set, slice_get, slice_index, refl, sym, ap, ◌∙◌, subst, arith}
 use Rattle.std.proofs.lemmas.Bool.{both_ways}
 use Rattle.std.proofs.lemmas.Option.{none-some, same_Some, slice_get_within, slice_get-get_or}
 use Rattle.std.specs.FinSet as sets
@@ -19,8 +19,6 @@ use Rattle.hwp_words.specs.declared.Pte.TheVariants as ptes
 use Rattle.hwp_words.specs.Names.{frame_name}
 use Rattle.hwp_words.specs.Translations.{pte_word}
 use Rattle.hwp_rule.specs.declared.InHand.{InHand}
-use Rattle.hwp_rule.specs.declared.Log.{Log}
-use Rattle.hwp_rule.specs.declared.PageLock.{PageLock}
 use Rattle.hwp_rule.specs.declared.Place.TheVariants as places
 use Rattle.hwp_rule.specs.declared.Ref.{Ref}
 use Rattle.hwp_rule.specs.declared.State.{State}
@@ -30,7 +28,7 @@ use Rattle.hwp_rule.specs.declared.View.{View}
 use Rattle.hwp_rule.specs.Asks.{HasLock, HasPage, CanName}
 use Rattle.hwp_rule.specs.Logs.{log_of, state_of, fitting_word}
 use Rattle.hwp_rule.specs.Rule.{Holds}
-use Rattle.hwp_rule.specs.Views.{refs_on, is_body_of, frame_in, with_named, less_named, less_refs}
+use Rattle.hwp_rule.specs.Views.{refs_on, is_body_of, frame_in, with_named, less_named}
 use Rattle.hwp_rule.specs.Words.{index, words_of}
 use Rattle.hwp_rule.specs.parts.Fits.{KnowsWords}
 use Rattle.hwp_rule.proofs.Lists.{same-number}
@@ -53,8 +51,8 @@ use Rattle.hwp_hold.proofs.Referring as referring
 use Rattle.hwp_fault.specs.declared.map_in.MapIn.{MapIn}
 use Rattle.hwp_fault.specs.declared.map_in.MapInAt.{MapInAt}
 use Rattle.hwp_fault.specs.declared.map_in.MapInAt.TheVariants as at
-use Rattle.hwp_fault.specs.MapIns.{begin, plan, plan_at, after_refer, next, next_at, mapped, body_next, turn, HasRoomFor, ShowsAt, Shows, HoldsWithFrame, CanMapIn, IsReferring, IsReferred, Fits, FitsAt}
-use Rattle.hwp_fault.proofs.Appending.{with_entry, brings-more, words-more, with-frame-ahead}
+use Rattle.hwp_fault.specs.MapIns.{begin, plan, plan_at, after_refer, next, next_at, mapped, body_next, turn, ShowsAt, Shows, HoldsWithFrame, CanMapIn, IsReferred, Fits, FitsAt}
+use Rattle.hwp_fault.proofs.Appending.{brings-more, words-more, with-frame-ahead}
 
 -- ---- the steps can be made
 

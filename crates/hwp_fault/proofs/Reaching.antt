@@ -1,5 +1,5 @@
 -- A body that goes home to a locked frame: as it was taken, and with the entry of an access.
-use Rattle.std.proofs.Common.{◌≡◌, ℕ, zero, suc, ◌+◌, ◌<◌, ◌≤◌, ◌==◌, inl, Bool, true, false, cond, List, [], ◌∷◌, ◌++◌, Option, Some, None, length, drop, option_map, slice_get, slice_index, refl, sym, ap, ◌∙◌, subst, arith}
+use Rattle.std.proofs.Common.{◌≡◌, ℕ, zero, suc, ◌≤◌, inl, Bool, true, false, cond, List, [], ◌∷◌, ◌++◌, Option, Some, None, length, drop, option_map, slice_get, refl, sym, ap, ◌∙◌, subst, arith}
 use Rattle.std.proofs.Math.Seq.{drop-append_seam}
 use Rattle.std.proofs.lemmas.Bool.{both_ways}
 use Rattle.std.proofs.lemmas.List.{drop-append-le}
@@ -10,14 +10,12 @@ use Rattle.std.specs.Int.{IsBitSet}
 use Rattle.std.specs.List.{find}
 use Rattle.hwp_geom.specs.declared.Frame.{Frame}
 use Rattle.hwp_geom.specs.declared.Layout.{Layout}
-use Rattle.hwp_geom.specs.declared.Page.{Page}
 use Rattle.hwp_geom.specs.declared.Proc.{Proc}
-use Rattle.hwp_geom.specs.declared.VSlot.{VSlot}
 use Rattle.hwp_geom.specs.declared.Who.{Who}
 use Rattle.hwp_page.specs.Endings.{has_ending}
 use Rattle.hwp_page.specs.declared.Entry.{Entry}
 use Rattle.hwp_page.specs.declared.PageState.{PageState}
-use Rattle.hwp_page.specs.declared.What.{What}
+use Rattle.hwp_page.specs.Endings.{has_ending}
 use Rattle.hwp_page.specs.History.{BodyValue, Leads}
 use Rattle.hwp_page.specs.Step.{Allowed, after}
 use Rattle.hwp_rule.specs.declared.FrameLock.{FrameLock}
@@ -36,7 +34,6 @@ use Rattle.hwp_rule.specs.parts.Unpoisoned.{is_failure}
 use Rattle.hwp_rule.proofs.Lists.{same-number, some-last}
 use Rattle.hwp_step.specs.Calls.{Steps}
 use Rattle.hwp_step.specs.Hands.{Hand, hand_of, body_in}
-use Rattle.hwp_step.proofs.Stepping.{hand-planned}
 use Rattle.hwp_rule.specs.declared.Step.TheVariants as steps
 use Rattle.hwp_hold.specs.Unlocks.{HoldsFrame}
 use Rattle.hwp_hold.proofs.Bringing.{replay-state}

@@ -1,11 +1,11 @@
 -- What a translation word that a step met says of a board that keeps the rule: of the frame that it names, and of the body
 -- that was in that frame; and what a process's word and a frame's bad lines say.
-use Rattle.std.proofs.Common.{◌≡◌, ◌≢◌, ℕ, zero, suc, ◌+◌, ◌-◌, ◌/◌, ◌%◌, ◌^◌, ◌<◌, ◌≤◌, ◌==◌, ◌||◌, Bool, true, false, not, cond, List, [], ◌∷◌, Option, Some, None, is_some, map, length, min, slice_get, slice_index, ◌⊎◌, inl, inr, refl, sym, ap, ◌∙◌, subst, arith}
+use Rattle.std.proofs.Common.{◌≡◌, ◌≢◌, ℕ, ◌+◌, ◌-◌, ◌/◌, ◌%◌, ◌^◌, ◌<◌, ◌≤◌, ◌==◌, Bool, true, false, cond, List, [], ◌∷◌, Option, Some, None, map, length, min, slice_get, slice_index, inl, inr, refl, sym, ap, ◌∙◌, subst, arith}
 use Rattle.std.specs.Int.{IsBitSet, bit_at, from_bool}
 use Rattle.std.specs.FinSet as set
 use Rattle.std.specs.Int.Bits.{bit_and}
 use Rattle.std.specs.List.{sum_by}
-use Rattle.std.proofs.lemmas.Bool.{both_ways, eqb-true, ne_eqb}
+use Rattle.std.proofs.lemmas.Bool.{both_ways, ne_eqb}
 use Rattle.std.proofs.lemmas.List.Elements.{All-get_or}
 use Rattle.std.proofs.lemmas.Nat.{bit_set_by_shift}
 use Rattle.std.proofs.lemmas.Nat.Bits.{shr_and_one}
@@ -17,7 +17,6 @@ use Rattle.hwp_geom.specs.declared.Proc.{Proc}
 use Rattle.hwp_geom.specs.declared.TransDecl.{TransDecl}
 use Rattle.hwp_geom.specs.declared.VSlot.{VSlot}
 use Rattle.hwp_geom.specs.Limits.{line_limit}
-use Rattle.hwp_page.specs.declared.PageState.{PageState}
 use Rattle.hwp_words.specs.declared.Pte.TheVariants as ptes
 use Rattle.hwp_words.specs.Frames.{count_of, owner_of, handled_of, poison_of, is_handled, lock_of}
 use Rattle.hwp_words.specs.Names.{page_named}
@@ -27,11 +26,10 @@ use Rattle.hwp_rule.specs.declared.InHand.{InHand}
 use Rattle.hwp_rule.specs.declared.Log.{Log}
 use Rattle.hwp_rule.specs.declared.PageLock.{PageLock}
 use Rattle.hwp_rule.specs.declared.Place.TheVariants as places
-use Rattle.hwp_rule.specs.declared.Ref.{Ref}
 use Rattle.hwp_rule.specs.declared.Spoiled.{Spoiled}
 use Rattle.hwp_rule.specs.declared.State.{State}
 use Rattle.hwp_rule.specs.declared.View.{View}
-use Rattle.hwp_rule.specs.Lists.{EachMember, sum_all}
+use Rattle.hwp_rule.specs.Lists.{sum_all}
 use Rattle.hwp_rule.specs.Logs.{state_of, fitting_word}
 use Rattle.hwp_rule.specs.Rule.{Holds}
 use Rattle.hwp_rule.specs.Slots.{IsIn, frame_slot}

@@ -1,5 +1,5 @@
 -- An access: the task's states, its steps and what they come to.
-use Rattle.std.specs.Prelude.{◌≡◌, ℕ, ◌+◌, ◌-◌, ◌<◌, ◌≤◌, ◌==◌, Bool, true, false, not, cond, [], ◌∷◌, ◌++◌, Option, Some, None, is_some, is_none, length, slice_get, slice_index, IsBitSet, IsTrue}
+use Rattle.std.specs.Prelude.{◌≡◌, ℕ, ◌+◌, ◌-◌, ◌<◌, ◌≤◌, ◌==◌, Bool, true, false, cond, [], ◌∷◌, ◌++◌, Option, Some, None, is_some, is_none, length, slice_get, slice_index, IsBitSet, IsTrue}
 use Rattle.std.specs.FinSet as set
 use Rattle.hwp_geom.specs.declared.Frame.{Frame}
 use Rattle.hwp_geom.specs.declared.Layout.{Layout}
@@ -32,7 +32,7 @@ use Rattle.hwp_rule.specs.Words.{Words}
 use Rattle.hwp_step.specs.declared.Turn.{Turn}
 use Rattle.hwp_step.specs.declared.Turn.TheVariants.{Moved, Waits}
 use Rattle.hwp_step.specs.Calls.{IsOnTurn}
-use Rattle.hwp_step.specs.Hands.{Hand, hand_of, empty, body_in}
+use Rattle.hwp_step.specs.Hands.{hand_of, empty, body_in}
 use Rattle.hwp_step.specs.Ranks.{stale}
 use Rattle.hwp_known.specs.Known.{Saw, SawStop, HasMadeNone, BringsIn, HasOnly, HasMade}
 use Rattle.hwp_known.specs.Pages.{SawState}
