@@ -7,7 +7,7 @@ use Rattle.std.proofs.lemmas.List.{get_or-map, length-map}
 use Rattle.std.proofs.lemmas.List.Elements.{All-from_recursion, All-same, All-get_or}
 use Rattle.hwp_geom.specs.Limits.{line_limit, frame_limit, file_limit, thread_limit, page_limit, translation_limit}
 use Rattle.hwp_form.specs.Numbers.{IsNumber, IsNumberWord, IsRegister}
-use Rattle.hwp_form.specs.Grammar.{bit, command_word, CommandFits, AreCommandWords, IsCommand, IsCommandOver, HasCommandShape, HaveCommandNumbers, HaveNumbers, thread_keyword, page_keyword}
+use Rattle.hwp_form.specs.Grammar.{bit, command_word, CommandFits, AreCommandWords, IsCommand, IsCommandOver, HaveNumbers, HasShape, handler_text, thread_keyword, page_keyword}
 use Rattle.hwp_form.specs.declared.command.Command.{Command}
 use Rattle.hwp_form.specs.declared.command.Command.TheVariants as commands
 use Rattle.hwp_form.specs.declared.keywords.CommandWord.{CommandWord}
@@ -142,7 +142,7 @@ command_found ws (commands.RaiseKernel r p) h e =
 command_found ws commands.RaiseNested h e = let many : length ws ≡ 1 = ap length e in rw many refl
 
 -- words of which no command is made that fits are no command
-unfit : (w : CommandWord) (ws : List (List ℕ)) → (CommandFits (command_at w ws) → ⊥) → (c : Command) → IsCommand w ws c → ⊥
+pub unfit : (w : CommandWord) (ws : List (List ℕ)) → (CommandFits (command_at w ws) → ⊥) → (c : Command) → IsCommand w ws c → ⊥
 unfit w ws none c h =
     let same : command_at w ws ≡ c = ap (λ v. command_at v ws) (sym h.kind) ∙ command_found ws c h.fits h.same in
     none (subst CommandFits (sym same) h.fits)
@@ -182,78 +182,6 @@ six ws m n p q r s h =
 past : (x m limit : ℕ) → x ≡ m → limit ≤ m → x < limit → ⊥
 past x m limit e h k = omega arith
 
-first_is : (ws us : List (List ℕ)) (m : ℕ) → m < 2 ^ 64 → ws ≡ decimal m ∷ us → value ws 0 ≡ m
-first_is ws us m h e = value_is ws 0 m h (ap (λ vs. get_or vs 0 []) e)
-
-second_is : (ws us : List (List ℕ)) (v : List ℕ) (m : ℕ) → m < 2 ^ 64 → ws ≡ v ∷ decimal m ∷ us → value ws 1 ≡ m
-second_is ws us v m h e = value_is ws 1 m h (ap (λ vs. get_or vs 1 []) e)
-
-third_is : (ws us : List (List ℕ)) (u v : List ℕ) (m : ℕ) → m < 2 ^ 64 → ws ≡ u ∷ v ∷ decimal m ∷ us → value ws 2 ≡ m
-third_is ws us u v m h e = value_is ws 2 m h (ap (λ vs. get_or vs 2 []) e)
-
--- one number that is too high
-pub over_one : (w : CommandWord) (ws : List (List ℕ)) (m limit : ℕ) → (m < 2 ^ 64) × (ws ≡ decimal m ∷ []) → limit ≤ m → HasCommandShape w ws
-    → (All IsNumberWord ws → HaveCommandNumbers w ws) → (CommandFits (command_at w ws) → value ws 0 < limit) → IsCommandOver w ws
-over_one w ws m limit h out shape numbers fits =
-    record { shaped = shape; numbers = numbers (one ws m h); none = unfit w ws (λ f. past (value ws 0) m limit (first_is ws [] m h.0 h.1) out (fits f)) }
-
-access_out : (x y z m n p : ℕ) → x ≡ m → y ≡ n → z ≡ p → (thread_limit ≤ m) ⊎ (translation_limit ≤ n) ⊎ (line_limit ≤ p)
-    → (x < thread_limit) × (y < translation_limit) × (z < line_limit) → ⊥
-access_out x y z m n p a b c (inl e) f = past x m thread_limit a e f.0
-access_out x y z m n p a b c (inr (inl e)) f = past y n translation_limit b e f.1
-access_out x y z m n p a b c (inr (inr e)) f = past z p line_limit c e f.2
-
--- a thread, a translation or a line that is too high
-pub over_access : (w : CommandWord) (ws : List (List ℕ)) (m n p : ℕ) → (m < 2 ^ 64) × (n < 2 ^ 64) × (p < 2 ^ 64) × (ws ≡ decimal m ∷ decimal n ∷ decimal p ∷ [])
-    → (thread_limit ≤ m) ⊎ (translation_limit ≤ n) ⊎ (line_limit ≤ p) → HasCommandShape w ws → (All IsNumberWord ws → HaveCommandNumbers w ws)
-    → (CommandFits (command_at w ws) → (value ws 0 < thread_limit) × (value ws 1 < translation_limit) × (value ws 2 < line_limit)) → IsCommandOver w ws
-over_access w ws m n p h out shape numbers fits = record {
-  shaped = shape;
-  numbers = numbers (three ws m n p h);
-  none = unfit w ws (λ f. access_out (value ws 0) (value ws 1) (value ws 2) m n p (first_is ws _ m h.0 h.3) (second_is ws _ _ n h.1 h.3) (third_is ws _ _ _ p h.2 h.3) out (fits f));
-}
-
-pub over_store : (ws : List (List ℕ)) (m n p q : ℕ) → (m < 2 ^ 64) × (n < 2 ^ 64) × (p < 2 ^ 64) × (q < 2 ^ 64) × (ws ≡ decimal m ∷ decimal n ∷ decimal p ∷ decimal q ∷ [])
-    → (thread_limit ≤ m) ⊎ (translation_limit ≤ n) ⊎ (line_limit ≤ p) → IsCommandOver words.Store ws
-over_store ws m n p q h out = record {
-  shaped = ap length h.4;
-  numbers = four ws m n p q h;
-  none = unfit words.Store ws (λ f. access_out (value ws 0) (value ws 1) (value ws 2) m n p (first_is ws _ m h.0 h.4) (second_is ws _ _ n h.1 h.4) (third_is ws _ _ _ p h.2 h.4) out f.0);
-}
-
-pub over_prctl : (ws : List (List ℕ)) (m n p q r s : ℕ)
-    → (m < 2 ^ 64) × (n < 2 ^ 64) × (p < 2 ^ 64) × (q < 2 ^ 64) × (r < 2 ^ 64) × (s < 2 ^ 64) × (ws ≡ decimal m ∷ decimal n ∷ decimal p ∷ decimal q ∷ decimal r ∷ decimal s ∷ [])
-    → thread_limit ≤ m → IsCommandOver words.Prctl ws
-over_prctl ws m n p q r s h out = record {
-  shaped = ap length h.6;
-  numbers = six ws m n p q r s h;
-  none = unfit words.Prctl ws (λ f. past (value ws 0) m thread_limit (first_is ws _ m h.0 h.6) out f.0);
-}
-
-place_out : (x y m n : ℕ) → x ≡ m → y ≡ n → (frame_limit ≤ m) ⊎ (line_limit ≤ n) → (x < frame_limit) × (y < line_limit) → ⊥
-place_out x y m n a b (inl e) f = past x m frame_limit a e f.0
-place_out x y m n a b (inr e) f = past y n line_limit b e f.1
-
--- a frame or a line that is too high
-pub over_place : (w : CommandWord) (ws : List (List ℕ)) (m n : ℕ) → (m < 2 ^ 64) × (n < 2 ^ 64) × (ws ≡ decimal m ∷ decimal n ∷ []) → (frame_limit ≤ m) ⊎ (line_limit ≤ n)
-    → HasCommandShape w ws → (All IsNumberWord ws → HaveCommandNumbers w ws) → (CommandFits (command_at w ws) → (value ws 0 < frame_limit) × (value ws 1 < line_limit)) → IsCommandOver w ws
-over_place w ws m n h out shape numbers fits = record {
-  shaped = shape;
-  numbers = numbers (two ws m n h);
-  none = unfit w ws (λ f. place_out (value ws 0) (value ws 1) m n (first_is ws _ m h.0 h.2) (second_is ws _ _ n h.1 h.2) out (fits f));
-}
-
-range_out : (x y m n : ℕ) → x ≡ m → y ≡ n → (n < m) ⊎ (frame_limit ≤ n) → (x ≤ y) × (y < frame_limit) → ⊥
-range_out x y m n a b (inl e) f = omega (arith, f.0)
-range_out x y m n a b (inr e) f = past y n frame_limit b e f.1
-
-pub over_scrub : (ws : List (List ℕ)) (m n : ℕ) → (m < 2 ^ 64) × (n < 2 ^ 64) × (ws ≡ decimal m ∷ decimal n ∷ []) → (n < m) ⊎ (frame_limit ≤ n) → IsCommandOver words.Scrub ws
-over_scrub ws m n h out = record {
-  shaped = ap length h.2;
-  numbers = two ws m n h;
-  none = unfit words.Scrub ws (λ f. range_out (value ws 0) (value ws 1) m n (first_is ws _ m h.0 h.2) (second_is ws _ _ n h.1 h.2) out f);
-}
-
 -- where three of its words are no numbers, the numbers of a page of a file don't stand in place
 pub no_file_page : (ws : List (Bor (List ℕ))) (d : Bor (List ℕ)) → length ws ≡ 5
     → ((m n p : ℕ) → IsNumber (get_or ws 0 d).now m → IsNumber (get_or ws 2 d).now n → IsNumber (get_or ws 4 d).now p → ⊥)
@@ -264,7 +192,7 @@ no_file_page ws d l none h =
     (rw (get_or-map (λ w. w.now) ws 4 d [] (omega arith)) at rest.1.1)
 
 -- where its first three words are no numbers, the numbers of a thread don't stand in place
-pub no_thread : (ws : List (Bor (List ℕ))) (d : Bor (List ℕ)) → length ws ≡ 4
+no_thread : (ws : List (Bor (List ℕ))) (d : Bor (List ℕ)) → length ws ≡ 4
     → ((m n p : ℕ) → IsNumber (get_or ws 0 d).now m → IsNumber (get_or ws 1 d).now n → IsNumber (get_or ws 2 d).now p → ⊥)
     → HaveNumbers thread_keyword (map (λ w. w.now) ws) → ⊥
 no_thread [] d l none h = absurd (omega (arith, l))
@@ -273,6 +201,12 @@ no_thread (t ∷ p ∷ []) d l none h = absurd (omega (arith, l))
 no_thread (t ∷ p ∷ c ∷ us) d l none h =
     let at = λ (i : ℕ) (k : i < 3). All-get_or IsNumberWord (t.now ∷ p.now ∷ c.now ∷ []) i [] k h in
     let a = at 0 (omega arith) in let b = at 1 (omega arith) in let e = at 2 (omega arith) in none a.0 b.0 e.0 a.1 b.1 e.1
+
+-- a thread whose last word says whether it has a handler, where its first three words are no numbers
+pub bad_thread : (ws : List (Bor (List ℕ))) (d : Bor (List ℕ)) (handler : Bool) → length ws ≡ 4 → (get_or ws 3 d).now ≡ handler_text handler
+    → ((m n p : ℕ) → IsNumber (get_or ws 0 d).now m → IsNumber (get_or ws 1 d).now n → IsNumber (get_or ws 2 d).now p → ⊥)
+    → HasShape thread_keyword (map (λ w. w.now) ws) × (HaveNumbers thread_keyword (map (λ w. w.now) ws) → ⊥)
+bad_thread ws d handler l e none = ((rw length-map l, (handler, get_or-map (λ w. w.now) ws 3 d [] (omega arith) ∙ e)), no_thread ws d l none)
 
 not_bit : (b : Bool) (n : ℕ) → n ≡ bit b → 1 < n → ⊥
 not_bit true n e h = omega arith
@@ -356,14 +290,3 @@ over_kernel ws us m n e h out = record {
   numbers = two (drop 1 ws) m n (h.0, h.1, ap (drop 1) e ∙ h.2);
   none = no_kernel ws m n (h.0, h.1, e ∙ ap (λ vs. codes "kernel" ∷ vs) h.2) out;
 }
-
-no_numbers : (ws us : List (List ℕ)) (w : List ℕ) → ws ≡ w ∷ us → (All IsNumberWord us → ⊥) → All IsNumberWord (drop 1 ws) → ⊥
-no_numbers ws us w e none h = none (subst (All IsNumberWord) (ap (drop 1) e) h)
-
-pub bad_user : (ws us : List (List ℕ)) → ws ≡ codes "user" ∷ us → (length us ≡ 3) × (All IsNumberWord us → ⊥)
-    → HasCommandShape words.Raise ws × (HaveCommandNumbers words.Raise ws → ⊥)
-bad_user ws us e h = (inl (omega (arith, ap length e, h.0), ap (λ vs. get_or vs 0 []) e), no_numbers ws us (codes "user") e h.1)
-
-pub bad_kernel : (ws us : List (List ℕ)) → ws ≡ codes "kernel" ∷ us → (length us ≡ 2) × (All IsNumberWord us → ⊥)
-    → HasCommandShape words.Raise ws × (HaveCommandNumbers words.Raise ws → ⊥)
-bad_kernel ws us e h = (inr (inl (omega (arith, ap length e, h.0), ap (λ vs. get_or vs 0 []) e)), no_numbers ws us (codes "kernel") e h.1)

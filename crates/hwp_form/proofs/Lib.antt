@@ -3,6 +3,8 @@ pub mod Searches
 pub mod Listed
 pub mod HexLaws
 pub mod CommandLaws
+pub mod NumberLaws
+pub mod KeywordLaws
 pub mod TurnLaws
 pub mod SentenceLaws
 pub mod Decoding

@@ -100,3 +100,19 @@ pub behind : (ws : List (Bor (List ℕ))) (w : List ℕ) → map (λ w. w.now) w
 behind ws w e =
     let whole : take (length ws - 1) (drop 1 ws) ≡ drop 1 ws = take_all (length ws - 1) (drop 1 ws) (omega (arith, length-drop 1 ws)) in
     e ∙ ap (λ us. w ∷ map (λ w. w.now) us) (sym whole)
+
+-- words whose first is the first word of a line, and the others as a pattern takes them
+pub led : (ws : List (Bor (List ℕ))) (d : Bor (List ℕ)) (k : Keyword) → 0 < length ws → (get_or ws 0 d).now ≡ keyword_text k
+    → map (λ w. w.now) ws ≡ keyword_text k ∷ map (λ w. w.now) (take (length ws - 1) (drop 1 ws))
+led ws d k l e = behind ws (keyword_text k) (uncons ws d l ∙ ap (λ w. w ∷ map (λ w. w.now) (drop 1 ws)) e)
+
+pub no_words : (ws : List (List ℕ)) → length ws ≡ 0 → IsUnknown ws
+no_words ws e = λ h. absurd (omega (arith, e, ap length h.same))
+
+pub unknown_from_sentence : (ws : List (List ℕ)) (k : Keyword) (rest : List (List ℕ)) → ws ≡ keyword_text k ∷ rest → (HasShape k rest → ⊥) → IsUnknown ws
+unknown_from_sentence ws k rest e none = λ h.
+    let both = first_words k h.first ws rest h.rest e h.same in none (subst (λ us. HasShape k us) both.1 (subst (λ j. HasShape j h.rest) both.0 h.shape))
+
+pub form_from_sentence : (ws : List (List ℕ)) (k : Keyword) (rest : List (List ℕ)) (f : Form) → ws ≡ keyword_text k ∷ rest → IsSentence k rest f → IsForm ws f
+form_from_sentence ws k rest f e h =
+    record { rest = rest; same = e ∙ ap (λ j. keyword_text j ∷ rest) (sym h.kind); is = record { kind = refl; fits = h.fits; same = h.same } }

@@ -15,7 +15,7 @@ use Rattle.hwp_geom.specs.declared.Kind.{Kind}
 use Rattle.hwp_geom.specs.declared.Kind.TheVariants as kinds
 use Rattle.hwp_form.specs.Kinds.{kind_text}
 use Rattle.hwp_form.specs.Numbers.{IsNumberWord, IsRegister, IsRegisterWord}
-use Rattle.hwp_form.specs.Grammar.{bit, keyword, keyword_text, command_word, command_text, rest_words, handler_text, Fits, CommandFits, AreRestWords, AreCommandWords, AreRegisters, IsTurn, IsTurnWord, HasTurnShape, HaveTurnShape, pieces_of, turn_pieces, IsForm, IsShaped, IsBadNumber, IsOverLimit, IsPrintable, HasShape, HasCommandShape, HasRaiseShape, HaveNumbers, HaveCommandNumbers}
+use Rattle.hwp_form.specs.Grammar.{bit, keyword, keyword_text, command_word, command_text, rest_words, handler_text, Fits, CommandFits, AreRestWords, AreCommandWords, AreRegisters, IsTurn, IsTurnWord, HasTurnShape, pieces_of, IsForm, IsShaped, IsBadNumber, IsOverLimit, IsPrintable, HasShape, HasCommandShape, HasRaiseShape, HaveNumbers, HaveCommandNumbers}
 use Rattle.hwp_form.specs.declared.form.Form.{Form}
 use Rattle.hwp_form.specs.declared.command.Command.{Command}
 use Rattle.hwp_form.specs.declared.command.Go.{Go}
@@ -30,7 +30,7 @@ use Rattle.hwp_form.specs.declared.keywords.Keyword.TheVariants as keywords
 use Rattle.hwp_form.specs.declared.keywords.CommandWord.TheVariants as words
 use Rattle.hwp_form.proofs.CommandLaws.{bit_low, low, one, two, three, four, six}
 use Rattle.hwp_form.proofs.SentenceLaws.{first_words}
-use Rattle.hwp_form.proofs.TurnLaws.{turn_word}
+use Rattle.hwp_form.proofs.TurnLaws.{turn_word, shape-turn}
 
 -- a hex digit is printable
 digit_printable : (b : ℕ) → digit_value b < 16 → IsPrintable b
@@ -147,14 +147,6 @@ printable-turn_at c (untils.After k) h =
 printable-turn : (w : List ℕ) → IsTurnWord w → All IsPrintable w
 printable-turn w h =
     All-same IsPrintable w (join_with_byte 64 (pieces_of h.cpu h.until)) (sym (join_with_byte-slice_split 64 w) ∙ ap (join_with_byte 64) h.same) (printable-turn_at h.cpu h.until h.fits)
-
-shape-turn_at : (pieces : List (List ℕ)) (c : ℕ) (u : Until) → pieces ≡ pieces_of c u → HaveTurnShape pieces
-shape-turn_at pieces c untils.One e = inl (ap length e)
-shape-turn_at pieces c untils.Command e = inl (ap length e)
-shape-turn_at pieces c (untils.After k) e = inr (ap length e, (k, ap (λ us. get_or us 1 []) e))
-
-shape-turn : (w : List ℕ) → IsTurnWord w → HasTurnShape w
-shape-turn w h = shape-turn_at (turn_pieces w) h.cpu h.until h.same
 
 turn_words : (ws : List (List ℕ)) (ts : List Go) → Pairs IsTurn ws ts → All IsTurnWord ws
 turn_words [] ts h = All-nil IsTurnWord

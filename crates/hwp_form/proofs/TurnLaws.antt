@@ -1,5 +1,5 @@
 -- Laws of the words of a schedule.
-use Rattle.std.proofs.Common.{ℕ, ◌≡◌, ◌≢◌, ◌<◌, ◌≤◌, ◌^◌, ◌+◌, ◌++◌, Bool, true, false, List, [], ◌∷◌, length, get_or, take, map, Bor, decimal, refl, sym, ap, subst, arith}
+use Rattle.std.proofs.Common.{ℕ, ◌≡◌, ◌≢◌, ◌<◌, ◌≤◌, ◌^◌, ◌+◌, ◌++◌, Bool, true, false, List, [], ◌∷◌, length, get_or, take, map, Bor, decimal, refl, sym, ap, subst, arith, inl, inr}
 use Rattle.std.specs.Prelude.{All}
 use Rattle.std.proofs.lemmas.Fmt.{decimal_is_IsNumeral}
 use Rattle.std.proofs.lemmas.List.{append_cancel_right, length-map, get_or-map, take_all}
@@ -7,10 +7,12 @@ use Rattle.std.proofs.lemmas.List.Elements.{All-push, All-contains, Contains-pus
 use Rattle.hwp_geom.specs.Pairs.{Pairs}
 use Rattle.hwp_geom.proofs.WordLaws.{digits_differ}
 use Rattle.hwp_form.specs.Numbers.{IsNumber}
-use Rattle.hwp_form.specs.Grammar.{pieces_of, HaveTurnNumber, IsTurn, IsTurnOver, IsTurnWord, IsScheduleOver, HasTurnShape}
+use Rattle.hwp_form.specs.Grammar.{pieces_of, HaveTurnNumber, IsTurn, IsTurnOver, IsTurnWord, IsSentence, IsSentenceOver, schedule_keyword, HasTurnShape, HaveTurnShape, turn_pieces}
 use Rattle.hwp_form.specs.declared.command.Go.{Go}
 use Rattle.hwp_form.specs.declared.command.Until.{Until}
 use Rattle.hwp_form.specs.declared.command.Until.TheVariants as untils
+use Rattle.hwp_form.specs.declared.form.Form.{Form}
+use Rattle.hwp_form.specs.declared.form.Form.TheVariants as forms
 use Rattle.hwp_form.proofs.PairsLaws.{Pairs-push, Pairs-partner, take-now, All-now}
 
 -- a number has no dot at its end
@@ -30,6 +32,14 @@ no_command-at cpu none c (untils.After k) h e = absurd (omega (arith, ap length 
 pub no_command : (cpu : List ℕ) → ((n : ℕ) → IsNumber cpu n → ⊥) → HaveTurnNumber ((cpu ++ 46 ∷ []) ∷ []) → ⊥
 no_command cpu none h = no_command-at cpu none h.cpu h.until h.fits h.same
 
+pub shape-turn_at : (pieces : List (List ℕ)) (c : ℕ) (u : Until) → pieces ≡ pieces_of c u → HaveTurnShape pieces
+shape-turn_at pieces c untils.One e = inl (ap length e)
+shape-turn_at pieces c untils.Command e = inl (ap length e)
+shape-turn_at pieces c (untils.After k) e = inr (ap length e, (k, ap (λ us. get_or us 1 []) e))
+
+pub shape-turn : (w : List ℕ) → IsTurnWord w → HasTurnShape w
+shape-turn w h = shape-turn_at (turn_pieces w) h.cpu h.until h.same
+
 -- what is read of the first i words: they have the shape, and they are the turns unless a word was bad or over its limit
 pub record AreTurnsSoFar (ws : List (List ℕ)) (i : ℕ) (turns : List Go) (is_bad is_over : Bool) : Type 0 where
   pub shaped : All HasTurnShape (take i ws)
@@ -47,10 +57,10 @@ shaped_more : (words : List (Bor (List ℕ))) (i : ℕ) (d : Bor (List ℕ)) (P 
 shaped_more words i d P l here h = rw (take-now words i d l) (All-push P (take i (map (λ w. w.now) words)) (get_or words i d).now h here)
 
 pub turns-good : (words : List (Bor (List ℕ))) (i : ℕ) (d : Bor (List ℕ)) (turns : List Go) (is_bad is_over : Bool) (turn : Go)
-    → AreTurnsSoFar (map (λ w. w.now) words) i turns is_bad is_over → i < length words → HasTurnShape (get_or words i d).now
+    → AreTurnsSoFar (map (λ w. w.now) words) i turns is_bad is_over → i < length words
     → IsTurn (get_or words i d).now turn → AreTurnsSoFar (map (λ w. w.now) words) (i + 1) (turns ++ turn ∷ []) is_bad is_over
-turns-good words i d turns is_bad is_over turn h l shape is = record {
-  shaped = shaped_more words i d HasTurnShape l shape h.shaped;
+turns-good words i d turns is_bad is_over turn h l is = record {
+  shaped = shaped_more words i d HasTurnShape l (shape-turn_at (turn_pieces (get_or words i d).now) turn.cpu.0 turn.until is.same) h.shaped;
   numbers = λ e. shaped_more words i d IsTurnWord l (turn_word (get_or words i d).now turn is) (h.numbers e);
   good = λ e f. rw (take-now words i d l) (Pairs-push IsTurn (take i (map (λ w. w.now) words)) turns (get_or words i d).now turn (h.good e f) is);
   ill = h.ill;
@@ -96,12 +106,29 @@ pub turns-shaped : (words : List (Bor (List ℕ))) (i : ℕ) (turns : List Go) (
 turns-shaped words i turns is_bad is_over h all =
     subst (All HasTurnShape) (take_all i (map (λ w. w.now) words) (rw length-map all)) h.shaped
 
+-- words that are no words of a schedule are no schedule
+no_schedule : (ws : List (List ℕ)) → ((ts : List Go) → Pairs IsTurn ws ts → ⊥) → (f : Form) → IsSentence schedule_keyword ws f → ⊥
+no_schedule ws none (forms.Schedule ts) h = none ts h.same
+no_schedule ws none forms.Header h = absurd (cc h.kind)
+no_schedule ws none (forms.Command o) h = absurd (cc h.kind)
+no_schedule ws none (forms.Trans m n p) h = absurd (cc h.kind)
+no_schedule ws none (forms.Thread m n p b) h = absurd (cc h.kind)
+no_schedule ws none (forms.Page q b) h = absurd (cc h.kind)
+no_schedule ws none forms.End h = absurd (cc h.kind)
+no_schedule ws none (forms.Cpus n) h = absurd (cc h.kind)
+no_schedule ws none (forms.Frames n) h = absurd (cc h.kind)
+no_schedule ws none (forms.Kernel n) h = absurd (cc h.kind)
+no_schedule ws none (forms.Recovery n) h = absurd (cc h.kind)
+no_schedule ws none (forms.Early n) h = absurd (cc h.kind)
+no_schedule ws none (forms.File n) h = absurd (cc h.kind)
+no_schedule ws none (forms.Proc n) h = absurd (cc h.kind)
+no_schedule ws none (forms.Cpu n) h = absurd (cc h.kind)
+
 -- all words have numbers, and one is over its limit
 pub turns-high : (words : List (Bor (List ℕ))) (i : ℕ) (turns : List Go) (is_bad is_over : Bool) → AreTurnsSoFar (map (λ w. w.now) words) i turns is_bad is_over
-    → is_bad ≡ false → is_over ≡ true → length words ≤ i → 0 < length words → IsScheduleOver (map (λ w. w.now) words)
+    → is_bad ≡ false → is_over ≡ true → length words ≤ i → 0 < length words → IsSentenceOver schedule_keyword (map (λ w. w.now) words)
 turns-high words i turns is_bad is_over h good high all some = record {
-  some = rw length-map some;
-  shaped = turns-shaped words i turns is_bad is_over h all;
+  shaped = (rw length-map some, turns-shaped words i turns is_bad is_over h all);
   numbers = subst (All IsTurnWord) (take_all i (map (λ w. w.now) words) (rw length-map all)) (h.numbers good);
-  none = h.high high;
+  none = no_schedule (map (λ w. w.now) words) (h.high high);
 }

@@ -192,13 +192,6 @@ pub record AreTurnOver (pieces : List (List ℕ)) : Type 0 where
 abbrev pub IsTurnOver : List ℕ → Type 0
 IsTurnOver word = AreTurnOver (turn_pieces word)
 
--- each word is one of a schedule, but for the number of one, which is too high for a processor
-pub record IsScheduleOver (ws : List (List ℕ)) : Type 0 where
-  pub some : 0 < length ws
-  pub shaped : All HasTurnShape ws
-  pub numbers : All IsTurnWord ws
-  pub none : (turns : List Go) → Pairs IsTurn ws turns → ⊥
-
 -- the words of a line behind its first, as they are printed
 abbrev pub rest_words : Form → List (List ℕ)
 rest_words forms.Header = codes "1" ∷ []
@@ -382,7 +375,19 @@ pub record IsSentenceOver (k : Keyword) (ws : List (List ℕ)) : Type 0 where
   pub numbers : HaveNumbers k ws
   pub none : (f : Form) → IsSentence k ws f → ⊥
 
--- the first word of a schedule, of a thread, and of a page
+-- the first word of the head, of the end, of a translation, of a command, of a schedule, of a thread, and of a page
+abbrev pub header_keyword : Keyword
+header_keyword = keywords.Hwp
+
+abbrev pub end_keyword : Keyword
+end_keyword = keywords.End
+
+abbrev pub trans_keyword : Keyword
+trans_keyword = keywords.Trans
+
+abbrev pub command_keyword : CommandWord → Keyword
+command_keyword word = keywords.Command word
+
 abbrev pub schedule_keyword : Keyword
 schedule_keyword = keywords.Schedule
 

@@ -3,3 +3,4 @@ pub mod Kinds
 pub mod Grammar
 pub mod Lines
 pub mod Printed
+pub mod Misfits

@@ -1,12 +1,17 @@
 -- The printed words of some kinds of line, from their parts, and the text of lines.
-use Rattle.std.specs.Prelude.{ℕ, Bool, List}
+use Rattle.std.specs.Prelude.{ℕ, Bool, List, ◌∷◌}
 use Rattle.std.specs.List.{flat_map}
 use Rattle.hwp_geom.specs.Words.{line}
-use Rattle.hwp_form.specs.Grammar.{form_words}
+use Rattle.hwp_form.specs.Grammar.{form_words, command_text, command_word, command_words}
 use Rattle.hwp_form.specs.declared.form.Form.{Form}
 use Rattle.hwp_form.specs.declared.form.Backing.{Backing}
+use Rattle.hwp_form.specs.declared.command.Command.{Command}
 use Rattle.hwp_form.specs.declared.command.Go.{Go}
 use Rattle.hwp_form.specs.declared.form.Form.TheVariants as forms
+
+-- the text of the line of a command
+unfoldable pub command_line : Command → List ℕ
+command_line c = line (command_text (command_word c) ∷ command_words c)
 
 -- the words of a thread
 abbrev pub thread_words : ℕ → ℕ → ℕ → Bool → List (List ℕ)

@@ -1,7 +1,7 @@
 use hwp_geom::{Cpu, FileNo, Frame, Kind, Line, Page, Thread, VSlot};
 
 /// The five numbers of a `prctl` command, named as in prctl(2): the operation and its four arguments.
-#[derive(Clone, Copy, Debug, PartialEq, Eq)]
+#[derive(Clone, Copy)]
 pub struct PrctlArgs {
     pub operation: u64,
     pub arg2: u64,
@@ -11,7 +11,7 @@ pub struct PrctlArgs {
 }
 
 /// A command of a processor.
-#[derive(Clone, Copy, Debug, PartialEq, Eq)]
+#[derive(Clone, Copy)]
 pub enum Command {
     /// A thread loads the word at a line, through a translation.
     Load {
@@ -112,7 +112,7 @@ pub enum Command {
 }
 
 /// How long a processor goes on, in a word of a schedule.
-#[derive(Clone, Copy, Debug, PartialEq, Eq)]
+#[derive(Clone, Copy)]
 pub enum Until {
     /// `C`: for one turn.
     One,
@@ -123,7 +123,7 @@ pub enum Until {
 }
 
 /// A word of the schedule: a processor goes on.
-#[derive(Clone, Copy, Debug, PartialEq, Eq)]
+#[derive(Clone, Copy)]
 pub struct Go {
     pub cpu: Cpu,
     pub until: Until,

@@ -1,12 +1,11 @@
-ghost use Rattle.std.specs.Prelude.{◌≡◌, ◌<◌, ◌≤◌, ◌⊎◌, map, IfOk, IsErrOf, MatchResult};
+ghost use Rattle.std.specs.Prelude.{◌≡◌, ◌≢◌, ◌<◌, ◌≤◌, ◌⊎◌, ◌∷◌, map, codes, MatchOption, MatchResult};
 ghost use Rattle.hwp_geom.specs.Limits.{line_limit, frame_limit, file_limit, thread_limit, page_limit, translation_limit};
-ghost use Rattle.hwp_form.specs.Grammar.{bit, IsCommand, IsCommandOver, HasCommandShape, HasRaiseShape, HaveCommandNumbers, raise_word};
+ghost use Rattle.hwp_form.specs.Grammar.{bit, CommandFits, IsAccessWithin, IsCommand, raise_word};
+ghost use Rattle.hwp_form.specs.Misfits.{IsCommandMisfit, command_with, log_word};
 
 use crate::command::{Command, PrctlArgs};
 use crate::keywords::CommandWord;
-use crate::numbers::{
-    Misfit, four_numbers, one_number, six_numbers, three_numbers, three_registers, two_numbers,
-};
+use crate::numbers::{Misfit, read_numbers, three_registers};
 use crate::words::is_text;
 use hwp_geom::{
     FileNo, Frame, LINES, Line, MAX_FILES, MAX_FRAMES, MAX_PAGES, MAX_THREADS, MAX_TRANS, Page,
@@ -14,134 +13,152 @@ use hwp_geom::{
 };
 
 /// The thread of this number, if there may be one.
-fn thread_of(number: u64) -> Result<Thread, Misfit>
-    ensures { MatchResult result (λ thread. (thread.0 ≡ number) × (number < thread_limit)) (λ e. (e ≡ Misfit.OverLimit) × (thread_limit ≤ number)) }
+fn thread_of(number: u64) -> Option<Thread>
+    ensures { MatchOption result (thread_limit ≤ number) (λ thread. (thread ≡ record { 0 = number }) × (number < thread_limit)) }
 {
     if number < u64::from(MAX_THREADS) {
-        Ok(Thread(number as u8))
+        Some(Thread(number as u8))
     } else {
-        Err(Misfit::OverLimit)
+        None
     }
 }
 
 /// The translation of this number, if there may be one.
-fn slot_of(number: u64) -> Result<VSlot, Misfit>
-    ensures { MatchResult result (λ slot. (slot.0 ≡ number) × (number < translation_limit)) (λ e. (e ≡ Misfit.OverLimit) × (translation_limit ≤ number)) }
+fn slot_of(number: u64) -> Option<VSlot>
+    ensures { MatchOption result (translation_limit ≤ number) (λ slot. (slot ≡ record { 0 = number }) × (number < translation_limit)) }
 {
     if number < u64::from(MAX_TRANS) {
-        Ok(VSlot(number as u16))
+        Some(VSlot(number as u16))
     } else {
-        Err(Misfit::OverLimit)
+        None
     }
 }
 
 /// The page of this number, if there may be one.
-fn page_of(number: u64) -> Result<Page, Misfit>
-    ensures { MatchResult result (λ page. (page.0 ≡ number) × (number < page_limit)) (λ e. (e ≡ Misfit.OverLimit) × (page_limit ≤ number)) }
+fn page_of(number: u64) -> Option<Page>
+    ensures { MatchOption result (page_limit ≤ number) (λ page. (page ≡ record { 0 = number }) × (number < page_limit)) }
 {
     if number < u64::from(MAX_PAGES) {
-        Ok(Page(number as u16))
+        Some(Page(number as u16))
     } else {
-        Err(Misfit::OverLimit)
+        None
     }
 }
 
 /// The frame of this number, if there may be one.
-fn frame_of(number: u64) -> Result<Frame, Misfit>
-    ensures { MatchResult result (λ frame. (frame.0 ≡ number) × (number < frame_limit)) (λ e. (e ≡ Misfit.OverLimit) × (frame_limit ≤ number)) }
+fn frame_of(number: u64) -> Option<Frame>
+    ensures { MatchOption result (frame_limit ≤ number) (λ frame. (frame ≡ record { 0 = number }) × (number < frame_limit)) }
 {
     if number < u64::from(MAX_FRAMES) {
-        Ok(Frame(number as u16))
+        Some(Frame(number as u16))
     } else {
-        Err(Misfit::OverLimit)
+        None
     }
 }
 
 /// The file of this number, if there may be one.
-fn file_of(number: u64) -> Result<FileNo, Misfit>
-    ensures { MatchResult result (λ file. (file.0 ≡ number) × (number < file_limit)) (λ e. (e ≡ Misfit.OverLimit) × (file_limit ≤ number)) }
+fn file_of(number: u64) -> Option<FileNo>
+    ensures { MatchOption result (file_limit ≤ number) (λ file. (file ≡ record { 0 = number }) × (number < file_limit)) }
 {
     if number < u64::from(MAX_FILES) {
-        Ok(FileNo(number as u8))
+        Some(FileNo(number as u8))
     } else {
-        Err(Misfit::OverLimit)
+        None
     }
 }
 
 /// The line of this number, if there is one.
-fn line_of(number: u64) -> Result<Line, Misfit>
-    ensures { MatchResult result (λ line. (line ≡ number) × (number < line_limit)) (λ e. (e ≡ Misfit.OverLimit) × (line_limit ≤ number)) }
+fn line_of(number: u64) -> Option<Line>
+    ensures { MatchOption result (line_limit ≤ number) (λ line. (line ≡ number) × (number < line_limit)) }
 {
     if number >= LINES as u64 {
-        return Err(Misfit::OverLimit);
+        return None;
     }
-    Line::new(number as u8).ok_or(Misfit::OverLimit)
+    Line::new(number as u8)
 }
 
 /// The thread, the translation and the line of an access.
-fn access_of(thread: u64, slot: u64, line: u64) -> Result<(Thread, VSlot, Line), Misfit>
-    ensures { MatchResult result (λ a. (a.0.0 ≡ thread) × (a.1.0 ≡ slot) × (a.2 ≡ line) × (thread < thread_limit) × (slot < translation_limit) × (line < line_limit)) (λ e. (e ≡ Misfit.OverLimit) × ((thread_limit ≤ thread) ⊎ (translation_limit ≤ slot) ⊎ (line_limit ≤ line))) }
+fn access_of(thread: u64, slot: u64, line: u64) -> Option<(Thread, VSlot, Line)>
+    ensures { MatchOption result (IsAccessWithin (record { 0 = thread }) (record { 0 = slot }) line → ⊥) (λ a. (a.0 ≡ record { 0 = thread }) × (a.1 ≡ record { 0 = slot }) × (a.2 ≡ line) × IsAccessWithin (record { 0 = thread }) (record { 0 = slot }) line) }
 {
-    Ok((thread_of(thread)?, slot_of(slot)?, line_of(line)?))
+    Some((thread_of(thread)?, slot_of(slot)?, line_of(line)?))
 }
 
 /// A line of a frame.
-fn place_of(frame: u64, line: u64) -> Result<(Frame, Line), Misfit>
-    ensures { MatchResult result (λ p. (p.0.0 ≡ frame) × (p.1 ≡ line) × (frame < frame_limit) × (line < line_limit)) (λ e. (e ≡ Misfit.OverLimit) × ((frame_limit ≤ frame) ⊎ (line_limit ≤ line))) }
+fn place_of(frame: u64, line: u64) -> Option<(Frame, Line)>
+    ensures { MatchOption result ((frame < frame_limit) × (line < line_limit) → ⊥) (λ p. (p.0 ≡ record { 0 = frame }) × (p.1 ≡ line) × (frame < frame_limit) × (line < line_limit)) }
 {
-    Ok((frame_of(frame)?, line_of(line)?))
+    Some((frame_of(frame)?, line_of(line)?))
 }
 
 /// Frames from the first to the last.
-fn range_of(first: u64, last: u64) -> Result<(Frame, Frame), Misfit>
-    ensures { MatchResult result (λ r. (r.0.0 ≡ first) × (r.1.0 ≡ last) × (first ≤ last) × (last < frame_limit)) (λ e. (e ≡ Misfit.OverLimit) × ((last < first) ⊎ (frame_limit ≤ last))) }
+fn range_of(first: u64, last: u64) -> Option<(Frame, Frame)>
+    ensures { MatchOption result ((first ≤ last) × (last < frame_limit) → ⊥) (λ r. (r.0 ≡ record { 0 = first }) × (r.1 ≡ record { 0 = last }) × (first ≤ last) × (last < frame_limit)) }
 {
     if first > last {
-        return Err(Misfit::OverLimit);
+        return None;
     }
     let last = frame_of(last)?;
-    Ok((Frame(first as u16), last))
+    Some((Frame(first as u16), last))
 }
 
 /// The truth value that is written as this number, if it is one.
-fn truth(number: u64) -> Result<bool, Misfit>
-    ensures { MatchResult result (λ value. (number ≡ bit value) × (number ≤ 1)) (λ e. (e ≡ Misfit.OverLimit) × (1 < number)) }
+fn truth(number: u64) -> Option<bool>
+    ensures { MatchOption result (1 < number) (λ value. number ≡ bit value) }
 {
-    if number <= 1 {
-        Ok(number == 1)
-    } else {
-        Err(Misfit::OverLimit)
-    }
+    if number <= 1 { Some(number == 1) } else { None }
 }
 
 /// The bits RIPV and EIPV.
-fn bits_of(ripv: u64, eipv: u64) -> Result<(bool, bool), Misfit>
-    ensures { MatchResult result (λ b. (ripv ≡ bit b.0) × (eipv ≡ bit b.1)) (λ e. (e ≡ Misfit.OverLimit) × ((1 < ripv) ⊎ (1 < eipv))) }
+fn bits_of(ripv: u64, eipv: u64) -> Option<(bool, bool)>
+    ensures { MatchOption result ((1 < ripv) ⊎ (1 < eipv)) (λ b. (ripv ≡ bit b.0) × (eipv ≡ bit b.1)) }
 {
-    Ok((truth(ripv)?, truth(eipv)?))
+    Some((truth(ripv)?, truth(eipv)?))
+}
+
+/// The machine check of a thread that these words behind `raise user` say.
+fn read_user(words: &[&[u8]]) -> Result<Command, Misfit>
+    ensures { MatchResult result (IsCommand raise_word (codes "user" ∷ map (λ w. w.now) words.now)) (IsCommandMisfit raise_word (codes "user" ∷ map (λ w. w.now) words.now)) }
+{
+    let numbers = match read_numbers(words, 3) {
+        Ok(numbers) => numbers,
+        Err(misfit) => return Err(misfit),
+    };
+    let Some(thread) = thread_of(numbers[0]) else {
+        return Err(Misfit::OverLimit);
+    };
+    let Some((ripv, eipv)) = bits_of(numbers[1], numbers[2]) else {
+        return Err(Misfit::OverLimit);
+    };
+    Ok(Command::RaiseUser { thread, ripv, eipv })
+}
+
+/// The machine check in the kernel that these words behind `raise kernel` say.
+fn read_kernel(words: &[&[u8]]) -> Result<Command, Misfit>
+    ensures { MatchResult result (IsCommand raise_word (codes "kernel" ∷ map (λ w. w.now) words.now)) (IsCommandMisfit raise_word (codes "kernel" ∷ map (λ w. w.now) words.now)) }
+{
+    let numbers = match read_numbers(words, 2) {
+        Ok(numbers) => numbers,
+        Err(misfit) => return Err(misfit),
+    };
+    let Some((ripv, eipv)) = bits_of(numbers[0], numbers[1]) else {
+        return Err(Misfit::OverLimit);
+    };
+    Ok(Command::RaiseKernel { ripv, eipv })
 }
 
 /// The machine check that these words behind `raise` say.
 fn read_raise(words: &[&[u8]]) -> Result<Command, Misfit>
-    ensures raise { IfOk result (IsCommand raise_word (map (λ w. w.now) words.now)) }
-    ensures shaped { IfOk result (λ command. HasRaiseShape (map (λ w. w.now) words.now)) }
-    ensures unknown { IsErrOf result Misfit.Unknown → HasRaiseShape (map (λ w. w.now) words.now) → ⊥ }
-    ensures bad { IsErrOf result Misfit.BadNumber → HasRaiseShape (map (λ w. w.now) words.now) × (HaveCommandNumbers raise_word (map (λ w. w.now) words.now) → ⊥) }
-    ensures over { IsErrOf result Misfit.OverLimit → IsCommandOver raise_word (map (λ w. w.now) words.now) }
+    ensures { MatchResult result (IsCommand raise_word (map (λ w. w.now) words.now)) (IsCommandMisfit raise_word (map (λ w. w.now) words.now)) }
 {
     let [mode, rest @ ..] = words else {
         return Err(Misfit::Unknown);
     };
     if is_text(mode, "user") {
-        let (thread, ripv, eipv) = three_numbers(rest)?;
-        let thread = thread_of(thread)?;
-        let (ripv, eipv) = bits_of(ripv, eipv)?;
-        return Ok(Command::RaiseUser { thread, ripv, eipv });
+        return read_user(rest);
     }
     if is_text(mode, "kernel") {
-        let (ripv, eipv) = two_numbers(rest)?;
-        let (ripv, eipv) = bits_of(ripv, eipv)?;
-        return Ok(Command::RaiseKernel { ripv, eipv });
+        return read_kernel(rest);
     }
     if is_text(mode, "nested") && rest.is_empty() {
         Ok(Command::RaiseNested)
@@ -150,95 +167,118 @@ fn read_raise(words: &[&[u8]]) -> Result<Command, Misfit>
     }
 }
 
-/// The command of this first word that these words behind it say.
-pub(crate) fn read_command(word: CommandWord, words: &[&[u8]]) -> Result<Command, Misfit>
-    ensures command { IfOk result (IsCommand word (map (λ w. w.now) words.now)) }
-    ensures shaped { IfOk result (λ command. HasCommandShape word (map (λ w. w.now) words.now)) }
-    ensures unknown { IsErrOf result Misfit.Unknown → HasCommandShape word (map (λ w. w.now) words.now) → ⊥ }
-    ensures bad { IsErrOf result Misfit.BadNumber → HasCommandShape word (map (λ w. w.now) words.now) × (HaveCommandNumbers word (map (λ w. w.now) words.now) → ⊥) }
-    ensures over { IsErrOf result Misfit.OverLimit → IsCommandOver word (map (λ w. w.now) words.now) }
+/// The command of this first word behind which these numbers stand, if each is within its range.
+fn command_with(word: CommandWord, numbers: [u64; 6]) -> Option<Command>
+    requires { (word ≢ log_word) × (word ≢ raise_word) }
+    ensures { MatchOption result (CommandFits (command_with word numbers) → ⊥) (λ c. (c ≡ command_with word numbers) × CommandFits (command_with word numbers)) }
 {
+    let [first, second, third, fourth, fifth, sixth] = numbers;
     match word {
         CommandWord::Load => {
-            let (thread, slot, line) = three_numbers(words)?;
-            let (thread, slot, line) = access_of(thread, slot, line)?;
-            Ok(Command::Load { thread, slot, line })
+            let (thread, slot, line) = access_of(first, second, third)?;
+            Some(Command::Load { thread, slot, line })
         }
         CommandWord::Fetch => {
-            let (thread, slot, line) = three_numbers(words)?;
-            let (thread, slot, line) = access_of(thread, slot, line)?;
-            Ok(Command::Fetch { thread, slot, line })
+            let (thread, slot, line) = access_of(first, second, third)?;
+            Some(Command::Fetch { thread, slot, line })
         }
         CommandWord::KLoad => {
-            let (thread, slot, line) = three_numbers(words)?;
-            let (thread, slot, line) = access_of(thread, slot, line)?;
-            Ok(Command::KLoad { thread, slot, line })
+            let (thread, slot, line) = access_of(first, second, third)?;
+            Some(Command::KLoad { thread, slot, line })
         }
         CommandWord::Store => {
-            let (thread, slot, line, word) = four_numbers(words)?;
-            let (thread, slot, line) = access_of(thread, slot, line)?;
-            Ok(Command::Store {
+            let (thread, slot, line) = access_of(first, second, third)?;
+            let word = fourth;
+            Some(Command::Store {
                 thread,
                 slot,
                 line,
                 word,
             })
         }
-        CommandWord::Free => Ok(Command::Free {
-            slot: slot_of(one_number(words)?)?,
-        }),
-        CommandWord::Drop => Ok(Command::Drop {
-            page: page_of(one_number(words)?)?,
-        }),
-        CommandWord::Sync => Ok(Command::Sync {
-            page: page_of(one_number(words)?)?,
-        }),
-        CommandWord::Out => Ok(Command::Out {
-            page: page_of(one_number(words)?)?,
-        }),
-        CommandWord::Fsync => Ok(Command::Fsync {
-            file: file_of(one_number(words)?)?,
-        }),
+        CommandWord::Free => {
+            let slot = slot_of(first)?;
+            Some(Command::Free { slot })
+        }
+        CommandWord::Drop => {
+            let page = page_of(first)?;
+            Some(Command::Drop { page })
+        }
+        CommandWord::Sync => {
+            let page = page_of(first)?;
+            Some(Command::Sync { page })
+        }
+        CommandWord::Out => {
+            let page = page_of(first)?;
+            Some(Command::Out { page })
+        }
+        CommandWord::Fsync => {
+            let file = file_of(first)?;
+            Some(Command::Fsync { file })
+        }
         CommandWord::Prctl => {
-            let (thread, operation, arg2, arg3, arg4, arg5) = six_numbers(words)?;
-            let thread = thread_of(thread)?;
+            let thread = thread_of(first)?;
             let args = PrctlArgs {
-                operation,
-                arg2,
-                arg3,
-                arg4,
-                arg5,
+                operation: second,
+                arg2: third,
+                arg3: fourth,
+                arg4: fifth,
+                arg5: sixth,
             };
-            Ok(Command::Prctl { thread, args })
+            Some(Command::Prctl { thread, args })
         }
         CommandWord::Bad => {
-            let (frame, line) = two_numbers(words)?;
-            let (frame, line) = place_of(frame, line)?;
-            Ok(Command::Bad { frame, line })
+            let (frame, line) = place_of(first, second)?;
+            Some(Command::Bad { frame, line })
         }
         CommandWord::Weak => {
-            let (frame, line) = two_numbers(words)?;
-            let (frame, line) = place_of(frame, line)?;
-            Ok(Command::Weak { frame, line })
+            let (frame, line) = place_of(first, second)?;
+            Some(Command::Weak { frame, line })
         }
         CommandWord::Scrub => {
-            let (first, last) = two_numbers(words)?;
-            let (first, last) = range_of(first, last)?;
-            Ok(Command::Scrub { first, last })
+            let (first, last) = range_of(first, second)?;
+            Some(Command::Scrub { first, last })
         }
-        CommandWord::Log => {
-            let (status, addr, misc) = three_registers(words)?;
-            Ok(Command::Log { status, addr, misc })
+        CommandWord::Inject => {
+            let frame = frame_of(first)?;
+            Some(Command::Inject { frame })
         }
+        CommandWord::Soft => {
+            let frame = frame_of(first)?;
+            Some(Command::Soft { frame })
+        }
+        CommandWord::Unpoison => {
+            let frame = frame_of(first)?;
+            Some(Command::Unpoison { frame })
+        }
+        CommandWord::Log | CommandWord::Raise => unreachable!(),
+    }
+}
+
+/// The command of this first word, which has numbers only, that these words behind it say.
+fn read_plain_command(word: CommandWord, words: &[&[u8]]) -> Result<Command, Misfit>
+    requires { (word ≢ log_word) × (word ≢ raise_word) }
+    ensures { MatchResult result (IsCommand word (map (λ w. w.now) words.now)) (IsCommandMisfit word (map (λ w. w.now) words.now)) }
+{
+    match read_numbers(words, word.number_count()) {
+        Ok(numbers) => match command_with(word, numbers) {
+            Some(command) => Ok(command),
+            None => Err(Misfit::OverLimit),
+        },
+        Err(misfit) => Err(misfit),
+    }
+}
+
+/// The command of this first word that these words behind it say.
+pub(crate) fn read_command(word: CommandWord, words: &[&[u8]]) -> Result<Command, Misfit>
+    ensures { MatchResult result (IsCommand word (map (λ w. w.now) words.now)) (IsCommandMisfit word (map (λ w. w.now) words.now)) }
+{
+    match word {
+        CommandWord::Log => match three_registers(words) {
+            Ok((status, addr, misc)) => Ok(Command::Log { status, addr, misc }),
+            Err(misfit) => Err(misfit),
+        },
         CommandWord::Raise => read_raise(words),
-        CommandWord::Inject => Ok(Command::Inject {
-            frame: frame_of(one_number(words)?)?,
-        }),
-        CommandWord::Soft => Ok(Command::Soft {
-            frame: frame_of(one_number(words)?)?,
-        }),
-        CommandWord::Unpoison => Ok(Command::Unpoison {
-            frame: frame_of(one_number(words)?)?,
-        }),
+        _ => read_plain_command(word, words),
     }
 }

@@ -2,7 +2,7 @@ use crate::command::{Command, Go};
 use hwp_geom::List;
 
 /// What stands behind a page, with its numbers as they are written.
-#[derive(Clone, Copy, Debug, PartialEq, Eq)]
+#[derive(Clone, Copy)]
 pub enum Backing {
     /// `anon`: nothing.
     Anon,

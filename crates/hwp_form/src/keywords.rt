@@ -1,5 +1,6 @@
-ghost use Rattle.std.specs.Prelude.{◌≡◌, IfSome, IfNone};
+ghost use Rattle.std.specs.Prelude.{◌≡◌, ◌≤◌, IfSome, IfNone};
 ghost use Rattle.hwp_form.specs.Grammar.{keyword_text, command_text};
+ghost use Rattle.hwp_form.specs.Misfits.{number_count};
 ghost use Rattle.hwp_form.specs.declared.keywords.Keyword.{Keyword};
 ghost use Rattle.hwp_form.specs.declared.keywords.CommandWord.{CommandWord};
 
@@ -112,6 +113,20 @@ impl CommandWord {
             CommandWord::Inject => "inject",
             CommandWord::Soft => "soft",
             CommandWord::Unpoison => "unpoison",
+        }
+    }
+
+    /// How many numbers stand behind the word, where only numbers do.
+    pub(crate) fn number_count(self) -> usize
+        ensures count { result ≡ number_count self }
+        ensures most { result ≤ 6 }
+    {
+        match self {
+            CommandWord::Load | CommandWord::Fetch | CommandWord::KLoad => 3,
+            CommandWord::Store => 4,
+            CommandWord::Bad | CommandWord::Weak | CommandWord::Scrub => 2,
+            CommandWord::Prctl => 6,
+            _ => 1,
         }
     }
 }

@@ -1,7 +1,8 @@
-ghost use Rattle.std.specs.Prelude.{◌≡◌, ◌≢◌, ◌≤◌, ℕ, ◌^◌, ◌<◌, ◌↔◌, List, [], ◌∷◌, length, map, codes, decimal, All, IfOk, IsErrOf, IfSome, IfNone, MatchResult, MatchOption};
+ghost use Rattle.std.specs.Prelude.{◌≡◌, ◌≤◌, ℕ, ◌^◌, ◌<◌, [], ◌∷◌, length, map, decimal, IfSome, IfNone, MatchResult, MatchOption};
 ghost use Rattle.std.specs.Str.Parse.{AllDigits, digits_value};
 ghost use Rattle.hwp_form.specs.Numbers.{IsNumber, IsNumberWord, IsRegister, IsRegisterWord};
 ghost use Rattle.hwp_form.specs.Grammar.{AreRegisters};
+ghost use Rattle.hwp_form.specs.Misfits.{AreMisfit, AreNumbers};
 
 use itoa::Buffer;
 
@@ -34,13 +35,6 @@ pub(crate) fn read_number(word: &[u8]) -> Option<u64>
     }
 }
 
-/// The number that a word in a number's place is.
-pub(crate) fn number(word: &[u8]) -> Result<u64, Misfit>
-    ensures { MatchResult result (IsNumber word.now) (λ e. (e ≡ Misfit.BadNumber) × ((n : ℕ) → IsNumber word.now n → ⊥)) }
-{
-    read_number(word).ok_or(Misfit::BadNumber)
-}
-
 /// The number that hex digits write, if they are hex digits.
 fn read_hex(digits: &[u8]) -> Option<u64>
     requires { length digits.now ≤ 16 }
@@ -57,104 +51,72 @@ fn read_hex(digits: &[u8]) -> Option<u64>
 }
 
 /// The value of a register word: `0`, or `0x` and 1 to 16 hex digits of either case.
-fn register(word: &[u8]) -> Result<u64, Misfit>
-    ensures { MatchResult result (IsRegister word.now) (λ e. (e ≡ Misfit.BadNumber) × ((n : ℕ) → IsRegister word.now n → ⊥)) }
+fn register(word: &[u8]) -> Option<u64>
+    ensures { MatchOption result ((n : ℕ) → IsRegister word.now n → ⊥) (IsRegister word.now) }
 {
     match word {
-        b"0" => Ok(0),
-        [b'0', b'x', digits @ ..] if !digits.is_empty() && digits.len() <= 16 => {
-            read_hex(digits).ok_or(Misfit::BadNumber)
-        }
-        _ => Err(Misfit::BadNumber),
+        b"0" => Some(0),
+        [b'0', b'x', digits @ ..] if !digits.is_empty() && digits.len() <= 16 => read_hex(digits),
+        _ => None,
     }
+}
+
+/// The values of the register words status, address and misc.
+fn registers_of(status: &[u8], addr: &[u8], misc: &[u8]) -> Option<(u64, u64, u64)>
+    ensures { MatchOption result ((s a m : ℕ) → IsRegister status.now s → IsRegister addr.now a → IsRegister misc.now m → ⊥) (λ n. IsRegister status.now n.0 × IsRegister addr.now n.1 × IsRegister misc.now n.2) }
+{
+    let Some(status) = register(status) else {
+        return None;
+    };
+    let Some(addr) = register(addr) else {
+        return None;
+    };
+    let Some(misc) = register(misc) else {
+        return None;
+    };
+    Some((status, addr, misc))
 }
 
 /// The values of three register words: status, address and misc.
 pub(crate) fn three_registers(words: &[&[u8]]) -> Result<(u64, u64, u64), Misfit>
-    ensures registers { IfOk result (λ n. AreRegisters (map (λ w. w.now) words.now) n.0 n.1 n.2) }
-    ensures unknown { IsErrOf result Misfit.Unknown → length (map (λ w. w.now) words.now) ≢ 3 }
-    ensures bad { IsErrOf result Misfit.BadNumber → (length (map (λ w. w.now) words.now) ≡ 3) × (All IsRegisterWord (map (λ w. w.now) words.now) → ⊥) }
-    ensures within { IsErrOf result Misfit.OverLimit → ⊥ }
+    ensures { MatchResult result (λ n. AreRegisters (map (λ w. w.now) words.now) n.0 n.1 n.2) (AreMisfit IsRegisterWord 3 (map (λ w. w.now) words.now)) }
 {
-    match words {
-        [status, addr, misc] => Ok((register(status)?, register(addr)?, register(misc)?)),
-        _ => Err(Misfit::Unknown),
+    let [status, addr, misc] = words else {
+        return Err(Misfit::Unknown);
+    };
+    match registers_of(status, addr, misc) {
+        Some(values) => Ok(values),
+        None => Err(Misfit::BadNumber),
     }
 }
 
 /// The number that these words are: just one.
 pub(crate) fn one_number(words: &[&[u8]]) -> Result<u64, Misfit>
-    ensures numbers { IfOk result (λ n. (n < 2 ^ 64) × (map (λ w. w.now) words.now ≡ decimal n ∷ [])) }
-    ensures unknown { IsErrOf result Misfit.Unknown → length (map (λ w. w.now) words.now) ≢ 1 }
-    ensures bad { IsErrOf result Misfit.BadNumber → (length (map (λ w. w.now) words.now) ≡ 1) × (All IsNumberWord (map (λ w. w.now) words.now) → ⊥) }
-    ensures within { IsErrOf result Misfit.OverLimit → ⊥ }
+    ensures { MatchResult result (λ n. (n < 2 ^ 64) × (map (λ w. w.now) words.now ≡ decimal n ∷ [])) (AreMisfit IsNumberWord 1 (map (λ w. w.now) words.now)) }
 {
-    match words {
-        [word] => number(word),
-        _ => Err(Misfit::Unknown),
+    let [word] = words else {
+        return Err(Misfit::Unknown);
+    };
+    match read_number(word) {
+        Some(number) => Ok(number),
+        None => Err(Misfit::BadNumber),
     }
 }
 
-/// The numbers that these words are: just two.
-pub(crate) fn two_numbers(words: &[&[u8]]) -> Result<(u64, u64), Misfit>
-    ensures numbers { IfOk result (λ n. (n.0 < 2 ^ 64) × (n.1 < 2 ^ 64) × (map (λ w. w.now) words.now ≡ decimal n.0 ∷ decimal n.1 ∷ [])) }
-    ensures unknown { IsErrOf result Misfit.Unknown → length (map (λ w. w.now) words.now) ≢ 2 }
-    ensures bad { IsErrOf result Misfit.BadNumber → (length (map (λ w. w.now) words.now) ≡ 2) × (All IsNumberWord (map (λ w. w.now) words.now) → ⊥) }
-    ensures within { IsErrOf result Misfit.OverLimit → ⊥ }
+/// The numbers that these words are, if there are `count` of them: each in its place, and 0 in the places behind.
+pub(crate) fn read_numbers(words: &[&[u8]], count: usize) -> Result<[u64; 6], Misfit>
+    requires { count ≤ 6 }
+    ensures { MatchResult result (AreNumbers count (map (λ w. w.now) words.now)) (AreMisfit IsNumberWord count (map (λ w. w.now) words.now)) }
 {
-    match words {
-        [first, second] => Ok((number(first)?, number(second)?)),
-        _ => Err(Misfit::Unknown),
+    if words.len() != count {
+        return Err(Misfit::Unknown);
     }
-}
-
-/// The numbers that these words are: just three.
-pub(crate) fn three_numbers(words: &[&[u8]]) -> Result<(u64, u64, u64), Misfit>
-    ensures numbers { IfOk result (λ n. (n.0 < 2 ^ 64) × (n.1 < 2 ^ 64) × (n.2 < 2 ^ 64) × (map (λ w. w.now) words.now ≡ decimal n.0 ∷ decimal n.1 ∷ decimal n.2 ∷ [])) }
-    ensures unknown { IsErrOf result Misfit.Unknown → length (map (λ w. w.now) words.now) ≢ 3 }
-    ensures bad { IsErrOf result Misfit.BadNumber → (length (map (λ w. w.now) words.now) ≡ 3) × (All IsNumberWord (map (λ w. w.now) words.now) → ⊥) }
-    ensures within { IsErrOf result Misfit.OverLimit → ⊥ }
-{
-    match words {
-        [first, second, third] => Ok((number(first)?, number(second)?, number(third)?)),
-        _ => Err(Misfit::Unknown),
+    let mut numbers = [0; 6];
+    for at in 0..count {
+        let Some(number) = read_number(words[at]) else {
+            return Err(Misfit::BadNumber);
+        };
+        numbers[at] = number;
     }
-}
-
-/// The numbers that these words are: just four.
-pub(crate) fn four_numbers(words: &[&[u8]]) -> Result<(u64, u64, u64, u64), Misfit>
-    ensures numbers { IfOk result (λ n. (n.0 < 2 ^ 64) × (n.1 < 2 ^ 64) × (n.2 < 2 ^ 64) × (n.3 < 2 ^ 64) × (map (λ w. w.now) words.now ≡ decimal n.0 ∷ decimal n.1 ∷ decimal n.2 ∷ decimal n.3 ∷ [])) }
-    ensures unknown { IsErrOf result Misfit.Unknown → length (map (λ w. w.now) words.now) ≢ 4 }
-    ensures bad { IsErrOf result Misfit.BadNumber → (length (map (λ w. w.now) words.now) ≡ 4) × (All IsNumberWord (map (λ w. w.now) words.now) → ⊥) }
-    ensures within { IsErrOf result Misfit.OverLimit → ⊥ }
-{
-    match words {
-        [first, second, third, fourth] => Ok((
-            number(first)?,
-            number(second)?,
-            number(third)?,
-            number(fourth)?,
-        )),
-        _ => Err(Misfit::Unknown),
-    }
-}
-
-/// The numbers that these words are: just six.
-pub(crate) fn six_numbers(words: &[&[u8]]) -> Result<(u64, u64, u64, u64, u64, u64), Misfit>
-    ensures numbers { IfOk result (λ n. (n.0 < 2 ^ 64) × (n.1 < 2 ^ 64) × (n.2 < 2 ^ 64) × (n.3 < 2 ^ 64) × (n.4 < 2 ^ 64) × (n.5 < 2 ^ 64) × (map (λ w. w.now) words.now ≡ decimal n.0 ∷ decimal n.1 ∷ decimal n.2 ∷ decimal n.3 ∷ decimal n.4 ∷ decimal n.5 ∷ [])) }
-    ensures unknown { IsErrOf result Misfit.Unknown → length (map (λ w. w.now) words.now) ≢ 6 }
-    ensures bad { IsErrOf result Misfit.BadNumber → (length (map (λ w. w.now) words.now) ≡ 6) × (All IsNumberWord (map (λ w. w.now) words.now) → ⊥) }
-    ensures within { IsErrOf result Misfit.OverLimit → ⊥ }
-{
-    match words {
-        [first, second, third, fourth, fifth, sixth] => Ok((
-            number(first)?,
-            number(second)?,
-            number(third)?,
-            number(fourth)?,
-            number(fifth)?,
-            number(sixth)?,
-        )),
-        _ => Err(Misfit::Unknown),
-    }
+    Ok(numbers)
 }

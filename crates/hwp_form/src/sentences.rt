@@ -1,11 +1,12 @@
-ghost use Rattle.std.specs.Prelude.{◌≡◌, ◌≢◌, ◌↔◌, ℕ, ◌^◌, ◌<◌, List, [], ◌∷◌, length, map, Bool, All, codes, IfOk, IfErr, IsErrOf, IsTrue, MatchOption, MatchResult};
-ghost use Rattle.hwp_form.specs.Grammar.{IsSentence, IsSentenceOver, HasShape, HaveNumbers, thread_keyword, page_keyword, schedule_keyword, handler_text};
+ghost use Rattle.std.specs.Prelude.{◌≡◌, ◌≢◌, ℕ, map, true, Bool, IfOk, MatchOption, MatchResult};
+ghost use Rattle.hwp_form.specs.Grammar.{IsSentence, thread_keyword, page_keyword, schedule_keyword, header_keyword, trans_keyword, command_keyword, end_keyword, handler_text};
 ghost use Rattle.hwp_form.specs.Numbers.{IsNumber};
+ghost use Rattle.hwp_form.specs.Misfits.{IsSentenceMisfit, form_with, has_one_number};
 
 use crate::commands::read_command;
 use crate::form::{Backing, Form};
-use crate::keywords::Keyword;
-use crate::numbers::{Misfit, number, one_number, three_numbers};
+use crate::keywords::{CommandWord, Keyword};
+use crate::numbers::{Misfit, one_number, read_number, read_numbers};
 use crate::turns::read_schedule;
 use crate::words::is_text;
 use hwp_geom::OutOfMemory;
@@ -25,20 +26,19 @@ fn read_handler(word: &[u8]) -> Option<bool>
 }
 
 /// The numbers that three words are.
-fn three_of(first: &[u8], second: &[u8], third: &[u8]) -> Result<(u64, u64, u64), Misfit>
-    ensures { MatchResult result (λ n. IsNumber first.now n.0 × IsNumber second.now n.1 × IsNumber third.now n.2) (λ e. (e ≡ Misfit.BadNumber) × ((m n p : ℕ) → IsNumber first.now m → IsNumber second.now n → IsNumber third.now p → ⊥)) }
+fn three_of(first: &[u8], second: &[u8], third: &[u8]) -> Option<(u64, u64, u64)>
+    ensures { MatchOption result ((m n p : ℕ) → IsNumber first.now m → IsNumber second.now n → IsNumber third.now p → ⊥) (λ n. IsNumber first.now n.0 × IsNumber second.now n.1 × IsNumber third.now n.2) }
 {
-    Ok((number(first)?, number(second)?, number(third)?))
+    Some((
+        read_number(first)?,
+        read_number(second)?,
+        read_number(third)?,
+    ))
 }
 
 /// The thread that these words behind `thread` declare.
 fn read_thread(words: &[&[u8]]) -> Result<Form, Misfit>
-    ensures thread { IfOk result (IsSentence thread_keyword (map (λ w. w.now) words.now)) }
-    ensures shaped { IfOk result (λ form. HasShape thread_keyword (map (λ w. w.now) words.now)) }
-    ensures unknown { IsErrOf result Misfit.Unknown → HasShape thread_keyword (map (λ w. w.now) words.now) → ⊥ }
-    ensures fits { IsErrOf result Misfit.BadNumber → HasShape thread_keyword (map (λ w. w.now) words.now) }
-    ensures bad { IsErrOf result Misfit.BadNumber → HaveNumbers thread_keyword (map (λ w. w.now) words.now) → ⊥ }
-    ensures within { IsErrOf result Misfit.OverLimit → ⊥ }
+    ensures { MatchResult result (IsSentence thread_keyword (map (λ w. w.now) words.now)) (IsSentenceMisfit thread_keyword (map (λ w. w.now) words.now)) }
 {
     let [thread, process, cpu, word] = words else {
         return Err(Misfit::Unknown);
@@ -46,7 +46,9 @@ fn read_thread(words: &[&[u8]]) -> Result<Form, Misfit>
     let Some(handler) = read_handler(word) else {
         return Err(Misfit::Unknown);
     };
-    let (thread, process, cpu) = three_of(thread, process, cpu)?;
+    let Some((thread, process, cpu)) = three_of(thread, process, cpu) else {
+        return Err(Misfit::BadNumber);
+    };
     Ok(Form::Thread {
         thread,
         process,
@@ -57,24 +59,24 @@ fn read_thread(words: &[&[u8]]) -> Result<Form, Misfit>
 
 /// The page that these words behind `page` declare.
 fn read_page(words: &[&[u8]]) -> Result<Form, Misfit>
-    ensures page { IfOk result (IsSentence page_keyword (map (λ w. w.now) words.now)) }
-    ensures shaped { IfOk result (λ form. HasShape page_keyword (map (λ w. w.now) words.now)) }
-    ensures unknown { IsErrOf result Misfit.Unknown → HasShape page_keyword (map (λ w. w.now) words.now) → ⊥ }
-    ensures fits { IsErrOf result Misfit.BadNumber → HasShape page_keyword (map (λ w. w.now) words.now) }
-    ensures bad { IsErrOf result Misfit.BadNumber → HaveNumbers page_keyword (map (λ w. w.now) words.now) → ⊥ }
-    ensures within { IsErrOf result Misfit.OverLimit → ⊥ }
+    ensures { MatchResult result (IsSentence page_keyword (map (λ w. w.now) words.now)) (IsSentenceMisfit page_keyword (map (λ w. w.now) words.now)) }
 {
     match words {
-        [page, kind] if is_text(kind, "anon") => Ok(Form::Page {
-            page: number(page)?,
-            backing: Backing::Anon,
-        }),
-        [page, kind, file, of, fill] if is_text(kind, "file") && is_text(of, "fill") => {
-            let (page, file, fill) = three_of(page, file, fill)?;
-            Ok(Form::Page {
+        [page, kind] if is_text(kind, "anon") => match read_number(page) {
+            Some(page) => Ok(Form::Page {
                 page,
-                backing: Backing::File { file, fill },
-            })
+                backing: Backing::Anon,
+            }),
+            None => Err(Misfit::BadNumber),
+        },
+        [page, kind, file, of, fill] if is_text(kind, "file") && is_text(of, "fill") => {
+            match three_of(page, file, fill) {
+                Some((page, file, fill)) => Ok(Form::Page {
+                    page,
+                    backing: Backing::File { file, fill },
+                }),
+                None => Err(Misfit::BadNumber),
+            }
         }
         _ => Err(Misfit::Unknown),
     }
@@ -82,8 +84,7 @@ fn read_page(words: &[&[u8]]) -> Result<Form, Misfit>
 
 /// The head, if these words behind `hwp` are the version of the format.
 fn read_header(words: &[&[u8]]) -> Result<Form, Misfit>
-    ensures head { IfOk result (λ form. (form ≡ Form.Header) × (map (λ w. w.now) words.now ≡ codes "1" ∷ [])) }
-    ensures unknown { IfErr result (λ e. (e ≡ Misfit.Unknown) × (map (λ w. w.now) words.now ≡ codes "1" ∷ [] → ⊥)) }
+    ensures { MatchResult result (IsSentence header_keyword (map (λ w. w.now) words.now)) (IsSentenceMisfit header_keyword (map (λ w. w.now) words.now)) }
 {
     match words {
         [version] if is_text(version, "1") => Ok(Form::Header),
@@ -93,8 +94,7 @@ fn read_header(words: &[&[u8]]) -> Result<Form, Misfit>
 
 /// The end, if no words stand behind `end`.
 fn read_end(words: &[&[u8]]) -> Result<Form, Misfit>
-    ensures end { IfOk result (λ form. (form ≡ Form.End) × (map (λ w. w.now) words.now ≡ [])) }
-    ensures unknown { IfErr result (λ e. (e ≡ Misfit.Unknown) × (0 < length (map (λ w. w.now) words.now))) }
+    ensures { MatchResult result (IsSentence end_keyword (map (λ w. w.now) words.now)) (IsSentenceMisfit end_keyword (map (λ w. w.now) words.now)) }
 {
     match words {
         [] => Ok(Form::End),
@@ -102,38 +102,73 @@ fn read_end(words: &[&[u8]]) -> Result<Form, Misfit>
     }
 }
 
+/// The line of this first word behind which this number stands.
+fn numbered_form(keyword: Keyword, number: u64) -> Form
+    requires { has_one_number keyword ≡ true }
+    ensures { result ≡ form_with keyword number }
+{
+    match keyword {
+        Keyword::Cpus => Form::Cpus(number),
+        Keyword::Frames => Form::Frames(number),
+        Keyword::Kernel => Form::Kernel(number),
+        Keyword::Recovery => Form::Recovery(number),
+        Keyword::Early => Form::Early(number),
+        Keyword::File => Form::File(number),
+        Keyword::Proc => Form::Proc(number),
+        Keyword::Cpu => Form::Cpu(number),
+        _ => unreachable!(),
+    }
+}
+
+/// The line of this first word, which has just one number, that these words behind it say.
+fn read_numbered(keyword: Keyword, words: &[&[u8]]) -> Result<Form, Misfit>
+    requires { has_one_number keyword ≡ true }
+    ensures { MatchResult result (IsSentence keyword (map (λ w. w.now) words.now)) (IsSentenceMisfit keyword (map (λ w. w.now) words.now)) }
+{
+    match one_number(words) {
+        Ok(number) => Ok(numbered_form(keyword, number)),
+        Err(misfit) => Err(misfit),
+    }
+}
+
+/// The translation that these words behind `trans` declare.
+fn read_trans(words: &[&[u8]]) -> Result<Form, Misfit>
+    ensures { MatchResult result (IsSentence trans_keyword (map (λ w. w.now) words.now)) (IsSentenceMisfit trans_keyword (map (λ w. w.now) words.now)) }
+{
+    match read_numbers(words, 3) {
+        Ok(numbers) => Ok(Form::Trans {
+            slot: numbers[0],
+            process: numbers[1],
+            page: numbers[2],
+        }),
+        Err(misfit) => Err(misfit),
+    }
+}
+
+/// The line of a command with this first word that these words behind it say.
+fn read_command_line(word: CommandWord, words: &[&[u8]]) -> Result<Form, Misfit>
+    ensures { MatchResult result (IsSentence (command_keyword word) (map (λ w. w.now) words.now)) (IsSentenceMisfit (command_keyword word) (map (λ w. w.now) words.now)) }
+{
+    match read_command(word, words) {
+        Ok(command) => Ok(Form::Command(command)),
+        Err(misfit) => Err(misfit),
+    }
+}
+
 /// The line of this first word, other than a schedule, that these words behind it say.
 fn read_plain_sentence(keyword: Keyword, words: &[&[u8]]) -> Result<Form, Misfit>
     requires { keyword ≢ schedule_keyword }
-    ensures form { IfOk result (IsSentence keyword (map (λ w. w.now) words.now)) }
-    ensures shaped { IfOk result (λ form. HasShape keyword (map (λ w. w.now) words.now)) }
-    ensures unknown { IsErrOf result Misfit.Unknown → HasShape keyword (map (λ w. w.now) words.now) → ⊥ }
-    ensures bad { IsErrOf result Misfit.BadNumber → HasShape keyword (map (λ w. w.now) words.now) × (HaveNumbers keyword (map (λ w. w.now) words.now) → ⊥) }
-    ensures over { IsErrOf result Misfit.OverLimit → IsSentenceOver keyword (map (λ w. w.now) words.now) }
+    ensures { MatchResult result (IsSentence keyword (map (λ w. w.now) words.now)) (IsSentenceMisfit keyword (map (λ w. w.now) words.now)) }
 {
     match keyword {
         Keyword::Hwp => read_header(words),
         Keyword::Thread => read_thread(words),
         Keyword::Page => read_page(words),
-        Keyword::Command(word) => Ok(Form::Command(read_command(word, words)?)),
+        Keyword::Trans => read_trans(words),
+        Keyword::Command(word) => read_command_line(word, words),
         Keyword::End => read_end(words),
         Keyword::Schedule => unreachable!(),
-        Keyword::Trans => {
-            let (slot, process, page) = three_numbers(words)?;
-            Ok(Form::Trans {
-                slot,
-                process,
-                page,
-            })
-        }
-        Keyword::Cpus => Ok(Form::Cpus(one_number(words)?)),
-        Keyword::Frames => Ok(Form::Frames(one_number(words)?)),
-        Keyword::Kernel => Ok(Form::Kernel(one_number(words)?)),
-        Keyword::Recovery => Ok(Form::Recovery(one_number(words)?)),
-        Keyword::Early => Ok(Form::Early(one_number(words)?)),
-        Keyword::File => Ok(Form::File(one_number(words)?)),
-        Keyword::Proc => Ok(Form::Proc(one_number(words)?)),
-        Keyword::Cpu => Ok(Form::Cpu(one_number(words)?)),
+        _ => read_numbered(keyword, words),
     }
 }
 
@@ -143,11 +178,7 @@ pub(crate) fn read_sentence(
     keyword: Keyword,
     words: &[&[u8]],
 ) -> Result<Result<Form, Misfit>, OutOfMemory>
-    ensures form { IfOk result (λ read. IfOk read (IsSentence keyword (map (λ w. w.now) words.now))) }
-    ensures shaped { IfOk result (λ read. IfOk read (λ form. HasShape keyword (map (λ w. w.now) words.now))) }
-    ensures unknown { IfOk result (λ read. IsErrOf read Misfit.Unknown → HasShape keyword (map (λ w. w.now) words.now) → ⊥) }
-    ensures bad { IfOk result (λ read. IsErrOf read Misfit.BadNumber → HasShape keyword (map (λ w. w.now) words.now) × (HaveNumbers keyword (map (λ w. w.now) words.now) → ⊥)) }
-    ensures over { IfOk result (λ read. IsErrOf read Misfit.OverLimit → IsSentenceOver keyword (map (λ w. w.now) words.now)) }
+    ensures { IfOk result (λ read. MatchResult read (IsSentence keyword (map (λ w. w.now) words.now)) (IsSentenceMisfit keyword (map (λ w. w.now) words.now))) }
 {
     match keyword {
         Keyword::Schedule => match read_schedule(alloc, words)? {

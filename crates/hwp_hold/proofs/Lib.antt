@@ -14,3 +14,4 @@ pub mod Filling
 pub mod Unlocking
 pub mod GivingUp
 pub mod FillCosts
+pub mod Telling

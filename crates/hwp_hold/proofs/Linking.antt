@@ -49,10 +49,10 @@ module _ (layout : Layout) (who : Who) (frame : Option Frame) (log : Log) (seen 
   abbrev taken : InHand
   taken = body_in frame log seen
 
-  none-more : more_of taken log ≡ []
+  pub none-more : more_of taken log ≡ []
   none-more = drop_all (length log.entries) log.entries (omega arith)
 
-  as-taken : (sights : List Sight) → Extends layout who sights taken log
+  pub as-taken : (sights : List Sight) → Extends layout who sights taken log
   as-taken sights = record {
     page_is = refl;
     longer = sym (ap (λ (more : List Entry). log.entries ++ more) none-more ∙ append-nil log.entries);

@@ -1,6 +1,6 @@
 -- The laws of `Take`.
-use Rattle.std.proofs.Common.{◌≡◌, ℕ, ◌+◌, ◌-◌, ◌/◌, ◌^◌, ◌<◌, ◌≤◌, ◌==◌, nat_lt, Bool, true, false, cond, [], ◌∷◌, ◌++◌, Option, Some, None, is_none, length, slice_get, slice_index, refl, sym, ap, ◌∙◌, subst, arith}
-use Rattle.std.proofs.lemmas.Bool.{both_ways, ltb-true, eqb-true, eqb-false}
+use Rattle.std.proofs.Common.{◌≡◌, ℕ, ◌+◌, ◌-◌, ◌/◌, ◌^◌, ◌<◌, ◌≤◌, ◌==◌, nat_lt, Bool, true, false, cond, [], ◌∷◌, ◌++◌, Option, Some, None, length, slice_get, slice_index, refl, sym, ap, ◌∙◌, subst, arith}
+use Rattle.std.proofs.lemmas.Bool.{ltb-true, eqb-true, eqb-false}
 use Rattle.std.proofs.lemmas.Option.{none-some, same_Some}
 use Rattle.hwp_geom.specs.declared.Frame.{Frame}
 use Rattle.hwp_geom.specs.declared.Layout.{Layout}
@@ -24,7 +24,6 @@ use Rattle.hwp_rule.specs.Views.{lock_found, with_refs, without, is_hand_of}
 use Rattle.hwp_rule.specs.Views as views
 use Rattle.hwp_rule.specs.Words.{free_words, index}
 use Rattle.hwp_rule.specs.parts.Bodies.{IsAtHome, content_name}
-use Rattle.hwp_rule.specs.Steps.{place_of}
 use Rattle.hwp_rule.specs.parts.Places.{IsBare}
 use Rattle.hwp_rule.proofs.Lists.{some-last}
 use Rattle.hwp_rule.proofs.Meeting.{unpoisoned, frame-word, hand-bare}
@@ -37,9 +36,7 @@ use Rattle.hwp_known.proofs.Seeing.{saw-load, saw-reserve}
 use Rattle.hwp_hold.specs.declared.take.Take.{Take}
 use Rattle.hwp_hold.specs.declared.take.TakeAt.{TakeAt}
 use Rattle.hwp_hold.specs.declared.take.TakeAt.TheVariants as at
-use Rattle.hwp_hold.specs.declared.take.TakeAnswer.{TakeAnswer}
-use Rattle.hwp_hold.specs.declared.take.TakeAnswer.TheVariants as answers
-use Rattle.hwp_hold.specs.Takes.{answer, answer_at, at_available, after_word, lowest_free, has_bit, plan, plan_at, next, next_at, turn, ShowsAt, Shows, HasLockRoom, Fits, FitsAt, new_lock, hand_next, hand_next_at}
+use Rattle.hwp_hold.specs.Takes.{at_available, after_word, lowest_free, has_bit, plan, plan_at, next, next_at, turn, ShowsAt, Shows, HasLockRoom, Fits, FitsAt, new_lock, hand_next, hand_next_at}
 use Rattle.hwp_hold.proofs.Freeing.{lowest-shown}
 
 pub can : (layout : Layout) (view : View) (t : Take) (step : Step) → Fits layout view t → plan t ≡ Some step → CanMake layout t.who step None view
@@ -182,38 +179,3 @@ pub stays : (layout : Layout) (old new : View) (t : Take) (step : Step) (found :
 stays layout old new t step found got fits is made =
     let all = both layout old new t step found got fits is made in
     (all.0, λ after result follows. (subst (Fits layout new) (sym follows.0) all.1, ap (λ (x : Take). x.who.cpu) follows.0))
-
-abbrev is-taken : Option TakeAnswer → Bool
-is-taken (Some (answers.Taken frame)) = true
-is-taken _ = false
-
--- no frame was available only where the available word that the step met was 0
-pub none-available : (layout : Layout) (t : Take) (found : ℕ) → is_none (plan t) ≡ false → answer (next layout t found) ≡ Some answers.NoFrame → (found ≡ 0) × ((step : Step) → plan t ≡ Some step → place_of step ≡ places.Available)
-none-available layout t found on over = which t.at on over
-  where
-    none-shown : (none : Bool) → (found == 0) ≡ none → answer_at (cond none (at.Over None) (at.Reserve found)) ≡ Some answers.NoFrame → found ≡ 0
-    none-shown true is over = eqb-true found 0 is
-    none-shown false is over = absurd (none-some answers.NoFrame over)
-
-    of : (step other : Step) → Some step ≡ Some other → place_of step ≡ places.Available → place_of other ≡ places.Available
-    of step other e is = ap place_of (sym (same_Some step other e)) ∙ is
-
-    which : (x : TakeAt) → is_none (plan_at x) ≡ false → answer_at (next_at layout x found) ≡ Some answers.NoFrame → (found ≡ 0) × ((step : Step) → plan_at x ≡ Some step → place_of step ≡ places.Available)
-    which at.LoadAvailable on over = (none-shown (found == 0) refl over, λ step e. of (steps.Load places.Available) step e refl)
-    which (at.Reserve seen) on over = (by (found == seen) over, λ step e. of (steps.Reserve seen) step e refl)
-      where
-        by : (b : Bool) → answer_at (cond b (at.LoadFree 0) (at_available found)) ≡ Some answers.NoFrame → found ≡ 0
-        by true over = absurd (none-some answers.NoFrame over)
-        by false over = none-shown (found == 0) refl over
-    which (at.LoadFree number) on over = absurd (none-some answers.NoFrame (unanswered (found == 0) over))
-      where
-        unanswered : (b : Bool) → answer_at (cond b (at.LoadFree (after_word layout number)) (at.TakeBit (lowest_free number found))) ≡ Some answers.NoFrame → None ≡ Some answers.NoFrame
-        unanswered true e = e
-        unanswered false e = e
-    which (at.TakeBit frame) on over = absurd (none-some answers.NoFrame (unanswered (has_bit frame found) over))
-      where
-        unanswered : (b : Bool) → answer_at (cond b (at.Adopt frame) (at.LoadFree (frame.0 / 64))) ≡ Some answers.NoFrame → None ≡ Some answers.NoFrame
-        unanswered true e = e
-        unanswered false e = e
-    which (at.Adopt frame) on over = absurd (both_ways true (ap is-taken over) refl)
-    which (at.Over frame) on over = absurd (both_ways true on refl)

@@ -58,7 +58,7 @@ impl Pin {
     }
 
     /// The frame.
-    pub(crate) fn frame(&self) -> Frame
+    pub fn frame(&self) -> Frame
         ensures { result ≡ self.now.frame }
     {
         self.frame

@@ -1,13 +1,12 @@
 -- Lists that grow by the next number, and bits of the frames.
-use Rattle.std.proofs.Common.{◌≡◌, ℕ, suc, ◌+◌, ◌*◌, ◌<◌, Bool, not, List, [], ◌∷◌, ◌++◌, Option, Some, None, map, length, drop, replicate, get_or, refl, sym, ap, ◌∙◌, subst, arith}
-use Rattle.std.specs.Int.{from_bool}
-use Rattle.std.proofs.lemmas.List.{append_assoc, append-nil, map-append, drop_more, replicate_more}
+use Rattle.std.proofs.Common.{◌≡◌, ℕ, suc, ◌+◌, List, [], ◌∷◌, ◌++◌, Option, Some, None, map, replicate, refl, sym, ap, ◌∙◌, subst, arith}
+use Rattle.std.proofs.lemmas.List.{append_assoc, append-nil, map-append, replicate_more}
 use Rattle.std.proofs.lemmas.Option.{none-some, same_Some}
 use Rattle.hwp_geom.specs.declared.Layout.{Layout}
 use Rattle.hwp_geom.specs.Layout.{IsSound}
 use Rattle.hwp_page.specs.History.{BodyValue, IsFresh}
 use Rattle.hwp_rule.specs.declared.Log.{Log}
-use Rattle.hwp_rule.specs.Opening.{below, free_bits, opening_words, opening_homes, opening_log, opening_view, opening}
+use Rattle.hwp_rule.specs.Opening.{below, opening_words, opening_homes, opening_log, opening_view, opening}
 use Rattle.hwp_rule.specs.Rule.{Holds}
 use Rattle.hwp_rule.proofs.Lists.{each-push}
 use Rattle.hwp_rule.proofs.OpeningHolds.{opening-holds}
@@ -27,14 +26,6 @@ map-more f xs n is = ap (λ l. l ++ f n ∷ []) is ∙ sym (map-append f (below 
 -- a part more at the end
 pub joined : (w v a rest : List ℕ) → w ≡ v ++ a → w ++ rest ≡ v ++ (a ++ rest)
 joined w v a rest is = ap (λ (l : List ℕ). l ++ rest) is ∙ append_assoc v a rest
-
--- the bits from one frame further to the front
-pub bits-more : (kernel : List Bool) (i j : ℕ) (d : Bool) → i < length kernel → j ≡ i + 1 → free_bits (drop j kernel) * 2 + from_bool (not (get_or kernel i d)) ≡ free_bits (drop i kernel)
-bits-more kernel i j d less is =
-    let whole : free_bits (drop i kernel) ≡ free_bits (get_or kernel i d ∷ drop (i + 1) kernel) = ap free_bits (drop_more kernel i d less) in
-    let rest : free_bits (drop j kernel) ≡ free_bits (drop (i + 1) kernel) = ap (λ (n : ℕ). free_bits (drop n kernel)) is in
-    let next : free_bits (get_or kernel i d ∷ drop (i + 1) kernel) ≡ from_bool (not (get_or kernel i d)) + 2 * free_bits (drop (i + 1) kernel) = refl in
-    omega arith
 
 -- ---- the slots at opening
 

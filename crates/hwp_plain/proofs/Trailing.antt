@@ -13,10 +13,8 @@ use Rattle.hwp_rule.specs.Views.{view_after}
 use Rattle.hwp_rule.proofs.KeptTurns.{part-after}
 use Rattle.hwp_rule.proofs.Lists.{at_map, same-or}
 use Rattle.hwp_rule.proofs.OpeningWords.{length-below, below-at}
-use Rattle.hwp_step.specs.declared.Turn.{Turn}
 use Rattle.hwp_plain.specs.declared.trail.Trail.{Trail, Opening, Made'}
-use Rattle.hwp_plain.specs.Boards.{with_turn}
-use Rattle.hwp_plain.specs.Trails.{made_of, played, told, views_of}
+use Rattle.hwp_plain.specs.Trails.{made_of, views_of}
 
 -- the list has a view for each processor of the layout, which is its own
 pub record AreViews (layout : Layout) (views : List View) : Type 0 where
@@ -65,12 +63,3 @@ module _ (layout : Layout) (views : List View) (are : AreViews layout views) whe
 pub views-are : (layout : Layout) (trail : Trail) → AreViews layout (views_of layout trail)
 views-are layout Opening = views-open layout
 views-are layout (Made' p before seat who step found content turn) = views-more layout (views_of layout before) (views-are layout before) seat.0 (made_of who step.value found content.value)
-
--- the turn of the newest move is no part of what is known, nor of the moves
-pub views-told : (layout : Layout) (turn : Turn) (trail : Trail) → views_of layout (told turn trail) ≡ views_of layout trail
-views-told layout turn Opening = refl
-views-told layout turn (Made' p before seat who step found content old) = refl
-
-pub played-told : (turn : Turn) (trail : Trail) → played (told turn trail) ≡ with_turn turn (played trail)
-played-told turn Opening = refl
-played-told turn (Made' p before seat who step found content old) = refl

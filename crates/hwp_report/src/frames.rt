@@ -2,7 +2,7 @@ use hwp_geom::{List, Mask, Page, Who};
 use hwp_page::{Outcome, Situation};
 
 /// Where a frame is.
-#[derive(Clone, Copy, Debug, PartialEq, Eq)]
+#[derive(Clone, Copy)]
 pub enum Place {
     /// On the free list.
     Free,
@@ -15,7 +15,7 @@ pub enum Place {
 }
 
 /// How a frame came to be poisoned.
-#[derive(Clone, Copy, Debug, PartialEq, Eq)]
+#[derive(Clone, Copy)]
 pub enum How {
     /// By a memory failure: whether a bank's event caused it or a command did, what it found, and what came of it.
     Failure {
@@ -30,7 +30,7 @@ pub enum How {
 }
 
 /// A mark on a frame's record, with the frame's cycle: how often it had been poisoned before.
-#[derive(Clone, Copy, Debug, PartialEq, Eq)]
+#[derive(Clone, Copy)]
 pub enum MarkLine {
     Poisoned { cycle: u32, who: Who, how: How },
     Unpoisoned { cycle: u32, who: Who },

@@ -2,7 +2,7 @@ use hwp_geom::{Frame, Mask, Page};
 use hwp_page::At;
 
 /// What was done about the event of a bank.
-#[derive(Clone, Copy, Debug, PartialEq, Eq)]
+#[derive(Clone, Copy)]
 pub enum Acted {
     /// Nothing: there was no event, or its reporting was not enabled.
     None,
@@ -31,7 +31,7 @@ pub enum Acted {
 }
 
 /// The answer of a command. A place is that of the entry that gave the answer, or the number of entries at that moment.
-#[derive(Clone, Copy, Debug, PartialEq, Eq)]
+#[derive(Clone, Copy)]
 pub enum Answer {
     /// A load gave this word.
     Value { word: u64, at: At },
@@ -94,7 +94,7 @@ pub enum Answer {
 }
 
 /// A line of a processor, of its command number `seq`, from 0.
-#[derive(Clone, Copy, Debug, PartialEq, Eq)]
+#[derive(Clone, Copy)]
 pub enum CpuLine {
     /// The event of a bank in a machine check: what the bank held, the row of the severity table, and what was done.
     Event {

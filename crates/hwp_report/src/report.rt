@@ -5,7 +5,7 @@ use hwp_page::Entry;
 use hwp_severity::McgBits;
 
 /// What stopped the machine.
-#[derive(Clone, Copy, Debug, PartialEq, Eq)]
+#[derive(Clone, Copy)]
 pub enum StopCause {
     /// The event of a bank: the row of the severity table that graded it, the bank, and what was graded.
     Severity {
@@ -22,7 +22,7 @@ pub enum StopCause {
 }
 
 /// What stopped the machine, and the command that met it.
-#[derive(Clone, Copy, Debug, PartialEq, Eq)]
+#[derive(Clone, Copy)]
 pub struct Stop {
     pub who: Who,
     pub cause: StopCause,

@@ -21,7 +21,7 @@ use Rattle.hwp_rule.proofs.Meeting.{free-word, held-word}
 use Rattle.hwp_rule.proofs.Moving.{shaped}
 
 -- a member of a list at a place within it
-there-is : {A : Type 0} (list : List A) (i : ℕ) → i < length list → (x : A) × (slice_get list i ≡ Some x)
+pub there-is : {A : Type 0} (list : List A) (i : ℕ) → i < length list → (x : A) × (slice_get list i ≡ Some x)
 there-is [] i within = absurd (omega arith)
 there-is (x ∷ xs) zero within = (x, refl)
 there-is (x ∷ xs) (suc i) within = there-is xs i (omega arith)

@@ -6,3 +6,6 @@ pub mod Histories
 pub mod Adding
 pub mod Homes
 pub mod Rising
+pub mod Legal
+pub mod Placed
+pub mod Reported

@@ -52,12 +52,14 @@ pub record Above (l : Length) (m : Made) : Type 0 where
 abbrev pub Follows : Length → Length → Type 0
 Follows l k = k.log.page ≡ l.log.page → IsEarlier k.stamp.who l.stamp.who → length k.log.entries ≤ length l.log.entries
 
-pub record Rises (made : List Made) (lengths : List Length) : Type 0 where
+-- and each history that was seen is of a page of the layout
+pub record Rises (layout : Layout) (made : List Made) (lengths : List Length) : Type 0 where
+  pub inside : EachMember (λ (l : Length). l.log.page.0 < length layout.pages) lengths
   pub above : EachMember (λ (l : Length). EachMember (Above l) made) lengths
   pub follows : EachMember (λ (l : Length). EachMember (Follows l) lengths) lengths
 
-abbrev pub Rising : View → Type 0
-Rising v = Rises v.made v.lengths
+abbrev pub Rising : Layout → View → Type 0
+Rising layout v = Rises layout v.made v.lengths
 
 -- ---- where entries stand
 
@@ -171,7 +173,7 @@ made-at P stamp page frame place (e ∷ es) each (suc i) m there = made-at P sta
 not-earlier : (a b : Who) → IsEarlier a b → IsNotLater b a → ⊥
 not-earlier a b earlier later = let after : b.seq ≤ a.seq = later (sym earlier.0) in let before : a.seq < b.seq = earlier.1 in omega arith
 
-module _ (layout : Layout) (seat : ℕ) (r : Rec) (a b : State) (h : Holds layout a) (m : Move layout seat r a b) (rising : Rising m.view) where
+module _ (layout : Layout) (seat : ℕ) (r : Rec) (a b : State) (h : Holds layout a) (m : Move layout seat r a b) (rising : Rising layout m.view) where
   -- what the seat lists is of no later command
   not-after : (other : Who) → IsPast m.view.parts other → IsNotLater other r.who
   not-after other past = not-later layout (words_of layout a.words) a.homes a.views seat m.view r.who m.me m.asks.turn h.rule seat m.view other m.me past
@@ -202,8 +204,10 @@ module _ (layout : Layout) (seat : ℕ) (r : Rec) (a b : State) (h : Holds layou
         let long : length l.log.entries ≡ length log.entries = ap (λ (y : Log). length y.entries) log_is in
         omega arith
 
-    taken-rises : Rises m.view.made (m.view.lengths ++ l ∷ [])
+    taken-rises : Rises layout m.view.made (m.view.lengths ++ l ∷ [])
     taken-rises = record {
+      inside = each-append (λ (k : Length). k.log.page.0 < length layout.pages) m.view.lengths (l ∷ []) rising.inside
+          (one (λ (k : Length). k.log.page.0 < length layout.pages) (subst (λ (y : Log). y.page.0 < length layout.pages) (sym log_is) within));
       above = each-append (λ (k : Length). EachMember (Above k) m.view.made) m.view.lengths (l ∷ []) rising.above (one (λ (k : Length). EachMember (Above k) m.view.made) new-above);
       follows = each-append (λ (k : Length). EachMember (Follows k) (m.view.lengths ++ l ∷ [])) m.view.lengths (l ∷ [])
           (λ i k there. each-append (Follows k) m.view.lengths (l ∷ []) (rising.follows i k there) (one (Follows k) (λ same earlier. absurd (not-earlier l.stamp.who k.stamp.who earlier (subst (IsNotLater k.stamp.who) (sym own) (own-lengths i k there))))))
@@ -233,43 +237,44 @@ module _ (layout : Layout) (seat : ℕ) (r : Rec) (a b : State) (h : Holds layou
       below = λ same earlier. (let seen : length l.log.entries ≤ length body.log.entries = seen-below i l there same in let past : length body.log.entries ≤ k = later in omega arith);
     })
 
-    listed-rises : Rises (m.view.made ++ more) m.view.lengths
+    listed-rises : Rises layout (m.view.made ++ more) m.view.lengths
     listed-rises = record {
+      inside = rising.inside;
       above = λ i l there. each-append (Above l) m.view.made more (rising.above i l there) (more-above i l there);
       follows = rising.follows;
     }
 
-  rises-by : (x : View) → AddsNothing (noted r.who m.view) x ⊎ (AddsLength layout r.who r.step r.found r.content (noted r.who m.view) x ⊎ AddsMade layout r.who (noted r.who m.view) x) → Rises x.made x.lengths
-  rises-by x (inl none) = subst (λ (made : List Made). Rises made x.lengths) (sym none.made) (subst (Rises m.view.made) (sym none.lengths) rising)
+  rises-by : (x : View) → AddsNothing (noted r.who m.view) x ⊎ (AddsLength layout r.who r.step r.found r.content (noted r.who m.view) x ⊎ AddsMade layout r.who (noted r.who m.view) x) → Rises layout x.made x.lengths
+  rises-by x (inl none) = subst (λ (made : List Made). Rises layout made x.lengths) (sym none.made) (subst (Rises layout m.view.made) (sym none.lengths) rising)
   rises-by x (inr (inl took)) =
-      subst (λ (made : List Made). Rises made x.lengths) (sym took.made) (subst (Rises m.view.made) (sym took.lengths)
+      subst (λ (made : List Made). Rises layout made x.lengths) (sym took.made) (subst (Rises layout m.view.made) (sym took.lengths)
       (taken-rises took.length took.log took.slot home (home-within layout a h took.log took.slot home) took.log_is took.own))
     where
       home : slice_get a.homes took.slot ≡ Some (Some (Some took.log))
       home = subst (λ (c : Option Log). slice_get a.homes took.slot ≡ Some (Some c)) took.content_is (subst (λ (move : SlotMove). MeetsSlot move a.homes r.content) took.out m.slot)
   rises-by x (inr (inr lists)) =
-      subst (λ (made : List Made). Rises made x.lengths) (sym lists.made) (subst (Rises (m.view.made ++ _)) (sym lists.lengths)
+      subst (λ (made : List Made). Rises layout made x.lengths) (sym lists.made) (subst (Rises layout (m.view.made ++ _)) (sym lists.lengths)
       (listed-rises lists.log lists.body found.0 found.1 lists.extends.page_is lists.extends.own (stamp_of r.who (noted r.who m.view))))
     where
       found : (i : ℕ) × (slice_get m.view.bodies i ≡ Some lists.body) × (is_body_of lists.log.page lists.body ≡ true)
       found = find-is (is_body_of lists.log.page) m.view.bodies lists.body lists.body_is
 
-  pub rises-moved : Rising (view_after layout r m.view)
+  pub rises-moved : Rising layout (view_after layout r m.view)
   rises-moved = rises-by (view_after layout r m.view) (adds layout r.who r.step r.found r.content (noted r.who m.view) (asks-noted layout r.who m.view r.step r.content m.asks.kind))
 
 -- ---- a run
 
 module _ (layout : Layout) where
-  rises-on : (turns : List Played) (a b : State) → Holds layout a → Leads layout a turns b → EachMember Rising a.views → EachMember Rising b.views
-  rises-on [] a b holds leads each = subst (λ (s : State). EachMember Rising s.views) (sym leads) each
+  rises-on : (turns : List Played) (a b : State) → Holds layout a → Leads layout a turns b → EachMember (Rising layout) a.views → EachMember (Rising layout) b.views
+  rises-on [] a b holds leads each = subst (λ (s : State). EachMember (Rising layout) s.views) (sym leads) each
   rises-on (p ∷ ps) a b holds (mid, move, kept, rest) each =
       rises-on ps mid b kept rest
-      (subst (λ (s : State). EachMember Rising s.views) (sym move.next)
-      (each-set Rising a.views p.seat (view_after layout p.made move.view) (rises-moved layout p.seat p.made a mid holds move (each p.seat move.view move.me)) each))
+      (subst (λ (s : State). EachMember (Rising layout) s.views) (sym move.next)
+      (each-set (Rising layout) a.views p.seat (view_after layout p.made move.view) (rises-moved layout p.seat p.made a mid holds move (each p.seat move.view move.me)) each))
 
-  opening-rises : (c : ℕ) → Rising (opening_view c)
-  opening-rises c = record { above = λ i l e. absurd (none-some l e); follows = λ i l e. absurd (none-some l e) }
+  opening-rises : (c : ℕ) → Rising layout (opening_view c)
+  opening-rises c = record { inside = λ i l e. absurd (none-some l e); above = λ i l e. absurd (none-some l e); follows = λ i l e. absurd (none-some l e) }
 
   -- along a run, what each view lists of a page rises with its commands
-  pub run-rises : (turns : List Played) (last : State) → Holds layout (opening layout) → Leads layout (opening layout) turns last → EachMember Rising last.views
-  run-rises turns last holds leads = rises-on turns (opening layout) last holds leads (each-map opening_view Rising (below layout.cpus) (λ i c e. opening-rises c))
+  pub run-rises : (turns : List Played) (last : State) → Holds layout (opening layout) → Leads layout (opening layout) turns last → EachMember (Rising layout) last.views
+  run-rises turns last holds leads = rises-on turns (opening layout) last holds leads (each-map opening_view (Rising layout) (below layout.cpus) (λ i c e. opening-rises c))

@@ -14,7 +14,7 @@ use Rattle.hwp_rule.specs.declared.view.Ref.{Ref}
 use Rattle.hwp_rule.specs.declared.view.View.{View}
 use Rattle.hwp_rule.specs.Asks.{CanRetire}
 use Rattle.hwp_rule.specs.Lists.{Homes}
-use Rattle.hwp_rule.specs.Rule.{FrameRule, holdings_of, holder_of}
+use Rattle.hwp_rule.specs.Rule.{FrameRule, holdings_of}
 use Rattle.hwp_rule.specs.Views.{refs_on, less_refs, without, is_lock_of}
 use Rattle.hwp_rule.specs.Words.{Words, free_bit}
 use Rattle.hwp_rule.specs.parts.Counts.{CountsBalance, named}

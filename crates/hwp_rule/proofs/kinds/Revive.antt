@@ -31,7 +31,7 @@ use Rattle.hwp_rule.specs.declared.view.View.{View}
 use Rattle.hwp_rule.specs.Asks.{CanRevive}
 use Rattle.hwp_rule.specs.Lists.{Homes, EachMember, EachListed, SomeMember, sum_all, sum_bodies}
 use Rattle.hwp_rule.specs.Logs.{losses_of}
-use Rattle.hwp_rule.specs.Rule.{FrameRule, holdings_of, holder_of, count_debts_of, losing_of}
+use Rattle.hwp_rule.specs.Rule.{FrameRule, holdings_of, count_debts_of, losing_of}
 use Rattle.hwp_rule.specs.Steps.{revived}
 use Rattle.hwp_rule.specs.Views.{sighted, revived_by, stamp_of, unpoisoned, refs_on}
 use Rattle.hwp_rule.specs.Words.{Words, sum_below}

@@ -1,17 +1,22 @@
-use Rattle.std.proofs.Common.{◌≡◌, ◌∷◌, map, drop, refl, rules}
-use Rattle.std.specs.Prelude.{All}
-use Rattle.hwp_form.specs.Grammar.{keyword_text, IsPrintable}
-use Rattle.hwp_form.proofs.SentenceLaws.{bad_from_sentence, over_from_sentence, behind}
+use Rattle.std.proofs.Common.{arith}
+use Rattle.hwp_form.proofs.SentenceLaws.{led, unknown_from_sentence, bad_from_sentence, over_from_sentence, form_from_sentence}
 use Rattle.hwp_form.proofs.lines.read_words.Goals as goal
+
+pub returns-in-Ok : goal.returns-in-Ok
+returns-in-Ok c =
+    form_from_sentence _ c.in-Some.keyword _ c.in-Ok.form (led c.args.words.now _ c.in-Some.keyword (omega arith) c.in-Some.ensures.some) (rw c.in-Ok.is at c.in_ok-form.ensures)
+
+pub returns-in-Err-Unknown : goal.returns-in-Err-Unknown
+returns-in-Err-Unknown c =
+    unknown_from_sentence _ c.in-Some.keyword _ (led c.args.words.now _ c.in-Some.keyword (omega arith) c.in-Some.ensures.some)
+    (rw (c.in-Err-Unknown.is, c.in-Err-Unknown.field-0-is) at c.in_ok-form.ensures)
 
 pub returns-in-Err-BadNumber : goal.returns-in-Err-BadNumber
 returns-in-Err-BadNumber c =
-    let e : map (λ w. w.now) c.args.words.now ≡ keyword_text c.in-Some.keyword ∷ map (λ w. w.now) (drop 1 c.args.words.now) = search rules in
-    let printable : All (All IsPrintable) (map (λ w. w.now) c.args.words.now) = search rules in
-    bad_from_sentence _ _ _ (behind c.args.words.now _ e) printable ((rw (c.in-Err-BadNumber.is, c.in-Err-BadNumber.field-0-is) at c.in_ok-form.ensures.bad) refl)
+    bad_from_sentence _ c.in-Some.keyword _ (led c.args.words.now _ c.in-Some.keyword (omega arith) c.in-Some.ensures.some) (c.if-not-are_printable.ensures.0 (cc (c.if-not-are_printable.false)))
+    (rw (c.in-Err-BadNumber.is, c.in-Err-BadNumber.field-0-is) at c.in_ok-form.ensures)
 
 pub returns-in-Err-OverLimit : goal.returns-in-Err-OverLimit
 returns-in-Err-OverLimit c =
-    let e : map (λ w. w.now) c.args.words.now ≡ keyword_text c.in-Some.keyword ∷ map (λ w. w.now) (drop 1 c.args.words.now) = search rules in
-    let printable : All (All IsPrintable) (map (λ w. w.now) c.args.words.now) = search rules in
-    over_from_sentence _ _ _ (behind c.args.words.now _ e) printable ((rw (c.in-Err-OverLimit.is, c.in-Err-OverLimit.field-0-is) at c.in_ok-form.ensures.over) refl)
+    over_from_sentence _ c.in-Some.keyword _ (led c.args.words.now _ c.in-Some.keyword (omega arith) c.in-Some.ensures.some) (c.if-not-are_printable.ensures.0 (cc (c.if-not-are_printable.false)))
+    (rw (c.in-Err-OverLimit.is, c.in-Err-OverLimit.field-0-is) at c.in_ok-form.ensures)

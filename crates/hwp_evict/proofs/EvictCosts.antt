@@ -1,0 +1,296 @@
+-- Each turn of `Evict` that doesn't wait lowers its cost, and its class tells what it holds.
+use Rattle.std.proofs.Common.{◌≡◌, ◌≢◌, ◌⊎◌, inl, inr, ℕ, ◌+◌, ◌<◌, ◌≤◌, ◌==◌, Bool, true, false, cond, [], Option, Some, None, is_none, MatchBool, refl, sym, ap, ◌∙◌, subst, arith}
+use Rattle.std.proofs.lemmas.Bool.{both_ways}
+use Rattle.std.proofs.lemmas.Option.{none-some}
+use Rattle.hwp_geom.specs.declared.Frame.{Frame}
+use Rattle.hwp_geom.specs.declared.Layout.{Layout}
+use Rattle.hwp_geom.specs.declared.Page.{Page}
+use Rattle.hwp_geom.specs.declared.Who.{Who}
+use Rattle.hwp_page.specs.declared.At.{At}
+use Rattle.hwp_page.specs.History.{BodyValue}
+use Rattle.hwp_words.specs.Stops.{is_stopped}
+use Rattle.hwp_rule.specs.declared.State.{State}
+use Rattle.hwp_rule.specs.declared.Step.{Step}
+use Rattle.hwp_rule.specs.declared.View.{View}
+use Rattle.hwp_rule.specs.Steps.{place_of, word_after}
+use Rattle.hwp_rule.specs.Words.{Words, read}
+use Rattle.hwp_step.specs.declared.Turn.{Turn}
+use Rattle.hwp_step.specs.declared.Turn.TheVariants.{Moved, Answered, Waits}
+use Rattle.hwp_rule.specs.Moves.{Move}
+use Rattle.hwp_step.specs.Boards.{view_of}
+use Rattle.hwp_step.specs.Calls.{rec_of}
+use Rattle.hwp_step.specs.Hands.{hand_of, empty}
+use Rattle.hwp_step.specs.Classes.{TellsClass}
+use Rattle.hwp_step.specs.Ranks.{Member, member, Made, CostFalls, IsRanked, OtherHand, Quiet, HasFrame, HasPage, is_waits, words_at}
+use Rattle.hwp_step.proofs.Ranking.{met, words-kept, steps-on, rank-of}
+use Rattle.hwp_hold.specs.declared.give_up.GiveUp.{GiveUp}
+use Rattle.hwp_hold.specs.declared.give_up.GiveUpAt.{GiveUpAt}
+use Rattle.hwp_hold.specs.declared.give_up.GiveUpAt.TheVariants as give_up_at
+use Rattle.hwp_hold.specs.declared.hold.Hold.{Hold}
+use Rattle.hwp_hold.specs.declared.hold.HoldAt.{HoldAt}
+use Rattle.hwp_hold.specs.declared.hold.HoldAt.TheVariants as hold_at
+use Rattle.hwp_hold.specs.declared.unhold.Unhold.{Unhold}
+use Rattle.hwp_hold.specs.GiveUps as give_ups
+use Rattle.hwp_hold.specs.Holds as holds
+use Rattle.hwp_hold.specs.Unholds as unholds
+use Rattle.hwp_hold.specs.Unlocks as unlocks
+use Rattle.hwp_hold.proofs.FillCosts.{give-up-falls, give-up-ranked}
+use Rattle.hwp_hold.proofs.Unlocking.{unlock-small}
+use Rattle.hwp_hold.proofs.Ranking.{hold-falls, hold-small, hold-class, hold-ranked, unhold-falls, unhold-small, unhold-class}
+use Rattle.hwp_hold.proofs.Telling.{Tells, hold-tells, unhold-tells, give-up-tells, frame-tells, no-frame, no-page}
+use Rattle.hwp_evict.specs.declared.evict.Evict.{Evict}
+use Rattle.hwp_evict.specs.declared.evict.EvictAnswer.{EvictAnswer}
+use Rattle.hwp_evict.specs.declared.evict.EvictAnswer.TheVariants as answers
+use Rattle.hwp_evict.specs.declared.evict.EvictAt.{EvictAt}
+use Rattle.hwp_evict.specs.declared.evict.EvictAt.TheVariants as at
+use Rattle.hwp_evict.specs.declared.evict.Eviction.{Eviction}
+use Rattle.hwp_evict.specs.declared.evict.Eviction.TheVariants as evictions
+use Rattle.hwp_evict.specs.declared.evict.Refusal.{Refusal}
+use Rattle.hwp_evict.specs.declared.evict.Refusal.TheVariants as refusals
+use Rattle.hwp_evict.specs.declared.vacate.Vacate.{Vacate}
+use Rattle.hwp_evict.specs.Evictions.{copies, absence}
+use Rattle.hwp_evict.specs.Evicts.{AfterBad, AfterHeld, AfterHold, AfterHoldAt, Enters, Fits, FitsAt, Follows, FollowsAt, Shows, ShowsAt, after_stop, after_unhold, after_vacate, bare, bare_at, begin, class, class_at, cost, cost_at, entered, given_up, place, plan, plan_at, put, refused, turn_after}
+use Rattle.hwp_evict.specs.Vacates as vacates
+use Rattle.hwp_evict.proofs.Evicting.{both}
+use Rattle.hwp_evict.proofs.VacateCosts.{vacate-falls, vacate-small, vacate-class, vacate-tells}
+
+-- ---- what the next states cost
+
+give-up-small : (w : Words) (g : GiveUp) → give_ups.cost g w ≤ 6
+give-up-small w g = which g.at
+  where
+    which : (x : GiveUpAt) → give_ups.cost_at x w ≤ 6
+    which (give_up_at.Unhold u) = let few : unholds.cost u w ≤ 5 = unhold-small w u in omega (arith, few)
+    which (give_up_at.Unlock u) = let few : unlocks.cost u w ≤ 4 = unlock-small w u in omega (arith, few)
+    which give_up_at.GiveUp = omega arith
+    which give_up_at.Over = omega arith
+
+begun-cost : (who : Who) (page : Page) (frame : Option Frame) (count : ℕ) (body : BodyValue) (w : Words) → unholds.cost (unholds.begin who page frame count body) w ≤ 5
+begun-cost who page frame count body w = unhold-small w (unholds.begin who page frame count body)
+
+entered-cost : (who : Who) (page : Page) (what : Eviction) (frame : Frame) (body : BodyValue) (done : At) (w : Words) → cost_at (entered who page what frame body done) w ≤ 7
+entered-cost who page (evictions.Free slot) frame body done w = omega arith
+entered-cost who page evictions.Sync frame body done w = let few : _ = begun-cost who page (Some frame) 1 body w in omega (arith, few)
+entered-cost who page evictions.Drop frame body done w = omega arith
+
+refused-cost : (who : Who) (page : Page) (frame : Option Frame) (body : BodyValue) (refusal : Refusal) (w : Words) → cost_at (refused who page frame body refusal) w ≤ 7
+refused-cost who page frame body refusal w = let few : _ = begun-cost who page frame 1 body w in omega (arith, few)
+
+enters-cost : (who : Who) (page : Page) (what : Eviction) (frame : Frame) (body : BodyValue) (w : Words) (y : EvictAt) → Enters who page what frame body y → cost_at y w ≤ 7
+enters-cost who page what frame body w y (inl is) = subst (λ (x : EvictAt). cost_at x w ≤ 7) (sym is) (let few : _ = give-up-small w (give_ups.with_page who page (Some frame) 1 body) in omega (arith, few))
+enters-cost who page what frame body w y (inr is) = subst (λ (x : EvictAt). cost_at x w ≤ 7) (sym is.next_is) (entered-cost who page what frame is.now (place page body) w)
+
+held-cost : (who : Who) (page : Page) (what : Eviction) (frame : Option Frame) (body : BodyValue) (w : Words) (y : EvictAt) → AfterHeld who page what frame body y → cost_at y w ≤ 8
+held-cost who page what None body w y is = subst (λ (x : EvictAt). cost_at x w ≤ 8) (sym is) (let few : _ = refused-cost who page None body (absence what) w in omega (arith, few))
+held-cost who page what (Some frame) body w y (inr is) = subst (λ (x : EvictAt). cost_at x w ≤ 8) (sym is.next_is) (let few : _ = refused-cost who page (Some frame) body is.refusal w in omega (arith, few))
+held-cost who page what (Some frame) body w y (inl (passes, goes)) = which (copies what) goes
+  where
+    which : (b : Bool) → MatchBool b (y ≡ at.LoadBad frame body) (Enters who page what frame body y) → cost_at y w ≤ 8
+    which true is = subst (λ (x : EvictAt). cost_at x w ≤ 8) (sym is) (omega arith)
+    which false is = let few : _ = enters-cost who page what frame body w y is in omega (arith, few)
+
+-- what follows a step of the hold costs at most nine more than the hold
+hold-cost : (who : Who) (page : Page) (what : Eviction) (h : Hold) (w : Words) (y : EvictAt) → AfterHold who page what h y → cost_at y w ≤ holds.cost h w + 9
+hold-cost who page what h w y follows = which h.at follows
+  where
+    still : (x : HoldAt) → y ≡ at.Hold (record h { at = x }) → cost_at y w ≤ holds.cost_at x w + 9
+    still x is = subst (λ (z : EvictAt). cost_at z w ≤ holds.cost_at x w + 9) (sym is) (omega arith)
+
+    which : (x : HoldAt) → AfterHoldAt who page what (record h { at = x }) x y → cost_at y w ≤ holds.cost_at x w + 9
+    which hold_at.LockPage is = still hold_at.LockPage is
+    which (hold_at.LoadCache body) is = still (hold_at.LoadCache body) is
+    which (hold_at.Pin p) is = still (hold_at.Pin p) is
+    which (hold_at.LockFrame frame) is = still (hold_at.LockFrame frame) is
+    which (hold_at.Held frame body) is = let few : _ = held-cost who page what frame body w y is in omega (arith, few)
+
+bad-cost : (who : Who) (page : Page) (what : Eviction) (frame : Frame) (body : BodyValue) (found : ℕ) (w : Words) (y : EvictAt) → AfterBad who page what frame body found y → cost_at y w ≤ 7
+bad-cost who page what frame body found w y is = which (found == 0) is
+  where
+    which : (b : Bool) → MatchBool b (Enters who page what frame body y) (y ≡ refused who page (Some frame) body (refusals.BadLines (record { 0 = found }))) → cost_at y w ≤ 7
+    which true is = enters-cost who page what frame body w y is
+    which false is = subst (λ (x : EvictAt). cost_at x w ≤ 7) (sym is) (refused-cost who page (Some frame) body (refusals.BadLines (record { 0 = found })) w)
+
+unhold-cost : (u : Unhold) (answer : EvictAnswer) (w : Words) → cost_at (after_unhold u answer) w ≤ unholds.cost u w
+unhold-cost u answer w = which (is_none (unholds.plan u))
+  where
+    which : (b : Bool) → cost_at (cond b (at.Over answer) (at.Unhold u answer)) w ≤ unholds.cost u w
+    which true = omega arith
+    which false = omega arith
+
+vacate-cost : (v : Vacate) (done : At) (w : Words) → cost_at (after_vacate v done) w ≤ vacates.cost v w
+vacate-cost v done w = which (is_none (vacates.plan v))
+  where
+    which : (b : Bool) → cost_at (cond b (at.Over (answers.Done done)) (at.Vacate v done)) w ≤ vacates.cost v w
+    which true = omega arith
+    which false = omega arith
+
+stop-cost : (who : Who) (page : Page) (found : ℕ) (w : Words) → cost_at (after_stop who page found) w < 15
+stop-cost who page found w = which (is_stopped found)
+  where
+    which : (b : Bool) → cost_at (cond b (at.Over answers.Stopped) (at.Hold (holds.begin who page))) w < 15
+    which true = omega arith
+    which false = omega arith
+
+-- ---- the law
+
+pub evict-falls : (w now : Words) (e : Evict) (step : Step) (found : ℕ) (got : Option BodyValue) (after : Evict) (turn : Turn) → plan e ≡ Some step → Shows (bare e) found got → read (place_of step) w ≡ found → (word_after step found ≡ found → now ≡ w)
+    → Follows (bare e) found got after turn → is_waits turn ≡ false → cost after now < cost e w
+evict-falls w now e step found got after turn is shows met kept follows goes = which e.at is shows follows.1
+  where
+    y : EvictAt
+    y = after.at
+
+    which : (x : EvictAt) → plan_at x ≡ Some step → ShowsAt e.what (bare_at x) found got → FollowsAt e.who e.page e.what (bare_at x) found got after.at turn → cost_at after.at now < cost_at x w
+    which at.LoadStop p shows follows = subst (λ (z : EvictAt). cost_at z now < 15) (sym follows.0) (stop-cost e.who e.page found now)
+    which (at.Hold h) p shows follows =
+        let less : holds.cost (holds.next h found got) now < holds.cost h w = hold-falls w now h step found got p shows.0 met kept (sym (ap is_waits follows.1) ∙ goes) in
+        let more : cost_at after.at now ≤ holds.cost (holds.next h found got) now + 9 = hold-cost e.who e.page e.what (holds.next h found got) now after.at follows.0 in
+        omega (arith, less, more)
+    which (at.LoadBad frame body) p shows follows = let few : cost_at after.at now ≤ 7 = bad-cost e.who e.page e.what frame body found now after.at follows.0 in omega (arith, few)
+    which (at.SetPte slot frame body done) p shows follows = subst (λ (z : EvictAt). cost_at z now < 6) (sym follows.0) (let few : _ = begun-cost e.who e.page (Some frame) 2 body now in omega (arith, few))
+    which (at.Vacate v done) p shows follows = subst (λ (z : EvictAt). cost_at z now < vacates.cost v w) (sym follows.0)
+        (let less : vacates.cost (vacates.next (vacates.bare v) found) now < vacates.cost v w = vacate-falls w now v step found p in
+        let more : _ = vacate-cost (vacates.next (vacates.bare v) found) done now in omega (arith, less, more))
+    which (at.Unhold u answer) p shows follows = subst (λ (z : EvictAt). cost_at z now < unholds.cost u w) (sym follows.0)
+        (let less : unholds.cost (unholds.next (unholds.bare u) found) now < unholds.cost u w = unhold-falls w now u step found p in
+        let more : _ = unhold-cost (unholds.next (unholds.bare u) found) answer now in omega (arith, less, more))
+    which (at.GiveUp g) p shows follows = subst (λ (z : EvictAt). cost_at z now < give_ups.cost g w) (sym follows.0) (give-up-falls w now g step found p)
+    which (at.Over answer) p shows follows = absurd (none-some step p)
+
+-- every cost is small
+pub evict-below : (w : Words) (e : Evict) → cost e w < 32768
+evict-below w e = which e.at
+  where
+    which : (x : EvictAt) → cost_at x w < 32768
+    which at.LoadStop = omega arith
+    which (at.Hold h) = let few : holds.cost h w ≤ 4098 = hold-small w h in omega (arith, few)
+    which (at.LoadBad frame body) = omega arith
+    which (at.SetPte slot frame body done) = omega arith
+    which (at.Vacate v done) = let few : vacates.cost v w ≤ 7 = vacate-small w v in omega (arith, few)
+    which (at.Unhold u answer) = let few : unholds.cost u w ≤ 5 = unhold-small w u in omega (arith, few)
+    which (at.GiveUp g) = let few : give_ups.cost g w ≤ 6 = give-up-small w g in omega (arith, few)
+    which (at.Over answer) = omega arith
+
+pub evict-class : (e : Evict) → (1 ≤ class e) × (class e ≤ 4)
+evict-class e = which e.at
+  where
+    which : (x : EvictAt) → (1 ≤ class_at x) × (class_at x ≤ 4)
+    which at.LoadStop = (omega arith, omega arith)
+    which (at.Hold h) = hold-class h
+    which (at.LoadBad frame body) = (omega arith, omega arith)
+    which (at.SetPte slot frame body done) = (omega arith, omega arith)
+    which (at.Vacate v done) = vacate-class v
+    which (at.Unhold u answer) = unhold-class u
+    which (at.GiveUp g) = give-up-ranked.classes g
+    which (at.Over answer) = (omega arith, omega arith)
+
+-- only a page that is being held waits
+give-up-goes : (g : GiveUp) → is_waits (give_ups.turn g) ≡ false
+give-up-goes g = which g.at
+  where
+    which : (x : GiveUpAt) → is_waits (give_ups.turn_at x) ≡ false
+    which (give_up_at.Unhold u) = refl
+    which (give_up_at.Unlock u) = refl
+    which give_up_at.GiveUp = refl
+    which give_up_at.Over = refl
+
+after-goes : (x : EvictAt) → is_waits (turn_after x) ≡ false
+after-goes at.LoadStop = refl
+after-goes (at.Hold h) = refl
+after-goes (at.LoadBad frame body) = refl
+after-goes (at.SetPte slot frame body done) = refl
+after-goes (at.Vacate v done) = refl
+after-goes (at.Unhold u answer) = refl
+after-goes (at.GiveUp g) = refl
+after-goes (at.Over answer) = refl
+
+abbrev evict-member : Member Evict
+evict-member = member (λ e. e.who) plan put bare (λ layout e found got after result. Follows e found got after result) Fits class cost (λ e. false) (λ e. None)
+
+module _ {layout : Layout} {seat : ℕ} {a b : State} {s t : Evict} {turn : Turn} (made : Made evict-member layout seat a b s t turn) where
+  cost-falls : is_waits turn ≡ false → CostFalls evict-member layout a b s t
+  cost-falls goes = evict-falls (words_at layout a) (words_at layout b) s made.step made.found made.got t turn made.planned
+      (both layout (view_of a seat) _ s made.step made.found made.got made.fits made.planned (steps-on made)).0 (met made) (words-kept made) made.follows goes
+
+  waits-falls : is_waits turn ≡ true → Quiet (class s) layout a seat → CostFalls evict-member layout a b s t
+  waits-falls is quiet = which s.at made quiet
+    where
+      never : {x : Turn} {n m : ℕ} → turn ≡ x → is_waits x ≡ false → n < m
+      never same goes = absurd (both_ways true (sym is ∙ ap is_waits same ∙ goes) refl)
+
+      which : (x : EvictAt) → Made evict-member layout seat a b (record s { at = x }) t turn → Quiet (class_at x) layout a seat → cost_at t.at (words_at layout b) < cost_at x (words_at layout a)
+      which at.LoadStop m quiet = never m.follows.1.1 (after-goes (after_stop s.who s.page m.found))
+      which (at.Hold h) m quiet = by (hold-ranked.waits layout seat a b h (holds.next h m.found m.got) turn (record {
+        step = m.step;
+        found = m.found;
+        got = m.got;
+        rule = m.rule;
+        kept = m.kept;
+        fits = m.fits.at.hold;
+        planned = m.planned;
+        move = subst (λ (w : Who). Move layout seat (rec_of layout w m.step None m.found m.got) a b) (sym m.fits.at.own) m.move;
+        brings = m.brings;
+        follows = (refl, m.follows.1.1);
+      }) is quiet)
+        where
+          by : (holds.cost (holds.next h m.found m.got) (words_at layout b) < holds.cost h (words_at layout a)) ⊎ ((false ≡ true) × OtherHand a seat) → cost_at t.at (words_at layout b) < holds.cost h (words_at layout a) + 9
+          by (inl less) = let more : _ = hold-cost s.who s.page s.what (holds.next h m.found m.got) (words_at layout b) t.at m.follows.1.0 in omega (arith, less, more)
+          by (inr aborts) = absurd (both_ways true (sym aborts.0) refl)
+      which (at.LoadBad frame body) m quiet = never m.follows.1.1 refl
+      which (at.SetPte slot frame body done) m quiet = never m.follows.1.1 refl
+      which (at.Vacate v done) m quiet = never m.follows.1.1 (after-goes (after_vacate (vacates.next (vacates.bare v) m.found) done))
+      which (at.Unhold u answer) m quiet = never m.follows.1.1 (after-goes (after_unhold (unholds.next (unholds.bare u) m.found) answer))
+      which (at.GiveUp g) m quiet = never m.follows.1.1 (give-up-goes (give_ups.bare g))
+      which (at.Over answer) m quiet = never m.follows.1.1 refl
+
+pub evict-ranked : IsRanked evict-member
+evict-ranked = rank-of evict-member (λ s. refl) evict-class (λ layout a seat s rule fits. let few : _ = evict-below (words_at layout a) s in omega (arith, few))
+    (λ layout seat a b s t turn made goes. cost-falls made goes) (λ layout seat a b s t turn made is quiet. waits-falls made is quiet)
+
+-- ---- the class
+
+-- a task that has a frame or a page is under way, and its class tells
+abbrev TellsAt : View → EvictAt → Type 0
+TellsAt view x = (HasFrame view → (class_at x ≡ 1) × (plan_at x ≢ None)) × (HasPage view → (class_at x ≤ 2) × (plan_at x ≢ None))
+
+under-way : (view : View) (x : EvictAt) → Tells view (class_at x) → (plan_at x ≢ None) → TellsAt view x
+under-way view x tells on = ((λ some. (tells.0 some, on)), (λ some. (tells.1 some, on)))
+
+goes : (p : Option Step) → is_none p ≡ false → p ≢ None
+goes p on none = both_ways (is_none p) on (ap (λ (q : Option Step). is_none q) none)
+
+nothing-tells : (view : View) (x : EvictAt) → hand_of view ≡ empty → TellsAt view x
+nothing-tells view x is = ((λ some. absurd (no-frame view is refl refl refl some)), (λ some. absurd (no-page view is refl some)))
+
+gave-up : (layout : Layout) (view : View) (g : GiveUp) → give_ups.Fits layout view g → is_none (give_ups.plan g) ≡ true → hand_of view ≡ empty
+gave-up layout view g fits over = which g.at fits.at over
+  where
+    which : (x : GiveUpAt) → give_ups.FitsAt layout view g.who x → is_none (give_ups.plan_at x) ≡ true → hand_of view ≡ empty
+    which (give_up_at.Unhold u) has over = absurd (both_ways (is_none (unholds.plan u)) has.under_way over)
+    which (give_up_at.Unlock u) has over = absurd (both_ways (is_none (unlocks.plan u)) has.under_way over)
+    which give_up_at.GiveUp has over = has
+    which give_up_at.Over has over = has
+
+tells-at : (layout : Layout) (view : View) (e : Evict) → Fits layout view e → TellsAt view e.at
+tells-at layout view e fits = which e.at fits.at
+  where
+    which : (x : EvictAt) → FitsAt layout view e.who e.page e.what x → TellsAt view x
+    which at.LoadStop has = nothing-tells view at.LoadStop has.0
+    which (at.Hold h) has = under-way view (at.Hold h) (hold-tells layout view h has.hold has.under_way) (goes (holds.plan h) has.under_way)
+    which (at.LoadBad frame body) has = under-way view (at.LoadBad frame body) (frame-tells view) (goes (plan_at (at.LoadBad frame body)) refl)
+    which (at.SetPte slot frame body done) has = under-way view (at.SetPte slot frame body done) (frame-tells view) (goes (plan_at (at.SetPte slot frame body done)) refl)
+    which (at.Vacate v done) has = under-way view (at.Vacate v done) (vacate-tells layout view v has.vacate has.under_way) (goes (vacates.plan v) has.under_way)
+    which (at.Unhold u answer) has = under-way view (at.Unhold u answer) (unhold-tells layout view u has.unhold has.under_way) (goes (unholds.plan u) has.under_way)
+    which (at.GiveUp g) has = by (is_none (give_ups.plan g)) refl
+      where
+        by : (b : Bool) → is_none (give_ups.plan g) ≡ b → TellsAt view (at.GiveUp g)
+        by true over = nothing-tells view (at.GiveUp g) (gave-up layout view g has.give_up over)
+        by false on = under-way view (at.GiveUp g) (give-up-tells layout view g has.give_up on) (goes (give_ups.plan g) on)
+    which (at.Over answer) has = nothing-tells view (at.Over answer) has.0
+
+pub evict-tells : TellsClass evict-member
+evict-tells = record {
+  frame = λ layout view s fits some. (tells-at layout view s fits).0 some;
+  page = λ layout view s fits some. (tells-at layout view s fits).1 some;
+  claim = λ layout view s frame cycle fits none. absurd (none-some (frame, cycle) none);
+}

@@ -1,0 +1,15 @@
+pub mod Fsyncing
+pub mod Growing
+pub mod Vacating
+pub mod VacateCosts
+pub mod Emptiness
+pub mod Judging
+pub mod Entering
+pub mod Answering
+pub mod Beginning
+pub mod Entered
+pub mod Freeing
+pub mod Clearing
+pub mod Following
+pub mod Evicting
+pub mod EvictCosts

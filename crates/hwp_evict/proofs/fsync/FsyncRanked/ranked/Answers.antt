@@ -1,0 +1,5 @@
+use Rattle.hwp_evict.proofs.fsync.FsyncRanked.ranked.Goals as goal
+use Rattle.hwp_evict.proofs.Fsyncing.{fsync-ranked}
+
+pub returns : goal.returns
+returns c = fsync-ranked

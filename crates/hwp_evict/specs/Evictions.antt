@@ -1,0 +1,96 @@
+-- What the commands ask by which a page, or a part of it, leaves its frame: the entry that each makes, and why it is refused.
+use Rattle.std.specs.Prelude.{◌≡◌, ◌≢◌, ◌⊎◌, ℕ, Bool, true, false, List, [], ◌∷◌, Option, Some, None, length, slice_get, IsTrue, IsSomeAnd, MatchOption}
+use Rattle.std.specs.FinSet as set
+use Rattle.hwp_geom.specs.declared.Frame.{Frame}
+use Rattle.hwp_geom.specs.declared.Layout.{Layout}
+use Rattle.hwp_geom.specs.declared.Page.{Page}
+use Rattle.hwp_geom.specs.declared.PageKind.{PageKind}
+use Rattle.hwp_geom.specs.declared.Who.{Who}
+use Rattle.hwp_page.specs.declared.At.{At}
+use Rattle.hwp_page.specs.declared.Entry.{Entry}
+use Rattle.hwp_page.specs.declared.PageState.{PageState}
+use Rattle.hwp_page.specs.declared.What.{What}
+use Rattle.hwp_page.specs.declared.What.TheVariants as entries
+use Rattle.hwp_page.specs.Refusals.{IsAway, IsDirty, IsMapped, IsUnsaved, IsUnused}
+use Rattle.hwp_page.specs.Step.{IsOf, is_file}
+use Rattle.hwp_rule.specs.declared.InHand.{InHand}
+use Rattle.hwp_rule.specs.declared.Log.{Log}
+use Rattle.hwp_rule.specs.declared.Made.{Made}
+use Rattle.hwp_rule.specs.declared.Place.TheVariants as places
+use Rattle.hwp_rule.specs.declared.View.{View}
+use Rattle.hwp_rule.specs.Views.{more_of}
+use Rattle.hwp_known.specs.Known.{HasMade, HasMadeNone, Saw, SawStop}
+use Rattle.hwp_known.specs.Pages.{SawState}
+use Rattle.hwp_evict.specs.declared.evict.EvictAnswer.{EvictAnswer}
+use Rattle.hwp_evict.specs.declared.evict.EvictAnswer.TheVariants as answers
+use Rattle.hwp_evict.specs.declared.evict.Eviction.{Eviction}
+use Rattle.hwp_evict.specs.declared.evict.Eviction.TheVariants as evictions
+use Rattle.hwp_evict.specs.declared.evict.Refusal.{Refusal}
+use Rattle.hwp_evict.specs.declared.evict.Refusal.TheVariants as refusals
+
+-- the entry that the command makes
+abbrev pub entry_of : Eviction → What
+entry_of (evictions.Free slot) = entries.Free slot
+entry_of evictions.Sync = entries.Sync
+entry_of evictions.Drop = entries.Drop
+
+-- the command copies the page's content
+abbrev pub copies : Eviction → Bool
+copies (evictions.Free slot) = false
+copies evictions.Sync = true
+copies evictions.Drop = false
+
+-- the command's page is one that it can be of: the translation's, or a file's
+abbrev pub IsOfKind : Layout → Page → Eviction → Type 0
+IsOfKind layout page (evictions.Free slot) = IsOf layout page slot
+IsOfKind layout page evictions.Sync = IsSomeAnd (slice_get layout.pages page.0) (λ (kind : PageKind). is_file kind ≡ true)
+IsOfKind layout page evictions.Drop = Unit {0}
+
+-- why the command is refused where no frame holds the page
+abbrev pub absence : Eviction → Refusal
+absence (evictions.Free slot) = refusals.NotMapped
+absence evictions.Sync = refusals.NotResident
+absence evictions.Drop = refusals.NotResident
+
+-- a page in this state, which a frame holds, lets the command go on
+abbrev pub Passes : Eviction → PageState → Type 0
+Passes (evictions.Free slot) s = IsTrue (set.contains s.maps slot.0)
+Passes evictions.Sync s = Unit {0}
+Passes evictions.Drop s = (¬ IsUnsaved s) × (s.maps ≡ set.empty)
+
+-- it bars the command for this reason
+abbrev pub Bars : Eviction → PageState → Refusal → Type 0
+Bars (evictions.Free slot) s refusals.NotMapped = IsUnused slot s
+Bars evictions.Drop s refusals.Dirty = IsUnsaved s
+Bars evictions.Drop s refusals.Mapped = (¬ IsUnsaved s) × (s.maps ≢ set.empty)
+Bars what s refusal = ⊥
+
+abbrev pub IsJudged : Eviction → PageState → Option Refusal → Type 0
+IsJudged what s verdict = MatchOption verdict (Passes what s) (Bars what s)
+
+-- the state in which a page is left as it is for this reason
+abbrev pub IsWhy : Eviction → Refusal → PageState → Type 0
+IsWhy (evictions.Free slot) refusals.NotMapped s = IsUnused slot s
+IsWhy evictions.Sync refusals.NotResident s = IsAway s
+IsWhy evictions.Sync (refusals.BadLines mask) s = s.cached ≡ true
+IsWhy evictions.Drop refusals.NotResident s = IsAway s
+IsWhy evictions.Drop refusals.Dirty s = IsDirty s
+IsWhy evictions.Drop refusals.Mapped s = IsMapped s
+IsWhy what refusal s = ⊥
+
+-- the bad lines were shown
+abbrev pub SawLines : View → Who → Refusal → Type 0
+SawLines view who (refusals.BadLines mask) = (mask.0 ≢ 0) × ((frame : Frame) × Saw view who (places.Bad frame) mask.0)
+SawLines view who refusal = Unit {0}
+
+-- the command saw the page, after so many entries, in a state that bars it for this reason
+pub record SawRefusal (layout : Layout) (view : View) (who : Who) (page : Page) (what : Eviction) (refusal : Refusal) (at : At) : Type 0 where
+  pub page_is : at.page ≡ page
+  pub state : SawState layout view who page at.entry (IsWhy what refusal)
+  pub lines : SawLines view who refusal
+
+-- why the command answers so: what a step of it showed, or the one entry that it made
+abbrev pub IsCaused : Layout → View → Who → Page → Eviction → EvictAnswer → Type 0
+IsCaused layout view who page what answers.Stopped = HasMadeNone view who × SawStop view who
+IsCaused layout view who page what (answers.Done at) = (at.page ≡ page) × HasMade (λ m. ⊥) view who page at.entry (entry_of what)
+IsCaused layout view who page what (answers.Refused refusal at) = HasMadeNone view who × SawRefusal layout view who page what refusal at

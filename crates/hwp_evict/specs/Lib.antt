@@ -1,0 +1,5 @@
+pub mod Fsyncs
+pub mod Vacates
+pub mod Clears
+pub mod Evictions
+pub mod Evicts

@@ -1,0 +1,127 @@
+ghost use Rattle.std.specs.Prelude.{◌≡◌, is_none};
+ghost use Rattle.hwp_evict.specs.Clears.{IsBegun, plan, pte_of};
+
+use hwp_geom::{Frame, Layout, Page, VSlot, Who};
+use hwp_kill::Slots;
+use hwp_page::Body;
+use hwp_rule::Step;
+use hwp_step::{Machine, Ranked, Turn};
+use hwp_words::Pte;
+
+/// Writes the translations that lead to a page's frame, in rising order, so that they no longer do: empty, or with a poison
+/// entry (Linux try_to_unmap).
+#[derive(Drop)]
+pub struct Clear {
+    who: Who,
+    page: Page,
+    frame: Frame,
+    slots: Slots,
+    barred: bool,
+    /// How many are written.
+    count: u32,
+    /// The one that comes.
+    next: Option<VSlot>,
+}
+
+impl Clear {
+    /// The command writes these translations, which lead to the page's frame; with poison entries where they are barred.
+    pub fn new(who: Who, page: Page, frame: Frame, slots: Slots, barred: bool) -> Clear
+        ensures { IsBegun who page frame slots barred result }
+    {
+        let next = slots.lowest_from(VSlot(0));
+        Clear {
+            who,
+            page,
+            frame,
+            slots,
+            barred,
+            count: 0,
+            next,
+        }
+    }
+
+    /// Whether all are written.
+    pub fn is_over(&self) -> bool
+        ensures { result ≡ is_none self.now.next }
+    {
+        self.next.is_none()
+    }
+
+    /// How many are written.
+    pub fn count(&self) -> u32
+        ensures { result ≡ self.now.count }
+    {
+        self.count
+    }
+}
+
+fn pte_of(barred: bool) -> Pte
+    ensures { result ≡ pte_of barred }
+{
+    if barred { Pte::Poison } else { Pte::Empty }
+}
+
+impl Machine for Clear {
+    ghost use Rattle.std.specs.Prelude.{◌≡◌, None};
+    ghost use Rattle.hwp_step.specs.declared.Turn.TheVariants.{Moved};
+    ghost use Rattle.hwp_evict.specs.Clears.{plan, Shows, Follows, Fits};
+
+    ghost who = { λ c. c.who };
+
+    ghost plan = { λ c. plan c };
+
+    ghost put = { λ c. None };
+
+    ghost bare = { λ c. c };
+
+    ghost shows = { λ c found got. Shows c };
+
+    ghost next = { λ layout c found got after result. Follows c after × (result ≡ Moved) };
+
+    ghost fits = { λ layout view c. Fits layout view c };
+
+    fn who(&self) -> Who {
+        self.who
+    }
+
+    fn plan(&self) -> Option<Step> {
+        match self.next {
+            Some(slot) => Some(Step::SetPte {
+                slot,
+                pte: pte_of(self.barred),
+            }),
+            None => None,
+        }
+    }
+
+    fn give(&mut self) -> Option<Body> {
+        None
+    }
+
+    fn settle(&mut self, _layout: &Layout, _found: u64, _body: Option<Body>) -> Turn {
+        if let Some(slot) = self.next {
+            self.count += 1;
+            self.next = self.slots.lowest_from(VSlot(slot.0 + 1));
+        }
+        Turn::Moved
+    }
+}
+
+impl Ranked for Clear {
+    ghost use Rattle.std.specs.Prelude.{false, None};
+    ghost use Rattle.hwp_evict.specs.Clears.{cost};
+
+    ghost class_of = { λ c. 1 };
+
+    ghost cost = { λ c words. cost c words };
+
+    ghost aborts = { λ c. false };
+
+    ghost claims = { λ c. None };
+
+    fn class(&self) -> u8 {
+        1
+    }
+
+    fn ranked(&self) {}
+}

@@ -1,0 +1,507 @@
+ghost use Rattle.std.specs.Prelude.{◌≡◌, ◌↔◌, IsTrue, MatchResult};
+ghost use Rattle.std.specs.FinSet as set;
+ghost use Rattle.hwp_evict.specs.declared.evict.Eviction.TheVariants as evictions;
+ghost use Rattle.hwp_evict.specs.Evictions.{entry_of, copies, absence, IsJudged};
+ghost use Rattle.hwp_evict.specs.Evicts.{begin, answer, CanEnter, CanEnterHeld, CanMakeEntry, after_stop, AfterHold, AfterHeld, AfterBad, Enters, refused, entered, with_entry, after_vacate, after_unhold, turn_after};
+
+use crate::vacate::Vacate;
+use hwp_geom::{Frame, Layout, Mask, Page, VSlot, Who};
+use hwp_hold::{GiveUp, Hold, Unhold};
+use hwp_kill::Slots;
+use hwp_page::{At, Body, Entry, PageState, What};
+use hwp_rule::{Place, Step};
+use hwp_step::{Machine, Ranked, Scheduled, Turn};
+use hwp_words::{Pte, is_stopped};
+use std::mem;
+
+/// How much of a page leaves its frame (this project's rule).
+#[derive(Clone, Copy, Debug, PartialEq, Eq)]
+pub enum Eviction {
+    /// A translation is no longer in use.
+    Free { slot: VSlot },
+    /// The content is written to the file (Linux writepage).
+    Sync,
+    /// The page leaves its frame; its content stands behind it.
+    Drop,
+}
+
+/// Why a page is left as it is (this project's rule).
+#[derive(Clone, Copy, Debug, PartialEq, Eq)]
+pub enum Refusal {
+    /// The translation is not in use.
+    NotMapped,
+    /// No frame holds the page.
+    NotResident,
+    /// The page's content doesn't stand behind it.
+    Dirty,
+    /// A translation to the page is in use.
+    Mapped,
+    /// The page's frame has these bad lines.
+    BadLines(Mask),
+}
+
+/// What an `Evict` came to (this project's rule).
+#[derive(Clone, Copy, Debug, PartialEq, Eq)]
+pub enum EvictAnswer {
+    /// The machine has stopped.
+    Stopped,
+    /// It was done, by this entry.
+    Done(At),
+    /// The page was left as it was after so many entries.
+    Refused(Refusal, At),
+}
+
+/// A command by which a page, or a part of it, leaves its frame.
+#[derive(Drop)]
+pub struct Evict {
+    who: Who,
+    page: Page,
+    what: Eviction,
+    at: EvictAt,
+}
+
+#[derive(Drop)]
+enum EvictAt {
+    LoadStop,
+    Hold {
+        hold: Hold,
+    },
+    LoadBad {
+        frame: Frame,
+        body: Body,
+    },
+    SetPte {
+        slot: VSlot,
+        frame: Frame,
+        body: Body,
+        done: At,
+    },
+    Vacate {
+        vacate: Vacate,
+        done: At,
+    },
+    Unhold {
+        unhold: Unhold,
+        answer: EvictAnswer,
+    },
+    GiveUp {
+        give_up: GiveUp,
+    },
+    Over {
+        answer: EvictAnswer,
+    },
+}
+
+impl Eviction {
+    /// The entry that the command makes.
+    fn entry(self) -> What
+        ensures { result ≡ entry_of self }
+    {
+        match self {
+            Eviction::Free { slot } => What::Free { slot },
+            Eviction::Sync => What::Sync,
+            Eviction::Drop => What::Drop,
+        }
+    }
+
+    /// Whether the command copies the page's content, and reads the bad lines of its frame before.
+    fn copies(self) -> bool
+        ensures { result ≡ copies self }
+    {
+        match self {
+            Eviction::Free { .. } | Eviction::Drop => false,
+            Eviction::Sync => true,
+        }
+    }
+
+    /// Why the command is refused where no frame holds the page.
+    fn absence(self) -> Refusal
+        ensures { result ≡ absence self }
+    {
+        match self {
+            Eviction::Free { .. } => Refusal::NotMapped,
+            Eviction::Sync | Eviction::Drop => Refusal::NotResident,
+        }
+    }
+
+    /// Why the command is refused, where a frame holds the page.
+    fn refusal(self, state: &PageState) -> Option<Refusal>
+        ensures { IsJudged self state.now result }
+    {
+        match self {
+            Eviction::Free { slot } => {
+                if state.maps.has(slot) {
+                    None
+                } else {
+                    Some(Refusal::NotMapped)
+                }
+            }
+            Eviction::Sync => None,
+            Eviction::Drop => {
+                if state.dirty || state.back.is_none() {
+                    Some(Refusal::Dirty)
+                } else if is_empty(&state.maps) {
+                    None
+                } else {
+                    Some(Refusal::Mapped)
+                }
+            }
+        }
+    }
+}
+
+/// Whether the set has no member.
+fn is_empty(slots: &Slots) -> bool
+    ensures { IsTrue result ↔ (slots.now ≡ set.empty) }
+{
+    slots.lowest_from(VSlot(0)).is_none()
+}
+
+impl Evict {
+    /// The command takes the translation, which is one to the page, out of use.
+    pub fn free_slot(who: Who, slot: VSlot, page: Page) -> Evict
+        ensures { result ≡ begin who page (evictions.Free slot) }
+    {
+        Evict::new(who, page, Eviction::Free { slot })
+    }
+
+    /// The command writes the page's content to the file that stands behind it.
+    pub fn sync_page(who: Who, page: Page) -> Evict
+        ensures { result ≡ begin who page evictions.Sync }
+    {
+        Evict::new(who, page, Eviction::Sync)
+    }
+
+    /// The command takes the page out of its frame, where its content stands behind it.
+    pub fn drop_page(who: Who, page: Page) -> Evict
+        ensures { result ≡ begin who page evictions.Drop }
+    {
+        Evict::new(who, page, Eviction::Drop)
+    }
+
+    fn new(who: Who, page: Page, what: Eviction) -> Evict
+        ensures { result ≡ begin who page what }
+    {
+        Evict {
+            who,
+            page,
+            what,
+            at: EvictAt::LoadStop,
+        }
+    }
+
+    /// What the task came to; `None` until it is over, and where it gave up.
+    pub fn answer(&self) -> Option<EvictAnswer>
+        ensures { result ≡ answer self.now }
+    {
+        match self.at {
+            EvictAt::Over { answer } => Some(answer),
+            EvictAt::LoadStop
+            | EvictAt::Hold { .. }
+            | EvictAt::LoadBad { .. }
+            | EvictAt::SetPte { .. }
+            | EvictAt::Vacate { .. }
+            | EvictAt::Unhold { .. }
+            | EvictAt::GiveUp { .. } => None,
+        }
+    }
+}
+
+fn after_stop(who: Who, page: Page, word: u64) -> EvictAt
+    ensures { result ≡ after_stop who page word }
+{
+    if is_stopped(word) {
+        EvictAt::Over {
+            answer: EvictAnswer::Stopped,
+        }
+    } else {
+        EvictAt::Hold {
+            hold: Hold::new(who, page),
+        }
+    }
+}
+
+fn after_hold(who: Who, page: Page, what: Eviction, hold: Hold) -> EvictAt
+    requires { CanEnterHeld what hold.at }
+    ensures { AfterHold who page what hold result }
+{
+    match hold.answer() {
+        None => EvictAt::Hold { hold },
+        Some(frame) => held(who, page, what, frame, hold.body()),
+    }
+}
+
+/// The page is held, and the command is refused or goes on.
+fn held(who: Who, page: Page, what: Eviction, frame: Option<Frame>, body: Body) -> EvictAt
+    requires { CanEnter what frame body }
+    ensures { AfterHeld who page what frame body result }
+{
+    let Some(inside) = frame else {
+        return refused(who, page, None, body, what.absence());
+    };
+    match what.refusal(body.state()) {
+        Some(refusal) => refused(who, page, Some(inside), body, refusal),
+        None => {
+            if what.copies() {
+                EvictAt::LoadBad {
+                    frame: inside,
+                    body,
+                }
+            } else {
+                enter(who, page, what, inside, body)
+            }
+        }
+    }
+}
+
+/// The bad lines of the frame are read: with none the command goes on.
+fn after_bad(who: Who, page: Page, what: Eviction, frame: Frame, body: Body, word: u64) -> EvictAt
+    requires { CanMakeEntry what body }
+    ensures { AfterBad who page what frame body word result }
+{
+    if word == 0 {
+        enter(who, page, what, frame, body)
+    } else {
+        refused(who, page, Some(frame), body, Refusal::BadLines(Mask(word)))
+    }
+}
+
+/// The command is refused, and lets the page go.
+fn refused(who: Who, page: Page, frame: Option<Frame>, body: Body, refusal: Refusal) -> EvictAt
+    ensures { result ≡ refused who page frame body refusal }
+{
+    let at = At {
+        page,
+        entry: body.len(),
+    };
+    EvictAt::Unhold {
+        unhold: Unhold::new(who, page, frame, 1, body),
+        answer: EvictAnswer::Refused(refusal, at),
+    }
+}
+
+/// The body with the command's entry; or as it was, where memory for the entry is refused.
+fn make_entry(who: Who, what: Eviction, body: Body) -> Result<Body, Body>
+    requires { CanMakeEntry what body }
+    ensures { MatchResult result (λ b. b ≡ with_entry who (entry_of what) body b.spare) (λ b. b ≡ body) }
+{
+    let mut body = body;
+    match body.room() {
+        Err(_) => Err(body),
+        Ok(()) => {
+            body.append(Entry {
+                who,
+                what: what.entry(),
+            });
+            Ok(body)
+        }
+    }
+}
+
+/// What the command does once its entry is made.
+fn entered(who: Who, page: Page, what: Eviction, frame: Frame, body: Body, done: At) -> EvictAt
+    ensures { result ≡ entered who page what frame body done }
+{
+    match what {
+        Eviction::Free { slot } => EvictAt::SetPte {
+            slot,
+            frame,
+            body,
+            done,
+        },
+        Eviction::Sync => EvictAt::Unhold {
+            unhold: Unhold::new(who, page, Some(frame), 1, body),
+            answer: EvictAnswer::Done(done),
+        },
+        Eviction::Drop => EvictAt::Vacate {
+            vacate: Vacate::new(who, page, frame, 2, body),
+            done,
+        },
+    }
+}
+
+/// The command makes its entry, or gives up where memory for it is refused.
+fn enter(who: Who, page: Page, what: Eviction, frame: Frame, body: Body) -> EvictAt
+    requires { CanMakeEntry what body }
+    ensures { Enters who page what frame body result }
+{
+    let done = At {
+        page,
+        entry: body.len(),
+    };
+    match make_entry(who, what, body) {
+        Ok(body) => entered(who, page, what, frame, body, done),
+        Err(body) => EvictAt::GiveUp {
+            give_up: GiveUp::with_page(who, page, Some(frame), 1, body),
+        },
+    }
+}
+
+fn after_vacate(vacate: Vacate, done: At) -> EvictAt
+    ensures { result ≡ after_vacate vacate done }
+{
+    if vacate.is_over() {
+        EvictAt::Over {
+            answer: EvictAnswer::Done(done),
+        }
+    } else {
+        EvictAt::Vacate { vacate, done }
+    }
+}
+
+fn after_unhold(unhold: Unhold, answer: EvictAnswer) -> EvictAt
+    ensures { result ≡ after_unhold unhold answer }
+{
+    if unhold.is_over() {
+        EvictAt::Over { answer }
+    } else {
+        EvictAt::Unhold { unhold, answer }
+    }
+}
+
+/// The turn that ended the command answers it.
+fn turn_after(at: &EvictAt) -> Turn
+    ensures { result ≡ turn_after at.now }
+{
+    if matches!(at, EvictAt::Over { .. }) {
+        Turn::Answered
+    } else {
+        Turn::Moved
+    }
+}
+
+impl Machine for Evict {
+    ghost use Rattle.hwp_evict.specs.Evicts.{plan, put, bare, Shows, Follows, Fits};
+
+    ghost who = { λ e. e.who };
+
+    ghost plan = { λ e. plan e };
+
+    ghost put = { λ e. put e };
+
+    ghost bare = { λ e. bare e };
+
+    ghost shows = { λ e found got. Shows e found got };
+
+    ghost next = { λ layout e found got after result. Follows e found got after result };
+
+    ghost fits = { λ layout view e. Fits layout view e };
+
+    fn who(&self) -> Who {
+        self.who
+    }
+
+    fn plan(&self) -> Option<Step> {
+        match &self.at {
+            EvictAt::LoadStop => Some(Step::Load { place: Place::Stop }),
+            EvictAt::Hold { hold } => hold.plan(),
+            EvictAt::LoadBad { frame, .. } => Some(Step::Load {
+                place: Place::Bad(*frame),
+            }),
+            EvictAt::SetPte { slot, .. } => Some(Step::SetPte {
+                slot: *slot,
+                pte: Pte::Empty,
+            }),
+            EvictAt::Vacate { vacate, .. } => vacate.plan(),
+            EvictAt::Unhold { unhold, .. } => unhold.plan(),
+            EvictAt::GiveUp { give_up } => give_up.plan(),
+            EvictAt::Over { .. } => None,
+        }
+    }
+
+    fn give(&mut self) -> Option<Body> {
+        match &mut self.at {
+            EvictAt::Vacate { vacate, .. } => vacate.give(),
+            EvictAt::Unhold { unhold, .. } => unhold.give(),
+            EvictAt::GiveUp { give_up } => give_up.give(),
+            EvictAt::LoadStop
+            | EvictAt::Hold { .. }
+            | EvictAt::LoadBad { .. }
+            | EvictAt::SetPte { .. }
+            | EvictAt::Over { .. } => None,
+        }
+    }
+
+    fn settle(&mut self, layout: &Layout, found: u64, body: Option<Body>) -> Turn {
+        match mem::replace(&mut self.at, EvictAt::LoadStop) {
+            EvictAt::LoadStop => {
+                self.at = after_stop(self.who, self.page, found);
+                turn_after(&self.at)
+            }
+            EvictAt::Hold { mut hold } => {
+                let turn = hold.settle(layout, found, body);
+                self.at = after_hold(self.who, self.page, self.what, hold);
+                turn
+            }
+            EvictAt::LoadBad { frame, body: taken } => {
+                self.at = after_bad(self.who, self.page, self.what, frame, taken, found);
+                Turn::Moved
+            }
+            EvictAt::SetPte {
+                frame,
+                body: taken,
+                done,
+                ..
+            } => {
+                self.at = EvictAt::Unhold {
+                    unhold: Unhold::new(self.who, self.page, Some(frame), 2, taken),
+                    answer: EvictAnswer::Done(done),
+                };
+                Turn::Moved
+            }
+            EvictAt::Vacate { mut vacate, done } => {
+                let _turn = vacate.settle(layout, found, body);
+                self.at = after_vacate(vacate, done);
+                turn_after(&self.at)
+            }
+            EvictAt::Unhold { mut unhold, answer } => {
+                let _turn = unhold.settle(layout, found, body);
+                self.at = after_unhold(unhold, answer);
+                turn_after(&self.at)
+            }
+            EvictAt::GiveUp { mut give_up } => {
+                let turn = give_up.settle(layout, found, body);
+                self.at = EvictAt::GiveUp { give_up };
+                turn
+            }
+            EvictAt::Over { answer } => {
+                self.at = EvictAt::Over { answer };
+                Turn::Moved
+            }
+        }
+    }
+}
+
+impl Ranked for Evict {
+    ghost use Rattle.std.specs.Prelude.{false, None};
+    ghost use Rattle.hwp_evict.specs.Evicts.{class, cost};
+
+    ghost class_of = { λ e. class e };
+
+    ghost cost = { λ e words. cost e words };
+
+    ghost aborts = { λ e. false };
+
+    ghost claims = { λ e. None };
+
+    fn class(&self) -> u8 {
+        match &self.at {
+            EvictAt::LoadStop | EvictAt::Over { .. } => 4,
+            EvictAt::Hold { hold } => hold.class(),
+            EvictAt::LoadBad { .. } | EvictAt::SetPte { .. } => 1,
+            EvictAt::Vacate { vacate, .. } => vacate.class(),
+            EvictAt::Unhold { unhold, .. } => unhold.class(),
+            EvictAt::GiveUp { give_up } => give_up.class(),
+        }
+    }
+
+    fn ranked(&self) {}
+}
+
+impl Scheduled for Evict {
+    fn is_over(&self) -> bool {
+        self.plan().is_none()
+    }
+
+    fn tells(&self) {}
+}

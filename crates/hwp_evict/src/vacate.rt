@@ -1,0 +1,177 @@
+ghost use Rattle.std.specs.Prelude.{◌≡◌, is_none};
+ghost use Rattle.hwp_evict.specs.Vacates.{begin, plan, after_release};
+
+use hwp_geom::{Frame, Layout, Page, Who};
+use hwp_hold::Release;
+use hwp_page::Body;
+use hwp_rule::Step;
+use hwp_step::{Machine, Ranked, Turn};
+use std::cmp::min;
+use std::mem;
+
+/// Takes a page that is held out of its frame: the page's cache word names no frame and the frame gets no owner, the frame is
+/// unlocked and released, the page's body goes onto its shelf, and the page is unlocked (this project's rule).
+#[derive(Drop)]
+pub struct Vacate {
+    who: Who,
+    page: Page,
+    frame: Frame,
+    count: u32,
+    body: Option<Body>,
+    at: VacateAt,
+}
+
+#[derive(Clone, Copy, Debug, PartialEq, Eq)]
+enum VacateAt {
+    SetCache,
+    SetOwner,
+    UnlockFrame,
+    Release { release: Release },
+    UnlockPage,
+    Over,
+}
+
+impl Vacate {
+    /// The command takes the page out of the frame. It has so many references to the frame, less that of the cache word.
+    pub fn new(who: Who, page: Page, frame: Frame, count: u32, body: Body) -> Vacate
+        ensures { result ≡ begin who page frame count body }
+    {
+        Vacate {
+            who,
+            page,
+            frame,
+            count,
+            body: Some(body),
+            at: VacateAt::SetCache,
+        }
+    }
+
+    /// Whether the page is let go.
+    pub fn is_over(&self) -> bool
+        ensures { result ≡ is_none (plan self.now) }
+    {
+        match self.at {
+            VacateAt::SetCache
+            | VacateAt::SetOwner
+            | VacateAt::UnlockFrame
+            | VacateAt::UnlockPage => false,
+            VacateAt::Release { release } => release.is_over(),
+            VacateAt::Over => true,
+        }
+    }
+
+    fn after_release(release: Release) -> VacateAt
+        ensures { result ≡ after_release release }
+    {
+        if release.is_over() {
+            VacateAt::UnlockPage
+        } else {
+            VacateAt::Release { release }
+        }
+    }
+}
+
+impl Machine for Vacate {
+    ghost use Rattle.std.specs.Prelude.{◌≡◌};
+    ghost use Rattle.hwp_step.specs.declared.Turn.TheVariants.{Moved};
+    ghost use Rattle.hwp_evict.specs.Vacates.{plan, put, bare, next, Fits};
+
+    ghost who = { λ v. v.who };
+
+    ghost plan = { λ v. plan v };
+
+    ghost put = { λ v. put v };
+
+    ghost bare = { λ v. bare v };
+
+    ghost shows = { λ v found got. Unit {0} };
+
+    ghost next = { λ layout v found got after result. (after ≡ next v found) × (result ≡ Moved) };
+
+    ghost fits = { λ layout view v. Fits layout view v };
+
+    fn who(&self) -> Who {
+        self.who
+    }
+
+    fn plan(&self) -> Option<Step> {
+        match self.at {
+            VacateAt::SetCache => Some(Step::SetCache {
+                page: self.page,
+                frame: None,
+            }),
+            VacateAt::SetOwner => Some(Step::SetOwner {
+                frame: self.frame,
+                page: self.page,
+                owned: false,
+            }),
+            VacateAt::UnlockFrame => Some(Step::UnlockFrame { frame: self.frame }),
+            VacateAt::Release { release } => release.plan(),
+            VacateAt::UnlockPage => Some(Step::UnlockPage { page: self.page }),
+            VacateAt::Over => None,
+        }
+    }
+
+    fn give(&mut self) -> Option<Body> {
+        match self.at {
+            VacateAt::UnlockPage => mem::replace(&mut self.body, None),
+            VacateAt::SetCache
+            | VacateAt::SetOwner
+            | VacateAt::UnlockFrame
+            | VacateAt::Release { .. }
+            | VacateAt::Over => None,
+        }
+    }
+
+    fn settle(&mut self, layout: &Layout, found: u64, body: Option<Body>) -> Turn {
+        match self.at {
+            VacateAt::SetCache => {
+                self.at = VacateAt::SetOwner;
+                Turn::Moved
+            }
+            VacateAt::SetOwner => {
+                self.at = VacateAt::UnlockFrame;
+                Turn::Moved
+            }
+            VacateAt::UnlockFrame => {
+                self.at = VacateAt::Release {
+                    release: Release::new(self.who, self.frame, self.count),
+                };
+                Turn::Moved
+            }
+            VacateAt::Release { mut release } => {
+                let turn = release.settle(layout, found, body);
+                self.at = Vacate::after_release(release);
+                turn
+            }
+            VacateAt::UnlockPage | VacateAt::Over => {
+                self.at = VacateAt::Over;
+                Turn::Moved
+            }
+        }
+    }
+}
+
+impl Ranked for Vacate {
+    ghost use Rattle.std.specs.Prelude.{false, None};
+    ghost use Rattle.hwp_evict.specs.Vacates.{class, cost};
+
+    ghost class_of = { λ v. class v };
+
+    ghost cost = { λ v words. cost v words };
+
+    ghost aborts = { λ v. false };
+
+    ghost claims = { λ v. None };
+
+    fn class(&self) -> u8 {
+        match self.at {
+            VacateAt::SetCache | VacateAt::SetOwner | VacateAt::UnlockFrame => 1,
+            VacateAt::Release { release } => min(release.class(), 2),
+            VacateAt::UnlockPage => 2,
+            VacateAt::Over => 4,
+        }
+    }
+
+    fn ranked(&self) {}
+}

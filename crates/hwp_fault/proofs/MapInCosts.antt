@@ -1,0 +1,83 @@
+-- The cost of a translation's coming into use falls.
+use Rattle.std.proofs.Common.{◌≡◌, ℕ, ◌+◌, ◌<◌, ◌≤◌, ◌==◌, Bool, true, false, cond, Some, None, slice_index, refl, sym, ap, ◌∙◌, subst, arith}
+use Rattle.std.proofs.lemmas.Bool.{both_ways}
+use Rattle.std.proofs.lemmas.Option.{none-some}
+use Rattle.hwp_rule.specs.declared.Step.{Step}
+use Rattle.hwp_rule.specs.Steps.{place_of, word_after}
+use Rattle.hwp_rule.specs.Words.{Words, read}
+use Rattle.hwp_step.specs.declared.Turn.TheVariants.{Moved, Changed}
+use Rattle.hwp_step.specs.Ranks.{Member, member, IsRanked, is_waits, stale, words_at}
+use Rattle.hwp_step.proofs.Ranking.{met, words-kept, rank-of}
+use Rattle.hwp_hold.specs.declared.Refer.{Refer}
+use Rattle.hwp_hold.specs.declared.refer.ReferAt.{ReferAt}
+use Rattle.hwp_hold.specs.declared.refer.ReferAt.TheVariants as refer_at
+use Rattle.hwp_hold.specs.Refers as refers
+use Rattle.hwp_hold.proofs.FillCosts.{refer-falls}
+use Rattle.hwp_hold.proofs.Ranking.{stale-most}
+use Rattle.hwp_fault.specs.declared.map_in.MapIn.{MapIn}
+use Rattle.hwp_fault.specs.declared.map_in.MapInAt.{MapInAt}
+use Rattle.hwp_fault.specs.declared.map_in.MapInAt.TheVariants as at
+use Rattle.hwp_fault.specs.MapIns.{plan, plan_at, after_refer, next, next_at, turn, turn_at, Fits, cost, cost_at}
+
+-- the state after the second reference costs one more than it
+refer-cost : (r : Refer) (w : Words) → cost_at (after_refer r) w ≡ refers.cost r w + 1
+refer-cost r w = which r.at
+  where
+    which : (x : ReferAt) → cost_at (after_refer (record r { at = x })) w ≡ refers.cost (record r { at = x }) w + 1
+    which refer_at.Load = refl
+    which (refer_at.Get seen) = refl
+    which refer_at.Over = refl
+
+pub map-in-falls : (w now : Words) (m : MapIn) (step : Step) (found : ℕ) → plan m ≡ Some step → read (place_of step) w ≡ found → (word_after step found ≡ found → now ≡ w) → cost (next m found) now < cost m w
+map-in-falls w now m step found is met kept = which m.at is
+  where
+    which : (x : MapInAt) → plan_at m.slot m.frame x ≡ Some step → cost_at (next_at x found) now < cost_at x w
+    which (at.Refer r) e =
+        let less : refers.cost (refers.next r found) now < refers.cost r w = refer-falls w now r step found e met kept in
+        let more : cost_at (after_refer (refers.next r found)) now ≡ refers.cost (refers.next r found) now + 1 = refer-cost (refers.next r found) now in
+        omega (arith, less, more)
+    which at.SetPte e = omega arith
+    which at.Over e = absurd (none-some step e)
+
+refer-few : (w : Words) (r : Refer) → refers.cost r w ≤ 4097
+refer-few w r = which r.at
+  where
+    which : (x : ReferAt) → refers.cost_at r.frame x w ≤ 4097
+    which refer_at.Load = omega arith
+    which (refer_at.Get seen) = let most : stale (slice_index w.frames r.frame.0 == seen) ≤ 4096 = stale-most (slice_index w.frames r.frame.0 == seen) in omega arith
+    which refer_at.Over = omega arith
+
+pub map-in-small : (w : Words) (m : MapIn) → cost m w ≤ 4098
+map-in-small w m = which m.at
+  where
+    which : (x : MapInAt) → cost_at x w ≤ 4098
+    which (at.Refer r) = let few : refers.cost r w ≤ 4097 = refer-few w r in omega (arith, few)
+    which at.SetPte = omega arith
+    which at.Over = omega arith
+
+-- it never waits
+pub map-in-goes : (m : MapIn) (found : ℕ) → is_waits (turn m found) ≡ false
+map-in-goes m found = which m.at
+  where
+    by : (b : Bool) → is_waits (cond b Moved (Changed found)) ≡ false
+    by true = refl
+    by false = refl
+
+    refer-goes : (x : ReferAt) → is_waits (refers.turn_at x found) ≡ false
+    refer-goes refer_at.Load = refl
+    refer-goes (refer_at.Get seen) = by (found == seen)
+    refer-goes refer_at.Over = refl
+
+    which : (x : MapInAt) → is_waits (turn_at x found) ≡ false
+    which (at.Refer r) = refer-goes r.at
+    which at.SetPte = refl
+    which at.Over = refl
+
+abbrev pub map-in-member : Member MapIn
+map-in-member = member (λ m. m.who) plan (λ m. None) (λ m. m) (λ layout m found got after result. (after ≡ next m found) × (result ≡ turn m found)) Fits (λ m. 1) cost (λ m. false) (λ m. None)
+
+pub map-in-ranked : IsRanked map-in-member
+map-in-ranked = rank-of map-in-member (λ s. refl) (λ s. (omega arith, omega arith)) (λ layout a seat s rule fits. let few : cost s (words_at layout a) ≤ 4098 = map-in-small (words_at layout a) s in omega arith)
+    (λ layout seat a b s t turned made goes. subst (λ (x : MapIn). cost x (words_at layout b) < cost s (words_at layout a)) (sym made.follows.0)
+    (map-in-falls (words_at layout a) (words_at layout b) s made.step made.found made.planned (met made) (words-kept made)))
+    (λ layout seat a b s t turned made is quiet. absurd (both_ways true (sym is ∙ ap is_waits made.follows.1 ∙ map-in-goes s made.found) refl))

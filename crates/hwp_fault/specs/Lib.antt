@@ -1,0 +1,3 @@
+pub mod MapIns
+pub mod Faults
+pub mod Accesses

@@ -1,0 +1,463 @@
+ghost use Rattle.std.specs.Prelude.{◌≡◌, Option, is_none};
+
+use crate::fault::{Fault, FaultAnswer};
+use hwp_geom::{Frame, Layout, Line, Mask, Page, Proc, Thread, VSlot, Who};
+use hwp_hold::{GiveUp, Pin, PinAnswer, Unlock};
+use hwp_page::{Body, Entry, Met, What};
+use hwp_rule::{Place, Step, frame_in};
+use hwp_step::{Machine, Ranked, Scheduled, Turn};
+use hwp_words::{FrameWord, ProcessWord, is_stopped};
+use std::mem;
+
+/// A thread reads or writes a line of a page through a translation; where the translation leads to no frame, the page is
+/// brought in (this project's rule).
+#[derive(Drop)]
+pub struct Access {
+    request: Request,
+    at: AccessAt,
+}
+
+/// Who accesses what: the thread is one of the process, and the translation one of the process to the page.
+#[derive(Clone, Copy)]
+struct Request {
+    who: Who,
+    thread: Thread,
+    slot: VSlot,
+    line: Line,
+    kind: AccessKind,
+    page: Page,
+    process: Proc,
+}
+
+/// What an access does.
+#[derive(Clone, Copy, Debug, PartialEq, Eq)]
+pub enum AccessKind {
+    /// It reads the word of the line.
+    Load,
+    /// It writes this word to the line.
+    Store { word: u64 },
+}
+
+/// What an `Access` came to. A place is the number of an entry in the page's history, from 0 (this project's rule).
+#[derive(Clone, Copy, Debug, PartialEq, Eq)]
+pub enum AccessAnswer {
+    /// This word was read: the entry at the place.
+    Value { word: u64, page: Page, place: u64 },
+    /// The word was written: the entry at the place.
+    Stored { page: Page, place: u64 },
+    /// No frame was available for the page.
+    NoFrame,
+    /// The thread's process has ended, by a signal in the history of this page.
+    Gone { page: Page },
+    /// A processor had stopped the machine.
+    Stopped,
+}
+
+#[derive(Drop)]
+enum AccessAt {
+    LoadStop,
+    LoadProcess,
+    LoadTranslation,
+    Pin {
+        pin: Pin,
+    },
+    LockFrame {
+        frame: Frame,
+    },
+    LoadAgain {
+        frame: Frame,
+        body: Option<Body>,
+    },
+    LoadBad {
+        frame: Frame,
+        body: Body,
+    },
+    Unlock {
+        unlock: Unlock,
+        then: Option<AccessAnswer>,
+    },
+    Fault {
+        fault: Fault,
+    },
+    GiveUp {
+        give_up: GiveUp,
+    },
+    Over {
+        answer: AccessAnswer,
+    },
+}
+
+impl Access {
+    ghost use Rattle.hwp_fault.specs.Accesses.{begin, answer, at_start, at_process, pinned, unlocked, after_fault};
+
+    /// The thread, which is one of the process, accesses the line through the translation, which is one of the process to
+    /// the page.
+    pub fn new(
+        who: Who,
+        thread: Thread,
+        slot: VSlot,
+        line: Line,
+        kind: AccessKind,
+        page: Page,
+        process: Proc,
+    ) -> Access
+        ensures { result ≡ begin who thread slot line kind page process }
+    {
+        Access {
+            request: Request {
+                who,
+                thread,
+                slot,
+                line,
+                kind,
+                page,
+                process,
+            },
+            at: AccessAt::LoadStop,
+        }
+    }
+
+    /// What the task came to; `None` until it is over, and where the command was given up for want of memory.
+    pub fn answer(&self) -> Option<AccessAnswer>
+        ensures { result ≡ answer self.now }
+    {
+        match self.at {
+            AccessAt::Over { answer } => Some(answer),
+            AccessAt::LoadStop
+            | AccessAt::LoadProcess
+            | AccessAt::LoadTranslation
+            | AccessAt::Pin { .. }
+            | AccessAt::LockFrame { .. }
+            | AccessAt::LoadAgain { .. }
+            | AccessAt::LoadBad { .. }
+            | AccessAt::Unlock { .. }
+            | AccessAt::Fault { .. }
+            | AccessAt::GiveUp { .. } => None,
+        }
+    }
+
+    fn at_start(found: u64) -> AccessAt
+        ensures { result ≡ at_start found }
+    {
+        if is_stopped(found) {
+            AccessAt::Over {
+                answer: AccessAnswer::Stopped,
+            }
+        } else {
+            AccessAt::LoadProcess
+        }
+    }
+
+    fn at_process(found: u64) -> AccessAt
+        ensures { result ≡ at_process found }
+    {
+        match ProcessWord::unpack(found).ended_by {
+            Some(page) => AccessAt::Over {
+                answer: AccessAnswer::Gone { page },
+            },
+            None => AccessAt::LoadTranslation,
+        }
+    }
+
+    fn pinned(pin: Pin) -> AccessAt
+        ensures { result ≡ pinned pin }
+    {
+        match pin.answer() {
+            Some(PinAnswer::Held(_)) => AccessAt::LockFrame { frame: pin.frame() },
+            Some(PinAnswer::Gone(_)) => AccessAt::LoadTranslation,
+            None => AccessAt::Pin { pin },
+        }
+    }
+
+    fn unlocked(unlock: Unlock, then: Option<AccessAnswer>) -> AccessAt
+        ensures { result ≡ unlocked unlock then }
+    {
+        if unlock.is_over() {
+            match then {
+                Some(answer) => AccessAt::Over { answer },
+                None => AccessAt::LoadTranslation,
+            }
+        } else {
+            AccessAt::Unlock { unlock, then }
+        }
+    }
+
+    fn after_fault(fault: Fault) -> AccessAt
+        ensures { result ≡ after_fault fault }
+    {
+        match fault.answer() {
+            Some(FaultAnswer::Again) => AccessAt::LoadTranslation,
+            Some(FaultAnswer::NoFrame { .. }) => AccessAt::Over {
+                answer: AccessAnswer::NoFrame,
+            },
+            None => AccessAt::Fault { fault },
+        }
+    }
+}
+
+impl Request {
+    ghost use Rattle.std.specs.Prelude.{is_some, true};
+    ghost use Rattle.hwp_fault.specs.Accesses.{at_translation, LooksAgain, Prepares, Reaches, reached, reply, entry_of, leads_to};
+
+    fn at_translation(&self, found: u64) -> AccessAt
+        ensures { result ≡ at_translation self.now found }
+    {
+        match frame_in(found) {
+            Some(frame) => AccessAt::Pin {
+                pin: Pin::new(self.who, frame),
+            },
+            None => AccessAt::Fault {
+                fault: Fault::new(self.who, self.page, self.slot),
+            },
+        }
+    }
+
+    /// What follows the translation's word, read again under the frame's lock.
+    fn at_again(&self, frame: Frame, body: Option<Body>, found: u64) -> AccessAt
+        requires taken { leads_to frame found ≡ true → is_some body ≡ true }
+        ensures { LooksAgain self.now frame body found result }
+    {
+        if leads_to(frame, found) {
+            match body {
+                Some(body) => self.prepared(frame, body),
+                None => unreachable!(),
+            }
+        } else {
+            AccessAt::Unlock {
+                unlock: Unlock::new(self.who, frame, body),
+                then: None,
+            }
+        }
+    }
+
+    /// Makes room for the entry; where that is refused, the command is given up.
+    fn prepared(&self, frame: Frame, body: Body) -> AccessAt
+        ensures { Prepares self.now frame body result }
+    {
+        let mut body = body;
+        match body.room() {
+            Ok(()) => AccessAt::LoadBad { frame, body },
+            Err(_) => AccessAt::GiveUp {
+                give_up: GiveUp::with_frame(self.who, frame, body),
+            },
+        }
+    }
+
+    /// Reads or writes the word, and appends the entry of it; `mask` has the frame's bad lines.
+    fn reach(&self, body: &mut Body, mask: u64) -> AccessAnswer
+        requires { Reaches self.now body.old mask }
+        ensures body { body.new ≡ reached self.now mask body.old }
+        ensures reply { result ≡ reply self.now body.old }
+    {
+        let place = body.len();
+        let word = body.state().val.get(self.line);
+        let entry = self.entry(mask, word);
+        body.append(entry);
+        match self.kind {
+            AccessKind::Load => AccessAnswer::Value {
+                word,
+                page: self.page,
+                place,
+            },
+            AccessKind::Store { .. } => AccessAnswer::Stored {
+                page: self.page,
+                place,
+            },
+        }
+    }
+
+    fn entry(&self, mask: u64, word: u64) -> Entry
+        ensures { result ≡ entry_of self.now mask word }
+    {
+        let mask = Mask(mask);
+        match self.kind {
+            AccessKind::Load => Entry {
+                who: self.who,
+                what: What::Load {
+                    slot: self.slot,
+                    line: self.line,
+                    met: Met::Word { mask, word },
+                },
+            },
+            AccessKind::Store { word } => Entry {
+                who: self.who,
+                what: What::Store {
+                    slot: self.slot,
+                    line: self.line,
+                    met: Met::Word { mask, word },
+                },
+            },
+        }
+    }
+}
+
+ghost use Rattle.hwp_fault.specs.Accesses.{leads_to};
+
+/// The translation's word leads to the frame.
+fn leads_to(frame: Frame, word: u64) -> bool
+    ensures { result ≡ leads_to frame word }
+{
+    match frame_in(word) {
+        Some(named) => named.0 == frame.0,
+        None => false,
+    }
+}
+
+impl Machine for Access {
+    ghost use Rattle.hwp_fault.specs.Accesses.{plan, put, bare, Next, Shows, Fits};
+
+    ghost who = { λ a. a.request.who };
+
+    ghost plan = { λ a. plan a };
+
+    ghost put = { λ a. put a };
+
+    ghost bare = { λ a. bare a };
+
+    ghost shows = { λ a found got. Shows a found got };
+
+    ghost next = { λ layout a found got after result. Next layout a found got after result };
+
+    ghost fits = { λ layout view a. Fits layout view a };
+
+    fn who(&self) -> Who {
+        self.request.who
+    }
+
+    fn plan(&self) -> Option<Step> {
+        match &self.at {
+            AccessAt::LoadStop => Some(Step::Load { place: Place::Stop }),
+            AccessAt::LoadProcess => Some(Step::Load {
+                place: Place::Process(self.request.process),
+            }),
+            AccessAt::LoadTranslation | AccessAt::LoadAgain { .. } => Some(Step::Load {
+                place: Place::Trans(self.request.slot),
+            }),
+            AccessAt::Pin { pin } => pin.plan(),
+            AccessAt::LockFrame { frame } => Some(Step::LockFrame { frame: *frame }),
+            AccessAt::LoadBad { frame, .. } => Some(Step::Load {
+                place: Place::Bad(*frame),
+            }),
+            AccessAt::Unlock { unlock, .. } => unlock.plan(),
+            AccessAt::Fault { fault } => fault.plan(),
+            AccessAt::GiveUp { give_up } => give_up.plan(),
+            AccessAt::Over { .. } => None,
+        }
+    }
+
+    fn give(&mut self) -> Option<Body> {
+        match &mut self.at {
+            AccessAt::Unlock { unlock, .. } => unlock.give(),
+            AccessAt::Fault { fault } => fault.give(),
+            AccessAt::GiveUp { give_up } => give_up.give(),
+            AccessAt::LoadStop
+            | AccessAt::LoadProcess
+            | AccessAt::LoadTranslation
+            | AccessAt::Pin { .. }
+            | AccessAt::LockFrame { .. }
+            | AccessAt::LoadAgain { .. }
+            | AccessAt::LoadBad { .. }
+            | AccessAt::Over { .. } => None,
+        }
+    }
+
+    fn settle(&mut self, layout: &Layout, found: u64, body: Option<Body>) -> Turn {
+        match mem::replace(&mut self.at, AccessAt::LoadStop) {
+            AccessAt::LoadStop => {
+                self.at = Access::at_start(found);
+                Turn::Moved
+            }
+            AccessAt::LoadProcess => {
+                self.at = Access::at_process(found);
+                Turn::Moved
+            }
+            AccessAt::LoadTranslation => {
+                self.at = self.request.at_translation(found);
+                Turn::Moved
+            }
+            AccessAt::Pin { mut pin } => {
+                let turn = pin.settle(layout, found, body);
+                self.at = Access::pinned(pin);
+                turn
+            }
+            AccessAt::LockFrame { frame } => {
+                if FrameWord::unpack(found).locked {
+                    self.at = AccessAt::LockFrame { frame };
+                    Turn::Waits(found)
+                } else {
+                    self.at = AccessAt::LoadAgain { frame, body };
+                    Turn::Moved
+                }
+            }
+            AccessAt::LoadAgain { frame, body } => {
+                self.at = self.request.at_again(frame, body, found);
+                Turn::Moved
+            }
+            AccessAt::LoadBad { frame, mut body } => {
+                let answer = self.request.reach(&mut body, found);
+                self.at = AccessAt::Unlock {
+                    unlock: Unlock::new(self.request.who, frame, Some(body)),
+                    then: Some(answer),
+                };
+                Turn::Moved
+            }
+            AccessAt::Unlock { mut unlock, then } => {
+                let turn = unlock.settle(layout, found, body);
+                self.at = Access::unlocked(unlock, then);
+                turn
+            }
+            AccessAt::Fault { mut fault } => {
+                let turn = fault.settle(layout, found, body);
+                self.at = Access::after_fault(fault);
+                turn
+            }
+            AccessAt::GiveUp { mut give_up } => {
+                let turn = give_up.settle(layout, found, body);
+                self.at = AccessAt::GiveUp { give_up };
+                turn
+            }
+            AccessAt::Over { answer } => {
+                self.at = AccessAt::Over { answer };
+                Turn::Moved
+            }
+        }
+    }
+}
+
+impl Ranked for Access {
+    ghost use Rattle.std.specs.Prelude.{false, None};
+    ghost use Rattle.hwp_fault.specs.Accesses.{class, cost};
+
+    ghost class_of = { λ a. class a };
+
+    ghost cost = { λ a words. cost a words };
+
+    ghost aborts = { λ a. false };
+
+    ghost claims = { λ a. None };
+
+    fn class(&self) -> u8 {
+        match &self.at {
+            AccessAt::LoadAgain { .. } | AccessAt::LoadBad { .. } => 1,
+            AccessAt::Unlock { unlock, .. } => unlock.class(),
+            AccessAt::Fault { fault } => fault.class(),
+            AccessAt::GiveUp { give_up } => give_up.class(),
+            AccessAt::LoadStop
+            | AccessAt::LoadProcess
+            | AccessAt::LoadTranslation
+            | AccessAt::Pin { .. }
+            | AccessAt::LockFrame { .. }
+            | AccessAt::Over { .. } => 4,
+        }
+    }
+
+    fn ranked(&self) {}
+}
+
+impl Scheduled for Access {
+    fn is_over(&self) -> bool {
+        self.plan().is_none()
+    }
+
+    fn tells(&self) {}
+}

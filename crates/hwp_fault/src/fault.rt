@@ -1,0 +1,308 @@
+ghost use Rattle.std.specs.Prelude.{◌≡◌, false, is_none};
+
+use crate::map_in::MapIn;
+use hwp_geom::{Frame, Layout, Page, VSlot, Who};
+use hwp_hold::{Fill, FillAnswer, GiveUp, Hold, Unhold};
+use hwp_page::Body;
+use hwp_rule::{Place, Step};
+use hwp_step::{Machine, Ranked, Turn};
+use hwp_words::Pte;
+use std::mem;
+
+/// Brings a page into a frame, where it is in none, and a translation of it into use (Linux handle_mm_fault). Where memory
+/// for an entry is refused the command is given up.
+#[derive(Drop)]
+pub struct Fault {
+    who: Who,
+    page: Page,
+    slot: VSlot,
+    at: FaultAt,
+}
+
+#[derive(Drop)]
+enum FaultAt {
+    Hold { hold: Hold },
+    LoadPte { frame: Option<Frame>, body: Body },
+    Fill { fill: Fill },
+    MapIn { map_in: MapIn },
+    Unhold { unhold: Unhold, answer: FaultAnswer },
+    GiveUp { give_up: GiveUp },
+    Over { answer: Option<FaultAnswer> },
+}
+
+/// What a `Fault` came to (this project's rule).
+#[derive(Clone, Copy, Debug, PartialEq, Eq)]
+pub enum FaultAnswer {
+    /// The translation led to a frame: the access starts over.
+    Again,
+    /// No frame was available for the page, which after so many entries was in none.
+    NoFrame { place: u64 },
+}
+
+impl Fault {
+    ghost use Rattle.hwp_fault.specs.Faults.{begin, plan, answer, let_go, IsRoomed, after_hold, after_map_in, after_unhold, after_give_up, is_poison, IsLoaded, IsFilled};
+
+    /// The command brings the page in, and the translation, which is one of the page, into use.
+    pub fn new(who: Who, page: Page, slot: VSlot) -> Fault
+        ensures { result ≡ begin who page slot }
+    {
+        Fault {
+            who,
+            page,
+            slot,
+            at: FaultAt::Hold {
+                hold: Hold::new(who, page),
+            },
+        }
+    }
+
+    /// Whether the task is over.
+    pub fn is_over(&self) -> bool
+        ensures { result ≡ is_none (plan self.now) }
+    {
+        self.plan().is_none()
+    }
+
+    /// What the task came to; `None` until it is over, and where the command was given up.
+    pub fn answer(&self) -> Option<FaultAnswer>
+        ensures { result ≡ answer self.now }
+    {
+        match self.at {
+            FaultAt::Over { answer } => answer,
+            FaultAt::Hold { .. }
+            | FaultAt::LoadPte { .. }
+            | FaultAt::Fill { .. }
+            | FaultAt::MapIn { .. }
+            | FaultAt::Unhold { .. }
+            | FaultAt::GiveUp { .. } => None,
+        }
+    }
+
+    fn let_go(
+        who: Who,
+        page: Page,
+        frame: Option<Frame>,
+        body: Body,
+        answer: FaultAnswer,
+    ) -> FaultAt
+        ensures { result ≡ let_go who page frame body answer }
+    {
+        FaultAt::Unhold {
+            unhold: Unhold::new(who, page, frame, 1, body),
+            answer,
+        }
+    }
+
+    /// Makes room for an entry, and goes on to the part that appends it; or gives up.
+    fn with_room(who: Who, page: Page, slot: VSlot, frame: Option<Frame>, mut body: Body) -> FaultAt
+        ensures { IsRoomed who page slot frame body result }
+    {
+        match body.room() {
+            Ok(()) => match frame {
+                Some(frame) => FaultAt::MapIn {
+                    map_in: MapIn::new(who, page, slot, frame, body),
+                },
+                None => FaultAt::Fill {
+                    fill: Fill::new(who, page, body),
+                },
+            },
+            Err(_) => FaultAt::GiveUp {
+                give_up: GiveUp::with_page(who, page, frame, 1, body),
+            },
+        }
+    }
+
+    fn after_hold(hold: Hold) -> FaultAt
+        ensures { result ≡ after_hold hold }
+    {
+        match hold.answer() {
+            Some(frame) => FaultAt::LoadPte {
+                frame,
+                body: hold.body(),
+            },
+            None => FaultAt::Hold { hold },
+        }
+    }
+
+    fn after_pte(
+        who: Who,
+        page: Page,
+        slot: VSlot,
+        frame: Option<Frame>,
+        body: Body,
+        pte: Pte,
+    ) -> FaultAt
+        requires sound { is_poison pte ≡ false }
+        ensures { IsLoaded who page slot frame body pte result }
+    {
+        match pte {
+            Pte::Empty => Fault::with_room(who, page, slot, frame, body),
+            Pte::At(_) => Fault::let_go(who, page, frame, body, FaultAnswer::Again),
+            Pte::Poison => unreachable!(),
+        }
+    }
+
+    fn after_fill(who: Who, page: Page, slot: VSlot, fill: Fill) -> FaultAt
+        ensures { IsFilled who page slot fill result }
+    {
+        match fill.answer() {
+            Some(FillAnswer::Filled(frame)) => {
+                Fault::with_room(who, page, slot, Some(frame), fill.body())
+            }
+            Some(FillAnswer::NoFrame) => {
+                let body = fill.body();
+                let place = body.len();
+                Fault::let_go(who, page, None, body, FaultAnswer::NoFrame { place })
+            }
+            None => FaultAt::Fill { fill },
+        }
+    }
+
+    fn after_map_in(who: Who, page: Page, map_in: MapIn) -> FaultAt
+        ensures { result ≡ after_map_in who page map_in }
+    {
+        if map_in.is_over() {
+            let frame = map_in.frame();
+            Fault::let_go(who, page, Some(frame), map_in.body(), FaultAnswer::Again)
+        } else {
+            FaultAt::MapIn { map_in }
+        }
+    }
+
+    fn after_unhold(unhold: Unhold, answer: FaultAnswer) -> FaultAt
+        ensures { result ≡ after_unhold unhold answer }
+    {
+        if unhold.is_over() {
+            FaultAt::Over {
+                answer: Some(answer),
+            }
+        } else {
+            FaultAt::Unhold { unhold, answer }
+        }
+    }
+
+    fn after_give_up(give_up: GiveUp) -> FaultAt
+        ensures { result ≡ after_give_up give_up }
+    {
+        if give_up.is_over() {
+            FaultAt::Over { answer: None }
+        } else {
+            FaultAt::GiveUp { give_up }
+        }
+    }
+}
+
+impl Machine for Fault {
+    ghost use Rattle.std.specs.Prelude.{◌≡◌};
+    ghost use Rattle.hwp_fault.specs.Faults.{plan, put, bare, Follows, Shows, Fits};
+
+    ghost who = { λ f. f.who };
+
+    ghost plan = { λ f. plan f };
+
+    ghost put = { λ f. put f };
+
+    ghost bare = { λ f. bare f };
+
+    ghost shows = { λ f found got. Shows f found got };
+
+    ghost next = { λ layout f found got after result. Follows layout f found got after result };
+
+    ghost fits = { λ layout view f. Fits layout view f };
+
+    fn who(&self) -> Who {
+        self.who
+    }
+
+    fn plan(&self) -> Option<Step> {
+        match &self.at {
+            FaultAt::Hold { hold } => hold.plan(),
+            FaultAt::LoadPte { .. } => Some(Step::Load {
+                place: Place::Trans(self.slot),
+            }),
+            FaultAt::Fill { fill } => fill.plan(),
+            FaultAt::MapIn { map_in } => map_in.plan(),
+            FaultAt::Unhold { unhold, .. } => unhold.plan(),
+            FaultAt::GiveUp { give_up } => give_up.plan(),
+            FaultAt::Over { .. } => None,
+        }
+    }
+
+    fn give(&mut self) -> Option<Body> {
+        match &mut self.at {
+            FaultAt::Unhold { unhold, .. } => unhold.give(),
+            FaultAt::GiveUp { give_up } => give_up.give(),
+            FaultAt::Hold { .. }
+            | FaultAt::LoadPte { .. }
+            | FaultAt::Fill { .. }
+            | FaultAt::MapIn { .. }
+            | FaultAt::Over { .. } => None,
+        }
+    }
+
+    fn settle(&mut self, layout: &Layout, found: u64, body: Option<Body>) -> Turn {
+        match mem::replace(&mut self.at, FaultAt::Over { answer: None }) {
+            FaultAt::Hold { mut hold } => {
+                let turn = hold.settle(layout, found, body);
+                self.at = Fault::after_hold(hold);
+                turn
+            }
+            FaultAt::LoadPte { frame, body } => {
+                let pte = Pte::unpack(found);
+                self.at = Fault::after_pte(self.who, self.page, self.slot, frame, body, pte);
+                Turn::Moved
+            }
+            FaultAt::Fill { mut fill } => {
+                let turn = fill.settle(layout, found, body);
+                self.at = Fault::after_fill(self.who, self.page, self.slot, fill);
+                turn
+            }
+            FaultAt::MapIn { mut map_in } => {
+                let turn = map_in.settle(layout, found, body);
+                self.at = Fault::after_map_in(self.who, self.page, map_in);
+                turn
+            }
+            FaultAt::Unhold { mut unhold, answer } => {
+                let turn = unhold.settle(layout, found, body);
+                self.at = Fault::after_unhold(unhold, answer);
+                turn
+            }
+            FaultAt::GiveUp { mut give_up } => {
+                let turn = give_up.settle(layout, found, body);
+                self.at = Fault::after_give_up(give_up);
+                turn
+            }
+            FaultAt::Over { answer } => {
+                self.at = FaultAt::Over { answer };
+                Turn::Moved
+            }
+        }
+    }
+}
+
+impl Ranked for Fault {
+    ghost use Rattle.std.specs.Prelude.{false, None};
+    ghost use Rattle.hwp_fault.specs.Faults.{class, cost};
+
+    ghost class_of = { λ f. class f };
+
+    ghost cost = { λ f words. cost f words };
+
+    ghost aborts = { λ f. false };
+
+    ghost claims = { λ f. None };
+
+    fn class(&self) -> u8 {
+        match &self.at {
+            FaultAt::Hold { hold } => hold.class(),
+            FaultAt::LoadPte { frame, .. } => if frame.is_some() { 1 } else { 2 },
+            FaultAt::Fill { fill } => fill.class(),
+            FaultAt::MapIn { map_in } => map_in.class(),
+            FaultAt::Unhold { unhold, .. } => unhold.class(),
+            FaultAt::GiveUp { give_up } => give_up.class(),
+            FaultAt::Over { .. } => 4,
+        }
+    }
+
+    fn ranked(&self) {}
+}

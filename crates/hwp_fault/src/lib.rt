@@ -1,0 +1,11 @@
+//! An access to a page: a fault brings the page into a frame and a translation of it into use, and the word at a line is
+//! read or written.
+#![tactic(auto)]
+
+mod access;
+mod fault;
+mod map_in;
+
+pub use access::{Access, AccessAnswer, AccessKind};
+pub use fault::{Fault, FaultAnswer};
+pub use map_in::MapIn;

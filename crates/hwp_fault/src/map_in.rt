@@ -1,0 +1,166 @@
+ghost use Rattle.std.specs.Prelude.{◌≡◌};
+ghost use Rattle.hwp_fault.specs.MapIns.{HasRoomFor, mapped};
+
+use hwp_geom::{Frame, Layout, Page, VSlot, Who};
+use hwp_hold::Refer;
+use hwp_page::{Body, Entry, What};
+use hwp_rule::Step;
+use hwp_step::{Machine, Ranked, Turn};
+use hwp_words::Pte;
+
+/// Brings a translation of a page into use, when the page is held with its frame (Linux set_pte_at).
+#[derive(Drop)]
+pub struct MapIn {
+    who: Who,
+    page: Page,
+    slot: VSlot,
+    frame: Frame,
+    body: Body,
+    at: MapInAt,
+}
+
+#[derive(Clone, Copy, Debug, PartialEq, Eq)]
+enum MapInAt {
+    Refer { refer: Refer },
+    SetPte,
+    Over,
+}
+
+impl MapIn {
+    ghost use Rattle.hwp_fault.specs.MapIns.{begin, is_over, after_refer};
+
+    /// The command brings the translation into use: it is to lead to the frame that the page is in. The body has room for
+    /// one entry more.
+    pub fn new(who: Who, page: Page, slot: VSlot, frame: Frame, body: Body) -> MapIn
+        ensures { result ≡ begin who page slot frame body }
+    {
+        MapIn {
+            who,
+            page,
+            slot,
+            frame,
+            body,
+            at: MapInAt::Refer {
+                refer: Refer::new(who, frame, 1),
+            },
+        }
+    }
+
+    /// Whether the translation is in use.
+    pub fn is_over(&self) -> bool
+        ensures { result ≡ is_over self.now }
+    {
+        match self.at {
+            MapInAt::Refer { .. } | MapInAt::SetPte => false,
+            MapInAt::Over => true,
+        }
+    }
+
+    /// The frame that the page is in.
+    pub(crate) fn frame(&self) -> Frame
+        ensures { result ≡ self.now.frame }
+    {
+        self.frame
+    }
+
+    /// The page's body.
+    pub fn body(self) -> Body
+        ensures { result ≡ self.body }
+    {
+        self.body
+    }
+
+    fn after_refer(refer: Refer) -> MapInAt
+        ensures { result ≡ after_refer refer }
+    {
+        if refer.is_over() {
+            MapInAt::SetPte
+        } else {
+            MapInAt::Refer { refer }
+        }
+    }
+}
+
+/// Appends the entry that the translation came into use.
+fn map(who: Who, slot: VSlot, body: &mut Body)
+    requires { HasRoomFor slot body.old }
+    ensures { body.new ≡ mapped who slot body.old }
+{
+    body.append(Entry {
+        who,
+        what: What::Map { slot },
+    });
+}
+
+impl Machine for MapIn {
+    ghost use Rattle.std.specs.Prelude.{◌≡◌, None};
+    ghost use Rattle.hwp_fault.specs.MapIns.{plan, next, turn, Shows, Fits};
+
+    ghost who = { λ m. m.who };
+
+    ghost plan = { λ m. plan m };
+
+    ghost put = { λ m. None };
+
+    ghost bare = { λ m. m };
+
+    ghost shows = { λ m found got. Shows m };
+
+    ghost next = { λ layout m found got after result. (after ≡ next m found) × (result ≡ turn m found) };
+
+    ghost fits = { λ layout view m. Fits layout view m };
+
+    fn who(&self) -> Who {
+        self.who
+    }
+
+    fn plan(&self) -> Option<Step> {
+        match self.at {
+            MapInAt::Refer { refer } => refer.plan(),
+            MapInAt::SetPte => Some(Step::SetPte {
+                slot: self.slot,
+                pte: Pte::At(self.frame),
+            }),
+            MapInAt::Over => None,
+        }
+    }
+
+    fn give(&mut self) -> Option<Body> {
+        None
+    }
+
+    fn settle(&mut self, layout: &Layout, found: u64, body: Option<Body>) -> Turn {
+        match self.at {
+            MapInAt::Refer { mut refer } => {
+                let turn = refer.settle(layout, found, body);
+                self.at = MapIn::after_refer(refer);
+                turn
+            }
+            MapInAt::SetPte => {
+                map(self.who, self.slot, &mut self.body);
+                self.at = MapInAt::Over;
+                Turn::Moved
+            }
+            MapInAt::Over => Turn::Moved,
+        }
+    }
+}
+
+impl Ranked for MapIn {
+    ghost use Rattle.std.specs.Prelude.{false, None};
+    ghost use Rattle.hwp_fault.specs.MapIns.{cost};
+
+    ghost class_of = { λ m. 1 };
+
+    ghost cost = { λ m words. cost m words };
+
+    ghost aborts = { λ m. false };
+
+    ghost claims = { λ m. None };
+
+    fn class(&self) -> u8 {
+        1
+    }
+
+    fn ranked(&self) {}
+}

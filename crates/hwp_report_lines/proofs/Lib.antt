@@ -1,0 +1,7 @@
+pub mod WordsPut
+mod HexLaws
+mod LineLaws
+mod SameWords
+pub mod SameForms
+mod HeadLaws
+mod NoLines

@@ -1,0 +1,141 @@
+ghost use Rattle.std.specs.Prelude.{◌≡◌, ◌==◌, ◌^◌, [], ◌∷◌, decimal, map, IfOk};
+ghost use Rattle.std.specs.List.{slice_split};
+ghost use Rattle.hwp_report_lines.specs.Reads.{AreBelow, Below, IsReadAs, two_words};
+ghost use Rattle.hwp_report_lines.specs.Forms.{IsFormRead, IsLineRead, IsRestRead};
+
+use crate::answers::read_cpu_line;
+use crate::entries::{read_entry, read_seen, read_signal};
+use crate::form::Form;
+use crate::frames::{read_frame, read_poisoned, read_unpoisoned};
+use crate::heads::{Head, read_head};
+use crate::numbers::read_number;
+use crate::stops::read_stop;
+use hwp_geom::OutOfMemory;
+use std::alloc::Global;
+
+/// The parts of a text that the byte `at` parts.
+fn parts<'a>(alloc: Global, bytes: &'a [u8], at: u8) -> Result<Vec<&'a [u8]>, OutOfMemory>
+    ensures { IfOk result (λ parts. map (λ part. part.now) parts.items ≡ slice_split (λ b. b == at) bytes.now) }
+{
+    bytes.split(|b| *b == at).collect(alloc)
+}
+
+/// The number that is the only word.
+fn one_number(words: &[&[u8]]) -> Option<u64>
+    ensures { IsReadAs (Below (2 ^ 64)) (λ n. decimal n ∷ []) (map (λ w. w.now) words.now) result }
+{
+    match words {
+        [word] => read_number(word),
+        _ => None,
+    }
+}
+
+/// The numbers that are the only two words.
+fn two_numbers(words: &[&[u8]]) -> Option<(u64, u64)>
+    ensures { IsReadAs AreBelow two_words (map (λ w. w.now) words.now) result }
+{
+    match words {
+        [first, second] => Some((read_number(first)?, read_number(second)?)),
+        _ => None,
+    }
+}
+
+/// A file, by the words behind `file`.
+fn read_file(words: &[&[u8]]) -> Option<Form>
+    ensures { IsRestRead Head.File (map (λ w. w.now) words.now) result }
+{
+    match words {
+        [number, b"lost", lost] => Some(Form::File {
+            number: read_number(number)?,
+            lost: read_number(lost)?,
+        }),
+        _ => None,
+    }
+}
+
+/// The head of a report, by the words behind `hwp-report`.
+fn read_header(words: &[&[u8]]) -> Option<Form>
+    ensures { IsRestRead Head.Header (map (λ w. w.now) words.now) result }
+{
+    match words {
+        [b"1"] => Some(Form::Header),
+        _ => None,
+    }
+}
+
+/// The end, by the words behind `end`.
+fn read_end(words: &[&[u8]]) -> Option<Form>
+    ensures { IsRestRead Head.End (map (λ w. w.now) words.now) result }
+{
+    match words {
+        [] => Some(Form::End),
+        _ => None,
+    }
+}
+
+/// A page, by the words behind `page`.
+fn read_page(words: &[&[u8]]) -> Option<Form>
+    ensures { IsRestRead Head.Page (map (λ w. w.now) words.now) result }
+{
+    let Some((number, entries)) = two_numbers(words) else {
+        return None;
+    };
+    Some(Form::Page { number, entries })
+}
+
+/// A processor, by the words behind `cpu`.
+fn read_cpu(words: &[&[u8]]) -> Option<Form>
+    ensures { IsRestRead Head.Cpu (map (λ w. w.now) words.now) result }
+{
+    let Some((number, lines)) = two_numbers(words) else {
+        return None;
+    };
+    Some(Form::Cpu { number, lines })
+}
+
+/// The line of this first word, by the words behind it.
+fn read_rest(head: Head, words: &[&[u8]]) -> Option<Form>
+    ensures { IsRestRead head (map (λ w. w.now) words.now) result }
+{
+    match head {
+        Head::Header => read_header(words),
+        Head::Count => Some(Form::Count(one_number(words)?)),
+        Head::File => read_file(words),
+        Head::Page => read_page(words),
+        Head::Cpu => read_cpu(words),
+        Head::End => read_end(words),
+        Head::Stop => Some(Form::Stop(read_stop(words)?)),
+        Head::Frame => read_frame(words),
+        Head::Poisoned => Some(Form::Mark(read_poisoned(words)?)),
+        Head::Unpoisoned => Some(Form::Mark(read_unpoisoned(words)?)),
+        Head::Entry(verb) => read_entry(verb, words),
+        Head::Seen => Some(Form::Seen(read_seen(words)?)),
+        Head::Signal => Some(Form::Signal(read_signal(words)?)),
+    }
+}
+
+/// The line of a report that these words are.
+fn read_words(words: &[&[u8]]) -> Option<Form>
+    ensures { IsFormRead (map (λ w. w.now) words.now) result }
+{
+    let [first, rest @ ..] = words else {
+        return None;
+    };
+    match read_head(first) {
+        Some(head) => read_rest(head, rest),
+        None => {
+            let Some(line) = read_cpu_line(words) else {
+                return None;
+            };
+            Some(Form::CpuLine(line))
+        }
+    }
+}
+
+/// The line of a report that these bytes without a line feed are.
+pub fn read_line(alloc: Global, line: &[u8]) -> Result<Option<Form>, OutOfMemory>
+    ensures { IfOk result (IsLineRead line.now) }
+{
+    let words = parts(alloc, line, b' ')?;
+    Ok(read_words(words.as_slice()))
+}

@@ -1,0 +1,12 @@
+mod CutLaws
+mod LinesRead
+mod TextLaws
+mod FitsLaws
+mod FormsFit
+mod FollowLaws
+mod LineLaws
+mod Onward
+mod Finishing
+mod Within
+mod FaultLaws
+mod Going

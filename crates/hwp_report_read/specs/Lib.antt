@@ -1,0 +1,4 @@
+pub mod Cutting
+pub mod Fits
+pub mod Texts
+pub mod Follows

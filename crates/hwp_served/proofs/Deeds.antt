@@ -1,0 +1,112 @@
+-- The entries of a command that was answered are of its kind, in its page, and the one that answers it is named.
+use Rattle.std.proofs.Common.{◌≡◌, ◌⊎◌, ℕ, Bool, true, false, List, [], ◌∷◌, ◌++◌, Option, Some, None, IsTrue, refl, sym, ap, ◌∙◌, subst, inl, inr, true≢false}
+use Rattle.std.proofs.lemmas.Option.{none-some}
+use Rattle.hwp_geom.specs.declared.Layout.{Layout}
+use Rattle.hwp_geom.specs.declared.Page.{Page}
+use Rattle.hwp_geom.specs.declared.Thread.{Thread}
+use Rattle.hwp_geom.specs.declared.VSlot.{VSlot}
+use Rattle.hwp_geom.specs.declared.Who.{Who}
+use Rattle.hwp_page.specs.declared.At.{At}
+use Rattle.hwp_page.specs.declared.Met.TheVariants.{Word}
+use Rattle.hwp_page.specs.declared.What.{What}
+use Rattle.hwp_page.specs.declared.What.TheVariants as entries
+use Rattle.hwp_page.specs.Step.{IsOf}
+use Rattle.hwp_rule.specs.declared.Made.{Made}
+use Rattle.hwp_rule.specs.declared.View.{View}
+use Rattle.hwp_rule.specs.Lists.{EachMember}
+use Rattle.hwp_rule.proofs.Lists.{each-push, each-weaken}
+use Rattle.hwp_known.specs.Known.{BringsIn, HasMade, HasMadeNone, HasOnly, IsAt, deeds}
+use Rattle.hwp_script.specs.declared.Command.{Command}
+use Rattle.hwp_script.specs.declared.Command.TheVariants as commands
+use Rattle.hwp_script.specs.declared.Script.{Script}
+use Rattle.hwp_report.specs.declared.Answer.{Answer}
+use Rattle.hwp_report.specs.declared.Answer.TheVariants as answers
+use Rattle.hwp_law.specs.Answers.{is_answering}
+use Rattle.hwp_law.specs.History.{Fits, Names}
+use Rattle.hwp_law.specs.States.{entry_named}
+use Rattle.hwp_served.specs.Causes.{IsCaused}
+
+-- the entry is of the command's kind and in its page, and where it answers the command the answer names it
+pub record IsDeed (layout : Layout) (command : Command) (answer : Answer) (m : Made) : Type 0 where
+  pub fits : Fits command m.entry.what
+  pub names : Names layout command m.page
+  pub named : IsTrue (is_answering m.entry.what) → entry_named answer ≡ Some (record { page = m.page; entry = m.place })
+
+-- an entry by which a page is brought in
+brought : (layout : Layout) (command : Command) (answer : Answer) (page : Page) (slot : VSlot) (m : Made) → Fits command entries.FaultIn → Fits command (entries.Map slot) → Names layout command page → BringsIn page slot m → IsDeed layout command answer m
+brought layout command answer page slot m fault map names (page_is, inl is) = record {
+  fits = subst (Fits command) (sym is) fault;
+  names = subst (Names layout command) (sym page_is) names;
+  named = λ answers. absurd (true≢false (sym answers ∙ ap is_answering is));
+}
+brought layout command answer page slot m fault map names (page_is, inr is) = record {
+  fits = subst (Fits command) (sym is) map;
+  names = subst (Names layout command) (sym page_is) names;
+  named = λ answers. absurd (true≢false (sym answers ∙ ap is_answering is));
+}
+
+-- the entry that answers a command
+answered : (layout : Layout) (command : Command) (answer : Answer) (page : Page) (place : ℕ) (what : What) (m : Made) → Fits command what → Names layout command page → entry_named answer ≡ Some (record { page = page; entry = place }) → IsAt page place what m → IsDeed layout command answer m
+answered layout command answer page place what m fits names named (page_is, place_is, what_is) = record {
+  fits = subst (Fits command) (sym what_is) fits;
+  names = subst (Names layout command) (sym page_is) names;
+  named = λ answers. named ∙ ap (λ (p : Page). Some (record { page = p; entry = place })) (sym page_is) ∙ ap (λ (n : ℕ). Some (record { page = m.page; entry = n })) (sym place_is);
+}
+
+module _ (view : View) (who : Who) (P : Made → Type 0) where
+  none : HasMadeNone view who → EachMember P (deeds who view)
+  none made = subst (EachMember P) (sym made) (λ i m there. absurd (none-some m there))
+
+  made-so : {Such : Made → Type 0} {page : Page} {place : ℕ} {what : What} → HasMade Such view who page place what → ((m : Made) → Such m → P m) → ((m : Made) → IsAt page place what m → P m) → EachMember P (deeds who view)
+  made-so {Such} made first last = subst (EachMember P) (sym made.all) (each-push P made.before made.last (last made.last made.at) (each-weaken Such P made.before first made.such))
+
+-- ---- the commands
+
+module _ (script : Script) (view : View) (who : Who) where
+  abbrev Are : Command → Answer → Type 0
+  Are command answer = EachMember (IsDeed script.layout command answer) (deeds who view)
+
+  -- an access that came to its entry
+  reached : (command : Command) (answer : Answer) (slot : VSlot) (at : At) (what : What) → Fits command entries.FaultIn → Fits command (entries.Map slot) → Fits command what → ((page : Page) → IsOf script.layout page slot → Names script.layout command page)
+      → entry_named answer ≡ Some at → IsOf script.layout at.page slot → HasMade (BringsIn at.page slot) view who at.page at.entry what → Are command answer
+  reached command answer slot at what fault map fits names named page made =
+      made-so view who (IsDeed script.layout command answer) made (λ m in_. brought script.layout command answer at.page slot m fault map (names at.page page) in_) (λ m is. answered script.layout command answer at.page at.entry what m fits (names at.page page) named is)
+
+  -- an access that found no frame
+  brings : (command : Command) (answer : Answer) (slot : VSlot) (page : Page) → Fits command entries.FaultIn → Fits command (entries.Map slot) → Names script.layout command page → HasOnly (BringsIn page slot) view who → Are command answer
+  brings command answer slot page fault map names only = each-weaken (BringsIn page slot) (IsDeed script.layout command answer) (deeds who view) (λ m in_. brought script.layout command answer page slot m fault map names in_) only
+
+  -- a command that made its entry alone
+  one : (command : Command) (answer : Answer) (at : At) (what : What) → Fits command what → Names script.layout command at.page → entry_named answer ≡ Some at → HasMade (λ m. ⊥) view who at.page at.entry what → Are command answer
+  one command answer at what fits names named made = made-so view who (IsDeed script.layout command answer) made (λ m no_. absurd no_) (λ m is. answered script.layout command answer at.page at.entry what m fits names named is)
+
+  pub are-deeds : (command : Command) (answer : Answer) → IsCaused script view who command answer → Are command answer
+  are-deeds command answers.Stopped caused = none view who _ caused.made
+  are-deeds (commands.Load thread slot line) (answers.Value word at) caused = reached _ _ slot at _ tt refl (refl, refl, tt) (λ page is. is) refl caused.1.page caused.1.made
+  are-deeds (commands.Load thread slot line) answers.NoFrame caused = brings _ _ slot caused.page tt refl caused.page_is caused.only
+  are-deeds (commands.Load thread slot line) (answers.Gone page) caused = none view who _ caused.made
+  are-deeds (commands.Fetch thread slot line) (answers.Value word at) caused = reached _ _ slot at _ tt refl (refl, refl, tt) (λ page is. is) refl caused.1.page caused.1.made
+  are-deeds (commands.Fetch thread slot line) answers.NoFrame caused = brings _ _ slot caused.page tt refl caused.page_is caused.only
+  are-deeds (commands.Fetch thread slot line) (answers.Gone page) caused = none view who _ caused.made
+  are-deeds (commands.KLoad thread slot line) (answers.Value word at) caused = reached _ _ slot at _ tt refl (refl, refl, tt) (λ page is. is) refl caused.1.page caused.1.made
+  are-deeds (commands.KLoad thread slot line) answers.NoFrame caused = brings _ _ slot caused.page tt refl caused.page_is caused.only
+  are-deeds (commands.KLoad thread slot line) (answers.Gone page) caused = none view who _ caused.made
+  are-deeds (commands.Store thread slot line word) (answers.Stored at) caused = reached _ _ slot at _ tt refl (refl, refl, tt, refl) (λ page is. is) refl caused.1.page caused.1.made
+  are-deeds (commands.Store thread slot line word) answers.NoFrame caused = brings _ _ slot caused.page tt refl caused.page_is caused.only
+  are-deeds (commands.Store thread slot line word) (answers.Gone page) caused = none view who _ caused.made
+  are-deeds (commands.Free slot) (answers.DoneAt at) caused = one _ _ at _ refl caused.0 refl caused.1.made
+  are-deeds (commands.Free slot) (answers.NotMapped at) caused = none view who _ caused.1.made
+  are-deeds (commands.Drop page) (answers.DoneAt at) caused = one _ _ at _ tt caused.0 refl caused.1.made
+  are-deeds (commands.Drop page) (answers.NotResident at) caused = none view who _ caused.1.made
+  are-deeds (commands.Drop page) (answers.Dirty at) caused = none view who _ caused.1.made
+  are-deeds (commands.Drop page) (answers.Mapped at) caused = none view who _ caused.1.made
+  are-deeds (commands.Sync page) (answers.DoneAt at) caused = one _ _ at _ tt caused.0 refl caused.1.made
+  are-deeds (commands.Sync page) (answers.NotResident at) caused = none view who _ caused.1.made
+  are-deeds (commands.Out page) (answers.DoneAt at) caused = one _ _ at _ tt caused.0 refl caused.1.made
+  are-deeds (commands.Out page) (answers.NotResident at) caused = none view who _ caused.1.made
+  are-deeds (commands.Fsync file) answers.Done caused = none view who _ caused.0
+  are-deeds (commands.Fsync file) (answers.Eio lost) caused = none view who _ caused.0
+  are-deeds (commands.Prctl thread args) (answers.Gone page) caused = none view who _ caused.made
+  are-deeds (commands.Prctl thread args) answer caused = none view who _ caused.made
+  are-deeds (commands.Log status addr misc) answers.Done caused = none view who _ caused
+  are-deeds command answer caused = absurd caused

@@ -1,0 +1,125 @@
+-- The end of a run of processors that are served.
+use Rattle.std.proofs.Common.{◌≡◌, ℕ, zero, suc, ◌+◌, ◌<◌, ◌==◌, ◌&&◌, Bool, true, false, cond, List, [], ◌∷◌, Option, Some, None, filter, length, map, slice_get, refl, sym, ap, ◌∙◌, subst, arith}
+use Rattle.std.proofs.lemmas.Bool.{and_from, eq-eqb}
+use Rattle.std.proofs.lemmas.Option.{none-some, same_Some, slice_get_within}
+use Rattle.hwp_geom.specs.declared.Cpu.{Cpu}
+use Rattle.hwp_geom.specs.declared.Who.{Who}
+use Rattle.hwp_page.specs.declared.Entry.{Entry}
+use Rattle.hwp_rule.specs.declared.Made.{Made}
+use Rattle.hwp_rule.specs.declared.Part.{Part}
+use Rattle.hwp_rule.specs.declared.State.{State}
+use Rattle.hwp_rule.specs.declared.View.{View}
+use Rattle.hwp_rule.specs.Lists.{EachMember}
+use Rattle.hwp_rule.specs.parts.Holdings.{IsPast}
+use Rattle.hwp_rule.proofs.Lists.{at_map}
+use Rattle.hwp_rule.proofs.NotLater.{one-view}
+use Rattle.hwp_step.specs.Boards.{AreSeated, view_of}
+use Rattle.hwp_known.specs.Known.{deeds, is_by}
+use Rattle.hwp_script.specs.declared.Command.{Command}
+use Rattle.hwp_script.specs.declared.Script.{Script}
+use Rattle.hwp_report.specs.declared.Answer.{Answer}
+use Rattle.hwp_report.specs.declared.CpuLine.{CpuLine}
+use Rattle.hwp_report.specs.declared.CpuLine.TheVariants as lines
+use Rattle.hwp_report.specs.declared.Report.{Report}
+use Rattle.hwp_runs.proofs.Homes.{there-is}
+use Rattle.hwp_runs.proofs.Reported.{IsLast}
+use Rattle.hwp_served.specs.Causes.{IsCaused}
+use Rattle.hwp_served.specs.Served.{AreAnswered, IsServed}
+
+-- the report is that of the last board of a run, where each processor has served its commands
+pub record IsEnd (script : Script) (seat : Cpu → ℕ) (last : State) (report : Report) : Type 0 where
+  pub board : IsLast script.layout last report
+  pub seated : AreSeated script.layout last seat
+  pub lists_fit : length script.lists ≡ script.layout.cpus
+  pub cpus_fit : length report.cpus ≡ script.layout.cpus
+  pub served : (cpu : Cpu) (list : List Command) (rows : List CpuLine) → slice_get script.lists cpu.0 ≡ Some list → slice_get report.cpus cpu.0 ≡ Some rows → IsServed script (view_of last (seat cpu)) cpu list rows
+
+-- the answer of a command, and its cause
+pub record HasAnswer (script : Script) (view : View) (cpu : Cpu) (seq : ℕ) (command : Command) (row : Option CpuLine) : Type 0 where
+  pub answer : Answer
+  pub row_is : row ≡ Some (lines.Answer seq answer)
+  pub caused : IsCaused script view (record { cpu = cpu; seq = seq }) command answer
+
+pub answer-at : (script : Script) (view : View) (cpu : Cpu) (n : ℕ) (list : List Command) (rows : List CpuLine) (k m : ℕ) (command : Command) → AreAnswered script view cpu n list rows → length rows ≡ length list → slice_get list k ≡ Some command → m ≡ n + k
+    → HasAnswer script view cpu m command (slice_get rows k)
+answer-at script view cpu n [] rows k m command are fit there at = absurd (none-some command there)
+answer-at script view cpu n (c ∷ cs) [] k m command are fit there at = absurd (let none : 0 ≡ suc (length cs) = fit in omega arith)
+answer-at script view cpu n (c ∷ cs) (lines.Answer seq answer ∷ rows) zero m command (seq_is, caused, rest) fit there at =
+    let same : m ≡ n = omega arith in
+    record {
+      answer = answer;
+      row_is = ap (λ (i : ℕ). Some (lines.Answer i answer)) (seq_is ∙ sym same);
+      caused = subst (λ (x : Command). IsCaused script view (record { cpu = cpu; seq = m }) x answer) (same_Some c command there) (subst (λ (i : ℕ). IsCaused script view (record { cpu = cpu; seq = i }) c answer) (sym same) caused);
+    }
+answer-at script view cpu n (c ∷ cs) (lines.Answer seq answer ∷ rows) (suc k) m command (seq_is, caused, rest) fit there at =
+    answer-at script view cpu (n + 1) cs rows k m command rest (let one : suc (length rows) ≡ suc (length cs) = fit in let same : length rows ≡ length cs = omega arith in same) there (omega arith)
+answer-at script view cpu n (c ∷ cs) (lines.Event a b s x y z w ∷ rows) k m command are fit there at = absurd are
+
+-- a member that passes the test is one of those that do
+filter-has : {A : Type 0} (test : A → Bool) (l : List A) (j : ℕ) (x : A) → slice_get l j ≡ Some x → test x ≡ true → (k : ℕ) × (slice_get (filter test l) k ≡ Some x)
+filter-has test [] j x there is = absurd (none-some x there)
+filter-has {A} test (y ∷ ys) zero x there is = (zero, ap (λ (b : Bool). slice_get (cond b (y ∷ filter test ys) (filter test ys)) zero) (ap test (same_Some y x there) ∙ is) ∙ there)
+filter-has {A} test (y ∷ ys) (suc j) x there is = which (test y) (filter-has test ys j x there is)
+  where
+    which : (b : Bool) → (k : ℕ) × (slice_get (filter test ys) k ≡ Some x) → (k : ℕ) × (slice_get (cond b (y ∷ filter test ys) (filter test ys)) k ≡ Some x)
+    which true rest = (suc rest.0, rest.1)
+    which false rest = rest
+
+-- what holds of a command's entries holds of each entry that is listed as its
+pub of-deeds : (P : Made → Type 0) (view : View) (who : Who) (j : ℕ) (m : Made) → EachMember P (deeds who view) → slice_get view.made j ≡ Some m → m.entry.who ≡ who → P m
+of-deeds P view who j m each there own =
+    let by : is_by who m ≡ true = and_from (m.entry.who.cpu.0 == who.cpu.0) (m.entry.who.seq == who.seq) (eq-eqb m.entry.who.cpu.0 who.cpu.0 (ap (λ (w : Who). w.cpu.0) own)) (eq-eqb m.entry.who.seq who.seq (ap (λ (w : Who). w.seq) own)) in
+    let found = filter-has (is_by who) view.made j m there by in
+    each found.0 m found.1
+
+-- the command of an entry that a view lists: with its answer, and its cause in that view
+pub record IsOf (script : Script) (report : Report) (view : View) (who : Who) : Type 0 where
+  pub list : List Command
+  pub rows : List CpuLine
+  pub list_is : slice_get script.lists who.cpu.0 ≡ Some list
+  pub rows_is : slice_get report.cpus who.cpu.0 ≡ Some rows
+  pub command : Command
+  pub command_is : slice_get list who.seq ≡ Some command
+  pub answer : Answer
+  pub answer_is : slice_get rows who.seq ≡ Some (lines.Answer who.seq answer)
+  pub caused : IsCaused script view who command answer
+
+module _ (script : Script) (seat : Cpu → ℕ) (last : State) (report : Report) (end : IsEnd script seat last report) where
+  -- a processor of the layout has a list, and lines
+  pub list-of : (cpu : Cpu) → cpu.0 < script.layout.cpus → (list : List Command) × (slice_get script.lists cpu.0 ≡ Some list)
+  list-of cpu inside = there-is script.lists cpu.0 (subst (λ (n : ℕ). cpu.0 < n) (sym end.lists_fit) inside)
+
+  pub rows-of : (cpu : Cpu) → cpu.0 < script.layout.cpus → (rows : List CpuLine) × (slice_get report.cpus cpu.0 ≡ Some rows)
+  rows-of cpu inside = there-is report.cpus cpu.0 (subst (λ (n : ℕ). cpu.0 < n) (sym end.cpus_fit) inside)
+
+  -- the view that lists what a processor did is its seat's
+  pub own-view : (i : ℕ) (v : View) (who : Who) → slice_get last.views i ≡ Some v → IsPast v.parts who → (who.cpu.0 < script.layout.cpus) × (v ≡ view_of last (seat who.cpu))
+  own-view i v who view past =
+      let rule = end.board.holds.rule.processors.processors in
+      let inside : past.1.cpu.0 < script.layout.cpus = rule.declared i v.parts (at_map (λ (x : View). x.parts) last.views i v view) past.0 past.1 past.2 in
+      let within : who.cpu.0 < script.layout.cpus = subst (λ (c : Cpu). c.0 < script.layout.cpus) past.3.0 inside in
+      let there = end.seated.there who.cpu within in
+      let own = end.seated.own who.cpu within in
+      let same : i ≡ seat who.cpu = one-view script.layout (map (λ (x : View). x.parts) last.views) rule i (seat who.cpu) past.0 own.0 v.parts (view_of last (seat who.cpu)).parts past.1 own.1
+          (at_map (λ (x : View). x.parts) last.views i v view) (at_map (λ (x : View). x.parts) last.views (seat who.cpu) (view_of last (seat who.cpu)) there) past.2 own.2 (past.3.0 ∙ sym own.3) in
+      (within, same_Some v (view_of last (seat who.cpu)) (sym view ∙ ap (slice_get last.views) same ∙ there))
+
+  -- a command of a processor, by its number
+  pub command-of : (who : Who) (list : List Command) (rows : List CpuLine) (command : Command) → slice_get script.lists who.cpu.0 ≡ Some list → slice_get report.cpus who.cpu.0 ≡ Some rows → slice_get list who.seq ≡ Some command
+      → IsOf script report (view_of last (seat who.cpu)) who
+  command-of who list rows command list_is rows_is command_is =
+      let served = end.served who.cpu list rows list_is rows_is in
+      let a = answer-at script (view_of last (seat who.cpu)) who.cpu 0 list rows who.seq who.seq command served.answered served.count command_is (omega arith) in
+      record { list = list; rows = rows; list_is = list_is; rows_is = rows_is; command = command; command_is = command_is; answer = a.answer; answer_is = a.row_is; caused = a.caused }
+
+  -- the command of an entry that a view lists
+  pub of-made : (i j : ℕ) (v : View) (m : Made) → slice_get last.views i ≡ Some v → slice_get v.made j ≡ Some m → IsOf script report v m.entry.who
+  of-made i j v m view made =
+      let past = (end.board.holds.rule.processors.commands.own i v view).made j m made in
+      let own = own-view i v m.entry.who view past in
+      let list = list-of m.entry.who.cpu own.0 in
+      let rows = rows-of m.entry.who.cpu own.0 in
+      let served = end.served m.entry.who.cpu list.0 rows.0 list.1 rows.1 in
+      let begun = served.made j m (sym (ap (λ (x : View). slice_get x.made j) own.1) ∙ made) in
+      let command = there-is list.0 m.entry.who.seq begun.1 in
+      subst (λ (x : View). IsOf script report x m.entry.who) (sym own.1) (command-of m.entry.who list.0 rows.0 command.0 list.1 rows.1 command.1)

@@ -1,0 +1,120 @@
+-- Why a command was answered so: by what a processor knows of it, of the words that its steps showed, of the histories that it
+-- saw and of the entries that it made.
+use Rattle.std.specs.Prelude.{◌≡◌, ◌⊎◌, ℕ, ◌+◌, ◌<◌, List, Some}
+use Rattle.hwp_geom.specs.declared.Layout.{Layout}
+use Rattle.hwp_geom.specs.declared.Mask.{Mask}
+use Rattle.hwp_geom.specs.declared.Page.{Page}
+use Rattle.hwp_geom.specs.declared.Proc.{Proc}
+use Rattle.hwp_geom.specs.declared.Thread.{Thread}
+use Rattle.hwp_geom.specs.declared.VSlot.{VSlot}
+use Rattle.hwp_geom.specs.declared.Who.{Who}
+use Rattle.hwp_kill.specs.Prctl.{reply}
+use Rattle.hwp_page.specs.declared.At.{At}
+use Rattle.hwp_page.specs.declared.Met.TheVariants.{Word}
+use Rattle.hwp_page.specs.declared.PageState.{PageState}
+use Rattle.hwp_page.specs.declared.What.{What}
+use Rattle.hwp_page.specs.declared.What.TheVariants as entries
+use Rattle.hwp_page.specs.Refusals.{IsAway, IsDirty, IsMapped, IsUnused}
+use Rattle.hwp_page.specs.Step.{IsOf}
+use Rattle.hwp_rule.specs.declared.Place.TheVariants as places
+use Rattle.hwp_rule.specs.declared.View.{View}
+use Rattle.hwp_rule.specs.Lists.{SomeMember}
+use Rattle.hwp_known.specs.Known.{BringsIn, HasMade, HasMadeNone, HasOnly, Saw, SawStop}
+use Rattle.hwp_known.specs.Pages.{SawState}
+use Rattle.hwp_script.specs.declared.Command.{Command}
+use Rattle.hwp_script.specs.declared.Command.TheVariants as commands
+use Rattle.hwp_script.specs.declared.Script.{Script}
+use Rattle.hwp_report.specs.declared.Answer.{Answer}
+use Rattle.hwp_report.specs.declared.Answer.TheVariants as answers
+use Rattle.hwp_law.specs.Answers.{reply_answer}
+use Rattle.hwp_law.specs.Commands.{process_of_thread}
+use Rattle.hwp_law.specs.Policies.{arguments, policy_before}
+
+-- a step of the command showed this word of its thread's process
+pub record SawProcess (layout : Layout) (view : View) (who : Who) (thread : Thread) (word : ℕ) : Type 0 where
+  pub process : Proc
+  pub process_is : process_of_thread layout thread ≡ Some process
+  pub saw : Saw view who (places.Process process) word
+
+-- the thread's process had ended, by a signal in the history of this page, and the command made no entry
+pub record FoundGone (layout : Layout) (view : View) (who : Who) (thread : Thread) (page : Page) : Type 0 where
+  pub ended : SawProcess layout view who thread (page.0 + 1)
+  pub made : HasMadeNone view who
+
+-- the machine had stopped, or the command stopped it itself, and the command made no entry
+pub record FoundStopped (view : View) (who : Who) : Type 0 where
+  pub stopped : SawStop view who ⊎ SomeMember (λ (w : Who). w ≡ who) view.stops
+  pub made : HasMadeNone view who
+
+-- the access brought the page in where it had to, and then made its entry, at this place of the translation's page
+pub record Reached (layout : Layout) (view : View) (who : Who) (thread : Thread) (slot : VSlot) (at : At) (what : What) : Type 0 where
+  pub going : SawProcess layout view who thread 0
+  pub page : IsOf layout at.page slot
+  pub made : HasMade (BringsIn at.page slot) view who at.page at.entry what
+
+-- no frame was available, and the access found the translation's page in none; it made no entry but those by which pages are
+-- brought in
+pub record FoundNoFrame (layout : Layout) (view : View) (who : Who) (thread : Thread) (slot : VSlot) : Type 0 where
+  pub going : SawProcess layout view who thread 0
+  pub available : Saw view who places.Available 0
+  pub page : Page
+  pub page_is : IsOf layout page slot
+  pub place : ℕ
+  pub away : SawState layout view who page place IsAway
+  pub only : HasOnly (BringsIn page slot) view who
+
+-- what each access may answer beside its own
+abbrev pub IsBarred : Layout → View → Who → Thread → VSlot → Answer → Type 0
+IsBarred layout view who thread slot answers.NoFrame = FoundNoFrame layout view who thread slot
+IsBarred layout view who thread slot (answers.Gone page) = FoundGone layout view who thread page
+IsBarred layout view who thread slot _ = ⊥
+
+abbrev pub IsLoadCaused : Layout → View → Who → Thread → VSlot → ℕ → Answer → Type 0
+IsLoadCaused layout view who thread slot line (answers.Value word at) = (mask : Mask) × Reached layout view who thread slot at (entries.Load slot line (Word mask word))
+IsLoadCaused layout view who thread slot line answer = IsBarred layout view who thread slot answer
+
+abbrev pub IsStoreCaused : Layout → View → Who → Thread → VSlot → ℕ → ℕ → Answer → Type 0
+IsStoreCaused layout view who thread slot line word (answers.Stored at) = (mask : Mask) × Reached layout view who thread slot at (entries.Store slot line (Word mask word))
+IsStoreCaused layout view who thread slot line word answer = IsBarred layout view who thread slot answer
+
+-- the command made this entry of the page alone
+pub record MadeOne (view : View) (who : Who) (at : At) (what : What) : Type 0 where
+  pub made : HasMade (λ m. ⊥) view who at.page at.entry what
+
+-- the command made no entry, and saw the page, after so many entries, in such a state
+pub record FoundState (layout : Layout) (view : View) (who : Who) (at : At) (Such : PageState → Type 0) : Type 0 where
+  pub made : HasMadeNone view who
+  pub saw : SawState layout view who at.page at.entry Such
+
+-- of a command that names a page
+abbrev pub IsPageCaused : Layout → View → Who → Page → What → Answer → Type 0
+IsPageCaused layout view who page what (answers.DoneAt at) = (at.page ≡ page) × MadeOne view who at what
+IsPageCaused layout view who page what (answers.NotResident at) = (at.page ≡ page) × FoundState layout view who at IsAway
+IsPageCaused layout view who page what _ = ⊥
+
+-- the reply of prctl(2) to the thread's policy
+pub record IsReplied (script : Script) (view : View) (who : Who) (thread : Thread) (given : List ℕ) (answer : Answer) : Type 0 where
+  pub going : SawProcess script.layout view who thread 0
+  pub made : HasMadeNone view who
+  pub replied : answer ≡ reply_answer (reply (policy_before script who thread) given)
+
+-- the answer has its cause in what the processor knows of the command
+abbrev pub IsCaused : Script → View → Who → Command → Answer → Type 0
+IsCaused script view who command answers.Stopped = FoundStopped view who
+IsCaused script view who (commands.Load thread slot line) answer = IsLoadCaused script.layout view who thread slot line answer
+IsCaused script view who (commands.Fetch thread slot line) answer = IsLoadCaused script.layout view who thread slot line answer
+IsCaused script view who (commands.KLoad thread slot line) answer = IsLoadCaused script.layout view who thread slot line answer
+IsCaused script view who (commands.Store thread slot line word) answer = IsStoreCaused script.layout view who thread slot line word answer
+IsCaused script view who (commands.Free slot) (answers.DoneAt at) = IsOf script.layout at.page slot × MadeOne view who at (entries.Free slot)
+IsCaused script view who (commands.Free slot) (answers.NotMapped at) = IsOf script.layout at.page slot × FoundState script.layout view who at (IsUnused slot)
+IsCaused script view who (commands.Drop page) (answers.Dirty at) = (at.page ≡ page) × FoundState script.layout view who at IsDirty
+IsCaused script view who (commands.Drop page) (answers.Mapped at) = (at.page ≡ page) × FoundState script.layout view who at IsMapped
+IsCaused script view who (commands.Drop page) answer = IsPageCaused script.layout view who page entries.Drop answer
+IsCaused script view who (commands.Sync page) answer = IsPageCaused script.layout view who page entries.Sync answer
+IsCaused script view who (commands.Out page) answer = IsPageCaused script.layout view who page entries.Out answer
+IsCaused script view who (commands.Fsync file) answers.Done = HasMadeNone view who × Saw view who (places.Loss file) 0
+IsCaused script view who (commands.Fsync file) (answers.Eio lost) = HasMadeNone view who × (0 < lost) × Saw view who (places.Loss file) lost
+IsCaused script view who (commands.Prctl thread args) (answers.Gone page) = FoundGone script.layout view who thread page
+IsCaused script view who (commands.Prctl thread args) answer = IsReplied script view who thread (arguments args) answer
+IsCaused script view who (commands.Log status addr misc) answers.Done = HasMadeNone view who
+IsCaused script view who _ _ = ⊥
