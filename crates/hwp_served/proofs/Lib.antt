@@ -5,3 +5,5 @@ pub mod Seen
 pub mod Windows
 pub mod Losses
 pub mod Stops
+pub mod Ample
+pub mod Unmarked
