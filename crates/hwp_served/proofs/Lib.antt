@@ -7,3 +7,5 @@ pub mod Losses
 pub mod Stops
 pub mod Ample
 pub mod Unmarked
+pub mod Framed
+pub mod Unended

@@ -49,7 +49,7 @@ module _ (layout : Layout) (seat : ℕ) (r : Rec) (a b : State) (before : Holds 
   left-word frame is =
       let met = met-word frame is in
       let words : words_of layout b.words ≡ put (places.Frame frame) (word_after r.step r.found) (words_of layout a.words)
-          = ap (λ (s : State). words_of layout s.words) m.next ∙ words-put layout a.words (place_of r.step) (word_after r.step r.found) before.words m.asks.place ∙ ap (λ (p : Place). put p (word_after r.step r.found) (words_of layout a.words)) is in
+      = ap (λ (s : State). words_of layout s.words) m.next ∙ words-put layout a.words (place_of r.step) (word_after r.step r.found) before.words m.asks.place ∙ ap (λ (p : Place). put p (word_after r.step r.found) (words_of layout a.words)) is in
       ap (λ (w : Words). slice_get w.frames frame.0) words ∙ set_here (words_of layout a.words).frames frame.0 (word_after r.step r.found) r.found met.1
 
   -- no step poisons, and none unpoisons
