@@ -50,7 +50,7 @@ leads-append layout page s t u (e ∷ es) ys (allowed, rest) then = (allowed, le
 legal-more : (layout : Layout) (old log : Log) (more : List Entry) → log.page ≡ old.page → log.entries ≡ old.entries ++ more → Leads layout log.page (state_of layout old) more (state_of layout log) → IsLegal layout old → IsLegal layout log
 legal-more layout old log more page_is all leads was =
     let first : Leads layout log.page (opening_at (slice_get layout.pages log.page.0)) old.entries (state_of layout old)
-        = subst (λ (p : Page). Leads layout p (opening_at (slice_get layout.pages p.0)) old.entries (state_of layout old)) (sym page_is) was in
+    = subst (λ (p : Page). Leads layout p (opening_at (slice_get layout.pages p.0)) old.entries (state_of layout old)) (sym page_is) was in
     subst (λ (es : List Entry). Leads layout log.page (opening_at (slice_get layout.pages log.page.0)) es (state_of layout log)) (sym all)
     (leads-append layout log.page (opening_at (slice_get layout.pages log.page.0)) (state_of layout old) (state_of layout log) old.entries more first leads)
 
@@ -139,7 +139,7 @@ module _ (layout : Layout) (P : Log → Type 0) where
   bodies-by who (steps.LockFrame frame) found content v homes asks stays brought each home = (
     locks who (Some frame) content v (record v { locks = v.locks ++ lock_found frame found ∷ [] }) (goes (steps.LockFrame frame) found)
         (λ log taken is. brought log (frame_slot frame) is (ap (λ (b : Bool). moved_out b (frame_slot frame)) taken)) each each,
-    may-go homes (frame_slot frame) (goes (steps.LockFrame frame) found) content home
+    may-go homes (frame_slot frame) (goes (steps.LockFrame frame) found) content home,
   )
   bodies-by who (steps.UnlockFrame frame) found content v homes asks stays brought each home =
       (puts who content v (put-so who v content stays asks.put) each, comes-home homes (frame_slot frame) content (put-so who v content stays asks.put) home)
@@ -149,7 +149,7 @@ module _ (layout : Layout) (P : Log → Type 0) where
   bodies-by who (steps.LockPage page) found content v homes asks stays brought each home = (
     locks who None content v (record v { pages = v.pages ++ lock_of_page layout page content (body_of page v) ∷ [] }) (goes (steps.LockPage page) found)
         (λ log taken is. brought log (shelf_slot layout page) is (ap (λ (b : Bool). moved_out b (shelf_slot layout page)) taken)) each each,
-    may-go homes (shelf_slot layout page) (goes (steps.LockPage page) found) content home
+    may-go homes (shelf_slot layout page) (goes (steps.LockPage page) found) content home,
   )
   bodies-by who (steps.UnlockPage page) found content v homes asks stays brought each home =
       (puts who content v (put-so who v content stays asks.put) each, comes-home homes (shelf_slot layout page) content (put-so who v content stays asks.put) home)

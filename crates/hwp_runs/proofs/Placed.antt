@@ -73,7 +73,7 @@ module _ (layout : Layout) (s : State) (h : Holds layout s) (unlocked : EachMemb
   pages_few = h.sound.pages
 
   -- an owned frame is named by the cache word of its page
-  owned-named : (f w q : ℕ) → slice_get (words_of layout s.words).frames f ≡ Some w → owner_of w ≡ q + 1 → slice_get (words_of layout s.words).caches q ≡ Some (f + 1)
+  pub owned-named : (f w q : ℕ) → slice_get (words_of layout s.words).frames f ≡ Some w → owner_of w ≡ q + 1 → slice_get (words_of layout s.words).caches q ≡ Some (f + 1)
   owned-named f w q there owner = elim (h.rule.pages.caches.named f w q there owner) [
     | inl is ↦ is
     | inr both ↦
@@ -138,7 +138,7 @@ module _ (layout : Layout) (s : State) (h : Holds layout s) (unlocked : EachMemb
         by-cache : (b : Bool) → (cache.0 == 0) ≡ b → count_by (λ (line : FrameLine). is_of log.page line.place) frames ≡ cond (state_of layout log).cached 1 0
         by-cache true none =
             sum-zero (λ (line : FrameLine). cond (is_of log.page line.place) 1 0) frames
-                (λ f line there. unsaid (is_of log.page line.place) (λ says. let named : f + 1 ≡ 0 = same_Some (f + 1) 0 (sym (says-owned f line log.page there says) ∙ cache.1 ∙ ap (λ (c : ℕ). Some c) (eqb-true cache.0 0 none)) in omega arith))
+            (λ f line there. unsaid (is_of log.page line.place) (λ says. let named : f + 1 ≡ 0 = same_Some (f + 1) 0 (sym (says-owned f line log.page there says) ∙ cache.1 ∙ ap (λ (c : ℕ). Some c) (eqb-true cache.0 0 none)) in omega arith))
             ∙ ap flag (sym (ap not none) ∙ cached)
         by-cache false some = elim (h.rule.pages.caches.owned log.page.0 cache.0 cache.1) [
           | inl none ↦ absurd (true≢false (sym (eq-eqb cache.0 0 none) ∙ some))
@@ -154,6 +154,6 @@ module _ (layout : Layout) (s : State) (h : Holds layout s) (unlocked : EachMemb
                 let same : word.0 ≡ own.owner_word = same_Some word.0 own.owner_word (sym word.1 ∙ own.there) in
                 let says : is_of log.page line.0.place ≡ true = ap (is_of log.page) word.2 ∙ owned-place own.frame word.0 log.page within word.1 (ap owner_of same ∙ own.owned) in
                 sum-single (λ (x : FrameLine). cond (is_of log.page x.place) 1 0) frames own.frame line.0 line.1
-                    (λ f other there differs. unsaid (is_of log.page other.place) (λ is. differs (let named : f + 1 ≡ own.frame + 1 = same_Some (f + 1) (own.frame + 1) (sym (says-owned f other log.page there is) ∙ cache.1 ∙ ap (λ (c : ℕ). Some c) own.named) in omega arith)))
+                (λ f other there differs. unsaid (is_of log.page other.place) (λ is. differs (let named : f + 1 ≡ own.frame + 1 = same_Some (f + 1) (own.frame + 1) (sym (says-owned f other log.page there is) ∙ cache.1 ∙ ap (λ (c : ℕ). Some c) own.named) in omega arith)))
                 ∙ ap flag says
                 ∙ ap flag (sym (sym cached ∙ ap not some))

@@ -133,7 +133,7 @@ module _ (layout : Layout) (last : State) (report : Report) (l : IsLast layout l
   one-part-of : (i k : ℕ) (v u : View) (a b : Who) → slice_get last.views i ≡ Some v → slice_get last.views k ≡ Some u → IsPast v.parts a → IsPast u.parts b → a.cpu ≡ b.cpu → u ≡ v
   one-part-of i k v u a b mine theirs past passed same =
       let is : i ≡ k = one-view layout (map (λ (x : View). x.parts) last.views) l.holds.rule.processors.processors i k past.0 passed.0 v.parts u.parts past.1 passed.1
-          (at_map (λ (x : View). x.parts) last.views i v mine) (at_map (λ (x : View). x.parts) last.views k u theirs) past.2 passed.2 (past.3.0 ∙ same ∙ sym passed.3.0) in
+      (at_map (λ (x : View). x.parts) last.views i v mine) (at_map (λ (x : View). x.parts) last.views k u theirs) past.2 passed.2 (past.3.0 ∙ same ∙ sym passed.3.0) in
       same_Some u v (sym theirs ∙ sym (ap (slice_get last.views) is) ∙ mine)
 
   module _ (i j : ℕ) (v : View) (x : Length) (view : slice_get last.views i ≡ Some v) (seen : slice_get v.lengths j ≡ Some x) where
@@ -153,7 +153,7 @@ module _ (layout : Layout) (last : State) (report : Report) (l : IsLast layout l
         let m = of-same bt e is same in
         let that = m.3 in
         let above = ((l.rises i v view).above j x seen m.0 m.1 m.2).past (that.page_is ∙ page_is)
-            (ap (λ (y : Entry). y.who.cpu) that.entry_is ∙ same, subst (λ (y : Entry). y.who.seq < x.stamp.who.seq) (sym that.entry_is) earlier) in
+        (ap (λ (y : Entry). y.who.cpu) that.entry_is ∙ same, subst (λ (y : Entry). y.who.seq < x.stamp.who.seq) (sym that.entry_is) earlier) in
         let at : m.1.place ≡ bt.entry = that.place_is in
         let less : m.1.place < length x.log.entries = above in
         omega arith
@@ -164,7 +164,7 @@ module _ (layout : Layout) (last : State) (report : Report) (l : IsLast layout l
         let m = of-same bt e is same in
         let that = m.3 in
         let below = ((l.rises i v view).above j x seen m.0 m.1 m.2).below (that.page_is ∙ page_is)
-            (sym (ap (λ (y : Entry). y.who.cpu) that.entry_is ∙ same), subst (λ (y : Entry). x.stamp.who.seq < y.who.seq) (sym that.entry_is) later) in
+        (sym (ap (λ (y : Entry). y.who.cpu) that.entry_is ∙ same), subst (λ (y : Entry). x.stamp.who.seq < y.who.seq) (sym that.entry_is) later) in
         let at : m.1.place ≡ bt.entry = that.place_is in
         let less : length x.log.entries ≤ m.1.place = below in
         omega arith

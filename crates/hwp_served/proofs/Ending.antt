@@ -101,7 +101,7 @@ module _ (script : Script) (seat : Cpu → ℕ) (last : State) (report : Report)
       let there = end.seated.there who.cpu within in
       let own = end.seated.own who.cpu within in
       let same : i ≡ seat who.cpu = one-view script.layout (map (λ (x : View). x.parts) last.views) rule i (seat who.cpu) past.0 own.0 v.parts (view_of last (seat who.cpu)).parts past.1 own.1
-          (at_map (λ (x : View). x.parts) last.views i v view) (at_map (λ (x : View). x.parts) last.views (seat who.cpu) (view_of last (seat who.cpu)) there) past.2 own.2 (past.3.0 ∙ sym own.3) in
+      (at_map (λ (x : View). x.parts) last.views i v view) (at_map (λ (x : View). x.parts) last.views (seat who.cpu) (view_of last (seat who.cpu)) there) past.2 own.2 (past.3.0 ∙ sym own.3) in
       (within, same_Some v (view_of last (seat who.cpu)) (sym view ∙ ap (slice_get last.views) same ∙ there))
 
   -- a command of a processor, by its number

@@ -5,3 +5,7 @@ pub mod Seen
 pub mod Windows
 pub mod Losses
 pub mod Stops
+pub mod Ample
+pub mod Unmarked
+pub mod Framed
+pub mod Unended

@@ -49,8 +49,8 @@ module _ (layout : Layout) (s : State) (h : Holds layout s) where
   no-losses file =
       let home : sum_by (of_home (losses_of layout file)) s.homes ≡ 0 = sum-zero (of_home (losses_of layout file)) s.homes (λ i content there. at-home i content there) in
       let hand : sum_all (λ (b : InHand). losses_of layout file b.log) (map (λ (v : View). v.bodies) s.views) ≡ 0
-          = sum-zero (sum_by (λ (b : InHand). losses_of layout file b.log)) (map (λ (v : View). v.bodies) s.views)
-            (λ i list there. sum-zero (λ (b : InHand). losses_of layout file b.log) list (λ j b listed. lost-none file b.log (h.rule.failures.unpoisoned.no_failure.in_hand i list there j b listed))) in
+      = sum-zero (sum_by (λ (b : InHand). losses_of layout file b.log)) (map (λ (v : View). v.bodies) s.views)
+      (λ i list there. sum-zero (λ (b : InHand). losses_of layout file b.log) list (λ j b listed. lost-none file b.log (h.rule.failures.unpoisoned.no_failure.in_hand i list there j b listed))) in
       omega arith
     where
       at-home : (i : ℕ) (content : Option (Option Log)) → slice_get s.homes i ≡ Some content → of_home (losses_of layout file) content ≡ 0
@@ -62,8 +62,8 @@ module _ (layout : Layout) (s : State) (h : Holds layout s) where
   pub loss-none : (file : FileNo) (w : ℕ) → slice_get (words_of layout s.words).losses file.0 ≡ Some w → w ≡ 0
   loss-none file w there =
       let all : w + sum_by (λ (v : Losing). sum_by (λ (r : Reported). cond (r.file.0 == file.0) r.count 0) v.reported) (map losing_of s.views)
-          + sum_by (λ (v : Losing). sum_by (λ (n : FileNo). from_bool (n.0 == file.0)) v.owed) (map losing_of s.views) ≡ sum_bodies (losses_of layout file) s.homes (map (λ (v : View). v.bodies) s.views)
-          = h.rule.histories.losses.balance file w there in
+      + sum_by (λ (v : Losing). sum_by (λ (n : FileNo). from_bool (n.0 == file.0)) v.owed) (map losing_of s.views) ≡ sum_bodies (losses_of layout file) s.homes (map (λ (v : View). v.bodies) s.views)
+      = h.rule.histories.losses.balance file w there in
       let none : sum_bodies (losses_of layout file) s.homes (map (λ (v : View). v.bodies) s.views) ≡ 0 = no-losses file in
       omega arith
 

@@ -62,7 +62,9 @@ module _ (script : Script) (seat : Cpu → ℕ) (last : State) (report : Report)
 
   pub entries-named : AreNamed report.pages report.cpus
   entries-named at e is answers =
-      let d = does at e is in
-      (d.of.answer, e.who.seq,
-      some-so (λ (rows : List CpuLine). slice_get rows e.who.seq ≡ Some (lines.Answer e.who.seq d.of.answer)) (slice_get report.cpus e.who.cpu.0) d.of.rows d.of.rows_is d.of.answer_is,
-      d.named answers)
+      let d = does at e is in (
+        d.of.answer,
+        e.who.seq,
+        some-so (λ (rows : List CpuLine). slice_get rows e.who.seq ≡ Some (lines.Answer e.who.seq d.of.answer)) (slice_get report.cpus e.who.cpu.0) d.of.rows d.of.rows_is d.of.answer_is,
+        d.named answers,
+      )

@@ -94,9 +94,9 @@ module _ (script : Script) (seat : Cpu → ℕ) (last : State) (report : Report)
           let other : stopper_of saw.word ≢ 0 = λ none. true≢false (sym saw.stopped ∙ ap not (eq-eqb (stopper_of saw.word) 0 none)) in
           let shown : stopper_of sight.word ≢ 0 = λ none. other (sym (ap stopper_of word) ∙ none) in
           let same : stopper_of (words_of script.layout last.words).stop ≡ stopper_of sight.word =
-              end.board.holds.rule.processors.stops.stop_stays (seat cpu) (view_of last (seat cpu)).sights (at_map (λ (x : View). x.sights) last.views (seat cpu) (view_of last (seat cpu)) there) saw.saw.0 sight saw.saw.2 saw.saw.3.1 shown in
+          end.board.holds.rule.processors.stops.stop_stays (seat cpu) (view_of last (seat cpu)).sights (at_map (λ (x : View). x.sights) last.views (seat cpu) (view_of last (seat cpu)) there) saw.saw.0 sight saw.saw.2 saw.saw.3.1 shown in
           shown (sym same ∙ unstopped)
       named (inr own) unstopped =
           let is : stopper_of (words_of script.layout last.words).stop ≡ own.1.cpu.0 + 1 =
-              end.board.holds.rule.processors.stops.named (seat cpu) (view_of last (seat cpu)).stops (at_map (λ (x : View). x.stops) last.views (seat cpu) (view_of last (seat cpu)) there) own.0 own.1 own.2 in
+          end.board.holds.rule.processors.stops.named (seat cpu) (view_of last (seat cpu)).stops (at_map (λ (x : View). x.stops) last.views (seat cpu) (view_of last (seat cpu)) there) own.0 own.1 own.2 in
           absurd (omega (arith, unstopped))

@@ -85,13 +85,13 @@ module _ (script : Script) (seat : Cpu → ℕ) (last : State) (report : Report)
           not-below cpu seq at x j there seen page long cpu_is seq_is n bt earlier same_page (inl made) =
               let listed = listed-entry script.layout last report end.board (seat cpu) made.j (view_of last (seat cpu)) made.made there made.there in
               let below : made.made.place < length x.log.entries = past-earlier script.layout last report end.board (seat cpu) j (view_of last (seat cpu)) x there seen (record { page = made.made.page; entry = made.made.place }) made.made.entry listed
-                  (made.page_is ∙ same_page ∙ sym page) (ap (λ (w : Who). w.cpu) made.own ∙ sym cpu_is) (let is : made.made.entry.who.seq ≡ n = ap (λ (w : Who). w.seq) made.own in omega (arith, earlier)) in
+              (made.page_is ∙ same_page ∙ sym page) (ap (λ (w : Who). w.cpu) made.own ∙ sym cpu_is) (let is : made.made.entry.who.seq ≡ n = ap (λ (w : Who). w.seq) made.own in omega (arith, earlier)) in
               let place : made.made.place ≡ bt.entry = made.place_is in
               omega arith
           not-below cpu seq at x j there seen page long cpu_is seq_is n bt earlier same_page (inr saw) =
               let y : Length = saw.saw.1 in
               let log : y.log ≡ saw.log = saw.saw.3.2 in
               let below : length y.log.entries ≤ length x.log.entries = not-below-seen script.layout last report end.board (seat cpu) j (view_of last (seat cpu)) x there seen (seat cpu) saw.saw.0 (view_of last (seat cpu)) y there saw.saw.2
-                  (ap (λ (l : Log). l.page) log ∙ saw.page_is ∙ same_page ∙ sym page) (ap (λ (w : Who). w.cpu) saw.saw.3.0 ∙ sym cpu_is) (let is : y.stamp.who.seq ≡ n = ap (λ (w : Who). w.seq) saw.saw.3.0 in omega (arith, earlier)) in
+              (ap (λ (l : Log). l.page) log ∙ saw.page_is ∙ same_page ∙ sym page) (ap (λ (w : Who). w.cpu) saw.saw.3.0 ∙ sym cpu_is) (let is : y.stamp.who.seq ≡ n = ap (λ (w : Who). w.seq) saw.saw.3.0 in omega (arith, earlier)) in
               let place : length y.log.entries ≡ bt.entry = ap (λ (l : Log). length l.entries) log ∙ saw.place_is in
               omega arith
