@@ -34,7 +34,7 @@ plan n = plan_at n.who n.at
 abbrev pub at_start : ℕ → NestedAt
 at_start found = cond (is_stopped found) (at.Over (Some answers.Stopped)) at.Stop
 
--- the answer to the stop word that the command's own stop met: none where another has given up for want of memory
+-- the answer to the stop word that the command's own stop met: none where another has given up because memory ran out
 abbrev pub after_stop : ℕ → Option NestedAnswer
 after_stop found = cond (found == 0) (Some answers.Shutdown) (cond (is_stopped found) (Some answers.Stopped) None)
 

@@ -42,7 +42,7 @@ impl Nested {
         }
     }
 
-    /// What the task came to; `None` until it is over, and where it gave up because another had given up for want of memory.
+    /// What the task came to; `None` until it is over, and where it gave up because another had given up because memory ran out.
     pub fn answer(&self) -> Option<NestedAnswer>
         ensures { result ≡ answer self.now }
     {

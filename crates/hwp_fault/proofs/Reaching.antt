@@ -15,7 +15,6 @@ use Rattle.hwp_geom.specs.declared.Who.{Who}
 use Rattle.hwp_page.specs.Endings.{has_ending}
 use Rattle.hwp_page.specs.declared.Entry.{Entry}
 use Rattle.hwp_page.specs.declared.PageState.{PageState}
-use Rattle.hwp_page.specs.Endings.{has_ending}
 use Rattle.hwp_page.specs.History.{BodyValue, Leads}
 use Rattle.hwp_page.specs.Step.{Allowed, after}
 use Rattle.hwp_rule.specs.declared.FrameLock.{FrameLock}

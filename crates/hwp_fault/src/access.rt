@@ -117,7 +117,7 @@ impl Access {
         }
     }
 
-    /// What the task came to; `None` until it is over, and where the command was given up for want of memory.
+    /// What the task came to; `None` until it is over, and where the command was given up because memory ran out.
     pub fn answer(&self) -> Option<AccessAnswer>
         ensures { result ≡ answer self.now }
     {

@@ -22,5 +22,5 @@ pub use list::List;
 pub use numbers::{Cpu, Damage, FileNo, Frame, Mask, Mode, Page, Proc, Thread, VSlot, Who};
 pub use text::Text;
 
-/// Want of memory: the one answer that no clause ties to a cause.
+/// Out of memory: the one answer that no clause ties to a cause.
 pub type OutOfMemory = std::alloc::AllocError;

@@ -1,4 +1,4 @@
--- A command given up for want of memory: the task's states, its steps and what they come to.
+-- A command given up because memory ran out: the task's states, its steps and what they come to.
 use Rattle.std.specs.Prelude.{◌≡◌, ℕ, ◌+◌, false, cond, Option, Some, None, is_none}
 use Rattle.hwp_geom.specs.declared.Frame.{Frame}
 use Rattle.hwp_geom.specs.declared.Layout.{Layout}

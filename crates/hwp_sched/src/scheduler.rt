@@ -73,7 +73,7 @@ fn is_end(until: Until, turn: Turn, kind: Option<Kind>) -> bool
     }
 }
 
-/// Whether the task gave up for want of memory.
+/// Whether the task gave up because memory ran out.
 fn is_refused(turn: Turn) -> bool
     ensures { IsTrue result ↔ IsNoMemory turn }
 {
@@ -152,7 +152,7 @@ fn finish<B: Board, T: Scheduled>(
 /// over. The log of the board lists them.
 ///
 /// # Errors
-/// `OutOfMemory` at the first turn in which a task gives up for want of memory.
+/// `OutOfMemory` at the first turn in which a task gives up because memory ran out.
 pub fn step_all<B: Board, T: Scheduled>(
     board: &mut B,
     tasks: &mut [T],

@@ -16,7 +16,7 @@ use std::alloc::Global;
 pub enum ReadScript {
     /// The bytes are no script.
     Refused(Refused),
-    /// Want of memory.
+    /// Out of memory.
     OutOfMemory,
 }
 

@@ -11,6 +11,6 @@ pub enum Turn {
     Answered,
     /// The task is over; no step was made.
     Finished,
-    /// For want of memory the task gives up; that was its step.
+    /// Memory ran out, and the task gives up; that was its step.
     NoMemory,
 }

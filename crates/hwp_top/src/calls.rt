@@ -70,11 +70,11 @@ fn report_of<S: Source>(alloc: Global, src: &mut S) -> Result<(Report, Text), In
 ///
 /// - 0: done, and the whole report is written;
 /// - 8: done too, and the report says that the machine stopped;
-/// - 2: the words are no form that is served;
+/// - 2: the words are no command that is supported;
 /// - 3: the script is refused;
 /// - 4: the source failed;
 /// - 5: the sink failed, and a part of the report is written;
-/// - 6: want of memory.
+/// - 6: out of memory.
 ///
 /// For each but 0 and 8 a text goes to `err`. A fault of `err` changes nothing. (This project's rule.)
 pub fn top<S: Source, K: Sink, E: Sink>(
@@ -93,7 +93,7 @@ pub fn top<S: Source, K: Sink, E: Sink>(
         × Appends (K.taken out.old) (K.taken out.new) (report_text report)
         × (result.status ≡ done_status report)) }
 
-    // Status 2 comes exactly on other words, and statuses 3, 4 and 5 only by their cause.
+    // Status 2 comes if and only if the words are anything else, and statuses 3, 4 and 5 only by their cause.
     ensures usage { (result.status ≡ 2) ↔ (¬ IsStep (map string_bytes words.now)) }
     ensures refused { result.status ≡ 3 → (r : Refused) × Refuses (S.left src.old) (S.left src.new) r
         × Told (E.taken err.old) (E.taken err.new) (E.faults err.old) (E.faults err.new) (refusal_text r) }
@@ -175,7 +175,7 @@ fn tell_fault<E: Sink>(alloc: Global, err: &mut E, fault: InputFault) -> u8
     }
 }
 
-/// Tells want of memory on `err`, and gives its exit status.
+/// Tells `err` that memory ran out, and gives the exit status for it.
 fn tell_memory<E: Sink>(err: &mut E) -> u8
     ensures status { result ≡ 6 }
     ensures told { Told (E.taken err.old) (E.taken err.new) (E.faults err.old) (E.faults err.new) memory_text }

@@ -18,7 +18,7 @@ pub enum InputFault {
     Refused(Refused),
     /// The source failed.
     ReadFault,
-    /// Want of memory.
+    /// Out of memory.
     OutOfMemory,
 }
 

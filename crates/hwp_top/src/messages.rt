@@ -12,7 +12,7 @@ pub const USAGE: &[u8] = b"usage: hwp step|run|check|gen N|sum N\n";
 pub const READ_FAULT: &[u8] = b"read fault\n";
 /// The text where the sink failed.
 pub const WRITE_FAULT: &[u8] = b"write fault\n";
-/// The text for want of memory.
+/// The text because memory ran out.
 pub const OUT_OF_MEMORY: &[u8] = b"out of memory\n";
 
 /// The name of a reason.

@@ -1,4 +1,4 @@
--- The stop word: which processor stopped the machine, and whether one has given up for want of memory.
+-- The stop word: which processor stopped the machine, and whether one has given up because memory ran out.
 use Rattle.std.specs.Prelude.{ℕ, Bool, not, ◌==◌, List, [], ◌∷◌}
 use Rattle.std.specs.Int.{from_bool}
 use Rattle.hwp_words.specs.declared.stop.StopWord.{StopWord}
@@ -22,7 +22,7 @@ stopper_of w = field stop_cpu_field w
 abbrev pub is_stopped : ℕ → Bool
 is_stopped w = not (stopper_of w == 0)
 
--- whether a processor has given up for want of memory
+-- whether a processor has given up because memory ran out
 abbrev pub has_no_memory : ℕ → Bool
 has_no_memory w = field no_memory_bit w == 1
 

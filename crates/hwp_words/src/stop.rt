@@ -10,7 +10,7 @@ use hwp_geom::Cpu;
 pub struct StopWord {
     /// Bits 0 to 7: the processor that stopped the machine, as its number plus 1, or 0.
     pub cpu: Option<Cpu>,
-    /// Bit 63: a processor has given up for want of memory.
+    /// Bit 63: a processor has given up because memory ran out.
     pub no_memory: bool,
 }
 
