@@ -33,7 +33,7 @@ pub record IsFaultAt (bytes : List ℕ) (n : ℕ) : Type 0 where
   pub before : Begin bytes (n - 1)
   pub greatest : (k : ℕ) → Begin bytes k → k < n
 
--- the fault that is told of the bytes; of want of memory nothing is said
+-- the fault that is told of the bytes; where memory ran out nothing is said
 abbrev pub IsFaultOf : List ℕ → BadReport → Type 0
 IsFaultOf bytes (faults.Line n) = IsFaultAt bytes n
 IsFaultOf bytes faults.OutOfMemory = Unit {0}
