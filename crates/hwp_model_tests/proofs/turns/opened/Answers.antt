@@ -1,4 +1,4 @@
-use Rattle.std.proofs.Common.{ℕ, sym, ap, ◌∙◌, subst}
+use Rattle.std.proofs.Common.{ℕ, ◌<◌, sym, ap, ◌∙◌, subst}
 use Rattle.hwp_rule.specs.declared.State.{State}
 use Rattle.hwp_step.specs.Boards.{view_of}
 use Rattle.hwp_model_tests.proofs.Beginning.{view-open}
