@@ -39,7 +39,7 @@ use Rattle.hwp_evict.specs.declared.evict.Eviction.{Eviction}
 use Rattle.hwp_evict.specs.declared.evict.Eviction.TheVariants as evictions
 use Rattle.hwp_evict.specs.declared.evict.Refusal.{Refusal}
 use Rattle.hwp_evict.specs.Evictions.{entry_of, IsOfKind, IsWhy, Passes, SawLines}
-use Rattle.hwp_evict.specs.Evicts.{HasEntry, IsAhead, IsEntered, IsLettingGo, KnowsPut, FitsAt, Enters, entered, given_up, place, refused, with_entry}
+use Rattle.hwp_evict.specs.Evicts.{HasEntry, IsAhead, IsLettingGo, KnowsPut, FitsAt, given_up, place, refused, with_entry}
 use Rattle.hwp_evict.specs.Vacates as vacates
 use Rattle.hwp_evict.proofs.Entering.{extends, goes-home, kills-none, one-more, same-words, shelf-words, words}
 use Rattle.hwp_evict.proofs.Judging.{allows, is-cached, replay-is, state-is}

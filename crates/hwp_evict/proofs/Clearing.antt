@@ -34,7 +34,8 @@ use Rattle.hwp_step.specs.declared.Turn.TheVariants.{Moved}
 use Rattle.hwp_step.specs.Calls.{CanMake, IsOnTurn, Steps}
 use Rattle.hwp_step.specs.Hands.{Hand, hand_of}
 use Rattle.hwp_step.specs.Ranks.{Member, member, IsRanked, is_waits, words_at}
-use Rattle.hwp_step.proofs.Ranking.{rank-of}
+use Rattle.hwp_step.specs.Boards.{view_of}
+use Rattle.hwp_step.proofs.Ranking.{rank-of, steps-on}
 use Rattle.hwp_step.proofs.Stepping.{on-turn-after, hand-planned, steps-planned, can-make}
 use Rattle.hwp_hold.specs.Holds.{page_lock}
 use Rattle.hwp_evict.specs.declared.clear.Clear.{Clear}
@@ -98,7 +99,7 @@ module _ {layout : Layout} {old : View} (c : Clear) (slot : VSlot) (fits : Fits 
     frames = (
       λ f named. subst (CanFree layout old) (same_Some c.frame f (sym (frame-named c.frame small) ∙ named)) (record {
         has = lock-held _ (ap (λ (h : Hand). h.locks) has.hand_is) refl;
-        room = subst (λ (n : ℕ). n + 1 ≤ length layout.trans + 2) (sym (ap (λ (h : Hand). refs_on c.frame.0 h.refs) has.hand_is ∙ refs-are c.frame (c.count + 1))) (let few : c.count ≤ slot.0 = has.counted in let inside : _ = within in omega (arith, few, inside));
+        room = subst (λ (n : ℕ). n + 1 ≤ length layout.trans + 2) (sym (ap (λ (h : Hand). refs_on c.frame.0 h.refs) has.hand_is ∙ refs-are c.frame (c.count - 1))) (let few : c.count ≤ slot.0 + 2 = has.counted in let inside : _ = within in let some : _ = has.some in omega (arith, few, inside, some));
       }),
       λ f leads. absurd (leads-nowhere c.barred f leads),
     );
@@ -121,11 +122,12 @@ module _ {layout : Layout} {old : View} (c : Clear) (slot : VSlot) (fits : Fits 
         ∙ sym ((lock-knows layout made.told.board made.told.rule made.told.seat old made.told.me (page_lock c.page (Some c.frame) (Some has.trans)) (ap (λ l. slice_get l 0) pages)).words has.trans refl slot.0 decl.0 decl.1 decl.2)
         ∙ names-frame)
 
-    hand : hand_of new ≡ after (record { frame = c.frame; count = c.count + 1 + 1 } ∷ [])
+    hand : hand_of new ≡ after (record { frame = c.frame; count = c.count + 1 - 1 } ∷ [])
     hand = hand-planned made refl has.hand_is
-        ∙ ap (λ (n : Option Frame). after (with_named (frame_in found) (less_named n (record { frame = c.frame; count = c.count + 1 } ∷ [])))) (names-none c.barred)
-        ∙ ap (λ (n : Option Frame). after (with_named n (record { frame = c.frame; count = c.count + 1 } ∷ []))) (ap frame_in found-is ∙ frame-named c.frame small)
-        ∙ ap (λ (b : Bool). after (cond b (record { frame = c.frame; count = c.count + 1 + 1 } ∷ []) (record { frame = c.frame; count = c.count + 1 } ∷ record { frame = c.frame; count = 1 } ∷ []))) (same-number c.frame.0 c.frame.0 refl)
+        ∙ ap (λ (n : Option Frame). after (with_named (frame_in found) (less_named n (record { frame = c.frame; count = c.count - 1 } ∷ [])))) (names-none c.barred)
+        ∙ ap (λ (n : Option Frame). after (with_named n (record { frame = c.frame; count = c.count - 1 } ∷ []))) (ap frame_in found-is ∙ frame-named c.frame small)
+        ∙ ap (λ (b : Bool). after (cond b (record { frame = c.frame; count = c.count - 1 + 1 } ∷ []) (record { frame = c.frame; count = c.count - 1 } ∷ record { frame = c.frame; count = 1 } ∷ []))) (same-number c.frame.0 c.frame.0 refl)
+        ∙ ap (λ (n : ℕ). after (record { frame = c.frame; count = n } ∷ [])) (let some : _ = has.some in omega (arith, some))
 
     module _ (next : Option VSlot) (lowest : IsNextFrom c.slots (slot.0 + 1) next) where
       -- of the others it is as before whether they are written
@@ -168,8 +170,8 @@ module _ {layout : Layout} {old : View} (c : Clear) (slot : VSlot) (fits : Fits 
           which (inr other) = set_else has.trans slot.0 u word other ∙ has.words u t declared own ∙ ap (λ (n : ℕ). Some n) (same-word other (set.contains state.maps u) refl)
 
       counted : (n : Option VSlot) → IsNextFrom c.slots (slot.0 + 1) n → IsCounted layout (c.count + 1) n
-      counted None none = let few : c.count ≤ slot.0 = has.counted in let inside : _ = within in omega (arith, few, inside)
-      counted (Some v) low = let few : c.count ≤ slot.0 = has.counted in let above : slot.0 + 1 ≤ v.0 = low.1.not_below in omega (arith, few, above)
+      counted None none = let few : c.count ≤ slot.0 + 2 = has.counted in let inside : _ = within in omega (arith, few, inside)
+      counted (Some v) low = let few : c.count ≤ slot.0 + 2 = has.counted in let above : slot.0 + 1 ≤ v.0 = low.1.not_below in omega (arith, few, above)
 
       member-now : (n : Option VSlot) → IsNextFrom c.slots (slot.0 + 1) n → (s : VSlot) → n ≡ Some s → set.contains c.slots s.0 ≡ true
       member-now None none s is = absurd (none-some s is)
@@ -186,6 +188,7 @@ module _ {layout : Layout} {old : View} (c : Clear) (slot : VSlot) (fits : Fits 
         slots_are = has.slots_are;
         declared = has.declared;
         words = words-now;
+        some = let some : _ = has.some in omega (arith, some);
         counted = counted next lowest;
         member = member-now next lowest;
       }
@@ -224,16 +227,16 @@ stays layout old new c step found got fits is made = let all = both layout old n
 
 -- ---- the law of the rank
 
-pub clear-falls : {layout : Layout} {view : View} (c : Clear) (step : Step) (after : Clear) (w now : Words) → Fits layout view c → plan c ≡ Some step → Follows c after → cost after now < cost c w
-clear-falls {layout} {view} c step after w now fits is follows = which c.next fits.at is follows
+pub clears-fall : (c next : Clear) (w now : Words) {step : Step} → plan c ≡ Some step → Follows c next → Shows c → cost next now < cost c w
+clears-fall c next w now {step} is follows shows = which c.next is follows shows
   where
     by : (slot : VSlot) (n : Option VSlot) → slot.0 < slot_limit → IsNextFrom c.slots (slot.0 + 1) n → cost_at n < slot_limit - slot.0
     by slot None few low = omega (arith, few)
     by slot (Some v) few low = let above : slot.0 + 1 ≤ v.0 = low.1.not_below in omega (arith, few, above)
 
-    which : (n : Option VSlot) → IsClearing layout view (record c { next = n }) → plan_at c.barred n ≡ Some step → FollowsAt c n after → cost_at after.next < cost_at n
-    which None has e follows = absurd (none-some step e)
-    which (Some slot) has e follows = by slot after.next (let inside : _ = within c slot fits has in let few : _ = fits.sound.trans in omega (arith, inside, few)) follows.1
+    which : (n : Option VSlot) → plan_at c.barred n ≡ Some step → FollowsAt c n next → ShowsAt c.count n → cost_at next.next < cost_at n
+    which None e follows shows = absurd (none-some step e)
+    which (Some slot) e follows shows = by slot next.next shows.0 follows.1
 
 pub clear-small : (w : Words) (c : Clear) → cost c w ≤ 512
 clear-small w c = which c.next
@@ -247,5 +250,5 @@ clear-member = member (λ c. c.who) plan (λ c. None) (λ c. c) (λ layout c fou
 
 pub clear-ranked : IsRanked clear-member
 clear-ranked = rank-of clear-member (λ s. refl) (λ s. (omega arith, omega arith)) (λ layout a seat s rule fits. let few : _ = clear-small (words_at layout a) s in omega (arith, few))
-    (λ layout seat a b s t turn made goes. clear-falls s made.step t (words_at layout a) (words_at layout b) made.fits made.planned made.follows.0)
+    (λ layout seat a b s t turn made goes. clears-fall s t (words_at layout a) (words_at layout b) made.planned made.follows.0 (both layout (view_of a seat) _ s made.step made.found made.got made.fits made.planned (steps-on made)).0)
     (λ layout seat a b s t turn made is quiet. absurd (both_ways true (sym is ∙ ap is_waits made.follows.1) refl))

@@ -18,15 +18,16 @@ use Rattle.hwp_evict.specs.declared.evict.EvictAt.{EvictAt}
 use Rattle.hwp_evict.specs.declared.evict.Eviction.{Eviction}
 use Rattle.hwp_evict.specs.declared.evict.Eviction.TheVariants as evictions
 use Rattle.hwp_evict.specs.Evictions.{entry_of, IsOfKind, Passes}
-use Rattle.hwp_evict.specs.Evicts.{Enters, FitsAt, HasEntry, IsEntered, entered, place}
+use Rattle.hwp_evict.specs.Evicts.{Enters, FitsAt, GoesOut, HasEntry, place}
 use Rattle.hwp_evict.proofs.Beginning.{given-up-fits, has-entry, leaves, let-go}
 use Rattle.hwp_evict.proofs.Entering.{same-words, shelf-words, state-after}
 use Rattle.hwp_evict.proofs.Judging.{is-cached, state-is}
+use Rattle.hwp_evict.proofs.Outing.{starts}
 
 module _ {layout : Layout} {view : View} {who : Who} {page : Page} (on : IsOnTurn view who) (inside : page.0 < length layout.pages) (sound : IsSound layout) (frame : Frame) (body : BodyValue) (has : HoldsPage layout view page (Some frame) body) (none : HasMadeNone view who) where
   made-fits : (what : Eviction) → IsOfKind layout page what → Passes what body.state → has.seen ≤ length view.sights → HasSeen (drop has.seen view.sights) who (Some frame) (entry_of what)
-      → (now : BodyValue) → HasEntry layout who page what (log_of body) (place page body) now → FitsAt layout view who page what (entered who page what frame now (place page body))
-  made-fits (evictions.Free slot) kind passes few saw now entry = (
+      → (now : BodyValue) → HasEntry layout who page what (log_of body) (place page body) now → (x : EvictAt) → GoesOut who page what frame body.state.maps now (place page body) x → FitsAt layout view who page what x
+  made-fits (evictions.Free slot) kind passes few saw now entry x is = subst (FitsAt layout view who page (evictions.Free slot)) (sym is) (
     refl,
     record {
       log = log_of body;
@@ -40,16 +41,17 @@ module _ {layout : Layout} {view : View} {who : Who} {page : Page} (on : IsOnTur
       made_none = none;
     },
   )
-  made-fits evictions.Sync kind passes few saw now entry =
-      let-go evictions.Sync on inside frame body has none kind passes sound few saw now entry (same-words entry frame has.seen (is-cached has.body_is) refl refl)
-  made-fits evictions.Drop kind passes few saw now entry =
-      leaves evictions.Drop on inside frame body has none kind passes sound few saw now entry (shelf-words entry frame has.seen refl unused unused refl) (ap (λ (s : PageState). s.maps) (state-after entry frame has.seen) ∙ unused)
+  made-fits evictions.Sync kind passes few saw now entry x is = subst (FitsAt layout view who page evictions.Sync) (sym is)
+      (let-go evictions.Sync on inside frame body has none kind passes sound few saw now entry (same-words entry frame has.seen (is-cached has.body_is) refl refl))
+  made-fits evictions.Drop kind passes few saw now entry x is = subst (FitsAt layout view who page evictions.Drop) (sym is)
+      (leaves evictions.Drop on inside frame body has none kind passes sound few saw now entry (shelf-words entry frame has.seen refl unused unused refl) (ap (λ (s : PageState). s.maps) (state-after entry frame has.seen) ∙ unused))
     where
       unused : (state_of layout (log_of body)).maps ≡ set.empty
       unused = ap (λ (s : PageState). s.maps) (state-is has.body_is) ∙ passes.1
+  made-fits evictions.Out kind passes few saw now entry x is = starts on inside sound frame body has now entry few saw none x is
 
   pub enters-fits : (what : Eviction) → IsOfKind layout page what → Passes what body.state → has.seen ≤ length view.sights → HasSeen (drop has.seen view.sights) who (Some frame) (entry_of what)
       → (x : EvictAt) → Enters who page what frame body x → FitsAt layout view who page what x
   enters-fits what kind passes few saw x (inl is) = subst (FitsAt layout view who page what) (sym is) (given-up-fits what on inside frame body has none kind passes)
-  enters-fits what kind passes few saw x (inr is) = subst (FitsAt layout view who page what) (sym is.next_is) (made-fits what kind passes few saw is.now
-      (subst (HasEntry layout who page what (log_of body) (place page body)) (sym is.made) (has-entry what on inside frame body has none kind passes is.now.spare)))
+  enters-fits what kind passes few saw x (inr is) = made-fits what kind passes few saw is.now
+      (subst (HasEntry layout who page what (log_of body) (place page body)) (sym is.made) (has-entry what on inside frame body has none kind passes is.now.spare)) x is.next_is

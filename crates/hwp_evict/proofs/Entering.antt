@@ -56,11 +56,13 @@ ends-none : (layout : Layout) (process : Proc) (who : Who) (w : Eviction) → ha
 ends-none layout process who (evictions.Free slot) = refl
 ends-none layout process who evictions.Sync = refl
 ends-none layout process who evictions.Drop = refl
+ends-none layout process who evictions.Out = refl
 
 fails-none : (w : Eviction) → is_failure (entry_of w) ≡ false
 fails-none (evictions.Free slot) = refl
 fails-none evictions.Sync = refl
 fails-none evictions.Drop = refl
+fails-none evictions.Out = refl
 
 -- the page's lock is in the first place, and what it lists fits
 pub put-fits-of : {layout : Layout} {view : View} {page : Page} (frame : Option Frame) (trans : List ℕ) (taken : InHand) (log : Log) → log.page ≡ page → view.pages ≡ page_lock page frame (Some trans) ∷ [] → FitsWords layout log (frame_name frame) trans

@@ -2,6 +2,8 @@
 use Rattle.std.proofs.Common.{◌≡◌, ◌≢◌, ◌⊎◌, inl, inr, ℕ, ◌+◌, ◌<◌, ◌≤◌, ◌==◌, Bool, true, false, cond, [], Option, Some, None, is_none, MatchBool, refl, sym, ap, ◌∙◌, subst, arith}
 use Rattle.std.proofs.lemmas.Bool.{both_ways}
 use Rattle.std.proofs.lemmas.Option.{none-some}
+use Rattle.std.specs.FinSet as set
+use Rattle.std.specs.Ordering.{nat_cmp}
 use Rattle.hwp_geom.specs.declared.Frame.{Frame}
 use Rattle.hwp_geom.specs.declared.Layout.{Layout}
 use Rattle.hwp_geom.specs.declared.Page.{Page}
@@ -38,6 +40,7 @@ use Rattle.hwp_hold.proofs.FillCosts.{give-up-falls, give-up-ranked}
 use Rattle.hwp_hold.proofs.Unlocking.{unlock-small}
 use Rattle.hwp_hold.proofs.Ranking.{hold-falls, hold-small, hold-class, hold-ranked, unhold-falls, unhold-small, unhold-class}
 use Rattle.hwp_hold.proofs.Telling.{Tells, hold-tells, unhold-tells, give-up-tells, frame-tells, no-frame, no-page}
+use Rattle.hwp_evict.specs.declared.clear.Clear.{Clear}
 use Rattle.hwp_evict.specs.declared.evict.Evict.{Evict}
 use Rattle.hwp_evict.specs.declared.evict.EvictAnswer.{EvictAnswer}
 use Rattle.hwp_evict.specs.declared.evict.EvictAnswer.TheVariants as answers
@@ -49,8 +52,10 @@ use Rattle.hwp_evict.specs.declared.evict.Refusal.{Refusal}
 use Rattle.hwp_evict.specs.declared.evict.Refusal.TheVariants as refusals
 use Rattle.hwp_evict.specs.declared.vacate.Vacate.{Vacate}
 use Rattle.hwp_evict.specs.Evictions.{copies, absence}
-use Rattle.hwp_evict.specs.Evicts.{AfterBad, AfterHeld, AfterHold, AfterHoldAt, Enters, Fits, FitsAt, Follows, FollowsAt, Shows, ShowsAt, after_stop, after_unhold, after_vacate, bare, bare_at, begin, class, class_at, cost, cost_at, entered, given_up, place, plan, plan_at, put, refused, turn_after}
+use Rattle.hwp_evict.specs.Evicts.{AfterBad, AfterHeld, AfterHold, AfterHoldAt, Enters, Fits, FitsAt, Follows, FollowsAt, Shows, ShowsAt, after_clear, after_stop, after_unhold, after_vacate, bare, bare_at, begin, class, class_at, cost, cost_at, GoesOut, given_up, place, plan, plan_at, put, refused, turn_after}
+use Rattle.hwp_evict.specs.Clears as clears
 use Rattle.hwp_evict.specs.Vacates as vacates
+use Rattle.hwp_evict.proofs.Clearing.{clear-small, clears-fall}
 use Rattle.hwp_evict.proofs.Evicting.{both}
 use Rattle.hwp_evict.proofs.VacateCosts.{vacate-falls, vacate-small, vacate-class, vacate-tells}
 
@@ -68,47 +73,56 @@ give-up-small w g = which g.at
 begun-cost : (who : Who) (page : Page) (frame : Option Frame) (count : ℕ) (body : BodyValue) (w : Words) → unholds.cost (unholds.begin who page frame count body) w ≤ 5
 begun-cost who page frame count body w = unhold-small w (unholds.begin who page frame count body)
 
-entered-cost : (who : Who) (page : Page) (what : Eviction) (frame : Frame) (body : BodyValue) (done : At) (w : Words) → cost_at (entered who page what frame body done) w ≤ 7
-entered-cost who page (evictions.Free slot) frame body done w = omega arith
-entered-cost who page evictions.Sync frame body done w = let few : _ = begun-cost who page (Some frame) 1 body w in omega (arith, few)
-entered-cost who page evictions.Drop frame body done w = omega arith
+clear-cost : (who : Who) (page : Page) (c : Clear) (body : BodyValue) (done : At) (w : Words) → cost_at (after_clear who page c body done) w < clears.cost c w + 9
+clear-cost who page c body done w = which (is_none c.next)
+  where
+    which : (b : Bool) → cost_at (cond b (at.Vacate (vacates.begin who page c.frame c.count body) done) (at.Clear c body done)) w < clears.cost c w + 9
+    which true = omega arith
+    which false = omega arith
+
+out-cost : (who : Who) (page : Page) (what : Eviction) (frame : Frame) (maps : set.FinSet nat_cmp) (body : BodyValue) (done : At) (w : Words) (y : EvictAt) → GoesOut who page what frame maps body done y → cost_at y w ≤ 520
+out-cost who page (evictions.Free slot) frame maps body done w y is = subst (λ (x : EvictAt). cost_at x w ≤ 520) (sym is) (omega arith)
+out-cost who page evictions.Sync frame maps body done w y is = subst (λ (x : EvictAt). cost_at x w ≤ 520) (sym is) (let few : _ = begun-cost who page (Some frame) 1 body w in omega (arith, few))
+out-cost who page evictions.Drop frame maps body done w y is = subst (λ (x : EvictAt). cost_at x w ≤ 520) (sym is) (omega arith)
+out-cost who page evictions.Out frame maps body done w y is = subst (λ (x : EvictAt). cost_at x w ≤ 520) (sym is.next_is)
+    (let few : _ = clear-cost who page is.clear body done w in let small : _ = clear-small w is.clear in omega (arith, few, small))
 
 refused-cost : (who : Who) (page : Page) (frame : Option Frame) (body : BodyValue) (refusal : Refusal) (w : Words) → cost_at (refused who page frame body refusal) w ≤ 7
 refused-cost who page frame body refusal w = let few : _ = begun-cost who page frame 1 body w in omega (arith, few)
 
-enters-cost : (who : Who) (page : Page) (what : Eviction) (frame : Frame) (body : BodyValue) (w : Words) (y : EvictAt) → Enters who page what frame body y → cost_at y w ≤ 7
-enters-cost who page what frame body w y (inl is) = subst (λ (x : EvictAt). cost_at x w ≤ 7) (sym is) (let few : _ = give-up-small w (give_ups.with_page who page (Some frame) 1 body) in omega (arith, few))
-enters-cost who page what frame body w y (inr is) = subst (λ (x : EvictAt). cost_at x w ≤ 7) (sym is.next_is) (entered-cost who page what frame is.now (place page body) w)
+enters-cost : (who : Who) (page : Page) (what : Eviction) (frame : Frame) (body : BodyValue) (w : Words) (y : EvictAt) → Enters who page what frame body y → cost_at y w ≤ 520
+enters-cost who page what frame body w y (inl is) = subst (λ (x : EvictAt). cost_at x w ≤ 520) (sym is) (let few : _ = give-up-small w (give_ups.with_page who page (Some frame) 1 body) in omega (arith, few))
+enters-cost who page what frame body w y (inr is) = out-cost who page what frame body.state.maps is.now (place page body) w y is.next_is
 
-held-cost : (who : Who) (page : Page) (what : Eviction) (frame : Option Frame) (body : BodyValue) (w : Words) (y : EvictAt) → AfterHeld who page what frame body y → cost_at y w ≤ 8
-held-cost who page what None body w y is = subst (λ (x : EvictAt). cost_at x w ≤ 8) (sym is) (let few : _ = refused-cost who page None body (absence what) w in omega (arith, few))
-held-cost who page what (Some frame) body w y (inr is) = subst (λ (x : EvictAt). cost_at x w ≤ 8) (sym is.next_is) (let few : _ = refused-cost who page (Some frame) body is.refusal w in omega (arith, few))
+held-cost : (who : Who) (page : Page) (what : Eviction) (frame : Option Frame) (body : BodyValue) (w : Words) (y : EvictAt) → AfterHeld who page what frame body y → cost_at y w ≤ 521
+held-cost who page what None body w y is = subst (λ (x : EvictAt). cost_at x w ≤ 521) (sym is) (let few : _ = refused-cost who page None body (absence what) w in omega (arith, few))
+held-cost who page what (Some frame) body w y (inr is) = subst (λ (x : EvictAt). cost_at x w ≤ 521) (sym is.next_is) (let few : _ = refused-cost who page (Some frame) body is.refusal w in omega (arith, few))
 held-cost who page what (Some frame) body w y (inl (passes, goes)) = which (copies what) goes
   where
-    which : (b : Bool) → MatchBool b (y ≡ at.LoadBad frame body) (Enters who page what frame body y) → cost_at y w ≤ 8
-    which true is = subst (λ (x : EvictAt). cost_at x w ≤ 8) (sym is) (omega arith)
+    which : (b : Bool) → MatchBool b (y ≡ at.LoadBad frame body) (Enters who page what frame body y) → cost_at y w ≤ 521
+    which true is = subst (λ (x : EvictAt). cost_at x w ≤ 521) (sym is) (omega arith)
     which false is = let few : _ = enters-cost who page what frame body w y is in omega (arith, few)
 
--- what follows a step of the hold costs at most nine more than the hold
-hold-cost : (who : Who) (page : Page) (what : Eviction) (h : Hold) (w : Words) (y : EvictAt) → AfterHold who page what h y → cost_at y w ≤ holds.cost h w + 9
+-- what follows a step of the hold costs at most so much more than the hold
+hold-cost : (who : Who) (page : Page) (what : Eviction) (h : Hold) (w : Words) (y : EvictAt) → AfterHold who page what h y → cost_at y w ≤ holds.cost h w + 522
 hold-cost who page what h w y follows = which h.at follows
   where
-    still : (x : HoldAt) → y ≡ at.Hold (record h { at = x }) → cost_at y w ≤ holds.cost_at x w + 9
-    still x is = subst (λ (z : EvictAt). cost_at z w ≤ holds.cost_at x w + 9) (sym is) (omega arith)
+    still : (x : HoldAt) → y ≡ at.Hold (record h { at = x }) → cost_at y w ≤ holds.cost_at x w + 522
+    still x is = subst (λ (z : EvictAt). cost_at z w ≤ holds.cost_at x w + 522) (sym is) (omega arith)
 
-    which : (x : HoldAt) → AfterHoldAt who page what (record h { at = x }) x y → cost_at y w ≤ holds.cost_at x w + 9
+    which : (x : HoldAt) → AfterHoldAt who page what (record h { at = x }) x y → cost_at y w ≤ holds.cost_at x w + 522
     which hold_at.LockPage is = still hold_at.LockPage is
     which (hold_at.LoadCache body) is = still (hold_at.LoadCache body) is
     which (hold_at.Pin p) is = still (hold_at.Pin p) is
     which (hold_at.LockFrame frame) is = still (hold_at.LockFrame frame) is
     which (hold_at.Held frame body) is = let few : _ = held-cost who page what frame body w y is in omega (arith, few)
 
-bad-cost : (who : Who) (page : Page) (what : Eviction) (frame : Frame) (body : BodyValue) (found : ℕ) (w : Words) (y : EvictAt) → AfterBad who page what frame body found y → cost_at y w ≤ 7
+bad-cost : (who : Who) (page : Page) (what : Eviction) (frame : Frame) (body : BodyValue) (found : ℕ) (w : Words) (y : EvictAt) → AfterBad who page what frame body found y → cost_at y w ≤ 520
 bad-cost who page what frame body found w y is = which (found == 0) is
   where
-    which : (b : Bool) → MatchBool b (Enters who page what frame body y) (y ≡ refused who page (Some frame) body (refusals.BadLines (record { 0 = found }))) → cost_at y w ≤ 7
+    which : (b : Bool) → MatchBool b (Enters who page what frame body y) (y ≡ refused who page (Some frame) body (refusals.BadLines (record { 0 = found }))) → cost_at y w ≤ 520
     which true is = enters-cost who page what frame body w y is
-    which false is = subst (λ (x : EvictAt). cost_at x w ≤ 7) (sym is) (refused-cost who page (Some frame) body (refusals.BadLines (record { 0 = found })) w)
+    which false is = subst (λ (x : EvictAt). cost_at x w ≤ 520) (sym is) (let few : _ = refused-cost who page (Some frame) body (refusals.BadLines (record { 0 = found })) w in omega (arith, few))
 
 unhold-cost : (u : Unhold) (answer : EvictAnswer) (w : Words) → cost_at (after_unhold u answer) w ≤ unholds.cost u w
 unhold-cost u answer w = which (is_none (unholds.plan u))
@@ -124,10 +138,10 @@ vacate-cost v done w = which (is_none (vacates.plan v))
     which true = omega arith
     which false = omega arith
 
-stop-cost : (who : Who) (page : Page) (found : ℕ) (w : Words) → cost_at (after_stop who page found) w < 15
+stop-cost : (who : Who) (page : Page) (found : ℕ) (w : Words) → cost_at (after_stop who page found) w < 528
 stop-cost who page found w = which (is_stopped found)
   where
-    which : (b : Bool) → cost_at (cond b (at.Over answers.Stopped) (at.Hold (holds.begin who page))) w < 15
+    which : (b : Bool) → cost_at (cond b (at.Over answers.Stopped) (at.Hold (holds.begin who page))) w < 528
     which true = omega arith
     which false = omega arith
 
@@ -141,13 +155,16 @@ evict-falls w now e step found got after turn is shows met kept follows goes = w
     y = after.at
 
     which : (x : EvictAt) → plan_at x ≡ Some step → ShowsAt e.what (bare_at x) found got → FollowsAt e.who e.page e.what (bare_at x) found got after.at turn → cost_at after.at now < cost_at x w
-    which at.LoadStop p shows follows = subst (λ (z : EvictAt). cost_at z now < 15) (sym follows.0) (stop-cost e.who e.page found now)
+    which at.LoadStop p shows follows = subst (λ (z : EvictAt). cost_at z now < 528) (sym follows.0) (stop-cost e.who e.page found now)
     which (at.Hold h) p shows follows =
         let less : holds.cost (holds.next h found got) now < holds.cost h w = hold-falls w now h step found got p shows.0 met kept (sym (ap is_waits follows.1) ∙ goes) in
-        let more : cost_at after.at now ≤ holds.cost (holds.next h found got) now + 9 = hold-cost e.who e.page e.what (holds.next h found got) now after.at follows.0 in
+        let more : cost_at after.at now ≤ holds.cost (holds.next h found got) now + 522 = hold-cost e.who e.page e.what (holds.next h found got) now after.at follows.0 in
         omega (arith, less, more)
-    which (at.LoadBad frame body) p shows follows = let few : cost_at after.at now ≤ 7 = bad-cost e.who e.page e.what frame body found now after.at follows.0 in omega (arith, few)
+    which (at.LoadBad frame body) p shows follows = let few : cost_at after.at now ≤ 520 = bad-cost e.who e.page e.what frame body found now after.at follows.0 in omega (arith, few)
     which (at.SetPte slot frame body done) p shows follows = subst (λ (z : EvictAt). cost_at z now < 6) (sym follows.0) (let few : _ = begun-cost e.who e.page (Some frame) 2 body now in omega (arith, few))
+    which (at.Clear c body done) p shows follows = subst (λ (z : EvictAt). cost_at z now < clears.cost c w + 8) (sym follows.0.next_is)
+        (let less : clears.cost follows.0.after now < clears.cost c w = clears-fall c follows.0.after w now p follows.0.follows shows in
+        let more : _ = clear-cost e.who e.page follows.0.after body done now in omega (arith, less, more))
     which (at.Vacate v done) p shows follows = subst (λ (z : EvictAt). cost_at z now < vacates.cost v w) (sym follows.0)
         (let less : vacates.cost (vacates.next (vacates.bare v) found) now < vacates.cost v w = vacate-falls w now v step found p in
         let more : _ = vacate-cost (vacates.next (vacates.bare v) found) done now in omega (arith, less, more))
@@ -166,6 +183,7 @@ evict-below w e = which e.at
     which (at.Hold h) = let few : holds.cost h w ≤ 4098 = hold-small w h in omega (arith, few)
     which (at.LoadBad frame body) = omega arith
     which (at.SetPte slot frame body done) = omega arith
+    which (at.Clear c body done) = let few : clears.cost c w ≤ 512 = clear-small w c in omega (arith, few)
     which (at.Vacate v done) = let few : vacates.cost v w ≤ 7 = vacate-small w v in omega (arith, few)
     which (at.Unhold u answer) = let few : unholds.cost u w ≤ 5 = unhold-small w u in omega (arith, few)
     which (at.GiveUp g) = let few : give_ups.cost g w ≤ 6 = give-up-small w g in omega (arith, few)
@@ -179,6 +197,7 @@ evict-class e = which e.at
     which (at.Hold h) = hold-class h
     which (at.LoadBad frame body) = (omega arith, omega arith)
     which (at.SetPte slot frame body done) = (omega arith, omega arith)
+    which (at.Clear c body done) = (omega arith, omega arith)
     which (at.Vacate v done) = vacate-class v
     which (at.Unhold u answer) = unhold-class u
     which (at.GiveUp g) = give-up-ranked.classes g
@@ -199,6 +218,7 @@ after-goes at.LoadStop = refl
 after-goes (at.Hold h) = refl
 after-goes (at.LoadBad frame body) = refl
 after-goes (at.SetPte slot frame body done) = refl
+after-goes (at.Clear c body done) = refl
 after-goes (at.Vacate v done) = refl
 after-goes (at.Unhold u answer) = refl
 after-goes (at.GiveUp g) = refl
@@ -233,11 +253,12 @@ module _ {layout : Layout} {seat : ℕ} {a b : State} {s t : Evict} {turn : Turn
         follows = (refl, m.follows.1.1);
       }) is quiet)
         where
-          by : (holds.cost (holds.next h m.found m.got) (words_at layout b) < holds.cost h (words_at layout a)) ⊎ ((false ≡ true) × OtherHand a seat) → cost_at t.at (words_at layout b) < holds.cost h (words_at layout a) + 9
+          by : (holds.cost (holds.next h m.found m.got) (words_at layout b) < holds.cost h (words_at layout a)) ⊎ ((false ≡ true) × OtherHand a seat) → cost_at t.at (words_at layout b) < holds.cost h (words_at layout a) + 522
           by (inl less) = let more : _ = hold-cost s.who s.page s.what (holds.next h m.found m.got) (words_at layout b) t.at m.follows.1.0 in omega (arith, less, more)
           by (inr aborts) = absurd (both_ways true (sym aborts.0) refl)
       which (at.LoadBad frame body) m quiet = never m.follows.1.1 refl
       which (at.SetPte slot frame body done) m quiet = never m.follows.1.1 refl
+      which (at.Clear c body done) m quiet = never m.follows.1.1 refl
       which (at.Vacate v done) m quiet = never m.follows.1.1 (after-goes (after_vacate (vacates.next (vacates.bare v) m.found) done))
       which (at.Unhold u answer) m quiet = never m.follows.1.1 (after-goes (after_unhold (unholds.next (unholds.bare u) m.found) answer))
       which (at.GiveUp g) m quiet = never m.follows.1.1 (give-up-goes (give_ups.bare g))
@@ -279,6 +300,7 @@ tells-at layout view e fits = which e.at fits.at
     which (at.Hold h) has = under-way view (at.Hold h) (hold-tells layout view h has.hold has.under_way) (goes (holds.plan h) has.under_way)
     which (at.LoadBad frame body) has = under-way view (at.LoadBad frame body) (frame-tells view) (goes (plan_at (at.LoadBad frame body)) refl)
     which (at.SetPte slot frame body done) has = under-way view (at.SetPte slot frame body done) (frame-tells view) (goes (plan_at (at.SetPte slot frame body done)) refl)
+    which (at.Clear c body done) has = under-way view (at.Clear c body done) (frame-tells view) (goes (clears.plan c) has.under_way)
     which (at.Vacate v done) has = under-way view (at.Vacate v done) (vacate-tells layout view v has.vacate has.under_way) (goes (vacates.plan v) has.under_way)
     which (at.Unhold u answer) has = under-way view (at.Unhold u answer) (unhold-tells layout view u has.unhold has.under_way) (goes (unholds.plan u) has.under_way)
     which (at.GiveUp g) has = by (is_none (give_ups.plan g)) refl

@@ -58,6 +58,8 @@ use Rattle.hwp_evict.proofs.Answering.{ahead-stays, home-after, home-by-page, un
 use Rattle.hwp_evict.proofs.Following.{bad-fits, held-enters, hold-fits, recent-held}
 use Rattle.hwp_evict.proofs.Freeing.{can-write, declared-of, freed}
 use Rattle.hwp_evict.proofs.Judging.{can-enter, copying-passes}
+use Rattle.hwp_evict.proofs.Clearing as clearing
+use Rattle.hwp_evict.proofs.Outing.{clear-fits, clear-shows}
 use Rattle.hwp_evict.proofs.Vacating as vacating
 
 -- ---- the steps can be made
@@ -79,6 +81,7 @@ can layout view e step fits is = which e.at fits.at is
       where
         own : IsOf layout e.page slot
         own = subst (IsOfKind layout e.page) has.0 fits.kind
+    which (at.Clear c body done) has p = subst (λ (w : Who). CanMake layout w step None view) has.own (clearing.can layout view c step has.clear p)
     which (at.Vacate v done) has p = subst (λ (w : Who). CanMake layout w step (vacates.put v) view) has.own (vacating.can layout view v step has.vacate p)
     which (at.Unhold u answer) has p = subst (λ (w : Who). CanMake layout w step (unholds.put u) view) has.own (unholding.can layout view u step has.unhold p)
     which (at.GiveUp g) has p = subst (λ (w : Who). CanMake layout w step (give_ups.put g) view) has.own (giving_up.can layout view g step has.give_up p)
@@ -241,6 +244,10 @@ both layout old new e step found got fits is made = which e.at is fits.at made
       where
         own : IsOf layout e.page slot
         own = subst (IsOfKind layout e.page) has.0 fits.kind
+    which (at.Clear c body done) p has made = (clear-shows c on fits.page has p own, λ y turn follows. clear-fits c on fits.page has p own y follows.0)
+      where
+        own : Steps layout c.who step None old new found got
+        own = subst (λ (w : Who). Steps layout w step None old new found got) (sym has.own) made
     which (at.Vacate v done) p has made = (tt, λ y turn follows. to follows.0 (vacate-fits v done has p made))
     which (at.Unhold u answer) p has made = (tt, λ y turn follows. to follows.0 (unhold-fits u answer has p made))
     which (at.GiveUp g) p has made = (

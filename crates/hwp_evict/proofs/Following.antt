@@ -120,6 +120,7 @@ away-lines : (view : View) (who : Who) (what : Eviction) → SawLines view who (
 away-lines view who (evictions.Free slot) = tt
 away-lines view who evictions.Sync = tt
 away-lines view who evictions.Drop = tt
+away-lines view who evictions.Out = tt
 
 bars-lines : (view : View) (who : Who) (what : Eviction) (s : PageState) (refusal : Refusal) → Bars what s refusal → SawLines view who refusal
 bars-lines view who what s refusals.NotMapped bars = tt
@@ -129,12 +130,14 @@ bars-lines view who what s refusals.Mapped bars = tt
 bars-lines view who (evictions.Free slot) s (refusals.BadLines mask) bars = absurd bars
 bars-lines view who evictions.Sync s (refusals.BadLines mask) bars = absurd bars
 bars-lines view who evictions.Drop s (refusals.BadLines mask) bars = absurd bars
+bars-lines view who evictions.Out s (refusals.BadLines mask) bars = absurd bars
 
 -- what a command that copies nothing must have seen
 sees-nothing : (sights : List Sight) (who : Who) (frame : Frame) (what : Eviction) → copies what ≡ false → HasSeen sights who (Some frame) (entry_of what)
 sees-nothing sights who frame (evictions.Free slot) is = tt
 sees-nothing sights who frame evictions.Sync is = absurd (both_ways true is refl)
 sees-nothing sights who frame evictions.Drop is = tt
+sees-nothing sights who frame evictions.Out is = absurd (both_ways true is refl)
 
 module _ {layout : Layout} {view : View} {who : Who} {page : Page} (what : Eviction) (on : IsOnTurn view who) (inside : page.0 < length layout.pages) (sound : IsSound layout) (kind : IsOfKind layout page what) (none : HasMadeNone view who) where
   -- ---- the page is held
@@ -183,11 +186,13 @@ held-enters {layout} {view} {page} what h its kind fits = which h.at fits.at
 lines-why : (what : Eviction) (word : ℕ) (s : PageState) → copies what ≡ true → s.cached ≡ true → IsWhy what (refusals.BadLines (record { 0 = word })) s
 lines-why (evictions.Free slot) word s is cached = absurd (both_ways true (sym is) refl)
 lines-why evictions.Sync word s is cached = cached
+lines-why evictions.Out word s is cached = cached
 lines-why evictions.Drop word s is cached = absurd (both_ways true (sym is) refl)
 
 mask-seen : (sights : List Sight) (who : Who) (frame : Frame) (what : Eviction) → copies what ≡ true → SomeMember (Shows who frame (places.Bad frame) 0) sights → HasSeen sights who (Some frame) (entry_of what)
 mask-seen sights who frame (evictions.Free slot) is seen = tt
 mask-seen sights who frame evictions.Sync is seen = seen
+mask-seen sights who frame evictions.Out is seen = seen
 mask-seen sights who frame evictions.Drop is seen = tt
 
 module _ {layout : Layout} {old new : View} {who : Who} {page : Page} {what : Eviction} {frame : Frame} {body : BodyValue} {found : ℕ} {got : Option BodyValue} (on : IsOnTurn new who) (inside : page.0 < length layout.pages) (kind : IsOfKind layout page what) (has : IsReading layout old who page what frame body) (made : Steps layout who (steps.Load (places.Bad frame)) None old new found got) where

@@ -9,6 +9,7 @@ use Rattle.hwp_geom.specs.declared.Frame.{Frame}
 use Rattle.hwp_geom.specs.declared.Layout.{Layout}
 use Rattle.hwp_geom.specs.declared.Page.{Page}
 use Rattle.hwp_geom.specs.declared.PageKind.{PageKind}
+use Rattle.hwp_geom.specs.declared.TransDecl.{TransDecl}
 use Rattle.hwp_page.specs.declared.Entry.{Entry}
 use Rattle.hwp_page.specs.declared.Met.TheVariants.{Word, Sigbus}
 use Rattle.hwp_page.specs.declared.PageState.{PageState}
@@ -118,6 +119,57 @@ led-apart layout page s t (e ∷ es) leads was = led-apart layout page (after s 
 pub replay-apart : {layout : Layout} {page : Page} {list : List Entry} {state : PageState} → IsReplay layout page list state → (slot : ℕ) → set.contains state.maps slot ≡ true → set.contains state.bar slot ≡ false
 replay-apart {layout} {page} {list} {state} replay = led-apart layout page (opening_of replay.kind) state list replay.leads (unmapped-apart (opening_of replay.kind) (opening_of replay.kind) refl)
 
+-- a translation in use is one of the page
+abbrev AreOwn : Layout → Page → PageState → Type 0
+AreOwn layout page s = (slot : ℕ) → set.contains s.maps slot ≡ true → IsSomeAnd (slice_get layout.trans slot) (λ (t : TransDecl). t.page ≡ page)
+
+unmapped-own : (layout : Layout) (page : Page) (t : PageState) → t.maps ≡ set.empty → AreOwn layout page t
+unmapped-own layout page t none slot used = absurd (both_ways (set.contains t.maps slot) (ap (λ m. set.contains m slot) none ∙ set.contains-empty nat_cmp slot) used)
+
+acted-own : (layout : Layout) (page : Page) (s : PageState) (situation : Situation) → AreOwn layout page s → AreOwn layout page (acted s situation)
+acted-own layout page s situations.Free was = was
+acted-own layout page s situations.Kernel was = was
+acted-own layout page s situations.FileClean was = unmapped-own layout page (acted s situations.FileClean) refl
+acted-own layout page s situations.FileDirty was = unmapped-own layout page (acted s situations.FileDirty) refl
+acted-own layout page s situations.AnonOnly was = unmapped-own layout page (acted s situations.AnonOnly) refl
+acted-own layout page s situations.SwapClean was = unmapped-own layout page (acted s situations.SwapClean) refl
+acted-own layout page s situations.SwapDirty was = unmapped-own layout page (acted s situations.SwapDirty) refl
+
+mapped-own : (layout : Layout) (page : Page) (s : PageState) (k : ℕ) → IsSomeAnd (slice_get layout.trans k) (λ (t : TransDecl). t.page ≡ page) → AreOwn layout page s → AreOwn layout page (record s { maps = set.insert s.maps k })
+mapped-own layout page s k own was q used = which (q == k) refl (sym (has-more s.maps k q) ∙ used)
+  where
+    which : (b : Bool) → (q == k) ≡ b → ((q == k) || set.contains s.maps q) ≡ true → IsSomeAnd (slice_get layout.trans q) (λ (t : TransDecl). t.page ≡ page)
+    which true is used = subst (λ (n : ℕ). IsSomeAnd (slice_get layout.trans n) (λ (t : TransDecl). t.page ≡ page)) (sym (eqb-true q k is)) own
+    which false is used = was q (sym (ap (λ (b : Bool). b || set.contains s.maps q) is) ∙ used)
+
+freed-own : (layout : Layout) (page : Page) (s : PageState) (k : ℕ) → AreOwn layout page s → AreOwn layout page (record s { maps = set.remove s.maps k })
+freed-own layout page s k was q used = which (q == k) refl (sym (has-less s.maps k q) ∙ used)
+  where
+    which : (b : Bool) → (q == k) ≡ b → (not (q == k) && set.contains s.maps q) ≡ true → IsSomeAnd (slice_get layout.trans q) (λ (t : TransDecl). t.page ≡ page)
+    which true is used = absurd (both_ways true (sym used ∙ ap (λ (b : Bool). not b && set.contains s.maps q) is) refl)
+    which false is used = was q (sym (ap (λ (b : Bool). not b && set.contains s.maps q) is) ∙ used)
+
+after-own : (layout : Layout) (page : Page) (s : PageState) (what : What) → AreOwn layout page s → Allowed layout page s what → AreOwn layout page (after s what)
+after-own layout page s (entries.Load slot line met) was allowed = was
+after-own layout page s (entries.Store slot line (Word mask word)) was allowed = was
+after-own layout page s (entries.Store slot line (Sigbus thread)) was allowed = was
+after-own layout page s entries.FaultIn was allowed = was
+after-own layout page s (entries.Map slot) was allowed = mapped-own layout page s slot.0 allowed.1 was
+after-own layout page s (entries.Free slot) was allowed = freed-own layout page s slot.0 was
+after-own layout page s entries.Drop was allowed = was
+after-own layout page s entries.Sync was allowed = was
+after-own layout page s entries.Out was allowed = unmapped-own layout page (after s entries.Out) refl
+after-own layout page s (entries.Mce slot line mask) was allowed = was
+after-own layout page s (entries.Fail situation required seen signals) was allowed = acted-own layout page s situation was
+after-own layout page s entries.Soft was allowed = was
+
+led-own : (layout : Layout) (page : Page) (s t : PageState) (list : List Entry) → Leads layout page s list t → AreOwn layout page s → AreOwn layout page t
+led-own layout page s t [] leads was = subst (AreOwn layout page) leads was
+led-own layout page s t (e ∷ es) leads was = led-own layout page (after s e.what) t es leads.1 (after-own layout page s e.what was leads.0)
+
+pub replay-own : {layout : Layout} {page : Page} {list : List Entry} {state : PageState} → IsReplay layout page list state → (slot : ℕ) → set.contains state.maps slot ≡ true → IsSomeAnd (slice_get layout.trans slot) (λ (t : TransDecl). t.page ≡ page)
+replay-own {layout} {page} {list} {state} replay = led-own layout page (opening_of replay.kind) state list replay.leads (unmapped-own layout page (opening_of replay.kind) refl)
+
 -- the kind of a page's state is the declared one
 some-is : {A : Type 0} (P : A → Type 0) (o : Option A) (x : A) → o ≡ Some x → IsSomeAnd o P → P x
 some-is P o x is has = subst (λ p. IsSomeAnd p P) is has
@@ -153,6 +205,7 @@ away-why {layout} {page} {body} what is = which what
     which (evictions.Free slot) = ap (λ m. set.contains m slot.0) none ∙ set.contains-empty nat_cmp slot.0
     which evictions.Sync = away
     which evictions.Drop = away
+    which evictions.Out = away
 
 -- what bars the command is why it is refused
 barred-why : (what : Eviction) (s : PageState) (refusal : Refusal) → s.cached ≡ true → Bars what s refusal → IsWhy what refusal s
@@ -164,6 +217,7 @@ barred-why (evictions.Free slot) s refusals.Dirty cached bars = absurd bars
 barred-why (evictions.Free slot) s refusals.Mapped cached bars = absurd bars
 barred-why (evictions.Free slot) s (refusals.BadLines mask) cached bars = absurd bars
 barred-why evictions.Sync s refusal cached bars = absurd bars
+barred-why evictions.Out s refusal cached bars = absurd bars
 barred-why evictions.Drop s refusals.NotMapped cached bars = absurd bars
 barred-why evictions.Drop s refusals.NotResident cached bars = absurd bars
 barred-why evictions.Drop s (refusals.BadLines mask) cached bars = absurd bars
@@ -183,6 +237,8 @@ passes-allowed : (layout : Layout) (page : Page) (what : Eviction) (s : PageStat
 passes-allowed layout page (evictions.Free slot) s kind declared is cached own passes = passes
 passes-allowed layout page evictions.Sync s kind declared is cached own passes =
     (ap is_file is ∙ some-is (λ (k : PageKind). is_file k ≡ true) (slice_get layout.pages page.0) kind declared own, cached)
+passes-allowed layout page evictions.Out s kind declared is cached own passes =
+    (ap is_file is ∙ some-is (λ (k : PageKind). is_file k ≡ false) (slice_get layout.pages page.0) kind declared own, cached)
 passes-allowed layout page evictions.Drop s kind declared is cached own passes =
     record { cached = cached; unused = passes.1; clean = is-clean s passes.0; backed = λ none. passes.0 (inr none) }
 
@@ -202,4 +258,5 @@ module _ {layout : Layout} {page : Page} {frame : Frame} {body : BodyValue} (wha
 pub copying-passes : (what : Eviction) (s : PageState) → copies what ≡ true → Passes what s
 copying-passes (evictions.Free slot) s is = absurd (both_ways true (sym is) refl)
 copying-passes evictions.Sync s is = tt
+copying-passes evictions.Out s is = tt
 copying-passes evictions.Drop s is = absurd (both_ways true (sym is) refl)

@@ -10,6 +10,7 @@ pub mod Beginning
 pub mod Entered
 pub mod Freeing
 pub mod Clearing
+pub mod Outing
 pub mod Following
 pub mod Evicting
 pub mod EvictCosts

@@ -35,7 +35,7 @@ abbrev pub IsNextFrom : set.FinSet nat_cmp → ℕ → Option VSlot → Type 0
 IsNextFrom slots from next = MatchOption next (HasNoneFrom slots from) (λ (v : VSlot). (v.0 < slot_limit) × IsLowestFrom slots from v.0)
 
 abbrev pub begin : Who → Page → Frame → set.FinSet nat_cmp → Bool → Option VSlot → Clear
-begin who page frame slots barred next = record { who = who; page = page; frame = frame; slots = slots; barred = barred; count = 0; next = next }
+begin who page frame slots barred next = record { who = who; page = page; frame = frame; slots = slots; barred = barred; count = 2; next = next }
 
 pub record IsBegun (who : Who) (page : Page) (frame : Frame) (slots : set.FinSet nat_cmp) (barred : Bool) (c : Clear) : Type 0 where
   pub is : c ≡ begin who page frame slots barred c.next
@@ -55,9 +55,9 @@ FollowsAt c None after = after ≡ c
 abbrev pub Follows : Clear → Clear → Type 0
 Follows c after = FollowsAt c c.next after
 
--- there are not more behind than numbers below
+-- there are not more behind than numbers below, and two references beside
 abbrev pub ShowsAt : ℕ → Option VSlot → Type 0
-ShowsAt count (Some slot) = (slot.0 < slot_limit) × (count ≤ slot.0)
+ShowsAt count (Some slot) = (slot.0 < slot_limit) × (count ≤ slot.0 + 2)
 ShowsAt count None = Unit {0}
 
 abbrev pub Shows : Clear → Type 0
@@ -73,10 +73,10 @@ abbrev pub word_now : PageState → Bool → Frame → Option VSlot → ℕ → 
 word_now s barred frame next slot =
     cond (set.contains s.maps slot) (cond (is_done next slot) (pte_word (pte_of barred)) (frame.0 + 1)) (cond (set.contains s.bar slot) (pte_word ptes.Poison) 0)
 
--- as many are written as are counted, and that is no more than there are translations
+-- two references and one for each that is written are counted, and no more than there are translations
 abbrev pub IsCounted : Layout → ℕ → Option VSlot → Type 0
-IsCounted layout count (Some slot) = count ≤ slot.0
-IsCounted layout count None = count ≤ length layout.trans
+IsCounted layout count (Some slot) = count ≤ slot.0 + 2
+IsCounted layout count None = count ≤ length layout.trans + 2
 
 -- the page is held with its frame, and its translations are being written; its body is in hand since before
 pub record IsClearing (layout : Layout) (view : View) (c : Clear) : Type 0 where
@@ -84,11 +84,12 @@ pub record IsClearing (layout : Layout) (view : View) (c : Clear) : Type 0 where
   pub taken : InHand
   pub handled : Bool
   pub poisoned : Bool
-  pub hand_is : hand_of view ≡ with_frame c.frame (c.page.0 + 1) handled poisoned (c.count + 1) (page_held c.page (Some c.frame) trans taken)
+  pub hand_is : hand_of view ≡ with_frame c.frame (c.page.0 + 1) handled poisoned (c.count - 1) (page_held c.page (Some c.frame) trans taken)
   pub taken_is : taken.log.page ≡ c.page
   pub slots_are : c.slots ≡ (state_of layout taken.log).maps
   pub declared : (slot : ℕ) → set.contains c.slots slot ≡ true → (t : TransDecl) × (slice_get layout.trans slot ≡ Some t) × (t.page ≡ c.page)
   pub words : (slot : ℕ) (t : TransDecl) → slice_get layout.trans slot ≡ Some t → t.page ≡ c.page → slice_get trans slot ≡ Some (word_now (state_of layout taken.log) c.barred c.frame c.next slot)
+  pub some : 2 ≤ c.count
   pub counted : IsCounted layout c.count c.next
   pub member : (slot : VSlot) → c.next ≡ Some slot → set.contains c.slots slot.0 ≡ true
 

@@ -33,30 +33,35 @@ abbrev pub entry_of : Eviction → What
 entry_of (evictions.Free slot) = entries.Free slot
 entry_of evictions.Sync = entries.Sync
 entry_of evictions.Drop = entries.Drop
+entry_of evictions.Out = entries.Out
 
 -- the command copies the page's content
 abbrev pub copies : Eviction → Bool
 copies (evictions.Free slot) = false
 copies evictions.Sync = true
 copies evictions.Drop = false
+copies evictions.Out = true
 
--- the command's page is one that it can be of: the translation's, or a file's
+-- the command's page is one that it can be of: the translation's, a file's, or one without a file
 abbrev pub IsOfKind : Layout → Page → Eviction → Type 0
 IsOfKind layout page (evictions.Free slot) = IsOf layout page slot
 IsOfKind layout page evictions.Sync = IsSomeAnd (slice_get layout.pages page.0) (λ (kind : PageKind). is_file kind ≡ true)
 IsOfKind layout page evictions.Drop = Unit {0}
+IsOfKind layout page evictions.Out = IsSomeAnd (slice_get layout.pages page.0) (λ (kind : PageKind). is_file kind ≡ false)
 
 -- why the command is refused where no frame holds the page
 abbrev pub absence : Eviction → Refusal
 absence (evictions.Free slot) = refusals.NotMapped
 absence evictions.Sync = refusals.NotResident
 absence evictions.Drop = refusals.NotResident
+absence evictions.Out = refusals.NotResident
 
 -- a page in this state, which a frame holds, lets the command go on
 abbrev pub Passes : Eviction → PageState → Type 0
 Passes (evictions.Free slot) s = IsTrue (set.contains s.maps slot.0)
 Passes evictions.Sync s = Unit {0}
 Passes evictions.Drop s = (¬ IsUnsaved s) × (s.maps ≡ set.empty)
+Passes evictions.Out s = Unit {0}
 
 -- it bars the command for this reason
 abbrev pub Bars : Eviction → PageState → Refusal → Type 0
@@ -76,6 +81,8 @@ IsWhy evictions.Sync (refusals.BadLines mask) s = s.cached ≡ true
 IsWhy evictions.Drop refusals.NotResident s = IsAway s
 IsWhy evictions.Drop refusals.Dirty s = IsDirty s
 IsWhy evictions.Drop refusals.Mapped s = IsMapped s
+IsWhy evictions.Out refusals.NotResident s = IsAway s
+IsWhy evictions.Out (refusals.BadLines mask) s = s.cached ≡ true
 IsWhy what refusal s = ⊥
 
 -- the bad lines were shown

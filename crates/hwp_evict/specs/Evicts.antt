@@ -1,5 +1,7 @@
 -- A page, or a part of it, that leaves its frame: the task's states, its steps and what they come to.
-use Rattle.std.specs.Prelude.{◌≡◌, ◌≢◌, ◌⊎◌, ℕ, ◌+◌, ◌<◌, ◌≤◌, ◌==◌, Bool, true, false, cond, List, [], ◌∷◌, ◌++◌, Option, Some, None, is_some, is_none, length, MatchBool, MatchOption}
+use Rattle.std.specs.Prelude.{◌≡◌, ◌≢◌, ◌⊎◌, ℕ, ◌+◌, ◌<◌, ◌≤◌, ◌==◌, Bool, true, false, cond, List, [], ◌∷◌, ◌++◌, Option, Some, None, is_some, is_none, length, drop, MatchBool, MatchOption}
+use Rattle.std.specs.FinSet as set
+use Rattle.std.specs.Ordering.{nat_cmp}
 use Rattle.hwp_geom.specs.declared.Frame.{Frame}
 use Rattle.hwp_geom.specs.declared.Layout.{Layout}
 use Rattle.hwp_geom.specs.declared.Page.{Page}
@@ -21,10 +23,11 @@ use Rattle.hwp_rule.specs.declared.View.{View}
 use Rattle.hwp_rule.specs.Logs.{log_of, state_of}
 use Rattle.hwp_rule.specs.Views.{body_of, more_of}
 use Rattle.hwp_rule.specs.Words.{Words}
+use Rattle.hwp_rule.specs.parts.Entries.{HasSeen}
 use Rattle.hwp_step.specs.declared.Turn.{Turn}
 use Rattle.hwp_step.specs.declared.Turn.TheVariants.{Moved, Answered}
 use Rattle.hwp_step.specs.Calls.{IsOnTurn}
-use Rattle.hwp_step.specs.Hands.{hand_of, empty}
+use Rattle.hwp_step.specs.Hands.{hand_of, empty, body_in}
 use Rattle.hwp_known.specs.Known.{HasMadeNone, SawLog}
 use Rattle.hwp_hold.specs.declared.give_up.GiveUp.{GiveUp}
 use Rattle.hwp_hold.specs.declared.hold.Hold.{Hold}
@@ -35,6 +38,7 @@ use Rattle.hwp_hold.specs.GiveUps as give_ups
 use Rattle.hwp_hold.specs.Holds as holds
 use Rattle.hwp_hold.specs.Holds.{HoldsPage, held}
 use Rattle.hwp_hold.specs.Unholds as unholds
+use Rattle.hwp_evict.specs.declared.clear.Clear.{Clear}
 use Rattle.hwp_evict.specs.declared.evict.Evict.{Evict}
 use Rattle.hwp_evict.specs.declared.evict.EvictAnswer.{EvictAnswer}
 use Rattle.hwp_evict.specs.declared.evict.EvictAnswer.TheVariants as answers
@@ -46,6 +50,7 @@ use Rattle.hwp_evict.specs.declared.evict.Refusal.{Refusal}
 use Rattle.hwp_evict.specs.declared.evict.Refusal.TheVariants as refusals
 use Rattle.hwp_evict.specs.declared.vacate.Vacate.{Vacate}
 use Rattle.hwp_evict.specs.Evictions.{entry_of, copies, absence, IsOfKind, Passes, Bars, SawRefusal, IsCaused}
+use Rattle.hwp_evict.specs.Clears as clears
 use Rattle.hwp_evict.specs.Vacates as vacates
 
 abbrev pub begin : Who → Page → Eviction → Evict
@@ -56,6 +61,7 @@ plan_at at.LoadStop = Some (steps.Load places.Stop)
 plan_at (at.Hold h) = holds.plan h
 plan_at (at.LoadBad frame body) = Some (steps.Load (places.Bad frame))
 plan_at (at.SetPte slot frame body done) = Some (steps.SetPte slot ptes.Empty)
+plan_at (at.Clear c body done) = clears.plan c
 plan_at (at.Vacate v done) = vacates.plan v
 plan_at (at.Unhold u answer) = unholds.plan u
 plan_at (at.GiveUp g) = give_ups.plan g
@@ -81,6 +87,7 @@ bare_at at.LoadStop = at.LoadStop
 bare_at (at.Hold h) = at.Hold h
 bare_at (at.LoadBad frame body) = at.LoadBad frame body
 bare_at (at.SetPte slot frame body done) = at.SetPte slot frame body done
+bare_at (at.Clear c body done) = at.Clear c body done
 bare_at (at.Over answer) = at.Over answer
 
 abbrev pub bare : Evict → Evict
@@ -112,17 +119,28 @@ given_up who page frame body = at.GiveUp (give_ups.with_page who page (Some fram
 abbrev pub with_entry : Who → What → BodyValue → ℕ → BodyValue
 with_entry who what body spare = record body { state = after body.state what; log = body.log ++ (record { who = who; what = what }) ∷ []; spare = spare }
 
--- what the command does once its entry is made
-abbrev pub entered : Who → Page → Eviction → Frame → BodyValue → At → EvictAt
-entered who page (evictions.Free slot) frame body done = at.SetPte slot frame body done
-entered who page evictions.Sync frame body done = at.Unhold (unholds.begin who page (Some frame) 1 body) (answers.Done done)
-entered who page evictions.Drop frame body done = at.Vacate (vacates.begin who page frame 2 body) done
+-- once all translations are written, the page leaves its frame
+abbrev pub after_clear : Who → Page → Clear → BodyValue → At → EvictAt
+after_clear who page c body done = cond (is_none c.next) (at.Vacate (vacates.begin who page c.frame c.count body) done) (at.Clear c body done)
+
+-- the translations that were in use are being written
+pub record StartsClearing (who : Who) (page : Page) (frame : Frame) (maps : set.FinSet nat_cmp) (body : BodyValue) (done : At) (x : EvictAt) : Type 0 where
+  pub clear : Clear
+  pub begun : clears.IsBegun who page frame maps false clear
+  pub next_is : x ≡ after_clear who page clear body done
+
+-- what the command does once its entry is made, where these translations were in use before
+abbrev pub GoesOut : Who → Page → Eviction → Frame → set.FinSet nat_cmp → BodyValue → At → EvictAt → Type 0
+GoesOut who page (evictions.Free slot) frame maps body done x = x ≡ at.SetPte slot frame body done
+GoesOut who page evictions.Sync frame maps body done x = x ≡ at.Unhold (unholds.begin who page (Some frame) 1 body) (answers.Done done)
+GoesOut who page evictions.Drop frame maps body done x = x ≡ at.Vacate (vacates.begin who page frame 2 body) done
+GoesOut who page evictions.Out frame maps body done x = StartsClearing who page frame maps body done x
 
 -- the entry is made, or memory for it is refused
 pub record IsEntered (who : Who) (page : Page) (what : Eviction) (frame : Frame) (body : BodyValue) (x : EvictAt) : Type 0 where
   pub now : BodyValue
   pub made : now ≡ with_entry who (entry_of what) body now.spare
-  pub next_is : x ≡ entered who page what frame now (place page body)
+  pub next_is : GoesOut who page what frame body.state.maps now (place page body) x
 
 abbrev pub Enters : Who → Page → Eviction → Frame → BodyValue → EvictAt → Type 0
 Enters who page what frame body x = (x ≡ given_up who page frame body) ⊎ IsEntered who page what frame body x
@@ -152,6 +170,12 @@ abbrev pub AfterBad : Who → Page → Eviction → Frame → BodyValue → ℕ 
 AfterBad who page what frame body word x =
     MatchBool (word == 0) (Enters who page what frame body x) (x ≡ refused who page (Some frame) body (refusals.BadLines (record { 0 = word })))
 
+-- a translation more is written
+pub record IsCleared (who : Who) (page : Page) (c : Clear) (body : BodyValue) (done : At) (x : EvictAt) : Type 0 where
+  pub after : Clear
+  pub follows : clears.Follows c after
+  pub next_is : x ≡ after_clear who page after body done
+
 abbrev pub after_vacate : Vacate → At → EvictAt
 after_vacate v done = cond (is_none (vacates.plan v)) (at.Over (answers.Done done)) (at.Vacate v done)
 
@@ -168,6 +192,7 @@ FollowsAt who page what at.LoadStop found got x turn = (x ≡ after_stop who pag
 FollowsAt who page what (at.Hold h) found got x turn = AfterHold who page what (holds.next h found got) x × (turn ≡ holds.turn h found)
 FollowsAt who page what (at.LoadBad frame body) found got x turn = AfterBad who page what frame body found x × (turn ≡ Moved)
 FollowsAt who page what (at.SetPte slot frame body done) found got x turn = (x ≡ at.Unhold (unholds.begin who page (Some frame) 2 body) (answers.Done done)) × (turn ≡ Moved)
+FollowsAt who page what (at.Clear c body done) found got x turn = IsCleared who page c body done x × (turn ≡ Moved)
 FollowsAt who page what (at.Vacate v done) found got x turn = (x ≡ after_vacate (vacates.next v found) done) × (turn ≡ turn_after (after_vacate (vacates.next v found) done))
 FollowsAt who page what (at.Unhold u answer) found got x turn = (x ≡ after_unhold (unholds.next u found) answer) × (turn ≡ turn_after (after_unhold (unholds.next u found) answer))
 FollowsAt who page what (at.GiveUp g) found got x turn = (x ≡ at.GiveUp (give_ups.next g found)) × (turn ≡ give_ups.turn g)
@@ -191,6 +216,7 @@ CanEnterHeld what _ = Unit {0}
 abbrev pub ShowsAt : Eviction → EvictAt → ℕ → Option BodyValue → Type 0
 ShowsAt what (at.Hold h) found got = holds.Shows h found got × CanEnterHeld what (holds.next h found got).at
 ShowsAt what (at.LoadBad frame body) found got = CanMakeEntry what body
+ShowsAt what (at.Clear c body done) found got = clears.Shows c
 ShowsAt what _ found got = Unit {0}
 
 abbrev pub Shows : Evict → ℕ → Option BodyValue → Type 0
@@ -270,6 +296,22 @@ pub record IsVacating (layout : Layout) (view : View) (who : Who) (page : Page) 
   pub body_is : v.body ≡ Some body
   pub ahead : IsAhead layout view who page what (answers.Done done) body
 
+-- the page is held, its body has the entry, and its translations are being written
+pub record IsClearingOut (layout : Layout) (view : View) (who : Who) (page : Page) (what : Eviction) (c : Clear) (body : BodyValue) (done : At) : Type 0 where
+  pub clear : clears.Fits layout view c
+  pub own : c.who ≡ who
+  pub page_is : c.page ≡ page
+  pub under_way : is_none (clears.plan c) ≡ false
+  pub empties : c.barred ≡ false
+  pub out : what ≡ evictions.Out
+  pub log : Log
+  pub seen : ℕ
+  pub bodies_are : view.bodies ≡ body_in (Some c.frame) log seen ∷ []
+  pub entry : HasEntry layout who page what log done body
+  pub few : seen ≤ length view.sights
+  pub saw : HasSeen (drop seen view.sights) who (Some c.frame) (entry_of what)
+  pub made_none : HasMadeNone view who
+
 pub record IsGivingUp (layout : Layout) (view : View) (who : Who) (g : GiveUp) : Type 0 where
   pub give_up : give_ups.Fits layout view g
   pub own : g.who ≡ who
@@ -279,6 +321,7 @@ FitsAt layout view who page what at.LoadStop = (hand_of view ≡ empty) × HasMa
 FitsAt layout view who page what (at.Hold h) = IsHolding layout view who page h
 FitsAt layout view who page what (at.LoadBad frame body) = IsReading layout view who page what frame body
 FitsAt layout view who page what (at.SetPte slot frame body done) = (what ≡ evictions.Free slot) × IsFreeing layout view who page what frame body done
+FitsAt layout view who page what (at.Clear c body done) = IsClearingOut layout view who page what c body done
 FitsAt layout view who page what (at.Vacate v done) = IsVacating layout view who page what v done
 FitsAt layout view who page what (at.Unhold u answer) = IsLettingGo layout view who page what u answer
 FitsAt layout view who page what (at.GiveUp g) = IsGivingUp layout view who g
@@ -297,6 +340,7 @@ class_at at.LoadStop = 4
 class_at (at.Hold h) = holds.class h
 class_at (at.LoadBad frame body) = 1
 class_at (at.SetPte slot frame body done) = 1
+class_at (at.Clear c body done) = 1
 class_at (at.Vacate v done) = vacates.class v
 class_at (at.Unhold u answer) = unholds.class u
 class_at (at.GiveUp g) = give_ups.class g
@@ -307,10 +351,11 @@ class e = class_at e.at
 
 -- the turns that are left, where no word changes
 abbrev pub cost_at : EvictAt → Words → ℕ
-cost_at at.LoadStop words = 15
-cost_at (at.Hold h) words = holds.cost h words + 9
-cost_at (at.LoadBad frame body) words = 8
+cost_at at.LoadStop words = 528
+cost_at (at.Hold h) words = holds.cost h words + 522
+cost_at (at.LoadBad frame body) words = 521
 cost_at (at.SetPte slot frame body done) words = 6
+cost_at (at.Clear c body done) words = clears.cost c words + 8
 cost_at (at.Vacate v done) words = vacates.cost v words
 cost_at (at.Unhold u answer) words = unholds.cost u words
 cost_at (at.GiveUp g) words = give_ups.cost g words

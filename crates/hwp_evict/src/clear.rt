@@ -17,7 +17,8 @@ pub struct Clear {
     frame: Frame,
     slots: Slots,
     barred: bool,
-    /// How many are written.
+    /// How many references to the frame the command has in the end: one of its own, that of the cache word, and one for each
+    /// translation that is written.
     count: u32,
     /// The one that comes.
     next: Option<VSlot>,
@@ -35,7 +36,7 @@ impl Clear {
             frame,
             slots,
             barred,
-            count: 0,
+            count: 2,
             next,
         }
     }
@@ -47,7 +48,14 @@ impl Clear {
         self.next.is_none()
     }
 
-    /// How many are written.
+    /// The frame.
+    pub(crate) fn frame(&self) -> Frame
+        ensures { result ≡ self.now.frame }
+    {
+        self.frame
+    }
+
+    /// How many references to the frame the command has, once the cache word names it no more.
     pub fn count(&self) -> u32
         ensures { result ≡ self.now.count }
     {

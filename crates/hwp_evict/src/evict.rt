@@ -2,8 +2,10 @@ ghost use Rattle.std.specs.Prelude.{◌≡◌, ◌↔◌, IsTrue, MatchResult};
 ghost use Rattle.std.specs.FinSet as set;
 ghost use Rattle.hwp_evict.specs.declared.evict.Eviction.TheVariants as evictions;
 ghost use Rattle.hwp_evict.specs.Evictions.{entry_of, copies, absence, IsJudged};
-ghost use Rattle.hwp_evict.specs.Evicts.{begin, answer, CanEnter, CanEnterHeld, CanMakeEntry, after_stop, AfterHold, AfterHeld, AfterBad, Enters, refused, entered, with_entry, after_vacate, after_unhold, turn_after};
+ghost use Rattle.hwp_evict.specs.Clears as clears;
+ghost use Rattle.hwp_evict.specs.Evicts.{begin, answer, CanEnter, CanEnterHeld, CanMakeEntry, after_stop, AfterHold, AfterHeld, AfterBad, Enters, GoesOut, IsCleared, StartsClearing, refused, with_entry, after_clear, after_vacate, after_unhold, turn_after};
 
+use crate::clear::Clear;
 use crate::vacate::Vacate;
 use hwp_geom::{Frame, Layout, Mask, Page, VSlot, Who};
 use hwp_hold::{GiveUp, Hold, Unhold};
@@ -23,6 +25,8 @@ pub enum Eviction {
     Sync,
     /// The page leaves its frame; its content stands behind it.
     Drop,
+    /// The content is swapped out, and the page leaves its frame.
+    Out,
 }
 
 /// Why a page is left as it is (this project's rule).
@@ -76,6 +80,11 @@ enum EvictAt {
         body: Body,
         done: At,
     },
+    Clear {
+        clear: Clear,
+        body: Body,
+        done: At,
+    },
     Vacate {
         vacate: Vacate,
         done: At,
@@ -101,6 +110,7 @@ impl Eviction {
             Eviction::Free { slot } => What::Free { slot },
             Eviction::Sync => What::Sync,
             Eviction::Drop => What::Drop,
+            Eviction::Out => What::Out,
         }
     }
 
@@ -110,7 +120,7 @@ impl Eviction {
     {
         match self {
             Eviction::Free { .. } | Eviction::Drop => false,
-            Eviction::Sync => true,
+            Eviction::Sync | Eviction::Out => true,
         }
     }
 
@@ -120,7 +130,7 @@ impl Eviction {
     {
         match self {
             Eviction::Free { .. } => Refusal::NotMapped,
-            Eviction::Sync | Eviction::Drop => Refusal::NotResident,
+            Eviction::Sync | Eviction::Drop | Eviction::Out => Refusal::NotResident,
         }
     }
 
@@ -136,7 +146,7 @@ impl Eviction {
                     Some(Refusal::NotMapped)
                 }
             }
-            Eviction::Sync => None,
+            Eviction::Sync | Eviction::Out => None,
             Eviction::Drop => {
                 if state.dirty || state.back.is_none() {
                     Some(Refusal::Dirty)
@@ -179,6 +189,13 @@ impl Evict {
         Evict::new(who, page, Eviction::Drop)
     }
 
+    /// The command writes the page's content to swap, and takes the page out of its frame.
+    pub fn out_page(who: Who, page: Page) -> Evict
+        ensures { result ≡ begin who page evictions.Out }
+    {
+        Evict::new(who, page, Eviction::Out)
+    }
+
     fn new(who: Who, page: Page, what: Eviction) -> Evict
         ensures { result ≡ begin who page what }
     {
@@ -200,6 +217,7 @@ impl Evict {
             | EvictAt::Hold { .. }
             | EvictAt::LoadBad { .. }
             | EvictAt::SetPte { .. }
+            | EvictAt::Clear { .. }
             | EvictAt::Vacate { .. }
             | EvictAt::Unhold { .. }
             | EvictAt::GiveUp { .. } => None,
@@ -298,9 +316,17 @@ fn make_entry(who: Who, what: Eviction, body: Body) -> Result<Body, Body>
     }
 }
 
-/// What the command does once its entry is made.
-fn entered(who: Who, page: Page, what: Eviction, frame: Frame, body: Body, done: At) -> EvictAt
-    ensures { result ≡ entered who page what frame body done }
+/// What the command does once its entry is made, where these translations were in use before.
+fn go_out(
+    who: Who,
+    page: Page,
+    what: Eviction,
+    frame: Frame,
+    maps: Slots,
+    body: Body,
+    done: At,
+) -> EvictAt
+    ensures { GoesOut who page what frame maps body done result }
 {
     match what {
         Eviction::Free { slot } => EvictAt::SetPte {
@@ -317,7 +343,56 @@ fn entered(who: Who, page: Page, what: Eviction, frame: Frame, body: Body, done:
             vacate: Vacate::new(who, page, frame, 2, body),
             done,
         },
+        Eviction::Out => start_clearing(who, page, frame, maps, body, done),
     }
+}
+
+/// The translations that were in use are written, one by one.
+fn start_clearing(
+    who: Who,
+    page: Page,
+    frame: Frame,
+    maps: Slots,
+    body: Body,
+    done: At,
+) -> EvictAt
+    ensures { StartsClearing who page frame maps body done result }
+{
+    let clear = Clear::new(who, page, frame, maps, false);
+    after_clear(who, page, clear, body, done)
+}
+
+/// Once all are written, the page leaves its frame.
+fn after_clear(who: Who, page: Page, clear: Clear, body: Body, done: At) -> EvictAt
+    ensures { result ≡ after_clear who page clear body done }
+{
+    if clear.is_over() {
+        EvictAt::Vacate {
+            vacate: Vacate::new(who, page, clear.frame(), clear.count(), body),
+            done,
+        }
+    } else {
+        EvictAt::Clear { clear, body, done }
+    }
+}
+
+/// A translation more is written.
+fn clear_more(
+    who: Who,
+    page: Page,
+    layout: &Layout,
+    clear: Clear,
+    found: u64,
+    got: Option<Body>,
+    body: Body,
+    done: At,
+) -> EvictAt
+    requires { clears.Shows clear }
+    ensures { IsCleared who page clear body done result }
+{
+    let mut clear = clear;
+    let _turn = clear.settle(layout, found, got);
+    after_clear(who, page, clear, body, done)
 }
 
 /// The command makes its entry, or gives up where memory for it is refused.
@@ -329,8 +404,9 @@ fn enter(who: Who, page: Page, what: Eviction, frame: Frame, body: Body) -> Evic
         page,
         entry: body.len(),
     };
+    let maps = body.state().maps.copy();
     match make_entry(who, what, body) {
-        Ok(body) => entered(who, page, what, frame, body, done),
+        Ok(body) => go_out(who, page, what, frame, maps, body, done),
         Err(body) => EvictAt::GiveUp {
             give_up: GiveUp::with_page(who, page, Some(frame), 1, body),
         },
@@ -402,6 +478,7 @@ impl Machine for Evict {
                 slot: *slot,
                 pte: Pte::Empty,
             }),
+            EvictAt::Clear { clear, .. } => clear.plan(),
             EvictAt::Vacate { vacate, .. } => vacate.plan(),
             EvictAt::Unhold { unhold, .. } => unhold.plan(),
             EvictAt::GiveUp { give_up } => give_up.plan(),
@@ -418,6 +495,7 @@ impl Machine for Evict {
             | EvictAt::Hold { .. }
             | EvictAt::LoadBad { .. }
             | EvictAt::SetPte { .. }
+            | EvictAt::Clear { .. }
             | EvictAt::Over { .. } => None,
         }
     }
@@ -447,6 +525,14 @@ impl Machine for Evict {
                     unhold: Unhold::new(self.who, self.page, Some(frame), 2, taken),
                     answer: EvictAnswer::Done(done),
                 };
+                Turn::Moved
+            }
+            EvictAt::Clear {
+                clear,
+                body: taken,
+                done,
+            } => {
+                self.at = clear_more(self.who, self.page, layout, clear, found, body, taken, done);
                 Turn::Moved
             }
             EvictAt::Vacate { mut vacate, done } => {
@@ -488,7 +574,7 @@ impl Ranked for Evict {
         match &self.at {
             EvictAt::LoadStop | EvictAt::Over { .. } => 4,
             EvictAt::Hold { hold } => hold.class(),
-            EvictAt::LoadBad { .. } | EvictAt::SetPte { .. } => 1,
+            EvictAt::LoadBad { .. } | EvictAt::SetPte { .. } | EvictAt::Clear { .. } => 1,
             EvictAt::Vacate { vacate, .. } => vacate.class(),
             EvictAt::Unhold { unhold, .. } => unhold.class(),
             EvictAt::GiveUp { give_up } => give_up.class(),

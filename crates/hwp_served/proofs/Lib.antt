@@ -9,3 +9,4 @@ pub mod Ample
 pub mod Unmarked
 pub mod Framed
 pub mod Unended
+pub mod Answered

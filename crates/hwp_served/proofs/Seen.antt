@@ -75,6 +75,28 @@ made-at {view = view} {who = who} made =
       place_is = made.at.1;
     }
 
+-- and the entry, with what it is
+pub record MadeWhat (view : View) (who : Who) (at : At) (what : What) : Type 0 where
+  pub j : ℕ
+  pub made : Made
+  pub there : slice_get view.made j ≡ Some made
+  pub entry_is : made.entry ≡ record { who = who; what = what }
+  pub place_is : record { page = made.page; entry = made.place } ≡ at
+
+pub made-what : {Such : Made → Type 0} {view : View} {who : Who} {at : At} {what : What} → HasMade Such view who at.page at.entry what → MadeWhat view who at what
+made-what {view = view} {who = who} {at = at} {what = what} has =
+    let there : slice_get (deeds who view) (length has.before) ≡ Some has.last = ap (λ (l : List Made). slice_get l (length has.before)) has.all ∙ at_last has.before has.last in
+    let found = filter-is (is_by who) view.made (length has.before) has.last there in
+    let both = and_parts _ _ found.2 in
+    let own : has.last.entry.who ≡ who = ap (λ (n : ℕ). record has.last.entry.who { cpu = record { 0 = n } }) (eqb-true has.last.entry.who.cpu.0 who.cpu.0 both.0) ∙ ap (λ (n : ℕ). record { cpu = who.cpu; seq = n }) (eqb-true has.last.entry.who.seq who.seq both.1) in
+    record {
+      j = found.0;
+      made = has.last;
+      there = found.1;
+      entry_is = ap (λ (w : Who). record { who = w; what = has.last.entry.what }) own ∙ ap (λ (x : What). record { who = who; what = x }) has.at.2;
+      place_is = ap (λ (p : Page). record { page = p; entry = has.last.place }) has.at.0 ∙ ap (λ (n : ℕ). record { page = at.page; entry = n }) has.at.1;
+    }
+
 saw-at : {layout : Layout} {view : View} {who : Who} {at : At} {Such : PageState → Type 0} → SawState layout view who at.page at.entry Such → SawAt view who at
 saw-at saw = record { log = saw.log; saw = saw.saw; page_is = saw.page_is; place_is = saw.place_is }
 

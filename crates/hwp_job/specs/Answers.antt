@@ -1,0 +1,64 @@
+-- What the line of a report says of what a command came to.
+use Rattle.std.specs.Prelude.{ℕ}
+use Rattle.hwp_kill.specs.declared.Reply.{Reply}
+use Rattle.hwp_kill.specs.declared.Reply.TheVariants as replies
+use Rattle.hwp_kill.specs.Prctl.{policy_number}
+use Rattle.hwp_page.specs.declared.At.{At}
+use Rattle.hwp_report.specs.declared.Answer.{Answer}
+use Rattle.hwp_report.specs.declared.Answer.TheVariants as answers
+use Rattle.hwp_control.specs.declared.NestedAnswer.{NestedAnswer}
+use Rattle.hwp_control.specs.declared.NestedAnswer.TheVariants as nested
+use Rattle.hwp_control.specs.declared.PrctlAnswer.{PrctlAnswer}
+use Rattle.hwp_control.specs.declared.PrctlAnswer.TheVariants as prctl
+use Rattle.hwp_control.specs.declared.ReadStopAnswer.{ReadStopAnswer}
+use Rattle.hwp_control.specs.declared.ReadStopAnswer.TheVariants as read_stop
+use Rattle.hwp_evict.specs.declared.EvictAnswer.{EvictAnswer}
+use Rattle.hwp_evict.specs.declared.EvictAnswer.TheVariants as evict
+use Rattle.hwp_evict.specs.declared.FsyncAnswer.{FsyncAnswer}
+use Rattle.hwp_evict.specs.declared.FsyncAnswer.TheVariants as fsync
+use Rattle.hwp_evict.specs.declared.Refusal.{Refusal}
+use Rattle.hwp_evict.specs.declared.Refusal.TheVariants as refusals
+use Rattle.hwp_fault.specs.declared.AccessAnswer.{AccessAnswer}
+use Rattle.hwp_fault.specs.declared.AccessAnswer.TheVariants as access
+
+abbrev pub access_answer : AccessAnswer → Answer
+access_answer (access.Value word page place) = answers.Value word (record { page = page; entry = place })
+access_answer (access.Stored page place) = answers.Stored (record { page = page; entry = place })
+access_answer (access.NoFrame) = answers.NoFrame
+access_answer (access.Gone page) = answers.Gone page
+access_answer access.Stopped = answers.Stopped
+
+abbrev pub refusal_answer : Refusal → At → Answer
+refusal_answer refusals.NotMapped at = answers.NotMapped at
+refusal_answer refusals.NotResident at = answers.NotResident at
+refusal_answer refusals.Dirty at = answers.Dirty at
+refusal_answer refusals.Mapped at = answers.Mapped at
+refusal_answer (refusals.BadLines mask) at = answers.BadLines mask at
+
+abbrev pub evict_answer : EvictAnswer → Answer
+evict_answer evict.Stopped = answers.Stopped
+evict_answer (evict.Done at) = answers.DoneAt at
+evict_answer (evict.Refused refusal at) = refusal_answer refusal at
+
+abbrev pub fsync_answer : FsyncAnswer → Answer
+fsync_answer fsync.Stopped = answers.Stopped
+fsync_answer fsync.Done = answers.Done
+fsync_answer (fsync.Eio lost) = answers.Eio lost
+
+abbrev pub reply_answer : Reply → Answer
+reply_answer (replies.Set policy) = answers.Done
+reply_answer (replies.Is policy) = answers.Is (policy_number policy)
+reply_answer replies.Einval = answers.Einval
+
+abbrev pub prctl_answer : PrctlAnswer → Answer
+prctl_answer (prctl.Replied reply) = reply_answer reply
+prctl_answer (prctl.Gone page) = answers.Gone page
+prctl_answer prctl.Stopped = answers.Stopped
+
+abbrev pub read_stop_answer : ReadStopAnswer → Answer
+read_stop_answer read_stop.Done = answers.Done
+read_stop_answer read_stop.Stopped = answers.Stopped
+
+abbrev pub nested_answer : NestedAnswer → Answer
+nested_answer nested.Shutdown = answers.Stopped
+nested_answer nested.Stopped = answers.Stopped

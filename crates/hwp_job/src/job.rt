@@ -1,0 +1,244 @@
+ghost use Rattle.std.specs.Prelude.{◌≡◌};
+
+use hwp_control::{Nested, NestedAnswer, Prctl, PrctlAnswer, ReadStop, ReadStopAnswer};
+use hwp_evict::{Evict, EvictAnswer, Fsync, FsyncAnswer, Refusal};
+use hwp_fault::{Access, AccessAnswer};
+use hwp_geom::{Layout, Who};
+use hwp_kill::Reply;
+use hwp_page::{At, Body};
+use hwp_report::Answer;
+use hwp_rule::Step;
+use hwp_step::{Machine, Ranked, Scheduled, Turn};
+
+/// A command of a fault script that runs.
+#[derive(Drop)]
+pub enum Job {
+    /// A load, a fetch, a load in kernel mode or a store.
+    Access(Access),
+    /// A command by which a page, or a part of it, leaves its frame.
+    Evict(Evict),
+    /// The losses of a file are taken.
+    Fsync(Fsync),
+    /// A call of prctl(2).
+    Prctl(Prctl),
+    /// A command that makes no other step than to look whether the machine has stopped.
+    ReadStop(ReadStop),
+    /// A machine check inside a machine check.
+    Nested(Nested),
+}
+
+impl Job {
+    ghost use Rattle.hwp_job.specs.Jobs.{answer};
+
+    /// What the command answers; `None` until it is over, and where it gave up because memory ran out.
+    pub fn answer(&self) -> Option<Answer>
+        ensures { result ≡ answer self.now }
+    {
+        match self {
+            Job::Access(access) => access.answer().map(|answer| access_answer(answer)),
+            Job::Evict(evict) => evict.answer().map(|answer| evict_answer(answer)),
+            Job::Fsync(fsync) => fsync.answer().map(|answer| fsync_answer(answer)),
+            Job::Prctl(prctl) => prctl.answer().map(|answer| prctl_answer(answer)),
+            Job::ReadStop(read) => read.answer().map(|answer| read_stop_answer(answer)),
+            Job::Nested(nested) => nested.answer().map(|answer| nested_answer(answer)),
+        }
+    }
+}
+
+ghost use Rattle.hwp_job.specs.Answers.{access_answer, evict_answer, fsync_answer, nested_answer, prctl_answer, read_stop_answer, refusal_answer, reply_answer};
+
+/// What a report's line says of an access.
+fn access_answer(answer: AccessAnswer) -> Answer
+    ensures { result ≡ access_answer answer }
+{
+    match answer {
+        AccessAnswer::Value { word, page, place } => Answer::Value {
+            word,
+            at: At { page, entry: place },
+        },
+        AccessAnswer::Stored { page, place } => Answer::Stored(At { page, entry: place }),
+        AccessAnswer::NoFrame => Answer::NoFrame,
+        AccessAnswer::Gone { page } => Answer::Gone(page),
+        AccessAnswer::Stopped => Answer::Stopped,
+    }
+}
+
+/// What it says of a page that was left as it was.
+fn refusal_answer(refusal: Refusal, at: At) -> Answer
+    ensures { result ≡ refusal_answer refusal at }
+{
+    match refusal {
+        Refusal::NotMapped => Answer::NotMapped(at),
+        Refusal::NotResident => Answer::NotResident(at),
+        Refusal::Dirty => Answer::Dirty(at),
+        Refusal::Mapped => Answer::Mapped(at),
+        Refusal::BadLines(mask) => Answer::BadLines(mask, at),
+    }
+}
+
+/// What it says of a page, or a part of it, that was to leave its frame.
+fn evict_answer(answer: EvictAnswer) -> Answer
+    ensures { result ≡ evict_answer answer }
+{
+    match answer {
+        EvictAnswer::Stopped => Answer::Stopped,
+        EvictAnswer::Done(at) => Answer::DoneAt(at),
+        EvictAnswer::Refused(refusal, at) => refusal_answer(refusal, at),
+    }
+}
+
+/// What it says of the losses of a file.
+fn fsync_answer(answer: FsyncAnswer) -> Answer
+    ensures { result ≡ fsync_answer answer }
+{
+    match answer {
+        FsyncAnswer::Stopped => Answer::Stopped,
+        FsyncAnswer::Done => Answer::Done,
+        FsyncAnswer::Eio(lost) => Answer::Eio(lost),
+    }
+}
+
+/// What it says of a reply of prctl(2).
+fn reply_answer(reply: Reply) -> Answer
+    ensures { result ≡ reply_answer reply }
+{
+    match reply {
+        Reply::Set(_) => Answer::Done,
+        Reply::Is(policy) => Answer::Is(policy.number()),
+        Reply::Einval => Answer::Einval,
+    }
+}
+
+/// What it says of a call of prctl(2).
+fn prctl_answer(answer: PrctlAnswer) -> Answer
+    ensures { result ≡ prctl_answer answer }
+{
+    match answer {
+        PrctlAnswer::Replied(reply) => reply_answer(reply),
+        PrctlAnswer::Gone(page) => Answer::Gone(page),
+        PrctlAnswer::Stopped => Answer::Stopped,
+    }
+}
+
+/// What it says of a command that only looked whether the machine had stopped.
+fn read_stop_answer(answer: ReadStopAnswer) -> Answer
+    ensures { result ≡ read_stop_answer answer }
+{
+    match answer {
+        ReadStopAnswer::Done => Answer::Done,
+        ReadStopAnswer::Stopped => Answer::Stopped,
+    }
+}
+
+/// What it says of a machine check inside a machine check.
+fn nested_answer(answer: NestedAnswer) -> Answer
+    ensures { result ≡ nested_answer answer }
+{
+    match answer {
+        NestedAnswer::Shutdown | NestedAnswer::Stopped => Answer::Stopped,
+    }
+}
+
+impl Machine for Job {
+    ghost use Rattle.std.specs.Prelude.{◌≡◌};
+    ghost use Rattle.hwp_job.specs.Jobs.{Fits, Next, Shows, bare, plan, put, who};
+
+    ghost who = { λ j. who j };
+
+    ghost plan = { λ j. plan j };
+
+    ghost put = { λ j. put j };
+
+    ghost bare = { λ j. bare j };
+
+    ghost shows = { λ j found got. Shows j found got };
+
+    ghost next = { λ layout j found got after result. Next layout j found got after result };
+
+    ghost fits = { λ layout view j. Fits layout view j };
+
+    fn who(&self) -> Who {
+        match self {
+            Job::Access(access) => access.who(),
+            Job::Evict(evict) => evict.who(),
+            Job::Fsync(fsync) => fsync.who(),
+            Job::Prctl(prctl) => prctl.who(),
+            Job::ReadStop(read) => read.who(),
+            Job::Nested(nested) => nested.who(),
+        }
+    }
+
+    fn plan(&self) -> Option<Step> {
+        match self {
+            Job::Access(access) => access.plan(),
+            Job::Evict(evict) => evict.plan(),
+            Job::Fsync(fsync) => fsync.plan(),
+            Job::Prctl(prctl) => prctl.plan(),
+            Job::ReadStop(read) => read.plan(),
+            Job::Nested(nested) => nested.plan(),
+        }
+    }
+
+    fn give(&mut self) -> Option<Body> {
+        match self {
+            Job::Access(access) => access.give(),
+            Job::Evict(evict) => evict.give(),
+            Job::Fsync(fsync) => fsync.give(),
+            Job::Prctl(prctl) => prctl.give(),
+            Job::ReadStop(read) => read.give(),
+            Job::Nested(nested) => nested.give(),
+        }
+    }
+
+    fn settle(&mut self, layout: &Layout, found: u64, body: Option<Body>) -> Turn {
+        match self {
+            Job::Access(access) => access.settle(layout, found, body),
+            Job::Evict(evict) => evict.settle(layout, found, body),
+            Job::Fsync(fsync) => fsync.settle(layout, found, body),
+            Job::Prctl(prctl) => prctl.settle(layout, found, body),
+            Job::ReadStop(read) => read.settle(layout, found, body),
+            Job::Nested(nested) => nested.settle(layout, found, body),
+        }
+    }
+}
+
+impl Ranked for Job {
+    ghost use Rattle.std.specs.Prelude.{false, None};
+    ghost use Rattle.hwp_job.specs.Jobs.{class, cost};
+
+    ghost class_of = { λ j. class j };
+
+    ghost cost = { λ j words. cost j words };
+
+    ghost aborts = { λ j. false };
+
+    ghost claims = { λ j. None };
+
+    fn class(&self) -> u8 {
+        match self {
+            Job::Access(access) => access.class(),
+            Job::Evict(evict) => evict.class(),
+            Job::Fsync(fsync) => fsync.class(),
+            Job::Prctl(prctl) => prctl.class(),
+            Job::ReadStop(read) => read.class(),
+            Job::Nested(nested) => nested.class(),
+        }
+    }
+
+    fn ranked(&self) {}
+}
+
+impl Scheduled for Job {
+    fn is_over(&self) -> bool {
+        match self {
+            Job::Access(access) => access.is_over(),
+            Job::Evict(evict) => evict.is_over(),
+            Job::Fsync(fsync) => fsync.is_over(),
+            Job::Prctl(prctl) => prctl.is_over(),
+            Job::ReadStop(read) => read.is_over(),
+            Job::Nested(nested) => nested.is_over(),
+        }
+    }
+
+    fn tells(&self) {}
+}
