@@ -3,6 +3,7 @@ use Rattle.std.proofs.Common.{◌≡◌, ℕ, zero, suc, ◌+◌, ◌<◌, ◌==
 use Rattle.std.proofs.lemmas.Bool.{and_from, eq-eqb}
 use Rattle.std.proofs.lemmas.Option.{none-some, same_Some, slice_get_within}
 use Rattle.hwp_geom.specs.declared.Cpu.{Cpu}
+use Rattle.hwp_geom.specs.declared.Layout.{Layout}
 use Rattle.hwp_geom.specs.declared.Who.{Who}
 use Rattle.hwp_page.specs.declared.Entry.{Entry}
 use Rattle.hwp_rule.specs.declared.Made.{Made}
@@ -32,28 +33,28 @@ pub record IsEnd (script : Script) (seat : Cpu → ℕ) (last : State) (report :
   pub seated : AreSeated script.layout last seat
   pub lists_fit : length script.lists ≡ script.layout.cpus
   pub cpus_fit : length report.cpus ≡ script.layout.cpus
-  pub served : (cpu : Cpu) (list : List Command) (rows : List CpuLine) → slice_get script.lists cpu.0 ≡ Some list → slice_get report.cpus cpu.0 ≡ Some rows → IsServed script (view_of last (seat cpu)) cpu list rows
+  pub served : (cpu : Cpu) (list : List Command) (rows : List CpuLine) → slice_get script.lists cpu.0 ≡ Some list → slice_get report.cpus cpu.0 ≡ Some rows → IsServed script.layout (view_of last (seat cpu)) cpu list rows
 
 -- the answer of a command, and its cause
-pub record HasAnswer (script : Script) (view : View) (cpu : Cpu) (seq : ℕ) (command : Command) (row : Option CpuLine) : Type 0 where
+pub record HasAnswer (layout : Layout) (all : List Command) (view : View) (cpu : Cpu) (seq : ℕ) (command : Command) (row : Option CpuLine) : Type 0 where
   pub answer : Answer
   pub row_is : row ≡ Some (lines.Answer seq answer)
-  pub caused : IsCaused script view (record { cpu = cpu; seq = seq }) command answer
+  pub caused : IsCaused layout all view (record { cpu = cpu; seq = seq }) command answer
 
-pub answer-at : (script : Script) (view : View) (cpu : Cpu) (n : ℕ) (list : List Command) (rows : List CpuLine) (k m : ℕ) (command : Command) → AreAnswered script view cpu n list rows → length rows ≡ length list → slice_get list k ≡ Some command → m ≡ n + k
-    → HasAnswer script view cpu m command (slice_get rows k)
-answer-at script view cpu n [] rows k m command are fit there at = absurd (none-some command there)
-answer-at script view cpu n (c ∷ cs) [] k m command are fit there at = absurd (let none : 0 ≡ suc (length cs) = fit in omega arith)
-answer-at script view cpu n (c ∷ cs) (lines.Answer seq answer ∷ rows) zero m command (seq_is, caused, rest) fit there at =
+pub answer-at : (layout : Layout) (all : List Command) (view : View) (cpu : Cpu) (n : ℕ) (list : List Command) (rows : List CpuLine) (k m : ℕ) (command : Command) → AreAnswered layout all view cpu n list rows → length rows ≡ length list → slice_get list k ≡ Some command → m ≡ n + k
+    → HasAnswer layout all view cpu m command (slice_get rows k)
+answer-at layout all view cpu n [] rows k m command are fit there at = absurd (none-some command there)
+answer-at layout all view cpu n (c ∷ cs) [] k m command are fit there at = absurd (let none : 0 ≡ suc (length cs) = fit in omega arith)
+answer-at layout all view cpu n (c ∷ cs) (lines.Answer seq answer ∷ rows) zero m command (seq_is, caused, rest) fit there at =
     let same : m ≡ n = omega arith in
     record {
       answer = answer;
       row_is = ap (λ (i : ℕ). Some (lines.Answer i answer)) (seq_is ∙ sym same);
-      caused = subst (λ (x : Command). IsCaused script view (record { cpu = cpu; seq = m }) x answer) (same_Some c command there) (subst (λ (i : ℕ). IsCaused script view (record { cpu = cpu; seq = i }) c answer) (sym same) caused);
+      caused = subst (λ (x : Command). IsCaused layout all view (record { cpu = cpu; seq = m }) x answer) (same_Some c command there) (subst (λ (i : ℕ). IsCaused layout all view (record { cpu = cpu; seq = i }) c answer) (sym same) caused);
     }
-answer-at script view cpu n (c ∷ cs) (lines.Answer seq answer ∷ rows) (suc k) m command (seq_is, caused, rest) fit there at =
-    answer-at script view cpu (n + 1) cs rows k m command rest (let one : suc (length rows) ≡ suc (length cs) = fit in let same : length rows ≡ length cs = omega arith in same) there (omega arith)
-answer-at script view cpu n (c ∷ cs) (lines.Event a b s x y z w ∷ rows) k m command are fit there at = absurd are
+answer-at layout all view cpu n (c ∷ cs) (lines.Answer seq answer ∷ rows) (suc k) m command (seq_is, caused, rest) fit there at =
+    answer-at layout all view cpu (n + 1) cs rows k m command rest (let one : suc (length rows) ≡ suc (length cs) = fit in let same : length rows ≡ length cs = omega arith in same) there (omega arith)
+answer-at layout all view cpu n (c ∷ cs) (lines.Event a b s x y z w ∷ rows) k m command are fit there at = absurd are
 
 -- a member that passes the test is one of those that do
 filter-has : {A : Type 0} (test : A → Bool) (l : List A) (j : ℕ) (x : A) → slice_get l j ≡ Some x → test x ≡ true → (k : ℕ) × (slice_get (filter test l) k ≡ Some x)
@@ -82,7 +83,7 @@ pub record IsOf (script : Script) (report : Report) (view : View) (who : Who) : 
   pub command_is : slice_get list who.seq ≡ Some command
   pub answer : Answer
   pub answer_is : slice_get rows who.seq ≡ Some (lines.Answer who.seq answer)
-  pub caused : IsCaused script view who command answer
+  pub caused : IsCaused script.layout list view who command answer
 
 module _ (script : Script) (seat : Cpu → ℕ) (last : State) (report : Report) (end : IsEnd script seat last report) where
   -- a processor of the layout has a list, and lines
@@ -109,7 +110,7 @@ module _ (script : Script) (seat : Cpu → ℕ) (last : State) (report : Report)
       → IsOf script report (view_of last (seat who.cpu)) who
   command-of who list rows command list_is rows_is command_is =
       let served = end.served who.cpu list rows list_is rows_is in
-      let a = answer-at script (view_of last (seat who.cpu)) who.cpu 0 list rows who.seq who.seq command served.answered served.count command_is (omega arith) in
+      let a = answer-at script.layout list (view_of last (seat who.cpu)) who.cpu 0 list rows who.seq who.seq command served.answered served.count command_is (omega arith) in
       record { list = list; rows = rows; list_is = list_is; rows_is = rows_is; command = command; command_is = command_is; answer = a.answer; answer_is = a.row_is; caused = a.caused }
 
   -- the command of an entry that a view lists

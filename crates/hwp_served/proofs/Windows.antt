@@ -31,8 +31,9 @@ module _ (script : Script) (seat : Cpu → ℕ) (last : State) (report : Report)
   -- the command that a line of a processor answers, with the answer
   pub record Answers (cpu : Cpu) (rows : List CpuLine) (seq : ℕ) (answer : Answer) : Type 0 where
     pub inside : cpu.0 < script.layout.cpus
+    pub list : List Command
     pub command : Command
-    pub caused : IsCaused script (view_of last (seat cpu)) (record { cpu = cpu; seq = seq }) command answer
+    pub caused : IsCaused script.layout list (view_of last (seat cpu)) (record { cpu = cpu; seq = seq }) command answer
 
   line-answers : (cpu : Cpu) (rows : List CpuLine) (i seq : ℕ) (answer : Answer) → slice_get report.cpus cpu.0 ≡ Some rows → slice_get rows i ≡ Some (lines.Answer seq answer) → Answers cpu rows seq answer
   line-answers cpu rows i seq answer rows_is line =
@@ -45,15 +46,16 @@ module _ (script : Script) (seat : Cpu → ℕ) (last : State) (report : Report)
       let told = same_answer i seq of.answer answer (same_Some (lines.Answer i of.answer) (lines.Answer seq answer) (sym of.answer_is ∙ ap (λ (l : List CpuLine). slice_get l i) same_rows ∙ line)) in
       record {
         inside = inside;
+        list = of.list;
         command = of.command;
-        caused = subst (λ (n : ℕ). IsCaused script (view_of last (seat cpu)) (record { cpu = cpu; seq = n }) of.command answer) told.0 (subst (IsCaused script (view_of last (seat cpu)) (record { cpu = cpu; seq = i }) of.command) told.1 of.caused);
+        caused = subst (λ (n : ℕ). IsCaused script.layout of.list (view_of last (seat cpu)) (record { cpu = cpu; seq = n }) of.command answer) told.0 (subst (IsCaused script.layout of.list (view_of last (seat cpu)) (record { cpu = cpu; seq = i }) of.command) told.1 of.caused);
       }
 
   pub states-in-windows : AreInWindows report.pages report.cpus
   states-in-windows cpu rows i seq answer at rows_is line state =
       let a = line-answers cpu rows i seq answer rows_is line in
       let there = end.seated.there cpu a.inside in
-      let saw = names-state script (view_of last (seat cpu)) (record { cpu = cpu; seq = seq }) a.command answer a.caused at state in
+      let saw = names-state script.layout a.list (view_of last (seat cpu)) (record { cpu = cpu; seq = seq }) a.command answer a.caused at state in
       in-window cpu rows rows_is seq at there saw
     where
       in-window : (cpu : Cpu) (rows : List CpuLine) → slice_get report.cpus cpu.0 ≡ Some rows → (seq : ℕ) (at : At) → slice_get last.views (seat cpu) ≡ Some (view_of last (seat cpu)) → SawAt (view_of last (seat cpu)) (record { cpu = cpu; seq = seq }) at
@@ -76,7 +78,7 @@ module _ (script : Script) (seat : Cpu → ℕ) (last : State) (report : Report)
                 omega arith;
             not_below = λ k n answer bt line earlier named same_page.
                 let b = line-answers cpu rows k n answer rows_is line in
-                not-below cpu seq at x saw.saw.0 there seen page long cpu_is seq_is n bt earlier same_page (names-place script (view_of last (seat cpu)) (record { cpu = cpu; seq = n }) b.command answer b.caused bt named);
+                not-below cpu seq at x saw.saw.0 there seen page long cpu_is seq_is n bt earlier same_page (names-place script.layout b.list (view_of last (seat cpu)) (record { cpu = cpu; seq = n }) b.command answer b.caused bt named);
           }
         where
           not-below : (cpu : Cpu) (seq : ℕ) (at : At) (x : Length) (j : ℕ) → slice_get last.views (seat cpu) ≡ Some (view_of last (seat cpu)) → slice_get (view_of last (seat cpu)).lengths j ≡ Some x → x.log.page ≡ at.page → length x.log.entries ≡ at.entry
