@@ -1,12 +1,12 @@
 -- At the end of a run each page's body is in the slot that the page's cache word leads to, and no two pages have one slot.
-use Rattle.std.proofs.Common.{◌≡◌, ◌≢◌, ◌⊎◌, ℕ, zero, suc, ◌+◌, ◌-◌, ◌<◌, ◌≤◌, ◌==◌, Bool, true, false, cond, List, [], ◌∷◌, ◌++◌, Option, Some, None, length, map, set, slice_get, refl, sym, ap, ◌∙◌, subst, arith, inl, inr}
+use Rattle.std.proofs.Common.{◌≡◌, ◌≢◌, ◌⊎◌, ℕ, zero, suc, ◌+◌, ◌-◌, ◌<◌, ◌≤◌, ◌==◌, Bool, true, false, cond, List, [], ◌∷◌, ◌++◌, Option, Some, None, length, map, take, drop, set, slice_get, slice_index, refl, sym, ap, ◌∙◌, subst, arith, inl, inr}
 use Rattle.std.proofs.lemmas.Bool.{eqb-false}
 use Rattle.std.proofs.lemmas.List.{length-append}
-use Rattle.std.proofs.lemmas.Option.{none-some, same_Some, slice_get_within}
+use Rattle.std.proofs.lemmas.Option.{none-some, same_Some, slice_get-get_or, slice_get_within}
 use Rattle.hwp_geom.specs.declared.Layout.{Layout}
 use Rattle.hwp_geom.specs.declared.Page.{Page}
 use Rattle.hwp_page.specs.declared.Entry.{Entry}
-use Rattle.hwp_words.specs.Frames.{lock_of, owner_of}
+use Rattle.hwp_words.specs.Frames.{lock_of}
 use Rattle.hwp_rule.specs.declared.FrameLock.{FrameLock}
 use Rattle.hwp_rule.specs.declared.Log.{Log}
 use Rattle.hwp_rule.specs.declared.PageLock.{PageLock}
@@ -16,7 +16,7 @@ use Rattle.hwp_rule.specs.declared.View.{View}
 use Rattle.hwp_rule.specs.Lists.{EachMember, Homes}
 use Rattle.hwp_rule.specs.Rule.{Holds}
 use Rattle.hwp_rule.specs.Views.{locks_on, page_locks_on}
-use Rattle.hwp_rule.specs.Words.{words_of}
+use Rattle.hwp_rule.specs.Words.{caches_from, words_of}
 use Rattle.hwp_rule.specs.parts.Bodies.{IsAtHome}
 use Rattle.hwp_rule.specs.parts.Holdings.{HoldsNothing}
 use Rattle.hwp_rule.specs.parts.Owners.{NamesOwn}
@@ -46,7 +46,7 @@ module _ (layout : Layout) (s : State) (h : Holds layout s) (nothing : EachMembe
       (body.0.entries, home.there ∙ ap (λ (c : Option Log). Some (Some c)) body.1 ∙ ap (λ (p : Page). Some (Some (Some (record { page = p; entries = body.0.entries })))) body.2)
 
   -- each page's body is where its cache word leads
-  pub all-led : AreLed layout.frames (words_of layout s.words).caches s.homes
+  all-led : AreLed layout.frames (words_of layout s.words).caches s.homes
   all-led q cache there = by-cache (cache == 0) refl
     where
       inside : q < length layout.pages
@@ -70,6 +70,16 @@ module _ (layout : Layout) (s : State) (h : Holds layout s) (nothing : EachMembe
         | inr own ↦ body-in (cache - 1) q (in-frame own)
       ]
 
+-- the same of the cache words as they are read from the one list of words
+pub led-here : (layout : Layout) (s : State) → Holds layout s → EachMember HoldsNothing s.views → (from len frames : ℕ) (words : List ℕ)
+    → words ≡ s.words → from ≡ caches_from layout + 0 → len ≡ length layout.pages → frames ≡ layout.frames → AreLed frames (take (from + len - from) (drop from words)) s.homes
+led-here layout s h nothing from len frames words is at many wide =
+    let count : from + len - from ≡ length layout.pages = omega (arith, many) in
+    let start : from ≡ caches_from layout = omega (arith, at) in
+    let same : take (from + len - from) (drop from words) ≡ (words_of layout s.words).caches =
+    ap (λ (n : ℕ). take n (drop from words)) count ∙ ap (λ (n : ℕ). take (length layout.pages) (drop n words)) start ∙ ap (λ (l : List ℕ). take (length layout.pages) (drop (caches_from layout) l)) is in
+    subst (λ (n : ℕ). AreLed n (take (from + len - from) (drop from words)) s.homes) (sym wide) (subst (λ (l : List ℕ). AreLed layout.frames l s.homes) (sym same) (all-led layout s h nothing))
+
 -- a member of a list that was pushed on
 at-end : {A : Type 0} (l : List A) (a b : A) (j : ℕ) → slice_get (l ++ a ∷ []) j ≡ Some b → (slice_get l j ≡ Some b) ⊎ ((j ≡ length l) × (a ≡ b))
 at-end [] a b zero e = inr (refl, same_Some a b e)
@@ -91,7 +101,7 @@ none-taken frames caches homes = record { count = refl; told = λ page entries t
 
 module _ (frames : ℕ) (caches : List ℕ) (homes now : Homes) (n : ℕ) (pages : List (List Entry)) (led : AreLed frames caches homes) (so-far : Taken frames caches homes now n pages) (cache : ℕ) (there : slice_get caches n ≡ Some cache) where
   -- the next page's body is still there
-  pub still-there : HasBody now (slot_by frames cache n) n
+  still-there : HasBody now (slot_by frames cache n) n
   still-there = let was = led n cache there in (was.0, so-far.others n cache (omega arith) there ∙ was.1)
 
   -- no other page has its body in that slot
@@ -99,12 +109,14 @@ module _ (frames : ℕ) (caches : List ℕ) (homes now : Homes) (n : ℕ) (pages
   apart q other past at same =
       let mine = led n cache there in
       let its = led q other at in
-      let one : record { page = record { 0 = q }; entries = its.0 } ≡ record { page = record { 0 = n }; entries = mine.0 } =
-      same_Some _ _ (same_Some _ _ (same_Some _ _ (sym its.1 ∙ ap (slice_get homes) same ∙ mine.1))) in
+      let here : Log = record { page = record { 0 = n }; entries = mine.0 } in
+      let away : Log = record { page = record { 0 = q }; entries = its.0 } in
+      let one : away ≡ here =
+      same_Some away here (same_Some (Some away) (Some here) (same_Some (Some (Some away)) (Some (Some here)) (sym its.1 ∙ ap (slice_get homes) same ∙ mine.1))) in
       let number : q ≡ n = ap (λ (log : Log). log.page.0) one in
       omega (arith, number, past)
 
-  pub one-more : (after : Homes) (entries : List Entry) → after ≡ set now (slot_by frames cache n) None
+  one-more : (after : Homes) (entries : List Entry) → after ≡ set now (slot_by frames cache n) None
       → ((log : Log) → slice_get now (slot_by frames cache n) ≡ Some (Some (Some log)) → entries ≡ log.entries) → Taken frames caches homes after (n + 1) (pages ++ entries ∷ [])
   one-more after entries moved is = record { count = counted; told = told; others = others }
     where
@@ -130,3 +142,15 @@ module _ (frames : ℕ) (caches : List ℕ) (homes now : Homes) (n : ℕ) (pages
               (ap (λ (p : Page). Some (Some (record { page = p; entries = mine.0 }))) page-is ∙ ap (λ (es : List Entry). Some (Some (record { page = page; entries = es }))) history),
             )
       ]
+
+-- the same of the slot that was computed
+module _ (frames : ℕ) (caches : List ℕ) (homes now : Homes) (n : ℕ) (pages : List (List Entry)) (led : AreLed frames caches homes) (so-far : Taken frames caches homes now n pages) (inside : n < length caches) (slot : ℕ) (is : slot ≡ slot_by frames (slice_index caches n) n) where
+  pub next-body : (log : Log) × (slice_get now slot ≡ Some (Some (Some log)))
+  next-body =
+      let body = still-there frames caches homes now n pages led so-far (slice_index caches n) (slice_get-get_or caches n 0 inside) in
+      (record { page = record { 0 = n }; entries = body.0 }, ap (slice_get now) is ∙ body.1)
+
+  pub next-taken : (after : Homes) (entries : List Entry) → after ≡ set now slot None → ((log : Log) → slice_get now slot ≡ Some (Some (Some log)) → entries ≡ log.entries) → Taken frames caches homes after (n + 1) (pages ++ entries ∷ [])
+  next-taken after entries moved taken =
+      one-more frames caches homes now n pages led so-far (slice_index caches n) (slice_get-get_or caches n 0 inside) after entries (moved ∙ ap (λ (k : ℕ). set now k None) is)
+      (λ log there. taken log (ap (slice_get now) is ∙ there))
