@@ -3,3 +3,4 @@ pub mod Jobs
 pub mod Begins
 pub mod Runs
 pub mod Settings
+pub mod Stays
