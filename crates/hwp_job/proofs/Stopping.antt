@@ -27,6 +27,7 @@ use Rattle.hwp_form.specs.declared.Command.{Command}
 use Rattle.hwp_form.specs.declared.Command.TheVariants as commands
 use Rattle.hwp_report.specs.declared.Answer.{Answer}
 use Rattle.hwp_report.specs.declared.Answer.TheVariants as answers
+use Rattle.hwp_law.specs.Answers.{reply_answer}
 use Rattle.hwp_control.specs.declared.Nested.{Nested}
 use Rattle.hwp_control.specs.declared.NestedAnswer.TheVariants as nested_answers
 use Rattle.hwp_control.specs.declared.Prctl.{Prctl}
@@ -62,7 +63,7 @@ use Rattle.hwp_fault.specs.declared.access.AccessAt.TheVariants as access_at
 use Rattle.hwp_fault.specs.Accesses as accesses
 use Rattle.hwp_job.specs.declared.job.Job.{Job}
 use Rattle.hwp_job.specs.declared.job.Job.TheVariants as jobs
-use Rattle.hwp_job.specs.Answers.{access_answer, evict_answer, fsync_answer, nested_answer, prctl_answer, read_stop_answer, refusal_answer, reply_answer}
+use Rattle.hwp_job.specs.Answers.{access_answer, evict_answer, fsync_answer, nested_answer, prctl_answer, read_stop_answer, refusal_answer}
 use Rattle.hwp_job.specs.Begins.{Begins}
 use Rattle.hwp_job.specs.Jobs.{Fits, answer, plan}
 use Rattle.hwp_job.specs.Stays.{EndsStopped, IsAtStop, IsHalted, Stepped, StopsItself}
@@ -125,15 +126,16 @@ pub only-stopped : (j : Job) {a : Answer} → EndsStopped j → answer j ≡ Som
 only-stopped j {a} (inl start) is = absurd (none-some a (sym (unanswered j start) ∙ is))
 only-stopped j {a} (inr stopped) is = same_Some a answers.Stopped (sym is ∙ stopped)
 
-two-one : 2 ≡ 1 → ⊥
-two-one e = omega (arith, e)
+abbrev starts : NestedAt → Bool
+starts nested_at.LoadStop = true
+starts _ = false
 
 -- and it stops the machine no more
 pub no-own-stop : {j after : Job} {old new : View} → EndsStopped j → StopsItself j after old new → ⊥
 no-own-stop {j} ends own = which (subst EndsStopped own.job_is ends)
   where
     which : EndsStopped (jobs.Nested own.nested) → ⊥
-    which (inl start) = two-one (sym (ap nesteds.cost_at start) ∙ ap nesteds.cost_at own.at_is)
+    which (inl start) = true≢false (sym (ap starts start) ∙ ap starts own.at_is)
     which (inr stopped) = none-some answers.Stopped (sym (ap (λ (x : NestedAt). option_map nested_answer (nesteds.answer_at x)) own.at_is) ∙ stopped)
 
 -- ---- the stop word
@@ -162,7 +164,7 @@ stop-word {layout} {by} {body} {old} {new} {found} made halted = ap not (ne_eqb 
 
 -- ---- stops
 
-quiet-step : {o : Option Step} {step : Step} → PlansQuiet o → o ≡ Some step → IsQuiet step
+pub quiet-step : {o : Option Step} {step : Step} → PlansQuiet o → o ≡ Some step → IsQuiet step
 quiet-step quiet is = subst PlansQuiet is quiet
 
 module _ {layout : Layout} {old new : View} {j after : Job} (s : Stepped layout old new j after) where
