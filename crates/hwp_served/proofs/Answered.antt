@@ -81,7 +81,7 @@ module _ (script : Script) (seat : Cpu → ℕ) (last : State) (report : Report)
       sym (ap (λ (b : At). entry_at report.pages b) m.place_is) ∙ listed ∙ ap (λ (e : Entry). Some e) m.entry_is
 
   -- and the page was in the state in which the command saw it
-  had : {who : Who} {at : At} {Such : PageState → Type 0} → SawState script.layout view who at.page at.entry Such → HadState script.layout report.pages at Such
+  pub had : {who : Who} {at : At} {Such : PageState → Type 0} → SawState script.layout view who at.page at.entry Such → HadState script.layout report.pages at Such
   had {at = at} {Such = Such} saw =
       let x : Length = saw.saw.1 in
       let log : x.log ≡ saw.log = saw.saw.3.2 in

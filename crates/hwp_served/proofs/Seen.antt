@@ -96,7 +96,7 @@ made-what {view = view} {who = who} {at = at} {what = what} has =
       place_is = ap (λ (p : Page). record { page = p; entry = has.last.place }) has.at.0 ∙ ap (λ (n : ℕ). record { page = at.page; entry = n }) has.at.1;
     }
 
-saw-at : {layout : Layout} {view : View} {who : Who} {at : At} {Such : PageState → Type 0} → SawState layout view who at.page at.entry Such → SawAt view who at
+pub saw-at : {layout : Layout} {view : View} {who : Who} {at : At} {Such : PageState → Type 0} → SawState layout view who at.page at.entry Such → SawAt view who at
 saw-at saw = record { log = saw.log; saw = saw.saw; page_is = saw.page_is; place_is = saw.place_is }
 
 module _ (layout : Layout) (list : List Command) (view : View) (who : Who) where
