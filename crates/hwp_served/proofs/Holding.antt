@@ -1,5 +1,5 @@
 -- The report of a run is lawful.
-use Rattle.std.proofs.Common.{◌≡◌, ◌⊎◌, ℕ, zero, suc, ◌+◌, ◌<◌, ◌≤◌, List, [], ◌∷◌, Option, Some, None, length, slice_get, option_and_then, refl, sym, ap, ◌∙◌, subst, arith, inl, inr}
+use Rattle.std.proofs.Common.{◌≡◌, ◌⊎◌, ℕ, zero, suc, ◌+◌, ◌<◌, ◌≤◌, List, [], ◌∷◌, Option, Some, slice_get, option_and_then, refl, sym, ap, ◌∙◌, subst, arith, inl, inr}
 use Rattle.std.proofs.lemmas.Bool.{cases_lt}
 use Rattle.std.proofs.lemmas.Option.{none-some, same_Some, slice_get_within}
 use Rattle.hwp_geom.specs.declared.Cpu.{Cpu}
@@ -16,7 +16,6 @@ use Rattle.hwp_rule.specs.declared.View.{View}
 use Rattle.hwp_rule.specs.Lists.{EachMember}
 use Rattle.hwp_rule.specs.Opening.{opening}
 use Rattle.hwp_rule.specs.Rule.{Holds}
-use Rattle.hwp_rule.specs.Words.{words_of}
 use Rattle.hwp_rule.specs.parts.Holdings.{HoldsNothing}
 use Rattle.hwp_rule.proofs.Lists.{each-weaken}
 use Rattle.hwp_step.specs.Boards.{Played, view_of}
@@ -28,12 +27,10 @@ use Rattle.hwp_report.specs.declared.Answer.TheVariants as answers
 use Rattle.hwp_report.specs.declared.CpuLine.{CpuLine}
 use Rattle.hwp_report.specs.declared.CpuLine.TheVariants as lines
 use Rattle.hwp_report.specs.declared.Report.{Report}
-use Rattle.hwp_report.specs.declared.Stop.{Stop}
 use Rattle.hwp_law.specs.Answers.{AreAnswers}
-use Rattle.hwp_law.specs.Places.{command_at}
 use Rattle.hwp_law.specs.Report.{IsReport}
 use Rattle.hwp_law.proofs.Windows.{same_answer}
-use Rattle.hwp_law.specs.Runs.{IsOfRun, StopsFirst, WasOut, WereOut, slot_of}
+use Rattle.hwp_law.specs.Runs.{IsOfRun, StopsFirst, WereOut, slot_of}
 use Rattle.hwp_runs.proofs.Homes.{there-is}
 use Rattle.hwp_runs.proofs.Leading.{leads-hold}
 use Rattle.hwp_runs.proofs.Legal.{run-legal}
@@ -50,7 +47,7 @@ use Rattle.hwp_served.proofs.Lossless.{run-lossless}
 use Rattle.hwp_served.proofs.Made.{entries-made, entries-named}
 use Rattle.hwp_served.proofs.Seen.{saw-at}
 use Rattle.hwp_served.proofs.Stops.{stop-fits, stopper}
-use Rattle.hwp_served.proofs.Undamaged.{AreClean, run-clean}
+use Rattle.hwp_served.proofs.Undamaged.{run-clean}
 use Rattle.hwp_served.proofs.Unmarked.{run-unmarked}
 use Rattle.hwp_served.proofs.Windows.{in-window, line-answers, states-in-windows}
 
@@ -60,7 +57,7 @@ line-number layout all view cpu n list [] i m answer are there = absurd (none-so
 line-number layout all view cpu n [] (row ∷ rows) i m answer are there = absurd are
 line-number layout all view cpu n (c ∷ cs) (lines.Event a b s x y z w ∷ rows) i m answer are there = absurd are
 line-number layout all view cpu n (c ∷ cs) (lines.Answer seq a ∷ rows) zero m answer (seq_is, caused, rest) there =
-    let same : seq ≡ m = same_answer seq m a answer (same_Some (lines.Answer seq a) (lines.Answer m answer) there) in
+    let same : seq ≡ m = (same_answer seq m a answer (same_Some (lines.Answer seq a) (lines.Answer m answer) there)).0 in
     let is : seq ≡ n = seq_is in
     omega arith
 line-number layout all view cpu n (c ∷ cs) (lines.Answer seq a ∷ rows) (suc i) m answer (seq_is, caused, rest) there =

@@ -13,3 +13,5 @@ pub mod Framed
 pub mod Unended
 pub mod Answered
 pub mod Holding
+pub mod Shown
+pub mod Showing

@@ -1,5 +1,5 @@
 -- As long as no memory fails, no step shows a loss.
-use Rattle.std.proofs.Common.{◌≡◌, ℕ, List, Some, replicate, slice_get, slice_index, refl, sym, ap, ◌∙◌, subst}
+use Rattle.std.proofs.Common.{◌≡◌, ℕ, List, Some, replicate, slice_get, slice_index, sym, ap, ◌∙◌}
 use Rattle.hwp_geom.specs.declared.FileNo.{FileNo}
 use Rattle.hwp_geom.specs.declared.Layout.{Layout}
 use Rattle.hwp_rule.specs.declared.Place.{Place}

@@ -1,15 +1,12 @@
 -- Each answer that says what state a page was in names a number of entries in its command's window.
-use Rattle.std.proofs.Common.{◌≡◌, ◌⊎◌, ℕ, ◌<◌, ◌≤◌, List, Some, length, slice_get, refl, sym, ap, ◌∙◌, subst, arith, inl, inr}
+use Rattle.std.proofs.Common.{◌≡◌, ◌⊎◌, ℕ, ◌<◌, ◌≤◌, List, Some, length, slice_get, sym, ap, ◌∙◌, subst, arith, inl, inr}
 use Rattle.std.proofs.lemmas.Option.{same_Some, slice_get_within}
 use Rattle.hwp_geom.specs.declared.Cpu.{Cpu}
-use Rattle.hwp_geom.specs.declared.Page.{Page}
 use Rattle.hwp_geom.specs.declared.Who.{Who}
 use Rattle.hwp_page.specs.declared.At.{At}
-use Rattle.hwp_page.specs.declared.Entry.{Entry}
 use Rattle.hwp_rule.specs.declared.Length.{Length}
 use Rattle.hwp_rule.specs.declared.Log.{Log}
 use Rattle.hwp_rule.specs.declared.State.{State}
-use Rattle.hwp_rule.specs.declared.View.{View}
 use Rattle.hwp_step.specs.Boards.{view_of}
 use Rattle.hwp_script.specs.declared.Command.{Command}
 use Rattle.hwp_script.specs.declared.Script.{Script}
@@ -18,13 +15,13 @@ use Rattle.hwp_report.specs.declared.CpuLine.{CpuLine}
 use Rattle.hwp_report.specs.declared.CpuLine.TheVariants as lines
 use Rattle.hwp_report.specs.declared.Report.{Report}
 use Rattle.hwp_law.specs.Answers.{AreInWindows}
-use Rattle.hwp_law.specs.Places.{command_at, entry_at}
-use Rattle.hwp_law.specs.States.{IsInWindow, place_named, state_named}
+use Rattle.hwp_law.specs.Places.{command_at}
+use Rattle.hwp_law.specs.States.{IsInWindow}
 use Rattle.hwp_law.proofs.Windows.{same_answer}
 use Rattle.hwp_runs.proofs.Homes.{there-is}
 use Rattle.hwp_runs.proofs.Reported.{before-later, listed-entry, not-below-seen, past-earlier}
 use Rattle.hwp_served.specs.Causes.{IsCaused}
-use Rattle.hwp_served.proofs.Ending.{IsEnd, IsOf, command-of, list-of}
+use Rattle.hwp_served.proofs.Ending.{IsEnd, command-of, list-of}
 use Rattle.hwp_served.proofs.Made.{command-is}
 use Rattle.hwp_served.proofs.Seen.{MadeAt, SawAt, names-place, names-state}
 
