@@ -1,15 +1,17 @@
 -- Which command a task is of, whatever state it is in, and what a processor has where a command begins.
-use Rattle.std.specs.Prelude.{◌≡◌, ℕ}
+use Rattle.std.specs.Prelude.{◌≡◌}
 use Rattle.hwp_geom.specs.declared.Frame.{Frame}
 use Rattle.hwp_geom.specs.declared.Layout.{Layout}
 use Rattle.hwp_geom.specs.declared.Thread.{Thread}
 use Rattle.hwp_geom.specs.declared.Who.{Who}
 use Rattle.hwp_form.specs.declared.Command.{Command}
 use Rattle.hwp_rule.specs.declared.Place.TheVariants as places
+use Rattle.hwp_rule.specs.declared.Sight.{Sight}
 use Rattle.hwp_rule.specs.declared.View.{View}
+use Rattle.hwp_rule.specs.Lists.{EachMember}
 use Rattle.hwp_step.specs.Calls.{IsOnTurn}
 use Rattle.hwp_step.specs.Hands.{hand_of, empty}
-use Rattle.hwp_known.specs.Known.{HasMadeNone, Saw}
+use Rattle.hwp_known.specs.Known.{HasMadeNone}
 use Rattle.hwp_control.specs.Nesteds as nesteds
 use Rattle.hwp_control.specs.Prctls as prctls
 use Rattle.hwp_control.specs.Prctls.{HasSettingLeft}
@@ -43,4 +45,4 @@ pub record AtRest (view : View) (who : Who) : Type 0 where
 
 -- no step of the processor was shown a bad line
 abbrev pub NoneBad : View → Type 0
-NoneBad view = (who : Who) (frame : Frame) (word : ℕ) → Saw view who (places.Bad frame) word → word ≡ 0
+NoneBad view = EachMember (λ (s : Sight). (frame : Frame) → s.place ≡ places.Bad frame → s.word ≡ 0) view.sights
