@@ -1,5 +1,5 @@
 -- The end of a run of processors that are served.
-use Rattle.std.proofs.Common.{◌≡◌, ℕ, zero, suc, ◌+◌, ◌<◌, ◌==◌, Bool, true, false, cond, List, [], ◌∷◌, Option, Some, filter, length, map, slice_get, sym, ap, ◌∙◌, subst, arith}
+use Rattle.std.proofs.Common.{◌≡◌, ℕ, zero, suc, ◌+◌, ◌<◌, ◌==◌, Bool, true, false, cond, List, [], ◌∷◌, Option, Some, filter, length, map, slice_get, refl, sym, ap, ◌∙◌, subst, arith}
 use Rattle.std.proofs.lemmas.Bool.{and_from, eq-eqb}
 use Rattle.std.proofs.lemmas.Option.{none-some, same_Some}
 use Rattle.hwp_geom.specs.declared.Cpu.{Cpu}
@@ -11,7 +11,7 @@ use Rattle.hwp_rule.specs.declared.State.{State}
 use Rattle.hwp_rule.specs.declared.View.{View}
 use Rattle.hwp_rule.specs.Lists.{EachMember}
 use Rattle.hwp_rule.specs.Rule.{Holds}
-use Rattle.hwp_rule.specs.parts.Holdings.{IsPast}
+use Rattle.hwp_rule.specs.parts.Holdings.{HoldsNothing, IsPast}
 use Rattle.hwp_rule.proofs.Lists.{at_map}
 use Rattle.hwp_rule.proofs.NotLater.{one-view}
 use Rattle.hwp_step.specs.Boards.{AreSeated, view_of}
@@ -97,6 +97,16 @@ seat-view layout seat last holds seated i k v p view part =
     let same : i ≡ seat p.cpu = one-view layout (map (λ (x : View). x.parts) last.views) rule i (seat p.cpu) k own.0 v.parts (view_of last (seat p.cpu)).parts p own.1
     (at_map (λ (x : View). x.parts) last.views i v view) (at_map (λ (x : View). x.parts) last.views (seat p.cpu) (view_of last (seat p.cpu)) there) part own.2 (sym own.3) in
     (inside, same_Some v (view_of last (seat p.cpu)) (sym view ∙ ap (slice_get last.views) same ∙ there))
+
+-- where no processor's seat holds anything, no view does: a view without processors holds nothing
+pub nothing-held : (layout : Layout) (seat : Cpu → ℕ) (last : State) → Holds layout last → AreSeated layout last seat → ((cpu : Cpu) → cpu.0 < layout.cpus → HoldsNothing (view_of last (seat cpu))) → EachMember HoldsNothing last.views
+nothing-held layout seat last holds seated none i v view = which v.parts refl
+  where
+    which : (parts : List Part) → v.parts ≡ parts → HoldsNothing v
+    which [] empty = holds.held.nothing i v view empty
+    which (p ∷ ps) some =
+        let own = seat-view layout seat last holds seated i 0 v p view (ap (λ (l : List Part). slice_get l 0) some) in
+        subst HoldsNothing (sym own.1) (none p.cpu own.0)
 
 module _ (script : Script) (seat : Cpu → ℕ) (last : State) (report : Report) (end : IsEnd script seat last report) where
   -- the view that lists what a processor did is its seat's

@@ -1,5 +1,5 @@
 -- The report of a run is lawful.
-use Rattle.std.proofs.Common.{◌≡◌, ◌⊎◌, ℕ, zero, suc, ◌+◌, ◌<◌, ◌≤◌, List, [], ◌∷◌, Option, Some, slice_get, option_and_then, refl, sym, ap, ◌∙◌, subst, arith, inl, inr}
+use Rattle.std.proofs.Common.{◌≡◌, ◌⊎◌, ℕ, zero, suc, ◌+◌, ◌<◌, ◌≤◌, List, [], ◌∷◌, Option, Some, slice_get, option_and_then, sym, ap, ◌∙◌, subst, arith, inl, inr}
 use Rattle.std.proofs.lemmas.Bool.{cases_lt}
 use Rattle.std.proofs.lemmas.Option.{none-some, same_Some, slice_get_within}
 use Rattle.hwp_geom.specs.declared.Cpu.{Cpu}
@@ -8,7 +8,6 @@ use Rattle.hwp_geom.specs.declared.Layout.{Layout}
 use Rattle.hwp_geom.specs.declared.Thread.{Thread}
 use Rattle.hwp_geom.specs.declared.VSlot.{VSlot}
 use Rattle.hwp_geom.specs.declared.Who.{Who}
-use Rattle.hwp_rule.specs.declared.Part.{Part}
 use Rattle.hwp_rule.specs.declared.Place.TheVariants as places
 use Rattle.hwp_rule.specs.declared.Sight.{Sight}
 use Rattle.hwp_rule.specs.declared.State.{State}
@@ -40,7 +39,7 @@ use Rattle.hwp_served.specs.Causes.{FoundNoFrame, IsCaused}
 use Rattle.hwp_served.specs.Runs.{IsRunOf}
 use Rattle.hwp_served.specs.Served.{AreAnswered}
 use Rattle.hwp_served.proofs.Answered.{are-answers, had}
-use Rattle.hwp_served.proofs.Ending.{IsEnd, list-of, seat-view}
+use Rattle.hwp_served.proofs.Ending.{IsEnd, list-of, nothing-held}
 use Rattle.hwp_served.proofs.Framed.{frames-fit}
 use Rattle.hwp_served.proofs.Losses.{losses-none, poisoned-none}
 use Rattle.hwp_served.proofs.Lossless.{run-lossless}
@@ -85,17 +84,12 @@ module _ (script : Script) (seat : Cpu → ℕ) (turns : List Played) (last : St
   pub lossless : Sights
   lossless = run-lossless script.layout turns last run.rule run.moves
 
-  -- nothing is in hand: a view has processors, which have served their commands, or it holds nothing
+  -- nothing is in hand
   nothing : EachMember HoldsNothing last.views
-  nothing i v view = which v.parts refl
-    where
-      which : (parts : List Part) → v.parts ≡ parts → HoldsNothing v
-      which [] none = holds.held.nothing i v view none
-      which (p ∷ ps) some =
-          let own = seat-view script.layout seat last holds run.seated i 0 v p view (ap (λ (l : List Part). slice_get l 0) some) in
-          let list = there-is script.lists p.cpu.0 (subst (λ (n : ℕ). p.cpu.0 < n) (sym run.lengths.lists) own.0) in
-          let rows = there-is report.cpus p.cpu.0 (subst (λ (n : ℕ). p.cpu.0 < n) (sym run.lengths.cpus) own.0) in
-          subst HoldsNothing (sym own.1) (run.served p.cpu list.0 rows.0 list.1 rows.1).nothing
+  nothing = nothing-held script.layout seat last holds run.seated (λ cpu inside.
+      let list = there-is script.lists cpu.0 (subst (λ (n : ℕ). cpu.0 < n) (sym run.lengths.lists) inside) in
+      let rows = there-is report.cpus cpu.0 (subst (λ (n : ℕ). cpu.0 < n) (sym run.lengths.cpus) inside) in
+      (run.served cpu list.0 rows.0 list.1 rows.1).nothing)
 
   pub ended : IsEnd script seat last report
   ended = record {
