@@ -1,1 +1,4 @@
 pub mod Jobbing
+pub mod Running
+pub mod Ending
+pub mod Kinds

@@ -1,0 +1,3 @@
+//! The core: the processors of a script, one task each, on one board, turn by turn in the order of the schedule; and the report
+//! of what the board and the processors came to.
+#![tactic(auto)]
