@@ -54,7 +54,7 @@ use Rattle.hwp_job.specs.Jobs.{Fits, answer}
 use Rattle.hwp_job.specs.Runs.{anew}
 use Rattle.hwp_job.specs.Settings.{HasReplied, IsCounted, policies_in, set_at, set_now}
 use Rattle.hwp_job.proofs.Ending.{fsync-over, mapped, nested-over, prctl-over, read-over}
-use Rattle.hwp_job.proofs.Kinds.{of-fsync, of-nested, of-prctl, of-read-stop}
+use Rattle.hwp_job.proofs.OfKind.{of-fsync, of-nested, of-prctl, of-read-stop}
 use Rattle.hwp_served.specs.Causes.{IsCaused, IsReplied, SawProcess}
 
 -- ---- the losses of a file

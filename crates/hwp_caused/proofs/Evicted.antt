@@ -33,7 +33,7 @@ use Rattle.hwp_job.specs.Begins.{BeginsEviction}
 use Rattle.hwp_job.specs.Jobs.{Fits, answer}
 use Rattle.hwp_job.specs.Runs.{NoneBad, anew}
 use Rattle.hwp_job.proofs.Ending.{evict-caused, mapped}
-use Rattle.hwp_job.proofs.Kinds.{of-evict}
+use Rattle.hwp_job.proofs.OfKind.{of-evict}
 use Rattle.hwp_served.specs.Causes.{IsCaused, FoundState, FoundStopped, MadeOne}
 
 -- the command, and what it knows of its answer
