@@ -131,7 +131,7 @@ module _ (layout : Layout) (list : List Command) (view : View) (who : Who) (thre
   store word names (answers.Gone of) has = gone layout list view who thread slot line (kinds.Store word) page process names of has
   store word names answers.Stopped has = stopped layout list view who thread slot line (kinds.Store word) page process names has
 
-module _ {layout : Layout} {list : List Command} {view : View} {who : Who} {thread : Thread} {slot : VSlot} {line : ℕ} {a : Answer} where
+module _ (list : List Command) {layout : Layout} {view : View} {who : Who} {thread : Thread} {slot : VSlot} {line : ℕ} {a : Answer} where
   pub load-caused : KnowsAccess layout view who thread slot line kinds.Load a → IsCaused layout list view who (commands.Load thread slot line) a
   load-caused k = subst (IsCaused layout list view who (commands.Load thread slot line)) k.answer_is (load layout list view who thread slot line k.page k.process k.names k.own k.answered)
 
