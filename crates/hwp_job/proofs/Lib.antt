@@ -1,4 +1,5 @@
 pub mod Jobbing
+pub mod Beginning
 pub mod Running
 pub mod Ending
-pub mod Kinds
+pub mod OfKind

@@ -1,5 +1,5 @@
 -- Each command has its answer, in order, and the report shows its cause.
-use Rattle.std.proofs.Common.{◌≡◌, ◌≢◌, ℕ, zero, suc, ◌+◌, ◌-◌, ◌<◌, ◌≤◌, Bool, true, false, List, [], ◌∷◌, Option, Some, None, IsSome, length, map, slice_get, slice_index, option_map, take, unwrap_or, refl, sym, ap, ◌∙◌, subst, arith}
+use Rattle.std.proofs.Common.{◌≡◌, ◌≢◌, ℕ, zero, suc, ◌+◌, ◌<◌, ◌≤◌, false, List, [], ◌∷◌, Option, Some, None, length, slice_get, option_map, take, unwrap_or, refl, sym, ap, ◌∙◌, subst, arith}
 use Rattle.std.proofs.lemmas.List.Elements.{All-get_or}
 use Rattle.std.proofs.lemmas.Option.{get_or_from_slice_get, none-some, same_Some, slice_get_within}
 use Rattle.hwp_geom.specs.declared.Cpu.{Cpu}
@@ -16,7 +16,6 @@ use Rattle.hwp_page.specs.declared.At.{At}
 use Rattle.hwp_page.specs.declared.Entry.{Entry}
 use Rattle.hwp_page.specs.declared.PageState.{PageState}
 use Rattle.hwp_page.specs.declared.What.{What}
-use Rattle.hwp_page.specs.Refusals.{IsAway, IsDirty, IsMapped, IsUnused}
 use Rattle.hwp_rule.specs.declared.Length.{Length}
 use Rattle.hwp_rule.specs.declared.Log.{Log}
 use Rattle.hwp_rule.specs.declared.Made.{Made}
@@ -47,7 +46,7 @@ use Rattle.hwp_law.specs.Policies.{arguments, last_policy, settings}
 use Rattle.hwp_law.specs.States.{HadState}
 use Rattle.hwp_runs.proofs.Homes.{there-is}
 use Rattle.hwp_runs.proofs.Reported.{home-of, listed-entry, seen-had}
-use Rattle.hwp_served.specs.Causes.{FoundGone, FoundNoFrame, IsCaused, SawProcess}
+use Rattle.hwp_served.specs.Causes.{FoundGone, IsCaused}
 use Rattle.hwp_served.specs.Served.{AreAnswered}
 use Rattle.hwp_served.proofs.Ample.{not-ample}
 use Rattle.hwp_served.proofs.Ending.{IsEnd}
@@ -81,7 +80,7 @@ module _ (script : Script) (seat : Cpu → ℕ) (last : State) (report : Report)
       sym (ap (λ (b : At). entry_at report.pages b) m.place_is) ∙ listed ∙ ap (λ (e : Entry). Some e) m.entry_is
 
   -- and the page was in the state in which the command saw it
-  had : {who : Who} {at : At} {Such : PageState → Type 0} → SawState script.layout view who at.page at.entry Such → HadState script.layout report.pages at Such
+  pub had : {who : Who} {at : At} {Such : PageState → Type 0} → SawState script.layout view who at.page at.entry Such → HadState script.layout report.pages at Such
   had {at = at} {Such = Such} saw =
       let x : Length = saw.saw.1 in
       let log : x.log ≡ saw.log = saw.saw.3.2 in

@@ -1,5 +1,5 @@
 -- What the answer of a command names: an entry that it made, or a number of entries after which it saw the page.
-use Rattle.std.proofs.Common.{◌≡◌, ◌⊎◌, ℕ, zero, suc, Bool, true, false, List, [], ◌∷◌, ◌++◌, Option, Some, None, filter, length, slice_get, take, cond, refl, sym, ap, ◌∙◌, subst, inl, inr}
+use Rattle.std.proofs.Common.{◌≡◌, ◌⊎◌, ℕ, zero, suc, Bool, true, false, List, [], ◌∷◌, Some, filter, length, slice_get, take, cond, refl, sym, ap, ◌∙◌, subst, inl, inr}
 use Rattle.std.proofs.lemmas.Bool.{and_parts, eqb-true}
 use Rattle.std.proofs.lemmas.Option.{none-some, same_Some}
 use Rattle.hwp_geom.specs.declared.Layout.{Layout}
@@ -14,9 +14,8 @@ use Rattle.hwp_page.specs.declared.What.{What}
 use Rattle.hwp_rule.specs.declared.Log.{Log}
 use Rattle.hwp_rule.specs.declared.Made.{Made}
 use Rattle.hwp_rule.specs.declared.View.{View}
-use Rattle.hwp_rule.specs.Lists.{SomeMember}
 use Rattle.hwp_rule.proofs.Lists.{at_last}
-use Rattle.hwp_known.specs.Known.{HasMade, IsAt, SawLog, deeds, is_by}
+use Rattle.hwp_known.specs.Known.{HasMade, SawLog, deeds, is_by}
 use Rattle.hwp_known.specs.Pages.{SawState}
 use Rattle.hwp_script.specs.declared.Command.{Command}
 use Rattle.hwp_script.specs.declared.Command.TheVariants as commands
@@ -96,7 +95,7 @@ made-what {view = view} {who = who} {at = at} {what = what} has =
       place_is = ap (λ (p : Page). record { page = p; entry = has.last.place }) has.at.0 ∙ ap (λ (n : ℕ). record { page = at.page; entry = n }) has.at.1;
     }
 
-saw-at : {layout : Layout} {view : View} {who : Who} {at : At} {Such : PageState → Type 0} → SawState layout view who at.page at.entry Such → SawAt view who at
+pub saw-at : {layout : Layout} {view : View} {who : Who} {at : At} {Such : PageState → Type 0} → SawState layout view who at.page at.entry Such → SawAt view who at
 saw-at saw = record { log = saw.log; saw = saw.saw; page_is = saw.page_is; place_is = saw.place_is }
 
 module _ (layout : Layout) (list : List Command) (view : View) (who : Who) where

@@ -1,11 +1,9 @@
 -- As long as no memory fails, no process ends and no loss is told.
-use Rattle.std.proofs.Common.{◌≡◌, ◌≢◌, ◌⊎◌, ℕ, zero, suc, ◌+◌, ◌<◌, ◌≤◌, ◌||◌, Bool, true, false, List, [], ◌∷◌, Option, Some, None, IsTrue, length, map, slice_get, refl, sym, ap, ◌∙◌, subst, arith, inl, inr, true≢false}
+use Rattle.std.proofs.Common.{◌≡◌, ℕ, ◌+◌, true, false, List, [], ◌∷◌, Option, Some, None, slice_get, refl, sym, ap, ◌∙◌, inl, inr, true≢false}
 use Rattle.std.specs.FinSet as set
 use Rattle.std.specs.Ordering.{nat_cmp}
 use Rattle.std.specs.List.{list_any}
 use Rattle.std.proofs.lemmas.Bool.{or_from, or_parts}
-use Rattle.std.proofs.lemmas.Option.{none-some}
-use Rattle.hwp_geom.specs.declared.FileNo.{FileNo}
 use Rattle.hwp_geom.specs.declared.Layout.{Layout}
 use Rattle.hwp_geom.specs.declared.Page.{Page}
 use Rattle.hwp_geom.specs.declared.PageKind.{PageKind}
