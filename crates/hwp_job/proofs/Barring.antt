@@ -65,7 +65,7 @@ ended-word {layout} {by} {put} {old} {new} {found} {got} {process} made inside t
     let there = process-word layout made.told.board made.told.rule process found inside made.told.met in
     let word : found ≡ was.1.word =
     made.told.rule.rule.processors.stops.ended_stays process found there made.told.seat old.sights (at_map (λ (v : View). v.sights) made.told.board.views made.told.seat old made.told.me) was.0 was.1 was.2
-        (was.3.0 ∙ ap (λ (p : Proc). places.Process p) same) was.3.1 in
+    (was.3.0 ∙ ap (λ (p : Proc). places.Process p) same) was.3.1 in
     was.3.1 (sym word ∙ none)
 
 module _ {layout : Layout} {old new : View} {p : Prctl} {after : Job} (s : Stepped layout old new (jobs.Prctl p) after) where
