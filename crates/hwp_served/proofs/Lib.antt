@@ -15,3 +15,4 @@ pub mod Answered
 pub mod Holding
 pub mod Shown
 pub mod Showing
+pub mod Staying
