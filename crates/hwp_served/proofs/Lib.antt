@@ -19,3 +19,4 @@ pub mod Sound
 pub mod Unfailed
 pub mod Unlost
 pub mod Lawful
+pub mod Staying
