@@ -1,5 +1,5 @@
 -- What a processor knows of an earlier command stays true over each step of a later one.
-use Rattle.std.proofs.Common.{◌≡◌, ◌≢◌, ◌⊎◌, inl, inr, ℕ, ◌<◌, ◌==◌, Bool, true, false, cond, List, [], ◌∷◌, ◌++◌, Option, Some, None, refl, sym, ap, ◌∙◌, subst}
+use Rattle.std.proofs.Common.{◌≡◌, ◌≢◌, ◌⊎◌, inl, inr, ℕ, ◌==◌, Bool, true, false, cond, List, Option, Some, None, refl, sym, ◌∙◌, subst}
 use Rattle.hwp_geom.specs.declared.Frame.{Frame}
 use Rattle.hwp_geom.specs.declared.Layout.{Layout}
 use Rattle.hwp_geom.specs.declared.Page.{Page}
@@ -13,7 +13,6 @@ use Rattle.hwp_page.specs.declared.What.TheVariants as entries
 use Rattle.hwp_page.specs.History.{BodyValue}
 use Rattle.hwp_rule.specs.declared.InHand.{InHand}
 use Rattle.hwp_rule.specs.declared.Log.{Log}
-use Rattle.hwp_rule.specs.declared.Made.{Made}
 use Rattle.hwp_rule.specs.declared.Place.{Place}
 use Rattle.hwp_rule.specs.declared.Place.TheVariants as places
 use Rattle.hwp_rule.specs.declared.Step.{Step}
@@ -26,7 +25,7 @@ use Rattle.hwp_rule.specs.Views.{body_of, listed_of, loaded, noted, put_home, ta
 use Rattle.hwp_rule.proofs.Lists.{some-push}
 use Rattle.hwp_step.specs.Calls.{CanMake, Steps, logs}
 use Rattle.hwp_step.proofs.Stepping.{content_of}
-use Rattle.hwp_known.specs.Known.{HasMade, HasMadeNone, HasOnly, SawStop, deeds}
+use Rattle.hwp_known.specs.Known.{HasMadeNone, SawStop, deeds}
 use Rattle.hwp_known.proofs.Listing.{deeds-other, has-made-stays, has-only-stays}
 use Rattle.hwp_known.proofs.Seeing.{saw-state-stays, saw-stays}
 use Rattle.hwp_script.specs.declared.Command.{Command}
