@@ -1,5 +1,5 @@
 -- The policies that a view lists after a step: those before it, and what the command has set with it.
-use Rattle.std.proofs.Common.{◌≡◌, ℕ, ◌==◌, Bool, true, false, cond, List, [], ◌∷◌, ◌++◌, Option, Some, None, filter, map, append-nil, refl, sym, ap, ◌∙◌, subst}
+use Rattle.std.proofs.Common.{◌≡◌, ℕ, ◌==◌, Bool, true, false, cond, List, [], ◌∷◌, ◌++◌, Option, Some, None, map, append-nil, refl, sym, ap, ◌∙◌}
 use Rattle.std.proofs.lemmas.List.{map-append}
 use Rattle.std.proofs.lemmas.List.Elements.{filter-append}
 use Rattle.std.proofs.lemmas.Option.{none-some}
@@ -20,7 +20,6 @@ use Rattle.hwp_rule.specs.declared.Step.TheVariants as steps
 use Rattle.hwp_rule.specs.declared.View.{View}
 use Rattle.hwp_rule.specs.Views.{noted, sighted, stamp_of}
 use Rattle.hwp_rule.specs.parts.Policies.{settings_of}
-use Rattle.hwp_step.specs.Calls.{Steps}
 use Rattle.hwp_step.proofs.Stepping.{steps-planned}
 use Rattle.hwp_control.specs.declared.Nested.{Nested}
 use Rattle.hwp_control.specs.declared.Prctl.{Prctl}
@@ -36,19 +35,19 @@ use Rattle.hwp_job.specs.declared.job.Job.TheVariants as jobs
 use Rattle.hwp_job.specs.Jobs.{plan}
 use Rattle.hwp_job.specs.Settings.{policies_in, set_at, set_now}
 use Rattle.hwp_job.specs.Stays.{Stepped}
-use Rattle.hwp_job.proofs.Quiet.{Alike, PlansQuiet, access, evict, fsync, leaves, read}
+use Rattle.hwp_job.proofs.Quiet.{access, evict, fsync, leaves, read}
 use Rattle.hwp_job.proofs.Stopping.{quiet-step}
 
-either-none : {A : Type 0} (b : Bool) → cond b ([] {A = A}) [] ≡ []
-either-none true = refl
-either-none false = refl
+pub either-same : (b : Bool) (l : List Policy) → cond b l l ≡ l
+either-same true l = refl
+either-same false l = refl
 
 -- a command that makes a step has set nothing yet
 pub unset-before : (thread : Thread) (j : Job) {step : Step} → plan j ≡ Some step → set_now thread j ≡ []
 unset-before thread (jobs.Access a) is = refl
 unset-before thread (jobs.Evict e) is = refl
 unset-before thread (jobs.Fsync f) is = refl
-unset-before thread (jobs.Prctl p) {step} is = ap (λ (l : List Policy). cond (p.thread.0 == thread.0) l []) (which p.at is) ∙ either-none (p.thread.0 == thread.0)
+unset-before thread (jobs.Prctl p) {step} is = ap (λ (l : List Policy). cond (p.thread.0 == thread.0) l []) (which p.at is) ∙ either-same (p.thread.0 == thread.0) []
   where
     which : (x : PrctlAt) → prctls.plan_at p.thread p.process x ≡ Some step → set_at x ≡ []
     which prctl_at.LoadStop e = refl
@@ -59,7 +58,7 @@ unset-before thread (jobs.Prctl p) {step} is = ap (λ (l : List Policy). cond (p
 unset-before thread (jobs.ReadStop r) is = refl
 unset-before thread (jobs.Nested n) is = refl
 
-module _ (thread : Thread) {old new : View} {after : Job} where
+module _ (thread : Thread) (old new : View) (after : Job) where
   -- a step that leaves the settings, by a command that has set nothing
   kept : new.settings ≡ old.settings → set_now thread after ≡ [] → policies_in thread new ≡ policies_in thread old ++ set_now thread after
   kept same none = ap (λ (l : List Setting). map (λ (s : Setting). s.policy) (settings_of thread l)) same ∙ sym (append-nil (policies_in thread old)) ∙ ap (λ (l : List Policy). policies_in thread old ++ l) (sym none)
@@ -80,7 +79,7 @@ module _ (p : Prctl) (found : ℕ) where
   replied n replies.Einval = refl
 
 -- the settings after one more
-pub one-more : (thread : Thread) (list : List Setting) (s : Setting) → map (λ (x : Setting). x.policy) (settings_of thread (list ++ s ∷ [])) ≡ map (λ (x : Setting). x.policy) (settings_of thread list) ++ cond (s.thread.0 == thread.0) (s.policy ∷ []) []
+one-more : (thread : Thread) (list : List Setting) (s : Setting) → map (λ (x : Setting). x.policy) (settings_of thread (list ++ s ∷ [])) ≡ map (λ (x : Setting). x.policy) (settings_of thread list) ++ cond (s.thread.0 == thread.0) (s.policy ∷ []) []
 one-more thread list s =
     ap (map (λ (x : Setting). x.policy)) (filter-append (λ (x : Setting). x.thread.0 == thread.0) list (s ∷ []))
     ∙ map-append (λ (x : Setting). x.policy) (settings_of thread list) (settings_of thread (s ∷ []))
@@ -101,12 +100,12 @@ module _ {layout : Layout} {old new : View} {p : Prctl} {after : Job} (s : Stepp
       so x at = after-at ∙ ap (λ (y : PrctlAt). cond (p.thread.0 == thread.0) (set_at (prctls.next_at p.arguments y s.found)) []) at
 
       none : (x : PrctlAt) → p.at ≡ x → set_at (prctls.next_at p.arguments x s.found) ≡ [] → set_now thread after ≡ []
-      none x at unset = so x at ∙ ap (λ (l : List Policy). cond (p.thread.0 == thread.0) l []) unset ∙ either-none (p.thread.0 == thread.0)
+      none x at unset = so x at ∙ ap (λ (l : List Policy). cond (p.thread.0 == thread.0) l []) unset ∙ either-same (p.thread.0 == thread.0) []
 
       which : (x : PrctlAt) → p.at ≡ x → prctls.plan_at p.thread p.process x ≡ Some s.step → policies_in thread new ≡ policies_in thread old ++ set_now thread after
-      which prctl_at.LoadStop at e = kept thread (leaves s.made (quiet-step {o = Some (steps.Load places.Stop)} tt e)).settings (none prctl_at.LoadStop at (stopped p s.found (is_stopped s.found)))
-      which prctl_at.LoadProcess at e = kept thread (leaves s.made (quiet-step {o = Some (steps.Load (places.Process p.process))} tt e)).settings (none prctl_at.LoadProcess at (ended p s.found (page_named s.found)))
-      which prctl_at.LoadPolicy at e = kept thread (leaves s.made (quiet-step {o = Some (steps.Load (places.Policy p.thread))} tt e)).settings
+      which prctl_at.LoadStop at e = kept thread old new after (leaves s.made (quiet-step {o = Some (steps.Load places.Stop)} tt e)).settings (none prctl_at.LoadStop at (stopped p s.found (is_stopped s.found)))
+      which prctl_at.LoadProcess at e = kept thread old new after (leaves s.made (quiet-step {o = Some (steps.Load (places.Process p.process))} tt e)).settings (none prctl_at.LoadProcess at (ended p s.found (page_named s.found)))
+      which prctl_at.LoadPolicy at e = kept thread old new after (leaves s.made (quiet-step {o = Some (steps.Load (places.Policy p.thread))} tt e)).settings
           (none prctl_at.LoadPolicy at (replied p s.found (words.settings_of s.found) (reply (words.policy_of s.found) p.arguments)))
       which (prctl_at.SetPolicy policy settings) at e =
           ap (λ (v : View). policies_in thread v) (steps-planned {other = steps.SetPolicy p.thread policy settings} e s.made).told.next
@@ -130,9 +129,9 @@ module _ {layout : Layout} {old new : View} {n : Nested} {after : Job} (s : Step
       which (nested_at.Over answer) e = absurd (none-some s.step e)
 
 pub settings-after : {layout : Layout} {old new : View} {j after : Job} → Stepped layout old new j after → (thread : Thread) → policies_in thread new ≡ policies_in thread old ++ set_now thread after
-settings-after {j = jobs.Access a} s thread = kept thread (leaves s.made (quiet-step (access a.request a.at) s.planned)).settings (ap (set_now thread) s.follows.1)
-settings-after {j = jobs.Evict e} s thread = kept thread (leaves s.made (quiet-step (evict e.at) s.planned)).settings (ap (set_now thread) s.follows.1)
-settings-after {j = jobs.Fsync f} s thread = kept thread (leaves s.made (quiet-step (fsync f.file f.at) s.planned)).settings (ap (set_now thread) s.follows.0)
-settings-after {j = jobs.Prctl p} s thread = call-sets s thread
-settings-after {j = jobs.ReadStop r} s thread = kept thread (leaves s.made (quiet-step (read r.at) s.planned)).settings (ap (set_now thread) s.follows.0)
-settings-after {j = jobs.Nested n} s thread = kept thread (nested-leaves s) (ap (set_now thread) s.follows.0)
+settings-after {old = old} {new = new} {j = jobs.Access a} {after = after} s thread = kept thread old new after (leaves s.made (quiet-step (access a.request a.at) s.planned)).settings (ap (set_now thread) s.follows.1)
+settings-after {old = old} {new = new} {j = jobs.Evict e} {after = after} s thread = kept thread old new after (leaves s.made (quiet-step (evict e.at) s.planned)).settings (ap (set_now thread) s.follows.1)
+settings-after {old = old} {new = new} {j = jobs.Fsync f} {after = after} s thread = kept thread old new after (leaves s.made (quiet-step (fsync f.file f.at) s.planned)).settings (ap (set_now thread) s.follows.0)
+settings-after {old = old} {new = new} {j = jobs.Prctl p} {after = after} s thread = call-sets s thread
+settings-after {old = old} {new = new} {j = jobs.ReadStop r} {after = after} s thread = kept thread old new after (leaves s.made (quiet-step (read r.at) s.planned)).settings (ap (set_now thread) s.follows.0)
+settings-after {old = old} {new = new} {j = jobs.Nested n} {after = after} s thread = kept thread old new after (nested-leaves s) (ap (set_now thread) s.follows.0)
