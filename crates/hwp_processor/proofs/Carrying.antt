@@ -50,7 +50,7 @@ module _ (layout : Layout) (old new : View) (cpu : Cpu) (list : List Command) (r
   serves : Serves layout new cpu list rows
   serves = record {
     answered = answered-as layout list old new cpu (length rows)
-        (λ n c a less caused. caused-stays can made.made list (at_number cpu n) c a (other n (λ same. absurd (omega arith))) caused) 0 list rows (omega arith) run.serves.answered;
+        (λ n c a less caused. caused-stays can made.made (at_number cpu n) (other n (λ same. absurd (omega arith))) list c a caused) 0 list rows (omega arith) run.serves.answered;
     stays = run.serves.stays;
     halted = λ some. (halted-stays made (run.serves.halted some) (run.stopped some)).0;
     none_bad = none-bad can made.made run.serves.none_bad;
