@@ -129,12 +129,12 @@ module _ (list : List Command) (view : View) (p : Prctl) where
   before-is : (policy : Policy) (before : List Setting) (last : Setting) → settings_of p.thread view.settings ≡ before ++ last ∷ [] → p.at ≡ prctl_at.Over (prctl_answers.Replied (replies.Set policy)) → IsCounted list view p.who (jobs.Prctl p) p.thread
       → map (λ (s : Setting). s.policy) before ≡ settings p.thread (take p.who.seq list)
   before-is policy before last all over counted = (same_from_push (map (λ (s : Setting). s.policy) before) (settings p.thread (take p.who.seq list)) last.policy policy (
-    sym (map-append (λ (s : Setting). s.policy) before (last ∷ []))
-    ∙ sym (ap (map (λ (s : Setting). s.policy)) all)
-    ∙ counted
-    ∙ ap (λ (b : Bool). settings p.thread (take p.who.seq list) ++ cond b (set_at p.at) []) (eq-eqb p.thread.0 p.thread.0 refl)
-    ∙ ap (λ (x : PrctlAt). settings p.thread (take p.who.seq list) ++ set_at x) over
-  )).0
+      sym (map-append (λ (s : Setting). s.policy) before (last ∷ []))
+      ∙ sym (ap (map (λ (s : Setting). s.policy)) all)
+      ∙ counted
+      ∙ ap (λ (b : Bool). settings p.thread (take p.who.seq list) ++ cond b (set_at p.at) []) (eq-eqb p.thread.0 p.thread.0 refl)
+      ∙ ap (λ (x : PrctlAt). settings p.thread (take p.who.seq list) ++ set_at x) over
+      )).0
 
   now-is : set_at p.at ≡ [] → IsCounted list view p.who (jobs.Prctl p) p.thread → policies_in p.thread view ≡ settings p.thread (take p.who.seq list)
   now-is none counted = counted

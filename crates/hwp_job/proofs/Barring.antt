@@ -1,5 +1,5 @@
 -- A thread whose process has ended stays so, and a call of prctl(2) by it that hasn't got past the process's word doesn't.
-use Rattle.std.proofs.Common.{◌≡◌, ◌≢◌, ◌⊎◌, inl, inr, ℕ, ◌-◌, ◌%◌, ◌^◌, ◌<◌, ◌==◌, Bool, true, false, cond, List, Option, Some, None, length, slice_get, slice_index, option_map, refl, sym, ap, ◌∙◌, subst}
+use Rattle.std.proofs.Common.{◌≡◌, ◌≢◌, inl, inr, ℕ, ◌-◌, ◌%◌, ◌^◌, ◌<◌, Bool, true, false, cond, Option, Some, None, slice_get, slice_index, option_map, refl, sym, ap, ◌∙◌, subst}
 use Rattle.std.proofs.lemmas.Bool.{ne_eqb}
 use Rattle.std.proofs.lemmas.Option.{none-some, same_Some, slice_get-get_or}
 use Rattle.hwp_geom.specs.declared.Layout.{Layout}
@@ -8,7 +8,6 @@ use Rattle.hwp_geom.specs.declared.Thread.{Thread}
 use Rattle.hwp_geom.specs.declared.ThreadDecl.{ThreadDecl}
 use Rattle.hwp_geom.specs.declared.Who.{Who}
 use Rattle.hwp_page.specs.History.{BodyValue}
-use Rattle.hwp_words.specs.Names.{page_named}
 use Rattle.hwp_words.specs.Stops.{is_stopped}
 use Rattle.hwp_rule.specs.declared.Log.{Log}
 use Rattle.hwp_rule.specs.declared.Place.TheVariants as places
@@ -46,7 +45,7 @@ process-declared layout thread decl is = ap (option_map (λ (t : ThreadDecl). t.
 
 module _ {layout : Layout} {by : Who} {step : Step} {put : Option Log} {old new : View} {found : ℕ} {got : Option BodyValue} (made : Steps layout by step put old new found got) where
   -- what was shown is still shown
-  pub still-ended : {thread : Thread} → HasEnded layout old thread → HasEnded layout new thread
+  still-ended : {thread : Thread} → HasEnded layout old thread → HasEnded layout new thread
   still-ended ended =
       let was = ended.shown in
       let still = saw-stays made {by = was.1.stamp.who} {place = was.1.place} {word = was.1.word} (was.0, was.1, was.2, (refl, refl, refl)) in
@@ -65,7 +64,7 @@ ended-word {layout} {by} {put} {old} {new} {found} {got} {process} made inside t
     let there = process-word layout made.told.board made.told.rule process found inside made.told.met in
     let word : found ≡ was.1.word =
     made.told.rule.rule.processors.stops.ended_stays process found there made.told.seat old.sights (at_map (λ (v : View). v.sights) made.told.board.views made.told.seat old made.told.me) was.0 was.1 was.2
-        (was.3.0 ∙ ap (λ (p : Proc). places.Process p) same) was.3.1 in
+    (was.3.0 ∙ ap (λ (p : Proc). places.Process p) same) was.3.1 in
     was.3.1 (sym word ∙ none)
 
 module _ {layout : Layout} {old new : View} {p : Prctl} {after : Job} (s : Stepped layout old new (jobs.Prctl p) after) where
@@ -89,7 +88,7 @@ module _ {layout : Layout} {old new : View} {p : Prctl} {after : Job} (s : Stepp
       which (prctl_at.Over answer) e not_ = absurd (none-some s.step e)
 
 -- what follows isn't a call, or is one that hasn't got past the word of the process
-pub not-replied : {layout : Layout} {old new : View} {j after : Job} → Stepped layout old new j after → (thread : Thread) → HasEnded layout old thread → HasNotReplied thread j → HasNotReplied thread after
+not-replied : {layout : Layout} {old new : View} {j after : Job} → Stepped layout old new j after → (thread : Thread) → HasEnded layout old thread → HasNotReplied thread j → HasNotReplied thread after
 not-replied {j = jobs.Access a} s thread ended not_ = subst (HasNotReplied thread) (sym s.follows.1) tt
 not-replied {j = jobs.Evict e} s thread ended not_ = subst (HasNotReplied thread) (sym s.follows.1) tt
 not-replied {j = jobs.Fsync f} s thread ended not_ = subst (HasNotReplied thread) (sym s.follows.0) tt

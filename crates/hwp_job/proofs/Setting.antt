@@ -1,5 +1,5 @@
 -- The policies that a view lists after a step: those before it, and what the command has set with it.
-use Rattle.std.proofs.Common.{◌≡◌, ℕ, ◌==◌, Bool, true, false, cond, List, [], ◌∷◌, ◌++◌, Option, Some, None, filter, map, append-nil, refl, sym, ap, ◌∙◌, subst}
+use Rattle.std.proofs.Common.{◌≡◌, ℕ, ◌==◌, Bool, true, false, cond, List, [], ◌∷◌, ◌++◌, Option, Some, None, map, append-nil, refl, sym, ap, ◌∙◌}
 use Rattle.std.proofs.lemmas.List.{map-append}
 use Rattle.std.proofs.lemmas.List.Elements.{filter-append}
 use Rattle.std.proofs.lemmas.Option.{none-some}
@@ -20,7 +20,6 @@ use Rattle.hwp_rule.specs.declared.Step.TheVariants as steps
 use Rattle.hwp_rule.specs.declared.View.{View}
 use Rattle.hwp_rule.specs.Views.{noted, sighted, stamp_of}
 use Rattle.hwp_rule.specs.parts.Policies.{settings_of}
-use Rattle.hwp_step.specs.Calls.{Steps}
 use Rattle.hwp_step.proofs.Stepping.{steps-planned}
 use Rattle.hwp_control.specs.declared.Nested.{Nested}
 use Rattle.hwp_control.specs.declared.Prctl.{Prctl}
@@ -36,7 +35,7 @@ use Rattle.hwp_job.specs.declared.job.Job.TheVariants as jobs
 use Rattle.hwp_job.specs.Jobs.{plan}
 use Rattle.hwp_job.specs.Settings.{policies_in, set_at, set_now}
 use Rattle.hwp_job.specs.Stays.{Stepped}
-use Rattle.hwp_job.proofs.Quiet.{Alike, PlansQuiet, access, evict, fsync, leaves, read}
+use Rattle.hwp_job.proofs.Quiet.{access, evict, fsync, leaves, read}
 use Rattle.hwp_job.proofs.Stopping.{quiet-step}
 
 pub either-same : (b : Bool) (l : List Policy) → cond b l l ≡ l
@@ -80,7 +79,7 @@ module _ (p : Prctl) (found : ℕ) where
   replied n replies.Einval = refl
 
 -- the settings after one more
-pub one-more : (thread : Thread) (list : List Setting) (s : Setting) → map (λ (x : Setting). x.policy) (settings_of thread (list ++ s ∷ [])) ≡ map (λ (x : Setting). x.policy) (settings_of thread list) ++ cond (s.thread.0 == thread.0) (s.policy ∷ []) []
+one-more : (thread : Thread) (list : List Setting) (s : Setting) → map (λ (x : Setting). x.policy) (settings_of thread (list ++ s ∷ [])) ≡ map (λ (x : Setting). x.policy) (settings_of thread list) ++ cond (s.thread.0 == thread.0) (s.policy ∷ []) []
 one-more thread list s =
     ap (map (λ (x : Setting). x.policy)) (filter-append (λ (x : Setting). x.thread.0 == thread.0) list (s ∷ []))
     ∙ map-append (λ (x : Setting). x.policy) (settings_of thread list) (settings_of thread (s ∷ []))

@@ -1,10 +1,10 @@
 -- What a processor knows of policies it knows after each step of a command, and when the next command begins.
-use Rattle.std.proofs.Common.{◌≡◌, ◌≢◌, ◌⊎◌, inl, inr, ℕ, ◌+◌, ◌<◌, ◌≤◌, ◌==◌, ◌&&◌, Bool, true, false, cond, List, [], ◌∷◌, ◌++◌, Option, Some, None, length, map, take, filter, filter_map, if◌then◌else◌, option_map, slice_get, slice_index, append-nil, refl, sym, ap, ◌∙◌, subst, arith, true≢false}
+use Rattle.std.proofs.Common.{◌≡◌, ◌⊎◌, inl, inr, ℕ, ◌+◌, ◌<◌, ◌≤◌, ◌==◌, ◌&&◌, Bool, true, false, cond, List, [], ◌∷◌, ◌++◌, Option, Some, None, length, map, take, filter_map, if◌then◌else◌, option_map, slice_get, slice_index, append-nil, refl, sym, ap, ◌∙◌, subst, arith, true≢false}
 use Rattle.std.specs.List.{cons_option}
 use Rattle.std.proofs.lemmas.Bool.{eqb-true, ne_eqb}
 use Rattle.std.proofs.lemmas.List.{length-append, length-map, take_more}
 use Rattle.std.proofs.lemmas.List.Elements.{filter_map-append}
-use Rattle.std.proofs.lemmas.Option.{none-some, same_Some, get_or_from_slice_get, slice_get_within}
+use Rattle.std.proofs.lemmas.Option.{none-some, get_or_from_slice_get, slice_get_within}
 use Rattle.hwp_geom.specs.declared.Layout.{Layout}
 use Rattle.hwp_geom.specs.declared.Page.{Page}
 use Rattle.hwp_geom.specs.declared.Proc.{Proc}
@@ -17,7 +17,6 @@ use Rattle.hwp_kill.specs.declared.Policy.TheVariants as policy_names
 use Rattle.hwp_kill.specs.declared.Reply.{Reply}
 use Rattle.hwp_kill.specs.declared.Reply.TheVariants as replies
 use Rattle.hwp_kill.specs.Prctl.{asks_policy, clear_mode, get_operation, policy_set, reply, set_mode, set_operation, setting}
-use Rattle.hwp_rule.specs.declared.Place.TheVariants as places
 use Rattle.hwp_rule.specs.declared.Setting.{Setting}
 use Rattle.hwp_rule.specs.declared.View.{View}
 use Rattle.hwp_rule.specs.parts.Policies.{settings_of}
@@ -42,7 +41,7 @@ use Rattle.hwp_job.specs.Begins.{Begins, BeginsPrctl}
 use Rattle.hwp_job.specs.Jobs.{Fits, answer}
 use Rattle.hwp_job.specs.Runs.{Runs, anew}
 use Rattle.hwp_job.specs.Settings.{HasReplied, IsCounted, policies_in, set_at, set_now}
-use Rattle.hwp_job.specs.Stays.{CannotReply, EndsStopped, HasEnded, HasNotReplied, IsAtStop, IsBarred, IsHalted, IsNotPast, KnowsPolicies, Stepped}
+use Rattle.hwp_job.specs.Stays.{CannotReply, HasEnded, HasNotReplied, IsAtStop, IsBarred, IsNotPast, KnowsPolicies, Stepped}
 use Rattle.hwp_job.proofs.Barring.{barred-stays, process-declared}
 use Rattle.hwp_job.proofs.Setting.{either-same, settings-after, unset-before}
 use Rattle.hwp_job.proofs.Stopping.{stopped-halts}
@@ -50,7 +49,7 @@ use Rattle.hwp_job.proofs.Stopping.{stopped-halts}
 -- ---- at the beginning of a command
 
 -- it has set nothing, and hasn't been replied to
-pub unset-at-start : (thread : Thread) (j : Job) → IsAtStop j → set_now thread j ≡ []
+unset-at-start : (thread : Thread) (j : Job) → IsAtStop j → set_now thread j ≡ []
 unset-at-start thread (jobs.Access a) start = refl
 unset-at-start thread (jobs.Evict e) start = refl
 unset-at-start thread (jobs.Fsync f) start = refl

@@ -21,7 +21,7 @@ use Rattle.hwp_rule.specs.Words.{words_of}
 use Rattle.hwp_rule.proofs.Lists.{at_map, some-push}
 use Rattle.hwp_step.specs.Calls.{Steps}
 use Rattle.hwp_step.proofs.Stepping.{steps-planned}
-use Rattle.hwp_known.specs.Known.{Saw, SawStop}
+use Rattle.hwp_known.specs.Known.{SawStop}
 use Rattle.hwp_known.proofs.Seeing.{saw-stays}
 use Rattle.hwp_form.specs.declared.Command.{Command}
 use Rattle.hwp_form.specs.declared.Command.TheVariants as commands
@@ -56,7 +56,6 @@ use Rattle.hwp_evict.specs.declared.fsync.FsyncAt.{FsyncAt}
 use Rattle.hwp_evict.specs.declared.fsync.FsyncAt.TheVariants as fsync_at
 use Rattle.hwp_evict.specs.Evicts as evicts
 use Rattle.hwp_evict.specs.Fsyncs as fsyncs
-use Rattle.hwp_fault.specs.declared.Access.{Access}
 use Rattle.hwp_fault.specs.declared.AccessAnswer.TheVariants as access_answers
 use Rattle.hwp_fault.specs.declared.access.AccessAt.{AccessAt}
 use Rattle.hwp_fault.specs.declared.access.AccessAt.TheVariants as access_at
@@ -113,7 +112,7 @@ module _ {a : Answer} where
   over-nested w (nested_at.Over b) is = refl
   over-nested w _ is = absurd (none-some a is)
 
-  pub answered-over : (j : Job) → answer j ≡ Some a → plan j ≡ None
+  answered-over : (j : Job) → answer j ≡ Some a → plan j ≡ None
   answered-over (jobs.Access x) is = over-access x.request x.at is
   answered-over (jobs.Evict x) is = over-evict x.at is
   answered-over (jobs.Fsync x) is = over-fsync x.file x.at is
@@ -228,7 +227,7 @@ module _ {layout : Layout} {old new : View} {j after : Job} (s : Stepped layout 
       which (inr own) = subst (SomeMember P) (sym own.stops_are) (some-push P old.stops own.nested.who some)
 
   -- what was shown is still shown
-  pub still-halted : IsHalted old → IsHalted new
+  still-halted : IsHalted old → IsHalted new
   still-halted (inl shown) =
       let still = saw-stays s.made {by = shown.1.stamp.who} {place = shown.1.place} {word = shown.1.word} (shown.0, shown.1, shown.2, (refl, refl, refl)) in
       inl (still.0, still.1, still.2, (still.3.1 ∙ shown.3.0, ap is_stopped still.3.2 ∙ shown.3.1))
