@@ -1,5 +1,5 @@
 -- A processor fits at its beginning, stays the processor that it is, and has served its commands at its end.
-use Rattle.std.proofs.Common.{◌≡◌, ℕ, zero, suc, ◌+◌, ◌<◌, ◌≤◌, ◌⊎◌, inl, inr, List, [], ◌∷◌, ◌++◌, Option, Some, None, length, map, option_map, slice_get, refl, sym, ap, ◌∙◌, subst, arith}
+use Rattle.std.proofs.Common.{◌≡◌, ℕ, zero, suc, ◌<◌, ◌≤◌, ◌⊎◌, inl, inr, List, [], ◌∷◌, ◌++◌, Option, Some, None, length, map, option_map, slice_get, sym, ap, ◌∙◌, subst, arith}
 use Rattle.std.proofs.lemmas.Bool.{cases_lt}
 use Rattle.std.proofs.lemmas.List.{get_or_past, length-map}
 use Rattle.std.proofs.lemmas.Option.{get_or_from_slice_get}
@@ -23,7 +23,7 @@ use Rattle.hwp_job.specs.declared.job.Job.{Job}
 use Rattle.hwp_job.specs.Jobs as jobs
 use Rattle.hwp_served.specs.Served.{IsServed}
 use Rattle.hwp_processor.specs.declared.processor.Processor.{Processor}
-use Rattle.hwp_processor.specs.Processors.{AtBeginning, Follows, IsAnswered, Next, NextOf, bare, who}
+use Rattle.hwp_processor.specs.Processors.{AtBeginning, Follows, Next, NextOf, bare, who}
 use Rattle.hwp_processor.specs.Serving.{Fits, FitsAt}
 use Rattle.hwp_processor.proofs.Opening.{begun}
 use Rattle.hwp_processor.proofs.Served.{served}

@@ -75,16 +75,13 @@ impl Processor {
         ensures { IsAnswered self.old answer self.new }
     {
         let number = self.lines.len();
-        self.lines.push_reserved(CpuLine::Answer {
+        let line = CpuLine::Answer {
             seq: number as u32,
             answer,
-        });
-        self.job = begin(
-            &self.layout,
-            self.cpu,
-            self.commands.as_slice(),
-            number + 1,
-        );
+        };
+        self.lines.push_reserved(line);
+        let commands = self.commands.as_slice();
+        self.job = begin(&self.layout, self.cpu, commands, number + 1);
     }
 }
 
