@@ -94,13 +94,13 @@ module _ (layout : Layout) (s : State) (h : Holds layout s) (cpus : List (List C
       let one : sum_by (λ (l : List Who). length l) (map (λ (v : View). v.stops) s.views) ≡ min (stopper_of (words_of layout s.words).stop) 1 = h.rule.processors.stops.one in
       let some = some-term (λ (l : List Who). length l) (map (λ (v : View). v.stops) s.views) (omega (arith, one, named)) in
       let was = map-was (λ (v : View). v.stops) s.views some.0 some.1 some.2 in
-      let first = first-of was.0.stops (subst (λ (l : List Who). 0 < length l) (sym was.2) some.3) in
+      let first = first-of was.0.stops some.1 was.2 some.3 in
       let listed = at_map (λ (v : View). v.stops) s.views some.0 was.0 was.1 in
       (some.0, was.0, was.1, (0, first.0, first.1, (h.rule.processors.stops.named some.0 was.0.stops listed 0 first.0 first.1, end.stops some.0 was.0 was.1 0 first.0 first.1)))
     where
-      first-of : (l : List Who) → 0 < length l → (w : Who) × (slice_get l 0 ≡ Some w)
-      first-of [] some = absurd (omega (arith, some))
-      first-of (w ∷ ws) some = (w, refl)
+      first-of : (l same : List Who) → l ≡ same → 0 < length same → (w : Who) × (slice_get l 0 ≡ Some w)
+      first-of [] same is some = absurd (omega (arith, some, ap (λ (x : List Who). length x) is))
+      first-of (w ∷ ws) same is some = (w, refl)
 
   pub has-stopper : HasStopper (words_of layout s.words).stop cpus
   has-stopper named = let some = some-stop named in (some.3.1, some.3.3.0, some.3.3.1)

@@ -26,9 +26,10 @@ module _ {A : Type 0} (g : ℕ → A) where
       let less : i < n = omega arith in
       (less, same_Some x (g i) (sym there ∙ at_map g (below n) i i (below-at n i less)))
 
--- one word more of a list
-pub take-next : (l : List ℕ) (n : ℕ) → n < length l → take n l ++ slice_index l n ∷ [] ≡ take (n + 1) l
-take-next l n inside = sym (take-suc l n 0 inside) ∙ ap (λ (m : ℕ). take m l) next
+-- the first words of a list, with the next one
+pub take-next : (l front after : List ℕ) (n word : ℕ) → n < length l → front ≡ take n l → word ≡ slice_index l n → after ≡ front ++ word ∷ [] → after ≡ take (n + 1) l
+take-next l front after n word inside was is pushed =
+    pushed ∙ ap (λ (xs : List ℕ). xs ++ word ∷ []) was ∙ ap (λ (x : ℕ). take n l ++ x ∷ []) is ∙ sym (take-suc l n 0 inside) ∙ ap (λ (m : ℕ). take m l) next
   where
     next : suc n ≡ n + 1
     next = omega arith

@@ -1,13 +1,12 @@
 -- When the command that runs has its answer, the answer has its cause, and the next command may begin.
-use Rattle.std.proofs.Common.{◌≡◌, ℕ, suc, zero, ◌+◌, ◌<◌, ◌≤◌, ◌⊎◌, inl, inr, Bool, true, false, List, [], ◌∷◌, ◌++◌, Option, Some, None, length, option_map, slice_get, refl, sym, ap, ◌∙◌, subst, arith}
+use Rattle.std.proofs.Common.{◌≡◌, ℕ, ◌+◌, ◌<◌, ◌≤◌, ◌⊎◌, inl, inr, Bool, true, false, List, [], ◌∷◌, ◌++◌, Option, Some, None, length, option_map, slice_get, refl, sym, ap, ◌∙◌, subst, arith}
 use Rattle.std.proofs.lemmas.Bool.{both_ways}
 use Rattle.std.proofs.lemmas.List.{length-append}
-use Rattle.std.proofs.lemmas.Option.{none-some, same_Some, slice_get_within}
+use Rattle.std.proofs.lemmas.Option.{same_Some, slice_get_within}
 use Rattle.hwp_geom.specs.declared.Cpu.{Cpu}
 use Rattle.hwp_geom.specs.declared.Layout.{Layout}
 use Rattle.hwp_geom.specs.declared.Who.{Who}
 use Rattle.hwp_geom.specs.Limits.{command_limit}
-use Rattle.hwp_page.specs.History.{BodyValue}
 use Rattle.hwp_form.specs.declared.Command.{Command}
 use Rattle.hwp_form.specs.declared.Command.TheVariants as commands
 use Rattle.hwp_report.specs.declared.Answer.{Answer}
@@ -15,13 +14,10 @@ use Rattle.hwp_report.specs.declared.Answer.TheVariants as answers
 use Rattle.hwp_report.specs.declared.CpuLine.{CpuLine}
 use Rattle.hwp_report.specs.declared.CpuLine.TheVariants as lines
 use Rattle.hwp_rule.specs.declared.Part.{Part}
-use Rattle.hwp_rule.specs.declared.Step.{Step}
 use Rattle.hwp_rule.specs.declared.View.{View}
-use Rattle.hwp_rule.specs.Asks.{IsTurnOf}
 use Rattle.hwp_rule.specs.Lists.{EachMember, SomeMember}
 use Rattle.hwp_rule.proofs.Lists.{at_last}
-use Rattle.hwp_step.specs.declared.Turn.{Turn}
-use Rattle.hwp_step.specs.Calls.{IsLater, IsOnTurn, Steps, logs}
+use Rattle.hwp_step.specs.Calls.{IsLater, IsOnTurn}
 use Rattle.hwp_step.specs.Hands.{hand_of, empty}
 use Rattle.hwp_known.specs.Known.{HasMadeNone}
 use Rattle.hwp_known.proofs.Listing.{made-none}
@@ -33,8 +29,8 @@ use Rattle.hwp_job.specs.declared.job.Job.TheVariants as kinds
 use Rattle.hwp_job.specs.Answers.{nested_answer}
 use Rattle.hwp_job.specs.Begins.{Begins}
 use Rattle.hwp_job.specs.Jobs as jobs
-use Rattle.hwp_job.specs.Runs.{AtRest, Runs}
-use Rattle.hwp_job.specs.Stays.{KnowsPolicies}
+use Rattle.hwp_job.specs.Runs.{Runs}
+use Rattle.hwp_job.specs.Stays.{IsHalted, KnowsPolicies, Stepped}
 use Rattle.hwp_job.proofs.Ending.{ends}
 use Rattle.hwp_job.proofs.Running.{begins-fits, begins-runs, runs-who}
 use Rattle.hwp_job.proofs.Staying.{counted, left, policies-next}
@@ -51,27 +47,27 @@ use Rattle.hwp_processor.proofs.Lines.{answered-more, at_front, own-more, past-e
 -- ---- the turn
 
 -- a command that fits is that of the turn
-pub on-turn : {layout : Layout} {view : View} (j : Job) → jobs.Fits layout view j → IsOnTurn view (jobs.who j)
-on-turn (kinds.Access a) fits = fits.on_turn
-on-turn (kinds.Evict e) fits = fits.on_turn
-on-turn (kinds.Fsync f) fits = fits.on_turn
-on-turn (kinds.Prctl p) fits = fits.on_turn
-on-turn (kinds.ReadStop r) fits = fits.on_turn
-on-turn (kinds.Nested n) fits = fits.on_turn
+on-turn : (layout : Layout) (view : View) (j : Job) → jobs.Fits layout view j → IsOnTurn view (jobs.who j)
+on-turn layout view (kinds.Access a) fits = fits.on_turn
+on-turn layout view (kinds.Evict e) fits = fits.on_turn
+on-turn layout view (kinds.Fsync f) fits = fits.on_turn
+on-turn layout view (kinds.Prctl p) fits = fits.on_turn
+on-turn layout view (kinds.ReadStop r) fits = fits.on_turn
+on-turn layout view (kinds.Nested n) fits = fits.on_turn
 
 -- a processor that has come to a command may make steps of the next one
-next-turn : {view : View} (cpu : Cpu) (n : ℕ) → IsOnTurn view (at_number cpu n) → IsOnTurn view (at_number cpu (n + 1))
-next-turn {view} cpu n on = record {
+next-turn : (view : View) (cpu : Cpu) (n : ℕ) → IsOnTurn view (at_number cpu n) → IsOnTurn view (at_number cpu (n + 1))
+next-turn view cpu n on = record {
   turn = record { part = later on.turn.part };
   later = λ i p there same. let few : p.latest ≤ n = on.later i p there same in omega arith;
 }
   where
     later : SomeMember (λ (p : Part). (p.cpu ≡ cpu) × (p.latest ≤ n)) view.parts → SomeMember (λ (p : Part). (p.cpu ≡ cpu) × (p.latest ≤ n + 1)) view.parts
-    later (i, p, there, same, few) = (i, p, there, same, omega (arith, few))
+    later (i, p, there, h) = let few : p.latest ≤ n = h.1 in (i, p, there, (h.0, omega (arith, few)))
 
 -- ---- a machine check inside a machine check
 
-is_nested : Job → Bool
+abbrev is_nested : Job → Bool
 is_nested (kinds.Nested n) = true
 is_nested j = false
 
@@ -95,7 +91,7 @@ nested-begins layout who n commands.RaiseNested begun = refl
 nested-begins layout who n command begun = absurd begun
 
 -- the one that stopped the machine is answered `stopped`, as the first of its processor
-module _ {layout : Layout} {view : View} {cpu : Cpu} {list : List Command} {rows : List CpuLine} (k : Job) (a : Answer) (run : IsRunning layout view cpu list rows k) (has : jobs.answer k ≡ Some a) where
+module _ (layout : Layout) (view : View) (cpu : Cpu) (list : List Command) (rows : List CpuLine) (k : Job) (a : Answer) (run : IsRunning layout view cpu list rows k) (has : jobs.answer k ≡ Some a) where
   own-stop : (who : Who) → HasStoppedIt rows k who → IsOwnStop cpu list (rows ++ lines.Answer (length rows) a ∷ []) who
   own-stop who it = subst (IsOwnStop cpu list (rows ++ lines.Answer (length rows) a ∷ [])) (sym named) (record {
     cpu_is = refl;
@@ -105,16 +101,15 @@ module _ {layout : Layout} {view : View} {cpu : Cpu} {list : List Command} {rows
   })
     where
       named : who ≡ at_number cpu (length rows)
-      named = sym it.who_is ∙ sym (ap jobs.who it.job_is) ∙ runs-who run.command k run.runs
+      named = sym it.who_is ∙ sym (ap jobs.who it.job_is) ∙ runs-who layout (at_number cpu (length rows)) run.command k run.runs
 
       stopped : a ≡ answers.Stopped
       stopped = same_Some a answers.Stopped (sym has ∙ ap jobs.answer it.job_is ∙ ap (λ (x : NestedAt). option_map nested_answer (nesteds.answer_at x)) it.at_is)
 
 -- ---- the answer
 
-module _ {layout : Layout} {old new : View} {cpu : Cpu} {list : List Command} {rows : List CpuLine} (j k : Job) (a : Answer) {step : Step} {found : ℕ} {got : Option BodyValue} {turn : Turn}
-    (run : IsRunning layout old cpu list rows j) (is : jobs.plan j ≡ Some step) (made : Steps layout (jobs.who j) step (logs (jobs.put j)) old new found got) (next : jobs.Next layout (jobs.bare j) found got k turn)
-    (has : jobs.answer k ≡ Some a) (few : length list ≤ command_limit) where
+module _ (layout : Layout) (old new : View) (cpu : Cpu) (list : List Command) (rows : List CpuLine) (j k : Job) (run : IsRunning layout old cpu list rows j) (made : Stepped layout old new j k)
+    (a : Answer) (has : jobs.answer k ≡ Some a) (few : length list ≤ command_limit) where
   abbrev n : ℕ
   n = length rows
 
@@ -122,42 +117,42 @@ module _ {layout : Layout} {old new : View} {cpu : Cpu} {list : List Command} {r
   longer = rows ++ lines.Answer n a ∷ []
 
   now : IsRunning layout new cpu list rows k
-  now = carried j k run is made next
+  now = carried layout old new cpu list rows j k run made
 
   number : length longer ≡ n + 1
   number = length-append rows (lines.Answer n a ∷ [])
 
   because : IsCaused layout list new (at_number cpu n) now.command a
-  because = caused now.command k now.runs now.fits has now.serves.none_bad (λ thread replied. counted now.policies thread replied)
+  because = caused layout list new (at_number cpu n) now.command k now.runs now.fits has now.serves.none_bad (λ thread replied. counted now.policies thread replied)
 
   serves : Serves layout new cpu list longer
   serves = record {
-    answered = answered-more 0 list rows n now.command a (omega arith) now.serves.answered now.there because;
+    answered = answered-more layout list new cpu 0 list rows n now.command a (omega arith) now.serves.answered now.there because;
     stays = stays-more rows n a now.serves.stays (λ some. only-stopped k (now.stopped some) has);
     halted = λ some. by (stopped-was rows n a some);
     none_bad = now.serves.none_bad;
   }
     where
-      by : HasStopped rows ⊎ (a ≡ answers.Stopped) → _
+      by : HasStopped rows ⊎ (a ≡ answers.Stopped) → IsHalted new
       by (inl early) = now.serves.halted early
-      by (inr last) = stopped-halts k now.fits (has ∙ ap (λ (x : Answer). Some x) last)
+      by (inr last) = stopped-halts layout new k now.fits (has ∙ ap (λ (x : Answer). Some x) last)
 
   stops : EachMember (IsOwnStop cpu list longer) new.stops
   stops i who there = which (now.stops i who there)
     where
       which : IsOwnStop cpu list rows who ⊎ HasStoppedIt rows k who → IsOwnStop cpu list longer who
-      which (inl early) = own-more rows (lines.Answer n a) who early
-      which (inr it) = own-stop k a now has who it
+      which (inl early) = own-more cpu list rows (lines.Answer n a) who early
+      which (inr it) = own-stop layout new cpu list rows k a now has who it
 
   -- no later command has made an entry
   later-none : (q : ℕ) → n < q → HasMadeNone new (at_number cpu q)
-  later-none q less = made-none-later (can j k run is made next) made (other j k run is made next q (λ same. absurd (omega arith))) (made-none made (at_number cpu q) n less later)
+  later-none q less = made-none-later (can layout old new cpu list rows j k run made) made.made (at_number cpu q) (other layout old new cpu list rows j k run made q (λ same. absurd (omega arith))) (made-none made.made (at_number cpu q) n less later)
     where
       later : IsLater old (at_number cpu q) n
-      later = (subst (IsOnTurn old) (own j k run is made next) (on-turn j run.fits)).later
+      later = (subst (IsOnTurn old) (own layout old new cpu list rows j k run made) (on-turn layout old j run.fits)).later
 
   nothing : hand_of new ≡ empty
-  nothing = (ends k now.fits has).0
+  nothing = (ends layout new k now.fits has).0
 
   done : slice_get list (n + 1) ≡ None → IsDone layout new cpu list longer
   done none = record {
@@ -170,7 +165,7 @@ module _ {layout : Layout} {old new : View} {cpu : Cpu} {list : List Command} {r
     where
       same : length longer ≡ length list
       same =
-          let most : length list ≤ n + 1 = past-end list (n + 1) now.command none in
+          let most : length list ≤ n + 1 = past-end list (n + 1) none in
           let within : n < length list = slice_get_within list n now.command now.there in
           let at : length longer ≡ n + 1 = number in
           omega arith
@@ -180,20 +175,20 @@ module _ {layout : Layout} {old new : View} {cpu : Cpu} {list : List Command} {r
     serves = serves;
     command = command;
     there = subst (λ (i : ℕ). slice_get list i ≡ Some command) (sym number) there;
-    runs = subst (λ (i : ℕ). Runs layout (at_number cpu i) command b) (sym number) (begins-runs command b begins);
-    fits = begins-fits command b begins (record {
-      on_turn = next-turn cpu n (subst (IsOnTurn new) (runs-who now.command k now.runs) (on-turn k now.fits));
+    runs = subst (λ (i : ℕ). Runs layout (at_number cpu i) command b) (sym number) (begins-runs layout (at_number cpu (n + 1)) command b begins);
+    fits = begins-fits layout new (at_number cpu (n + 1)) command b begins (record {
+      on_turn = next-turn new cpu n (subst (IsOnTurn new) (runs-who layout (at_number cpu n) now.command k now.runs) (on-turn layout new k now.fits));
       hand_is = nothing;
       made = later-none (n + 1) (omega arith);
-      left = left know (begins-stop command b begins) (let within : n + 1 < length list = slice_get_within list (n + 1) command there in omega (arith, few, within));
+      left = left know (begins-stop layout (at_number cpu (n + 1)) command b begins) (let within : n + 1 < length list = slice_get_within list (n + 1) command there in omega (arith, few, within));
     });
     policies = subst (λ (i : ℕ). KnowsPolicies layout list new (at_number cpu i) b) (sym number) know;
-    stopped = λ some. inl (begins-stop command b begins);
+    stopped = λ some. inl (begins-stop layout (at_number cpu (n + 1)) command b begins);
     stops = λ i who at. inl (stops i who at);
   }
     where
       know : KnowsPolicies layout list new (at_number cpu (n + 1)) b
-      know = policies-next now.command k now.runs now.fits has now.there now.policies (at_number cpu (n + 1)) b refl (begins-stop command b begins)
+      know = policies-next layout list new (at_number cpu n) now.command k a now.runs now.fits has now.there now.policies (at_number cpu (n + 1)) b refl (begins-stop layout (at_number cpu (n + 1)) command b begins)
 
   -- the next command begins, where there is one
   pub settled : (b : Option Job) → BeginsAt layout (at_number cpu (n + 1)) (slice_get list (n + 1)) b → FitsAt layout new cpu list longer b

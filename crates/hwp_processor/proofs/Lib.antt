@@ -6,3 +6,4 @@ pub mod Ranking
 pub mod Telling
 pub mod Opening
 pub mod Served
+pub mod Ends

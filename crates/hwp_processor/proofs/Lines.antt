@@ -1,5 +1,5 @@
 -- What is so of some lines is so of them and one more.
-use Rattle.std.proofs.Common.{◌≡◌, ℕ, suc, ◌+◌, ◌<◌, ◌≤◌, ◌⊎◌, inl, inr, List, [], ◌∷◌, ◌++◌, Option, Some, None, length, slice_get, get_or, refl, sym, ap, ◌∙◌, subst, arith}
+use Rattle.std.proofs.Common.{◌≡◌, ℕ, zero, suc, ◌+◌, ◌<◌, ◌≤◌, ◌⊎◌, inl, inr, List, [], ◌∷◌, ◌++◌, Some, None, length, slice_get, get_or, sym, ap, ◌∙◌, subst, arith}
 use Rattle.std.proofs.lemmas.Option.{none-some, same_Some, slice_get-get_or, slice_get_within}
 use Rattle.hwp_geom.specs.declared.Cpu.{Cpu}
 use Rattle.hwp_geom.specs.declared.Layout.{Layout}
@@ -24,37 +24,37 @@ at_front l m i a within is =
     here ∙ ap (λ x. Some x) (same_Some (get_or l i a) a (sym (at_longer l m i (get_or l i a) here) ∙ is))
 
 -- a list that has no member of this number has no more
-pub past-end : {A : Type 0} (l : List A) (i : ℕ) (d : A) → slice_get l i ≡ None → length l ≤ i
-past-end [] i d none = omega arith
-past-end (x ∷ xs) zero d none = absurd (none-some x (sym none))
-past-end (x ∷ xs) (suc i) d none = let few : length xs ≤ i = past-end xs i d none in omega arith
+pub past-end : {A : Type 0} (l : List A) (i : ℕ) → slice_get l i ≡ None → length l ≤ i
+past-end [] i none = omega arith
+past-end (x ∷ xs) zero none = absurd (none-some x (sym none))
+past-end (x ∷ xs) (suc i) none = let few : length xs ≤ i = past-end xs i none in omega arith
 
-answer_in : CpuLine → Answer
+abbrev answer_in : CpuLine → Answer
 answer_in (lines.Answer seq answer) = answer
 answer_in (lines.Event seq bank status addr misc row acted) = answers.Stopped
 
 -- one answer more, with its cause
-pub answered-more : {layout : Layout} {list : List Command} {view : View} {cpu : Cpu} (n : ℕ) (commands : List Command) (rows : List CpuLine) (m : ℕ) (command : Command) (answer : Answer)
+pub answered-more : (layout : Layout) (list : List Command) (view : View) (cpu : Cpu) (n : ℕ) (commands : List Command) (rows : List CpuLine) (m : ℕ) (command : Command) (answer : Answer)
     → m ≡ n + length rows → AreAnswered layout list view cpu n commands rows → slice_get commands (length rows) ≡ Some command → IsCaused layout list view (at_number cpu m) command answer
     → AreAnswered layout list view cpu n commands (rows ++ lines.Answer m answer ∷ [])
-answered-more n [] [] m command answer is are there caused = absurd (none-some command there)
-answered-more n [] (row ∷ rows) m command answer is are there caused = absurd (none-some command there)
-answered-more {layout} {list} {view} {cpu} n (c ∷ cs) [] m command answer is are there caused =
+answered-more layout list view cpu n [] [] m command answer is are there caused = absurd (none-some command there)
+answered-more layout list view cpu n [] (row ∷ rows) m command answer is are there caused = absurd (none-some command there)
+answered-more layout list view cpu n (c ∷ cs) [] m command answer is are there caused =
     let same : m ≡ n = omega arith in
     (same, subst (λ (d : Command). IsCaused layout list view (at_number cpu n) d answer) (sym (same_Some c command there)) (subst (λ (k : ℕ). IsCaused layout list view (at_number cpu k) command answer) same caused), tt)
-answered-more n (c ∷ cs) (lines.Answer seq a ∷ rows) m command answer is are there caused =
-    (are.0, are.1, answered-more (n + 1) cs rows m command answer (omega arith) are.2 there caused)
-answered-more n (c ∷ cs) (lines.Event seq bank status addr misc row acted ∷ rows) m command answer is are there caused = absurd are
+answered-more layout list view cpu n (c ∷ cs) (lines.Answer seq a ∷ rows) m command answer is are there caused =
+    (are.0, are.1, answered-more layout list view cpu (n + 1) cs rows m command answer (omega arith) are.2 there caused)
+answered-more layout list view cpu n (c ∷ cs) (lines.Event seq bank status addr misc row acted ∷ rows) m command answer is are there caused = absurd are
 
 -- answers keep their causes where each cause stays
-pub answered-as : {layout : Layout} {list : List Command} {old new : View} {cpu : Cpu} (m : ℕ)
+pub answered-as : (layout : Layout) (list : List Command) (old new : View) (cpu : Cpu) (m : ℕ)
     → ((k : ℕ) (c : Command) (a : Answer) → k < m → IsCaused layout list old (at_number cpu k) c a → IsCaused layout list new (at_number cpu k) c a)
     → (n : ℕ) (commands : List Command) (rows : List CpuLine) → n + length rows ≤ m → AreAnswered layout list old cpu n commands rows → AreAnswered layout list new cpu n commands rows
-answered-as m stay n [] [] few are = tt
-answered-as m stay n (c ∷ cs) [] few are = tt
-answered-as m stay n [] (row ∷ rows) few are = absurd are
-answered-as m stay n (c ∷ cs) (lines.Answer seq a ∷ rows) few are = (are.0, stay n c a (omega arith) are.1, answered-as m stay (n + 1) cs rows (omega arith) are.2)
-answered-as m stay n (c ∷ cs) (lines.Event seq bank status addr misc row acted ∷ rows) few are = absurd are
+answered-as layout list old new cpu m stay n [] [] few are = tt
+answered-as layout list old new cpu m stay n (c ∷ cs) [] few are = tt
+answered-as layout list old new cpu m stay n [] (row ∷ rows) few are = absurd are
+answered-as layout list old new cpu m stay n (c ∷ cs) (lines.Answer seq a ∷ rows) few are = (are.0, stay n c a (omega arith) are.1, answered-as layout list old new cpu m stay (n + 1) cs rows (omega arith) are.2)
+answered-as layout list old new cpu m stay n (c ∷ cs) (lines.Event seq bank status addr misc row acted ∷ rows) few are = absurd are
 
 -- after a `stopped` all answers are
 pub stays-more : (rows : List CpuLine) (m : ℕ) (a : Answer) → StaysStopped rows → (HasStopped rows → a ≡ answers.Stopped) → StaysStopped (rows ++ lines.Answer m a ∷ [])
@@ -79,8 +79,8 @@ stopped-was rows m a (i, k, is) = which (at_push rows (lines.Answer m a) (lines.
     which (inr last) = inr (ap answer_in last)
 
 -- a stop by a command that is answered
-pub own-more : {cpu : Cpu} {list : List Command} (rows : List CpuLine) (row : CpuLine) (who : Who) → IsOwnStop cpu list rows who → IsOwnStop cpu list (rows ++ row ∷ []) who
-own-more rows row who own = record {
+pub own-more : (cpu : Cpu) (list : List Command) (rows : List CpuLine) (row : CpuLine) (who : Who) → IsOwnStop cpu list rows who → IsOwnStop cpu list (rows ++ row ∷ []) who
+own-more cpu list rows row who own = record {
   cpu_is = own.cpu_is;
   command = own.command;
   answered = at_longer rows (row ∷ []) who.seq (lines.Answer who.seq answers.Stopped) own.answered;

@@ -1,5 +1,5 @@
 -- A processor is a task: where it fits, its step can be made, and what follows fits.
-use Rattle.std.proofs.Common.{◌≡◌, ℕ, ◌<◌, ◌≤◌, List, [], ◌∷◌, ◌++◌, Option, Some, None, All, length, option_map, true, vec_capacity, refl, sym, ap, ◌∙◌, subst, arith}
+use Rattle.std.proofs.Common.{◌≡◌, ℕ, ◌+◌, ◌≤◌, List, [], ◌∷◌, ◌++◌, Option, Some, None, length, option_map, slice_get, vec_capacity, refl, sym, ap, ◌∙◌, subst}
 use Rattle.std.proofs.lemmas.Option.{none-some, slice_get_within}
 use Rattle.std.specs.Arc.{arc_value}
 use Rattle.hwp_geom.specs.declared.Cpu.{Cpu}
@@ -17,6 +17,7 @@ use Rattle.hwp_step.specs.declared.Turn.{Turn}
 use Rattle.hwp_step.specs.Calls.{CanMake, Steps, logs}
 use Rattle.hwp_job.specs.declared.job.Job.{Job}
 use Rattle.hwp_job.specs.Jobs as jobs
+use Rattle.hwp_job.specs.Stays.{Stepped}
 use Rattle.hwp_job.proofs.Jobbing as jobbing
 use Rattle.hwp_job.proofs.Running.{runs-who}
 use Rattle.hwp_processor.specs.declared.processor.Processor.{Processor}
@@ -33,9 +34,9 @@ can layout view p step fits is = which p.job fits.at is
     which None at e = absurd (none-some step e)
 
 -- the command is one of the processor
-pub own-cpu : {layout : Layout} {view : View} {cpu : Cpu} {list : List Command} {rows : List CpuLine} (x : Option Job) → FitsAt layout view cpu list rows x → (who_of cpu x).cpu ≡ cpu
-own-cpu (Some j) at = ap (λ (w : Who). w.cpu) (runs-who at.command j at.runs)
-own-cpu None at = refl
+pub own-cpu : (layout : Layout) (view : View) (cpu : Cpu) (list : List Command) (rows : List CpuLine) (x : Option Job) → FitsAt layout view cpu list rows x → (who_of cpu x).cpu ≡ cpu
+own-cpu layout view cpu list rows (Some j) at = ap (λ (w : Who). w.cpu) (runs-who layout (at_number cpu (length rows)) at.command j at.runs)
+own-cpu layout view cpu list rows None at = refl
 
 -- a processor that can run its commands can run them after an answer
 ready-after : (p after : Processor) (a : Answer) → IsReady p → IsAnswered p a after → IsReady after
@@ -51,23 +52,27 @@ module _ (layout : Layout) (old new : View) (p : Processor) (step : Step) (found
   abbrev rows : List CpuLine
   rows = p.lines.items
 
+  stepped : (k : Job) (t : Turn) → jobs.Next layout (jobs.bare j) found got k t → Stepped layout old new j k
+  stepped k t next = record { step = step; found = found; got = got; turn = t; fits = at.fits; planned = is; made = made; follows = next }
+
   -- the turn of the command that runs, and what the processor comes to by it
   follows : (k : Job) (t : Turn) → jobs.Next layout (jobs.bare j) found got k t → (o : Option Answer) → jobs.answer k ≡ o → (after : Processor) (turn : Turn) → Follows (bare p) k o t after turn
       → Fits layout new after × ((who after).cpu ≡ (jobs.who j).cpu)
   follows k t next None has after turn (after_is, turn_is) =
-      subst (λ (q : Processor). Fits layout new q × ((who q).cpu ≡ (jobs.who j).cpu)) (sym after_is)
-      (record { ready = record { sound = ready.sound; commands = ready.commands; room = ready.room }; layout_is = same; at = carried j k at is made next },
-      ((jobbing.stays layout old new j step found got at.fits is made).1 k t next).1)
+      subst (λ (q : Processor). Fits layout new q × ((who q).cpu ≡ (jobs.who j).cpu)) (sym after_is) (
+        record { ready = record { sound = ready.sound; commands = ready.commands; room = ready.room }; layout_is = same; at = carried layout old new p.cpu p.commands rows j k at (stepped k t next) },
+        ((jobbing.stays layout old new j step found got at.fits is made).1 k t next).1,
+      )
   follows k t next (Some a) has after turn (answered, turn_is) = (
     record { ready = ready-after p after a ready those; layout_is = answered.layout_is ∙ same; at = there },
-    own-cpu after.job there ∙ answered.cpu_is ∙ sym (own-cpu (Some j) at),
+    own-cpu layout new after.cpu after.commands after.lines.items after.job there ∙ answered.cpu_is ∙ sym (own-cpu layout old p.cpu p.commands rows (Some j) at),
   )
     where
       those : IsAnswered p a after
       those = record { layout_is = answered.layout_is; cpu_is = answered.cpu_is; commands_are = answered.commands_are; lines_are = answered.lines_are; room = answered.room; begins = answered.begins }
 
       here : FitsAt layout new p.cpu p.commands (rows ++ lines.Answer (length rows) a ∷ []) after.job
-      here = settled j k a at is made next has ready.commands.few after.job (subst (λ (l : Layout). BeginsAt l (at_number p.cpu (length rows + 1)) _ after.job) same answered.begins)
+      here = settled layout old new p.cpu p.commands rows j k at (stepped k t next) a has ready.commands.few after.job (subst (λ (l : Layout). BeginsAt l (at_number p.cpu (length rows + 1)) (slice_get p.commands (length rows + 1)) after.job) same answered.begins)
 
       there : FitsAt layout new after.cpu after.commands after.lines.items after.job
       there = subst (λ (c : Cpu). FitsAt layout new c after.commands after.lines.items after.job) (sym answered.cpu_is)

@@ -45,7 +45,7 @@ module _ (layout : Layout) (s : State) (h : Holds layout s) where
       which false = refl
 
   -- no body has a loss
-  no-losses : (file : FileNo) → sum_bodies (losses_of layout file) s.homes (map (λ (v : View). v.bodies) s.views) ≡ 0
+  pub no-losses : (file : FileNo) → sum_bodies (losses_of layout file) s.homes (map (λ (v : View). v.bodies) s.views) ≡ 0
   no-losses file =
       let home : sum_by (of_home (losses_of layout file)) s.homes ≡ 0 = sum-zero (of_home (losses_of layout file)) s.homes (λ i content there. at-home i content there) in
       let hand : sum_all (λ (b : InHand). losses_of layout file b.log) (map (λ (v : View). v.bodies) s.views) ≡ 0
