@@ -1,0 +1,2 @@
+mod AnswersByRow
+pub mod Lawful
