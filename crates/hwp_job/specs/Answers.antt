@@ -1,11 +1,8 @@
 -- What the line of a report says of what a command came to.
-use Rattle.std.specs.Prelude.{ℕ}
-use Rattle.hwp_kill.specs.declared.Reply.{Reply}
-use Rattle.hwp_kill.specs.declared.Reply.TheVariants as replies
-use Rattle.hwp_kill.specs.Prctl.{policy_number}
 use Rattle.hwp_page.specs.declared.At.{At}
 use Rattle.hwp_report.specs.declared.Answer.{Answer}
 use Rattle.hwp_report.specs.declared.Answer.TheVariants as answers
+use Rattle.hwp_law.specs.Answers.{reply_answer}
 use Rattle.hwp_control.specs.declared.NestedAnswer.{NestedAnswer}
 use Rattle.hwp_control.specs.declared.NestedAnswer.TheVariants as nested
 use Rattle.hwp_control.specs.declared.PrctlAnswer.{PrctlAnswer}
@@ -44,11 +41,6 @@ abbrev pub fsync_answer : FsyncAnswer → Answer
 fsync_answer fsync.Stopped = answers.Stopped
 fsync_answer fsync.Done = answers.Done
 fsync_answer (fsync.Eio lost) = answers.Eio lost
-
-abbrev pub reply_answer : Reply → Answer
-reply_answer (replies.Set policy) = answers.Done
-reply_answer (replies.Is policy) = answers.Is (policy_number policy)
-reply_answer replies.Einval = answers.Einval
 
 abbrev pub prctl_answer : PrctlAnswer → Answer
 prctl_answer (prctl.Replied reply) = reply_answer reply

@@ -1,3 +1,6 @@
 pub mod Answers
 pub mod Jobs
 pub mod Begins
+pub mod Runs
+pub mod Settings
+pub mod Stays

@@ -45,7 +45,8 @@ impl Job {
     }
 }
 
-ghost use Rattle.hwp_job.specs.Answers.{access_answer, evict_answer, fsync_answer, nested_answer, prctl_answer, read_stop_answer, refusal_answer, reply_answer};
+ghost use Rattle.hwp_job.specs.Answers.{access_answer, evict_answer, fsync_answer, nested_answer, prctl_answer, read_stop_answer, refusal_answer};
+ghost use Rattle.hwp_law.specs.Answers.{reply_answer};
 
 /// What a report's line says of an access.
 fn access_answer(answer: AccessAnswer) -> Answer

@@ -4,3 +4,4 @@ mod Meeting
 mod Trailing
 mod Stepped
 mod Turning
+mod AllHome

@@ -1,16 +1,20 @@
-ghost use Rattle.std.specs.Prelude.{◌≡◌, ◌<◌, true, false, [], cond, None, IfOk};
+ghost use Rattle.std.specs.Prelude.{◌≡◌, ◌<◌, true, false, [], cond, None, IfOk, length};
 ghost use Rattle.hwp_geom.specs.Layout.{IsSound};
+ghost use Rattle.hwp_rule.specs.Lists.{EachMember};
 ghost use Rattle.hwp_rule.specs.Opening.{opening};
 ghost use Rattle.hwp_rule.specs.Words.{IsPlace, read, words_of};
+ghost use Rattle.hwp_rule.specs.parts.Holdings.{HoldsNothing};
 ghost use Rattle.hwp_step.specs.Calls.{CanMake, Steps, logs, rec_of};
 ghost use Rattle.hwp_plain.specs.Boards.{IsReached, Moves, own_view, with_turn};
+ghost use Rattle.hwp_plain.specs.Ends.{AreHistories};
 ghost use Rattle.hwp_step.specs.Boards.{AreSeated};
 
+use crate::closing::histories;
 use crate::opening::{opening_slots, opening_words};
 use crate::slot::{Slot, carry};
 use crate::trail::{Trail, tell};
-use hwp_geom::{Cpu, Kind, Layout, OutOfMemory, Who};
-use hwp_page::Body;
+use hwp_geom::{Cpu, Kind, Layout, List, OutOfMemory, Page, Who};
+use hwp_page::{Body, Entry};
 use hwp_rule::{Place, Step, index};
 use hwp_step::{Met, Turn};
 use std::alloc::Global;
@@ -155,5 +159,22 @@ impl PlainBoard {
             found,
             body: carried.body,
         }
+    }
+
+    /// The history of each page, in their order, when nothing is held and the board is done with.
+    pub fn histories(self, alloc: Global) -> Result<List<List<Entry>>, OutOfMemory>
+        requires nothing { EachMember HoldsNothing self.state.views }
+        ensures count { IfOk result (λ pages. length pages ≡ length self.layout.pages) }
+        ensures pages { IfOk result (λ pages. AreHistories self.state.homes pages) }
+    {
+        let PlainBoard {
+            layout,
+            words,
+            slots,
+            ..
+        } = self;
+        let from = index(&layout, Place::Cache(Page(0)));
+        let caches = &words[from..from + layout.pages.len()];
+        histories(alloc, slots, usize::from(layout.frames), caches)
     }
 }

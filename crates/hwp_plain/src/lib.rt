@@ -4,6 +4,7 @@
 #![tactic(auto)]
 
 mod board;
+mod closing;
 mod opening;
 mod ops;
 mod slot;

@@ -9,3 +9,4 @@ pub mod Rising
 pub mod Legal
 pub mod Placed
 pub mod Reported
+pub mod Lasting

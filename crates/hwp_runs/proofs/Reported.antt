@@ -69,7 +69,7 @@ entry-is pages at entries is = ap (λ (o : Option (List Entry)). option_and_then
 
 module _ (layout : Layout) (last : State) (report : Report) (l : IsLast layout last report) where
   -- the history of a page, in its slot
-  home-of : (page : Page) (entries : List Entry) → slice_get report.pages page.0 ≡ Some entries → (slot : ℕ) × (slice_get last.homes slot ≡ Some (Some (Some (record { page = page; entries = entries }))))
+  pub home-of : (page : Page) (entries : List Entry) → slice_get report.pages page.0 ≡ Some entries → (slot : ℕ) × (slice_get last.homes slot ≡ Some (Some (Some (record { page = page; entries = entries }))))
   home-of page entries there = let home = (l.ends.pages page entries there).home in (home.0, home.2 ∙ ap (λ (c : Option (Option Log)). Some c) home.3)
 
   kind-of : (page : Page) → page.0 < length layout.pages → (kind : PageKind) × (slice_get layout.pages page.0 ≡ Some kind)

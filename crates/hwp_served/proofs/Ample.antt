@@ -1,5 +1,5 @@
 -- Where no frame is marked and none was available, the script isn't ample.
-use Rattle.std.proofs.Common.{◌≡◌, ℕ, zero, suc, ◌+◌, ◌*◌, ◌<◌, ◌≤◌, ◌==◌, ◌||◌, min, nat_lt, not, Bool, true, false, cond, List, [], ◌∷◌, Some, length, map, take, slice_get, slice_index_or, get_or, refl, sym, ap, ◌∙◌, subst, arith}
+use Rattle.std.proofs.Common.{◌≡◌, ℕ, zero, suc, ◌+◌, ◌*◌, ◌<◌, ◌≤◌, ◌==◌, ◌||◌, not, Bool, true, false, cond, List, [], ◌∷◌, Some, length, map, take, slice_get, get_or, refl, sym, ap, ◌∙◌, arith}
 use Rattle.std.specs.List.{list_any, sum_by}
 use Rattle.std.specs.Int.{from_bool}
 use Rattle.std.proofs.lemmas.Bool.{ltb-true}

@@ -1,5 +1,5 @@
 -- Each command has its answer, in order, and the report shows its cause.
-use Rattle.std.proofs.Common.{◌≡◌, ◌≢◌, ℕ, zero, suc, ◌+◌, ◌-◌, ◌<◌, ◌≤◌, Bool, true, false, List, [], ◌∷◌, Option, Some, None, IsSome, length, map, slice_get, slice_index, option_map, refl, sym, ap, ◌∙◌, subst, arith}
+use Rattle.std.proofs.Common.{◌≡◌, ◌≢◌, ℕ, zero, suc, ◌+◌, ◌<◌, ◌≤◌, false, List, [], ◌∷◌, Option, Some, None, length, slice_get, option_map, take, unwrap_or, refl, sym, ap, ◌∙◌, subst, arith}
 use Rattle.std.proofs.lemmas.List.Elements.{All-get_or}
 use Rattle.std.proofs.lemmas.Option.{get_or_from_slice_get, none-some, same_Some, slice_get_within}
 use Rattle.hwp_geom.specs.declared.Cpu.{Cpu}
@@ -11,11 +11,11 @@ use Rattle.hwp_geom.specs.declared.Thread.{Thread}
 use Rattle.hwp_geom.specs.declared.ThreadDecl.{ThreadDecl}
 use Rattle.hwp_geom.specs.Layout.{IsSound}
 use Rattle.hwp_geom.specs.declared.Who.{Who}
+use Rattle.hwp_kill.specs.Prctl.{reply}
 use Rattle.hwp_page.specs.declared.At.{At}
 use Rattle.hwp_page.specs.declared.Entry.{Entry}
 use Rattle.hwp_page.specs.declared.PageState.{PageState}
 use Rattle.hwp_page.specs.declared.What.{What}
-use Rattle.hwp_page.specs.Refusals.{IsAway, IsDirty, IsMapped, IsUnused}
 use Rattle.hwp_rule.specs.declared.Length.{Length}
 use Rattle.hwp_rule.specs.declared.Log.{Log}
 use Rattle.hwp_rule.specs.declared.Made.{Made}
@@ -39,13 +39,14 @@ use Rattle.hwp_report.specs.declared.Answer.TheVariants as answers
 use Rattle.hwp_report.specs.declared.CpuLine.{CpuLine}
 use Rattle.hwp_report.specs.declared.CpuLine.TheVariants as lines
 use Rattle.hwp_report.specs.declared.Report.{Report}
-use Rattle.hwp_law.specs.Answers.{AreAnswers, IsAnswer, StandsAt, is_ample}
+use Rattle.hwp_law.specs.Answers.{AreAnswers, IsAnswer, StandsAt, is_ample, reply_answer}
 use Rattle.hwp_law.specs.Commands.{process_of_thread}
 use Rattle.hwp_law.specs.Places.{entry_at}
+use Rattle.hwp_law.specs.Policies.{arguments, last_policy, settings}
 use Rattle.hwp_law.specs.States.{HadState}
 use Rattle.hwp_runs.proofs.Homes.{there-is}
 use Rattle.hwp_runs.proofs.Reported.{home-of, listed-entry, seen-had}
-use Rattle.hwp_served.specs.Causes.{FoundGone, FoundNoFrame, IsCaused, SawProcess}
+use Rattle.hwp_served.specs.Causes.{FoundGone, IsCaused}
 use Rattle.hwp_served.specs.Served.{AreAnswered}
 use Rattle.hwp_served.proofs.Ample.{not-ample}
 use Rattle.hwp_served.proofs.Ending.{IsEnd}
@@ -79,7 +80,7 @@ module _ (script : Script) (seat : Cpu → ℕ) (last : State) (report : Report)
       sym (ap (λ (b : At). entry_at report.pages b) m.place_is) ∙ listed ∙ ap (λ (e : Entry). Some e) m.entry_is
 
   -- and the page was in the state in which the command saw it
-  had : {who : Who} {at : At} {Such : PageState → Type 0} → SawState script.layout view who at.page at.entry Such → HadState script.layout report.pages at Such
+  pub had : {who : Who} {at : At} {Such : PageState → Type 0} → SawState script.layout view who at.page at.entry Such → HadState script.layout report.pages at Such
   had {at = at} {Such = Such} saw =
       let x : Length = saw.saw.1 in
       let log : x.log ≡ saw.log = saw.saw.3.2 in
@@ -93,7 +94,7 @@ module _ (script : Script) (seat : Cpu → ℕ) (last : State) (report : Report)
   no-frame who saw = not-ample script.layout last end.board.holds unmarked script refl (seat cpu) saw.0 view saw.1 there saw.2 saw.3.1 saw.3.2
 
   -- no process has ended
-  not-gone : (who : Who) (thread : Thread) (page : Page) → FoundGone script.layout view who thread page → ⊥
+  pub not-gone : (who : Who) (thread : Thread) (page : Page) → FoundGone script.layout view who thread page → ⊥
   not-gone who thread page gone =
       let process : Proc = gone.ended.process in
       let sight = gone.ended.saw in
@@ -107,49 +108,50 @@ module _ (script : Script) (seat : Cpu → ℕ) (last : State) (report : Report)
       let home = home-of script.layout last report end.board page told.0 told.1 in
       word-none script.layout last end.board.holds end.board.legal process word.0 home.0 (record { page = page; entries = told.0 }) word.1 home.1 named
 
-  not-lost : (who : Who) (file : FileNo) (lost : ℕ) → 0 < lost → Saw view who (places.Loss file) lost → ⊥
+  pub not-lost : (who : Who) (file : FileNo) (lost : ℕ) → 0 < lost → Saw view who (places.Loss file) lost → ⊥
   not-lost who file lost some saw =
       let none : saw.1.word ≡ 0 = no_loss (seat cpu) saw.0 view saw.1 there saw.2 file saw.3.1 in
       let is : saw.1.word ≡ lost = saw.3.2 in
       absurd (omega arith)
 
   -- the report shows the cause of an answer
-  pub is-answer : (who : Who) (command : Command) (answer : Answer) → IsCaused script view who command answer → IsAnswer script report.pages report.stop who command answer
-  is-answer who command answers.Stopped caused = stop-there script seat last report end cpu who inside caused
-  is-answer who (commands.Load thread slot line) (answers.Value word at) caused = (caused.0, stands caused.1.made)
-  is-answer who (commands.Load thread slot line) answers.NoFrame caused = no-frame who caused.available
-  is-answer who (commands.Load thread slot line) (answers.Gone page) caused = absurd (not-gone who thread page caused)
-  is-answer who (commands.Fetch thread slot line) (answers.Value word at) caused = (caused.0, stands caused.1.made)
-  is-answer who (commands.Fetch thread slot line) answers.NoFrame caused = no-frame who caused.available
-  is-answer who (commands.Fetch thread slot line) (answers.Gone page) caused = absurd (not-gone who thread page caused)
-  is-answer who (commands.KLoad thread slot line) (answers.Value word at) caused = (caused.0, stands caused.1.made)
-  is-answer who (commands.KLoad thread slot line) answers.NoFrame caused = no-frame who caused.available
-  is-answer who (commands.KLoad thread slot line) (answers.Gone page) caused = absurd (not-gone who thread page caused)
-  is-answer who (commands.Store thread slot line word) (answers.Stored at) caused = (caused.0, stands caused.1.made)
-  is-answer who (commands.Store thread slot line word) answers.NoFrame caused = no-frame who caused.available
-  is-answer who (commands.Store thread slot line word) (answers.Gone page) caused = absurd (not-gone who thread page caused)
-  is-answer who (commands.Free slot) (answers.DoneAt at) caused = stands caused.1.made
-  is-answer who (commands.Free slot) (answers.NotMapped at) caused = (caused.0, had caused.1.saw)
-  is-answer who (commands.Drop page) (answers.DoneAt at) caused = (caused.0, stands caused.1.made)
-  is-answer who (commands.Drop page) (answers.NotResident at) caused = (caused.0, had caused.1.saw)
-  is-answer who (commands.Drop page) (answers.Dirty at) caused = (caused.0, had caused.1.saw)
-  is-answer who (commands.Drop page) (answers.Mapped at) caused = (caused.0, had caused.1.saw)
-  is-answer who (commands.Sync page) (answers.DoneAt at) caused = (caused.0, stands caused.1.made)
-  is-answer who (commands.Sync page) (answers.NotResident at) caused = (caused.0, had caused.1.saw)
-  is-answer who (commands.Out page) (answers.DoneAt at) caused = (caused.0, stands caused.1.made)
-  is-answer who (commands.Out page) (answers.NotResident at) caused = (caused.0, had caused.1.saw)
-  is-answer who (commands.Fsync file) answers.Done caused = tt
-  is-answer who (commands.Fsync file) (answers.Eio lost) caused = absurd (not-lost who file lost caused.1 caused.2)
-  is-answer who (commands.Prctl thread args) (answers.Gone page) caused = absurd (not-gone who thread page caused)
-  is-answer who (commands.Prctl thread args) answer caused = caused.replied
-  is-answer who (commands.Log status addr misc) answers.Done caused = tt
-  is-answer who command answer caused = absurd caused
+  pub is-answer : (who : Who) (list : List Command) → slice_get script.lists who.cpu.0 ≡ Some list → (command : Command) (answer : Answer) → IsCaused script.layout list view who command answer → IsAnswer script report.pages report.stop who command answer
+  is-answer who list list_is command answers.Stopped caused = stop-there script seat last report end cpu who inside caused
+  is-answer who list list_is (commands.Load thread slot line) (answers.Value word at) caused = (caused.0, stands caused.1.made)
+  is-answer who list list_is (commands.Load thread slot line) answers.NoFrame caused = no-frame who caused.available
+  is-answer who list list_is (commands.Load thread slot line) (answers.Gone page) caused = absurd (not-gone who thread page caused)
+  is-answer who list list_is (commands.Fetch thread slot line) (answers.Value word at) caused = (caused.0, stands caused.1.made)
+  is-answer who list list_is (commands.Fetch thread slot line) answers.NoFrame caused = no-frame who caused.available
+  is-answer who list list_is (commands.Fetch thread slot line) (answers.Gone page) caused = absurd (not-gone who thread page caused)
+  is-answer who list list_is (commands.KLoad thread slot line) (answers.Value word at) caused = (caused.0, stands caused.1.made)
+  is-answer who list list_is (commands.KLoad thread slot line) answers.NoFrame caused = no-frame who caused.available
+  is-answer who list list_is (commands.KLoad thread slot line) (answers.Gone page) caused = absurd (not-gone who thread page caused)
+  is-answer who list list_is (commands.Store thread slot line word) (answers.Stored at) caused = (caused.0, stands caused.1.made)
+  is-answer who list list_is (commands.Store thread slot line word) answers.NoFrame caused = no-frame who caused.available
+  is-answer who list list_is (commands.Store thread slot line word) (answers.Gone page) caused = absurd (not-gone who thread page caused)
+  is-answer who list list_is (commands.Free slot) (answers.DoneAt at) caused = stands caused.1.made
+  is-answer who list list_is (commands.Free slot) (answers.NotMapped at) caused = (caused.0, had caused.1.saw)
+  is-answer who list list_is (commands.Drop page) (answers.DoneAt at) caused = (caused.0, stands caused.1.made)
+  is-answer who list list_is (commands.Drop page) (answers.NotResident at) caused = (caused.0, had caused.1.saw)
+  is-answer who list list_is (commands.Drop page) (answers.Dirty at) caused = (caused.0, had caused.1.saw)
+  is-answer who list list_is (commands.Drop page) (answers.Mapped at) caused = (caused.0, had caused.1.saw)
+  is-answer who list list_is (commands.Sync page) (answers.DoneAt at) caused = (caused.0, stands caused.1.made)
+  is-answer who list list_is (commands.Sync page) (answers.NotResident at) caused = (caused.0, had caused.1.saw)
+  is-answer who list list_is (commands.Out page) (answers.DoneAt at) caused = (caused.0, stands caused.1.made)
+  is-answer who list list_is (commands.Out page) (answers.NotResident at) caused = (caused.0, had caused.1.saw)
+  is-answer who list list_is (commands.Fsync file) answers.Done caused = tt
+  is-answer who list list_is (commands.Fsync file) (answers.Eio lost) caused = absurd (not-lost who file lost caused.1 caused.2)
+  is-answer who list list_is (commands.Prctl thread args) (answers.Gone page) caused = absurd (not-gone who thread page caused)
+  is-answer who list list_is (commands.Prctl thread args) answer caused =
+      caused.replied ∙ ap (λ (l : List Command). reply_answer (reply (last_policy (settings thread (take who.seq l))) (arguments args))) (sym (ap (λ (o : Option (List Command)). unwrap_or o []) list_is))
+  is-answer who list list_is (commands.Log status addr misc) answers.Done caused = tt
+  is-answer who list list_is command answer caused = absurd caused
 
   -- all commands of the processor have theirs
-  pub are-answers : (n : ℕ) (list : List Command) (rows : List CpuLine) → AreAnswered script view cpu n list rows → length rows ≡ length list → AreAnswers script report.pages report.stop cpu n list rows
-  are-answers n [] [] are same = tt
-  are-answers n [] (row ∷ rows) are same = absurd (let none : suc (length rows) ≡ zero = same in omega arith)
-  are-answers n (c ∷ cs) [] are same = absurd (let none : zero ≡ suc (length cs) = same in omega arith)
-  are-answers n (c ∷ cs) (lines.Answer seq answer ∷ rows) (seq_is, caused, rest) same =
-      (seq_is, is-answer (record { cpu = cpu; seq = n }) c answer caused, are-answers (n + 1) cs rows rest (let one : suc (length rows) ≡ suc (length cs) = same in let less : length rows ≡ length cs = omega arith in less))
-  are-answers n (c ∷ cs) (lines.Event a b s x y z w ∷ rows) are same = absurd are
+  pub are-answers : (all : List Command) → slice_get script.lists cpu.0 ≡ Some all → (n : ℕ) (list : List Command) (rows : List CpuLine) → AreAnswered script.layout all view cpu n list rows → length rows ≡ length list → AreAnswers script report.pages report.stop cpu n list rows
+  are-answers all all_is n [] [] are same = tt
+  are-answers all all_is n [] (row ∷ rows) are same = absurd (let none : suc (length rows) ≡ zero = same in omega arith)
+  are-answers all all_is n (c ∷ cs) [] are same = absurd (let none : zero ≡ suc (length cs) = same in omega arith)
+  are-answers all all_is n (c ∷ cs) (lines.Answer seq answer ∷ rows) (seq_is, caused, rest) same =
+      (seq_is, is-answer (record { cpu = cpu; seq = n }) all all_is c answer caused, are-answers all all_is (n + 1) cs rows rest (let one : suc (length rows) ≡ suc (length cs) = same in let less : length rows ≡ length cs = omega arith in less))
+  are-answers all all_is n (c ∷ cs) (lines.Event a b s x y z w ∷ rows) are same = absurd are

@@ -1,13 +1,11 @@
 -- The entries of a command that was answered are of its kind, in its page, and the one that answers it is named.
-use Rattle.std.proofs.Common.{◌≡◌, ◌⊎◌, ℕ, Bool, true, false, List, [], ◌∷◌, ◌++◌, Option, Some, None, IsTrue, refl, sym, ap, ◌∙◌, subst, inl, inr, true≢false}
+use Rattle.std.proofs.Common.{◌≡◌, ℕ, List, Some, IsTrue, refl, sym, ap, ◌∙◌, subst, inl, inr, true≢false}
 use Rattle.std.proofs.lemmas.Option.{none-some}
 use Rattle.hwp_geom.specs.declared.Layout.{Layout}
 use Rattle.hwp_geom.specs.declared.Page.{Page}
-use Rattle.hwp_geom.specs.declared.Thread.{Thread}
 use Rattle.hwp_geom.specs.declared.VSlot.{VSlot}
 use Rattle.hwp_geom.specs.declared.Who.{Who}
 use Rattle.hwp_page.specs.declared.At.{At}
-use Rattle.hwp_page.specs.declared.Met.TheVariants.{Word}
 use Rattle.hwp_page.specs.declared.What.{What}
 use Rattle.hwp_page.specs.declared.What.TheVariants as entries
 use Rattle.hwp_page.specs.Step.{IsOf}
@@ -18,7 +16,6 @@ use Rattle.hwp_rule.proofs.Lists.{each-push, each-weaken}
 use Rattle.hwp_known.specs.Known.{BringsIn, HasMade, HasMadeNone, HasOnly, IsAt, deeds}
 use Rattle.hwp_script.specs.declared.Command.{Command}
 use Rattle.hwp_script.specs.declared.Command.TheVariants as commands
-use Rattle.hwp_script.specs.declared.Script.{Script}
 use Rattle.hwp_report.specs.declared.Answer.{Answer}
 use Rattle.hwp_report.specs.declared.Answer.TheVariants as answers
 use Rattle.hwp_law.specs.Answers.{is_answering}
@@ -62,25 +59,25 @@ module _ (view : View) (who : Who) (P : Made → Type 0) where
 
 -- ---- the commands
 
-module _ (script : Script) (view : View) (who : Who) where
+module _ (layout : Layout) (list : List Command) (view : View) (who : Who) where
   abbrev Are : Command → Answer → Type 0
-  Are command answer = EachMember (IsDeed script.layout command answer) (deeds who view)
+  Are command answer = EachMember (IsDeed layout command answer) (deeds who view)
 
   -- an access that came to its entry
-  reached : (command : Command) (answer : Answer) (slot : VSlot) (at : At) (what : What) → Fits command entries.FaultIn → Fits command (entries.Map slot) → Fits command what → ((page : Page) → IsOf script.layout page slot → Names script.layout command page)
-      → entry_named answer ≡ Some at → IsOf script.layout at.page slot → HasMade (BringsIn at.page slot) view who at.page at.entry what → Are command answer
+  reached : (command : Command) (answer : Answer) (slot : VSlot) (at : At) (what : What) → Fits command entries.FaultIn → Fits command (entries.Map slot) → Fits command what → ((page : Page) → IsOf layout page slot → Names layout command page)
+      → entry_named answer ≡ Some at → IsOf layout at.page slot → HasMade (BringsIn at.page slot) view who at.page at.entry what → Are command answer
   reached command answer slot at what fault map fits names named page made =
-      made-so view who (IsDeed script.layout command answer) made (λ m in_. brought script.layout command answer at.page slot m fault map (names at.page page) in_) (λ m is. answered script.layout command answer at.page at.entry what m fits (names at.page page) named is)
+      made-so view who (IsDeed layout command answer) made (λ m in_. brought layout command answer at.page slot m fault map (names at.page page) in_) (λ m is. answered layout command answer at.page at.entry what m fits (names at.page page) named is)
 
   -- an access that found no frame
-  brings : (command : Command) (answer : Answer) (slot : VSlot) (page : Page) → Fits command entries.FaultIn → Fits command (entries.Map slot) → Names script.layout command page → HasOnly (BringsIn page slot) view who → Are command answer
-  brings command answer slot page fault map names only = each-weaken (BringsIn page slot) (IsDeed script.layout command answer) (deeds who view) (λ m in_. brought script.layout command answer page slot m fault map names in_) only
+  brings : (command : Command) (answer : Answer) (slot : VSlot) (page : Page) → Fits command entries.FaultIn → Fits command (entries.Map slot) → Names layout command page → HasOnly (BringsIn page slot) view who → Are command answer
+  brings command answer slot page fault map names only = each-weaken (BringsIn page slot) (IsDeed layout command answer) (deeds who view) (λ m in_. brought layout command answer page slot m fault map names in_) only
 
   -- a command that made its entry alone
-  one : (command : Command) (answer : Answer) (at : At) (what : What) → Fits command what → Names script.layout command at.page → entry_named answer ≡ Some at → HasMade (λ m. ⊥) view who at.page at.entry what → Are command answer
-  one command answer at what fits names named made = made-so view who (IsDeed script.layout command answer) made (λ m no_. absurd no_) (λ m is. answered script.layout command answer at.page at.entry what m fits names named is)
+  one : (command : Command) (answer : Answer) (at : At) (what : What) → Fits command what → Names layout command at.page → entry_named answer ≡ Some at → HasMade (λ m. ⊥) view who at.page at.entry what → Are command answer
+  one command answer at what fits names named made = made-so view who (IsDeed layout command answer) made (λ m no_. absurd no_) (λ m is. answered layout command answer at.page at.entry what m fits names named is)
 
-  pub are-deeds : (command : Command) (answer : Answer) → IsCaused script view who command answer → Are command answer
+  pub are-deeds : (command : Command) (answer : Answer) → IsCaused layout list view who command answer → Are command answer
   are-deeds command answers.Stopped caused = none view who _ caused.made
   are-deeds (commands.Load thread slot line) (answers.Value word at) caused = reached _ _ slot at _ tt refl (refl, refl, tt) (λ page is. is) refl caused.1.page caused.1.made
   are-deeds (commands.Load thread slot line) answers.NoFrame caused = brings _ _ slot caused.page tt refl caused.page_is caused.only

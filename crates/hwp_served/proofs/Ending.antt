@@ -1,16 +1,17 @@
 -- The end of a run of processors that are served.
-use Rattle.std.proofs.Common.{◌≡◌, ℕ, zero, suc, ◌+◌, ◌<◌, ◌==◌, ◌&&◌, Bool, true, false, cond, List, [], ◌∷◌, Option, Some, None, filter, length, map, slice_get, refl, sym, ap, ◌∙◌, subst, arith}
+use Rattle.std.proofs.Common.{◌≡◌, ℕ, zero, suc, ◌+◌, ◌<◌, ◌==◌, Bool, true, false, cond, List, [], ◌∷◌, Option, Some, filter, length, map, slice_get, refl, sym, ap, ◌∙◌, subst, arith}
 use Rattle.std.proofs.lemmas.Bool.{and_from, eq-eqb}
-use Rattle.std.proofs.lemmas.Option.{none-some, same_Some, slice_get_within}
+use Rattle.std.proofs.lemmas.Option.{none-some, same_Some}
 use Rattle.hwp_geom.specs.declared.Cpu.{Cpu}
+use Rattle.hwp_geom.specs.declared.Layout.{Layout}
 use Rattle.hwp_geom.specs.declared.Who.{Who}
-use Rattle.hwp_page.specs.declared.Entry.{Entry}
 use Rattle.hwp_rule.specs.declared.Made.{Made}
 use Rattle.hwp_rule.specs.declared.Part.{Part}
 use Rattle.hwp_rule.specs.declared.State.{State}
 use Rattle.hwp_rule.specs.declared.View.{View}
 use Rattle.hwp_rule.specs.Lists.{EachMember}
-use Rattle.hwp_rule.specs.parts.Holdings.{IsPast}
+use Rattle.hwp_rule.specs.Rule.{Holds}
+use Rattle.hwp_rule.specs.parts.Holdings.{HoldsNothing, IsPast}
 use Rattle.hwp_rule.proofs.Lists.{at_map}
 use Rattle.hwp_rule.proofs.NotLater.{one-view}
 use Rattle.hwp_step.specs.Boards.{AreSeated, view_of}
@@ -24,7 +25,8 @@ use Rattle.hwp_report.specs.declared.Report.{Report}
 use Rattle.hwp_runs.proofs.Homes.{there-is}
 use Rattle.hwp_runs.proofs.Reported.{IsLast}
 use Rattle.hwp_served.specs.Causes.{IsCaused}
-use Rattle.hwp_served.specs.Served.{AreAnswered, IsServed}
+use Rattle.hwp_served.specs.Runs.{AreServed}
+use Rattle.hwp_served.specs.Served.{AreAnswered}
 
 -- the report is that of the last board of a run, where each processor has served its commands
 pub record IsEnd (script : Script) (seat : Cpu → ℕ) (last : State) (report : Report) : Type 0 where
@@ -32,28 +34,28 @@ pub record IsEnd (script : Script) (seat : Cpu → ℕ) (last : State) (report :
   pub seated : AreSeated script.layout last seat
   pub lists_fit : length script.lists ≡ script.layout.cpus
   pub cpus_fit : length report.cpus ≡ script.layout.cpus
-  pub served : (cpu : Cpu) (list : List Command) (rows : List CpuLine) → slice_get script.lists cpu.0 ≡ Some list → slice_get report.cpus cpu.0 ≡ Some rows → IsServed script (view_of last (seat cpu)) cpu list rows
+  pub served : AreServed script seat last report.cpus
 
 -- the answer of a command, and its cause
-pub record HasAnswer (script : Script) (view : View) (cpu : Cpu) (seq : ℕ) (command : Command) (row : Option CpuLine) : Type 0 where
+pub record HasAnswer (layout : Layout) (all : List Command) (view : View) (cpu : Cpu) (seq : ℕ) (command : Command) (row : Option CpuLine) : Type 0 where
   pub answer : Answer
   pub row_is : row ≡ Some (lines.Answer seq answer)
-  pub caused : IsCaused script view (record { cpu = cpu; seq = seq }) command answer
+  pub caused : IsCaused layout all view (record { cpu = cpu; seq = seq }) command answer
 
-pub answer-at : (script : Script) (view : View) (cpu : Cpu) (n : ℕ) (list : List Command) (rows : List CpuLine) (k m : ℕ) (command : Command) → AreAnswered script view cpu n list rows → length rows ≡ length list → slice_get list k ≡ Some command → m ≡ n + k
-    → HasAnswer script view cpu m command (slice_get rows k)
-answer-at script view cpu n [] rows k m command are fit there at = absurd (none-some command there)
-answer-at script view cpu n (c ∷ cs) [] k m command are fit there at = absurd (let none : 0 ≡ suc (length cs) = fit in omega arith)
-answer-at script view cpu n (c ∷ cs) (lines.Answer seq answer ∷ rows) zero m command (seq_is, caused, rest) fit there at =
+pub answer-at : (layout : Layout) (all : List Command) (view : View) (cpu : Cpu) (n : ℕ) (list : List Command) (rows : List CpuLine) (k m : ℕ) (command : Command) → AreAnswered layout all view cpu n list rows → length rows ≡ length list → slice_get list k ≡ Some command → m ≡ n + k
+    → HasAnswer layout all view cpu m command (slice_get rows k)
+answer-at layout all view cpu n [] rows k m command are fit there at = absurd (none-some command there)
+answer-at layout all view cpu n (c ∷ cs) [] k m command are fit there at = absurd (let none : 0 ≡ suc (length cs) = fit in omega arith)
+answer-at layout all view cpu n (c ∷ cs) (lines.Answer seq answer ∷ rows) zero m command (seq_is, caused, rest) fit there at =
     let same : m ≡ n = omega arith in
     record {
       answer = answer;
       row_is = ap (λ (i : ℕ). Some (lines.Answer i answer)) (seq_is ∙ sym same);
-      caused = subst (λ (x : Command). IsCaused script view (record { cpu = cpu; seq = m }) x answer) (same_Some c command there) (subst (λ (i : ℕ). IsCaused script view (record { cpu = cpu; seq = i }) c answer) (sym same) caused);
+      caused = subst (λ (x : Command). IsCaused layout all view (record { cpu = cpu; seq = m }) x answer) (same_Some c command there) (subst (λ (i : ℕ). IsCaused layout all view (record { cpu = cpu; seq = i }) c answer) (sym same) caused);
     }
-answer-at script view cpu n (c ∷ cs) (lines.Answer seq answer ∷ rows) (suc k) m command (seq_is, caused, rest) fit there at =
-    answer-at script view cpu (n + 1) cs rows k m command rest (let one : suc (length rows) ≡ suc (length cs) = fit in let same : length rows ≡ length cs = omega arith in same) there (omega arith)
-answer-at script view cpu n (c ∷ cs) (lines.Event a b s x y z w ∷ rows) k m command are fit there at = absurd are
+answer-at layout all view cpu n (c ∷ cs) (lines.Answer seq answer ∷ rows) (suc k) m command (seq_is, caused, rest) fit there at =
+    answer-at layout all view cpu (n + 1) cs rows k m command rest (let one : suc (length rows) ≡ suc (length cs) = fit in let same : length rows ≡ length cs = omega arith in same) there (omega arith)
+answer-at layout all view cpu n (c ∷ cs) (lines.Event a b s x y z w ∷ rows) k m command are fit there at = absurd are
 
 -- a member that passes the test is one of those that do
 filter-has : {A : Type 0} (test : A → Bool) (l : List A) (j : ℕ) (x : A) → slice_get l j ≡ Some x → test x ≡ true → (k : ℕ) × (slice_get (filter test l) k ≡ Some x)
@@ -82,9 +84,35 @@ pub record IsOf (script : Script) (report : Report) (view : View) (who : Who) : 
   pub command_is : slice_get list who.seq ≡ Some command
   pub answer : Answer
   pub answer_is : slice_get rows who.seq ≡ Some (lines.Answer who.seq answer)
-  pub caused : IsCaused script view who command answer
+  pub caused : IsCaused script.layout list view who command answer
+
+-- a view that has a processor is the one of the processor's seat
+pub seat-view : (layout : Layout) (seat : Cpu → ℕ) (last : State) → Holds layout last → AreSeated layout last seat → (i k : ℕ) (v : View) (p : Part) → slice_get last.views i ≡ Some v → slice_get v.parts k ≡ Some p
+    → (p.cpu.0 < layout.cpus) × (v ≡ view_of last (seat p.cpu))
+seat-view layout seat last holds seated i k v p view part =
+    let rule = holds.rule.processors.processors in
+    let inside : p.cpu.0 < layout.cpus = rule.declared i v.parts (at_map (λ (x : View). x.parts) last.views i v view) k p part in
+    let there = seated.there p.cpu inside in
+    let own = seated.own p.cpu inside in
+    let same : i ≡ seat p.cpu = one-view layout (map (λ (x : View). x.parts) last.views) rule i (seat p.cpu) k own.0 v.parts (view_of last (seat p.cpu)).parts p own.1
+    (at_map (λ (x : View). x.parts) last.views i v view) (at_map (λ (x : View). x.parts) last.views (seat p.cpu) (view_of last (seat p.cpu)) there) part own.2 (sym own.3) in
+    (inside, same_Some v (view_of last (seat p.cpu)) (sym view ∙ ap (slice_get last.views) same ∙ there))
+
+-- where no processor's seat holds anything, no view does: a view without processors holds nothing
+pub nothing-held : (layout : Layout) (seat : Cpu → ℕ) (last : State) → Holds layout last → AreSeated layout last seat → ((cpu : Cpu) → cpu.0 < layout.cpus → HoldsNothing (view_of last (seat cpu))) → EachMember HoldsNothing last.views
+nothing-held layout seat last holds seated none i v view = which v.parts refl
+  where
+    which : (parts : List Part) → v.parts ≡ parts → HoldsNothing v
+    which [] empty = holds.held.nothing i v view empty
+    which (p ∷ ps) some =
+        let own = seat-view layout seat last holds seated i 0 v p view (ap (λ (l : List Part). slice_get l 0) some) in
+        subst HoldsNothing (sym own.1) (none p.cpu own.0)
 
 module _ (script : Script) (seat : Cpu → ℕ) (last : State) (report : Report) (end : IsEnd script seat last report) where
+  -- the view that lists what a processor did is its seat's
+  pub own-view : (i : ℕ) (v : View) (who : Who) → slice_get last.views i ≡ Some v → IsPast v.parts who → (who.cpu.0 < script.layout.cpus) × (v ≡ view_of last (seat who.cpu))
+  own-view i v who view past = subst (λ (c : Cpu). (c.0 < script.layout.cpus) × (v ≡ view_of last (seat c))) past.3.0 (seat-view script.layout seat last end.board.holds end.seated i past.0 v past.1 view past.2)
+
   -- a processor of the layout has a list, and lines
   pub list-of : (cpu : Cpu) → cpu.0 < script.layout.cpus → (list : List Command) × (slice_get script.lists cpu.0 ≡ Some list)
   list-of cpu inside = there-is script.lists cpu.0 (subst (λ (n : ℕ). cpu.0 < n) (sym end.lists_fit) inside)
@@ -92,24 +120,12 @@ module _ (script : Script) (seat : Cpu → ℕ) (last : State) (report : Report)
   pub rows-of : (cpu : Cpu) → cpu.0 < script.layout.cpus → (rows : List CpuLine) × (slice_get report.cpus cpu.0 ≡ Some rows)
   rows-of cpu inside = there-is report.cpus cpu.0 (subst (λ (n : ℕ). cpu.0 < n) (sym end.cpus_fit) inside)
 
-  -- the view that lists what a processor did is its seat's
-  pub own-view : (i : ℕ) (v : View) (who : Who) → slice_get last.views i ≡ Some v → IsPast v.parts who → (who.cpu.0 < script.layout.cpus) × (v ≡ view_of last (seat who.cpu))
-  own-view i v who view past =
-      let rule = end.board.holds.rule.processors.processors in
-      let inside : past.1.cpu.0 < script.layout.cpus = rule.declared i v.parts (at_map (λ (x : View). x.parts) last.views i v view) past.0 past.1 past.2 in
-      let within : who.cpu.0 < script.layout.cpus = subst (λ (c : Cpu). c.0 < script.layout.cpus) past.3.0 inside in
-      let there = end.seated.there who.cpu within in
-      let own = end.seated.own who.cpu within in
-      let same : i ≡ seat who.cpu = one-view script.layout (map (λ (x : View). x.parts) last.views) rule i (seat who.cpu) past.0 own.0 v.parts (view_of last (seat who.cpu)).parts past.1 own.1
-      (at_map (λ (x : View). x.parts) last.views i v view) (at_map (λ (x : View). x.parts) last.views (seat who.cpu) (view_of last (seat who.cpu)) there) past.2 own.2 (past.3.0 ∙ sym own.3) in
-      (within, same_Some v (view_of last (seat who.cpu)) (sym view ∙ ap (slice_get last.views) same ∙ there))
-
   -- a command of a processor, by its number
   pub command-of : (who : Who) (list : List Command) (rows : List CpuLine) (command : Command) → slice_get script.lists who.cpu.0 ≡ Some list → slice_get report.cpus who.cpu.0 ≡ Some rows → slice_get list who.seq ≡ Some command
       → IsOf script report (view_of last (seat who.cpu)) who
   command-of who list rows command list_is rows_is command_is =
       let served = end.served who.cpu list rows list_is rows_is in
-      let a = answer-at script (view_of last (seat who.cpu)) who.cpu 0 list rows who.seq who.seq command served.answered served.count command_is (omega arith) in
+      let a = answer-at script.layout list (view_of last (seat who.cpu)) who.cpu 0 list rows who.seq who.seq command served.answered served.count command_is (omega arith) in
       record { list = list; rows = rows; list_is = list_is; rows_is = rows_is; command = command; command_is = command_is; answer = a.answer; answer_is = a.row_is; caused = a.caused }
 
   -- the command of an entry that a view lists

@@ -1,35 +1,27 @@
 -- The lines of frames, where nothing is poisoned and no frame is locked.
-use Rattle.std.proofs.Common.{◌≡◌, ◌≢◌, ℕ, zero, suc, ◌+◌, ◌-◌, ◌%◌, ◌^◌, ◌<◌, ◌≤◌, ◌==◌, min, Bool, true, false, cond, List, [], ◌∷◌, Option, Some, None, length, map, slice_get, refl, sym, ap, ◌∙◌, subst, arith}
-use Rattle.std.specs.Int.{bit_at, from_bool, trailing_zeros, w64}
-use Rattle.std.specs.List.{sum_by}
-use Rattle.std.proofs.lemmas.Bool.{eq-eqb, eqb-true, ne_eqb}
-use Rattle.std.proofs.lemmas.Nat.Bits.{bit_at-trailing_zeros}
+use Rattle.std.proofs.Common.{◌≡◌, ℕ, zero, suc, ◌+◌, ◌-◌, ◌%◌, ◌^◌, ◌<◌, ◌≤◌, Bool, true, false, cond, List, [], ◌∷◌, Some, None, length, slice_get, refl, sym, ap, ◌∙◌, subst, arith}
+use Rattle.std.proofs.lemmas.Bool.{eqb-true, ne_eqb}
 use Rattle.std.proofs.lemmas.Option.{none-some, slice_get_within}
-use Rattle.hwp_geom.specs.declared.Frame.{Frame}
 use Rattle.hwp_geom.specs.declared.Layout.{Layout}
-use Rattle.hwp_geom.specs.declared.Page.{Page}
 use Rattle.hwp_geom.specs.Pairs.{Pairs}
 use Rattle.hwp_words.specs.Frames.{handled_of, is_handled, is_kernel, owner_of}
 use Rattle.hwp_words.specs.Names.{page_named}
 use Rattle.hwp_rule.specs.declared.Mark.{Mark}
-use Rattle.hwp_rule.specs.declared.Spoiled.{Spoiled}
 use Rattle.hwp_rule.specs.declared.State.{State}
 use Rattle.hwp_rule.specs.declared.View.{View}
-use Rattle.hwp_rule.specs.Lists.{EachMember, sum_all}
-use Rattle.hwp_rule.specs.Rule.{Holds}
+use Rattle.hwp_rule.specs.Lists.{EachMember}
 use Rattle.hwp_rule.specs.Words.{words_of}
-use Rattle.hwp_rule.specs.parts.Damage.{HasSpoiled, is_spoil}
-use Rattle.hwp_rule.proofs.Lists.{map-was, sum-zero}
+use Rattle.hwp_rule.proofs.Lists.{map-was}
 use Rattle.hwp_rule.proofs.Moving.{shaped}
-use Rattle.hwp_report.specs.declared.FrameLine.{FrameLine}
 use Rattle.hwp_report.specs.declared.MarkLine.{MarkLine}
-use Rattle.hwp_report.specs.declared.Place.{Place}
 use Rattle.hwp_report.specs.declared.Place.TheVariants as places
+use Rattle.hwp_report.specs.declared.FrameLine.{FrameLine}
 use Rattle.hwp_report.specs.declared.Report.{Report}
 use Rattle.hwp_law.specs.Report.{IsFrame, IsPlace}
-use Rattle.hwp_runs.specs.Ends.{EndsWith, IsFrameOn, place_in, place_owned}
+use Rattle.hwp_runs.specs.Ends.{IsFrameOn, place_in, place_owned}
 use Rattle.hwp_runs.proofs.Placed.{owned-named}
 use Rattle.hwp_runs.proofs.Reported.{IsLast}
+use Rattle.hwp_served.proofs.Undamaged.{AreClean}
 
 -- two lists of the same length whose members at each place stand in the relation
 pub pairs-each : {A B : Type 0} (R : A → B → Type 0) (xs : List A) (ys : List B) → length xs ≡ length ys → ((i : ℕ) (x : A) (y : B) → slice_get xs i ≡ Some x → slice_get ys i ≡ Some y → R x y) → Pairs R xs ys
@@ -38,31 +30,12 @@ pairs-each R [] (y ∷ ys) same each = absurd (let none : zero ≡ suc (length y
 pairs-each R (x ∷ xs) [] same each = absurd (let none : suc (length xs) ≡ zero = same in omega arith)
 pairs-each R (x ∷ xs) (y ∷ ys) same each = (each 0 x y refl refl, pairs-each R xs ys (let one : suc (length xs) ≡ suc (length ys) = same in let less : length xs ≡ length ys = omega arith in less) (λ i a b first second. each (suc i) a b first second))
 
--- a word of 64 bits without a bit is 0
-no-bits : (w : ℕ) → w < 2 ^ 64 → ((line : ℕ) → line < 64 → bit_at w line ≡ 0) → w ≡ 0
-no-bits zero fits none = refl
-no-bits (suc n) fits none =
-    let lowest = bit_at-trailing_zeros w64 (suc n) (omega arith) fits in
-    let is : bit_at (suc n) (trailing_zeros w64 (suc n)) ≡ 1 = lowest.1 in
-    let not_so : bit_at (suc n) (trailing_zeros w64 (suc n)) ≡ 0 = none (trailing_zeros w64 (suc n)) lowest.0 in
-    absurd (omega (arith, is, not_so))
-
 empty-marks : (l : List MarkLine) → ((i : ℕ) (m : MarkLine) → slice_get l i ≡ Some m → ⊥) → l ≡ []
 empty-marks [] none = refl
 empty-marks (m ∷ ms) none = absurd (none 0 m refl)
 
 module _ (layout : Layout) (last : State) (report : Report) (l : IsLast layout last report) (unmarked : EachMember (λ (v : View). v.marks ≡ []) last.views)
-    (words : EachMember (λ (line : FrameLine). (line.bad.0 < 2 ^ 64) × (line.weak.0 < 2 ^ 64)) report.frames) where
-  spoiled-none : (f line : ℕ) (bad : Bool) → sum_all (λ (s : Spoiled). from_bool (is_spoil f line bad s)) (map (λ (v : View). v.spoiled) last.views) ≡ 0
-  spoiled-none f line bad = sum-zero _ (map (λ (v : View). v.spoiled) last.views) (λ i list there. empty-sum list (l.holds.rule.failures.unpoisoned.unspoiled i list there))
-    where
-      empty-sum : (list : List Spoiled) → length list ≡ 0 → sum_by (λ (s : Spoiled). from_bool (is_spoil f line bad s)) list ≡ 0
-      empty-sum [] none = refl
-      empty-sum (s ∷ ss) none = absurd (let no : suc (length ss) ≡ zero = none in omega arith)
-
-  undamaged : (f w : ℕ) (bad : Bool) → w < 2 ^ 64 → HasSpoiled f w bad (map (λ (v : View). v.spoiled) last.views) → w ≡ 0
-  undamaged f w bad fits has = no-bits w fits (λ line less. has line less ∙ ap (λ (n : ℕ). min n 1) (spoiled-none f line bad))
-
+    (clean : AreClean (words_of layout last.words)) where
   placed : (f w : ℕ) (kernel : Bool) → slice_get (words_of layout last.words).frames f ≡ Some w → is_kernel w ≡ kernel → IsPlace layout kernel (place_in w)
   placed f w true there is = subst (IsPlace layout true) (sym (ap (λ (b : Bool). cond b places.Kernel (cond (is_handled w) places.Handled (place_owned (page_named (owner_of w))))) is)) refl
   placed f w false there is = subst (IsPlace layout false) (sym (ap (λ (b : Bool). cond b places.Kernel (cond (is_handled w) places.Handled (place_owned (page_named (owner_of w))))) is)) (by-handled (is_handled w) refl)
@@ -90,18 +63,20 @@ module _ (layout : Layout) (last : State) (report : Report) (l : IsLast layout l
           absurd (omega (arith, out.poisoned, none))
       by-handled false handled = subst (λ (b : Bool). IsPlace layout false (cond b places.Handled (place_owned (page_named (owner_of w))))) (sym handled) (by-name (owner_of w) refl)
 
-  -- the lines of frames are those of a run where no memory failed
-  pub frames-fit : Pairs (IsFrame layout) layout.kernel report.frames
-  frames-fit = pairs-each (IsFrame layout) layout.kernel report.frames (l.holds.sound.kernel ∙ sym l.frames_fit) (λ i kernel line k_there there.
+  -- the line of a frame is that of a run where no memory failed
+  pub frame-fits : (i : ℕ) (kernel : Bool) (line : FrameLine) → slice_get layout.kernel i ≡ Some kernel → slice_get report.frames i ≡ Some line → IsFrame layout kernel line
+  frame-fits i kernel line k_there there =
       let on : IsFrameOn (words_of layout last.words) last.views (record { 0 = i }) line = l.ends.frames (record { 0 = i }) line there in
-      let fits = words i line there in
       record {
         place = subst (IsPlace layout kernel) (sym on.place) (placed i on.word kernel on.there (l.holds.rule.frames.places.declared i on.word kernel on.there k_there));
-        bad = undamaged i line.bad.0 true fits.0 (l.holds.rule.failures.damage.bad i line.bad.0 on.bad);
-        weak = undamaged i line.weak.0 false fits.1 (l.holds.rule.failures.damage.weak i line.weak.0 on.weak);
+        bad = clean.bads i line.bad.0 on.bad;
+        weak = clean.weaks i line.weak.0 on.weak;
         unmarked = empty-marks line.marks (λ j m at.
             let listed = (on.marks.told j m at).1 in
             let was = map-was (λ (v : View). v.marks) last.views listed.0 listed.1 listed.2 in
             let none : listed.1 ≡ [] = sym was.2 ∙ unmarked listed.0 was.0 was.1 in
             none-some listed.3.1 (sym (ap (λ (ms : List Mark). slice_get ms listed.3.0) none) ∙ listed.3.2));
-      })
+      }
+
+  pub frames-fit : Pairs (IsFrame layout) layout.kernel report.frames
+  frames-fit = pairs-each (IsFrame layout) layout.kernel report.frames (l.holds.sound.kernel ∙ sym l.frames_fit) frame-fits

@@ -7,6 +7,16 @@ pub mod Losses
 pub mod Stops
 pub mod Ample
 pub mod Unmarked
+pub mod Undamaged
+pub mod Lossless
 pub mod Framed
 pub mod Unended
 pub mod Answered
+pub mod Holding
+pub mod Shown
+pub mod Showing
+pub mod Sound
+pub mod Unfailed
+pub mod Unlost
+pub mod Lawful
+pub mod Staying

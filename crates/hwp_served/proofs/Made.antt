@@ -1,12 +1,11 @@
 -- Each entry of the report is one that its command makes, and the one that answers it is named.
-use Rattle.std.proofs.Common.{◌≡◌, ℕ, List, Option, Some, None, IsTrue, slice_get, option_and_then, refl, sym, ap, ◌∙◌, subst}
+use Rattle.std.proofs.Common.{◌≡◌, ℕ, List, Option, Some, IsTrue, slice_get, option_and_then, sym, ap, ◌∙◌, subst}
 use Rattle.std.specs.Prelude.{IsSomeAnd}
 use Rattle.hwp_geom.specs.declared.Cpu.{Cpu}
 use Rattle.hwp_geom.specs.declared.Page.{Page}
 use Rattle.hwp_geom.specs.declared.Who.{Who}
 use Rattle.hwp_page.specs.declared.At.{At}
 use Rattle.hwp_page.specs.declared.Entry.{Entry}
-use Rattle.hwp_rule.specs.declared.Made.{Made}
 use Rattle.hwp_rule.specs.declared.State.{State}
 use Rattle.hwp_rule.specs.declared.View.{View}
 use Rattle.hwp_script.specs.declared.Command.{Command}
@@ -14,11 +13,10 @@ use Rattle.hwp_script.specs.declared.Script.{Script}
 use Rattle.hwp_report.specs.declared.CpuLine.{CpuLine}
 use Rattle.hwp_report.specs.declared.CpuLine.TheVariants as lines
 use Rattle.hwp_report.specs.declared.Report.{Report}
-use Rattle.hwp_law.specs.Answers.{AreNamed, IsNamed, is_answering}
-use Rattle.hwp_law.specs.History.{AreMade, Fits, IsMade, Names}
+use Rattle.hwp_law.specs.Answers.{AreNamed, is_answering}
+use Rattle.hwp_law.specs.History.{AreMade, Fits, Names}
 use Rattle.hwp_law.specs.Places.{command_at, entry_at}
 use Rattle.hwp_law.specs.States.{entry_named}
-use Rattle.hwp_runs.proofs.Histories.{IsThat}
 use Rattle.hwp_runs.proofs.Reported.{entry-listed}
 use Rattle.hwp_served.proofs.Deeds.{IsDeed, are-deeds}
 use Rattle.hwp_served.proofs.Ending.{IsEnd, IsOf, of-deeds, of-made}
@@ -45,7 +43,7 @@ module _ (script : Script) (seat : Cpu → ℕ) (last : State) (report : Report)
       let made = listed.3 in
       let that = made.3 in
       let of : IsOf script report listed.1 e.who = subst (λ (x : Entry). IsOf script report listed.1 x.who) that.entry_is (of-made script seat last report end listed.0 made.0 listed.1 made.1 listed.2 made.2) in
-      let deed = of-deeds (IsDeed script.layout of.command of.answer) listed.1 e.who made.0 made.1 (are-deeds script listed.1 e.who of.command of.answer of.caused) made.2 (ap (λ (x : Entry). x.who) that.entry_is) in
+      let deed = of-deeds (IsDeed script.layout of.command of.answer) listed.1 e.who made.0 made.1 (are-deeds script.layout of.list listed.1 e.who of.command of.answer of.caused) made.2 (ap (λ (x : Entry). x.who) that.entry_is) in
       record {
         view = listed.1;
         of = of;

@@ -1,5 +1,5 @@
 -- What the answer of a command names: an entry that it made, or a number of entries after which it saw the page.
-use Rattle.std.proofs.Common.{◌≡◌, ◌⊎◌, ℕ, zero, suc, Bool, true, false, List, [], ◌∷◌, ◌++◌, Option, Some, None, filter, length, slice_get, cond, refl, sym, ap, ◌∙◌, subst, inl, inr}
+use Rattle.std.proofs.Common.{◌≡◌, ◌⊎◌, ℕ, zero, suc, Bool, true, false, List, [], ◌∷◌, Some, filter, length, slice_get, take, cond, refl, sym, ap, ◌∙◌, subst, inl, inr}
 use Rattle.std.proofs.lemmas.Bool.{and_parts, eqb-true}
 use Rattle.std.proofs.lemmas.Option.{none-some, same_Some}
 use Rattle.hwp_geom.specs.declared.Layout.{Layout}
@@ -14,17 +14,15 @@ use Rattle.hwp_page.specs.declared.What.{What}
 use Rattle.hwp_rule.specs.declared.Log.{Log}
 use Rattle.hwp_rule.specs.declared.Made.{Made}
 use Rattle.hwp_rule.specs.declared.View.{View}
-use Rattle.hwp_rule.specs.Lists.{SomeMember}
 use Rattle.hwp_rule.proofs.Lists.{at_last}
-use Rattle.hwp_known.specs.Known.{HasMade, IsAt, SawLog, deeds, is_by}
+use Rattle.hwp_known.specs.Known.{HasMade, SawLog, deeds, is_by}
 use Rattle.hwp_known.specs.Pages.{SawState}
 use Rattle.hwp_script.specs.declared.Command.{Command}
 use Rattle.hwp_script.specs.declared.Command.TheVariants as commands
-use Rattle.hwp_script.specs.declared.Script.{Script}
 use Rattle.hwp_report.specs.declared.Answer.{Answer}
 use Rattle.hwp_report.specs.declared.Answer.TheVariants as answers
 use Rattle.hwp_law.specs.Answers.{reply_answer}
-use Rattle.hwp_law.specs.Policies.{arguments, policy_before}
+use Rattle.hwp_law.specs.Policies.{arguments, last_policy, settings}
 use Rattle.hwp_law.specs.States.{place_named, state_named}
 use Rattle.hwp_served.specs.Causes.{IsCaused}
 
@@ -97,10 +95,10 @@ made-what {view = view} {who = who} {at = at} {what = what} has =
       place_is = ap (λ (p : Page). record { page = p; entry = has.last.place }) has.at.0 ∙ ap (λ (n : ℕ). record { page = at.page; entry = n }) has.at.1;
     }
 
-saw-at : {layout : Layout} {view : View} {who : Who} {at : At} {Such : PageState → Type 0} → SawState layout view who at.page at.entry Such → SawAt view who at
+pub saw-at : {layout : Layout} {view : View} {who : Who} {at : At} {Such : PageState → Type 0} → SawState layout view who at.page at.entry Such → SawAt view who at
 saw-at saw = record { log = saw.log; saw = saw.saw; page_is = saw.page_is; place_is = saw.place_is }
 
-module _ (script : Script) (view : View) (who : Who) where
+module _ (layout : Layout) (list : List Command) (view : View) (who : Who) where
   abbrev Names : Answer → Type 0
   Names answer = (at : At) → place_named answer ≡ Some at → MadeAt view who at ⊎ SawAt view who at
 
@@ -111,7 +109,7 @@ module _ (script : Script) (view : View) (who : Who) where
   saw-one at saw bt is = inr (subst (SawAt view who) (same_Some at bt is) saw)
 
   -- the place that an answer names is one that its command made an entry at, or saw the page at
-  pub names-place : (command : Command) (answer : Answer) → IsCaused script view who command answer → Names answer
+  pub names-place : (command : Command) (answer : Answer) → IsCaused layout list view who command answer → Names answer
   names-place command answers.Stopped caused at is = absurd (none-some at is)
   names-place (commands.Load thread slot line) (answers.Value word bt) caused at is = made-one bt (made-at caused.1.made) at is
   names-place (commands.Load thread slot line) answers.NoFrame caused at is = absurd (none-some at is)
@@ -138,7 +136,7 @@ module _ (script : Script) (view : View) (who : Who) where
   names-place (commands.Fsync file) answers.Done caused at is = absurd (none-some at is)
   names-place (commands.Fsync file) (answers.Eio lost) caused at is = absurd (none-some at is)
   names-place (commands.Prctl thread args) (answers.Gone page) caused at is = absurd (none-some at is)
-  names-place (commands.Prctl thread args) answer caused at is = absurd (replied (reply (policy_before script who thread) (arguments args)) (sym (ap place_named caused.replied) ∙ is))
+  names-place (commands.Prctl thread args) answer caused at is = absurd (replied (reply (last_policy (settings thread (take who.seq list))) (arguments args)) (sym (ap place_named caused.replied) ∙ is))
     where
       replied : (r : Reply) → place_named (reply_answer r) ≡ Some at → ⊥
       replied (replies.Set policy) is = none-some at is
@@ -148,7 +146,7 @@ module _ (script : Script) (view : View) (who : Who) where
   names-place command answer caused at is = absurd caused
 
   -- where the answer names a number of entries, the command saw the page after as many
-  pub names-state : (command : Command) (answer : Answer) → IsCaused script view who command answer → (at : At) → state_named answer ≡ Some at → SawAt view who at
+  pub names-state : (command : Command) (answer : Answer) → IsCaused layout list view who command answer → (at : At) → state_named answer ≡ Some at → SawAt view who at
   names-state command answers.Stopped caused at is = absurd (none-some at is)
   names-state (commands.Free slot) (answers.NotMapped bt) caused at is = subst (SawAt view who) (same_Some bt at is) (saw-at caused.1.saw)
   names-state (commands.Drop page) (answers.NotResident bt) caused at is = subst (SawAt view who) (same_Some bt at is) (saw-at caused.1.saw)
@@ -157,7 +155,7 @@ module _ (script : Script) (view : View) (who : Who) where
   names-state (commands.Sync page) (answers.NotResident bt) caused at is = subst (SawAt view who) (same_Some bt at is) (saw-at caused.1.saw)
   names-state (commands.Out page) (answers.NotResident bt) caused at is = subst (SawAt view who) (same_Some bt at is) (saw-at caused.1.saw)
   names-state (commands.Prctl thread args) (answers.Gone page) caused at is = absurd (none-some at is)
-  names-state (commands.Prctl thread args) answer caused at is = absurd (replied (reply (policy_before script who thread) (arguments args)) (sym (ap state_named caused.replied) ∙ is))
+  names-state (commands.Prctl thread args) answer caused at is = absurd (replied (reply (last_policy (settings thread (take who.seq list))) (arguments args)) (sym (ap state_named caused.replied) ∙ is))
     where
       replied : (r : Reply) → state_named (reply_answer r) ≡ Some at → ⊥
       replied (replies.Set policy) is = none-some at is

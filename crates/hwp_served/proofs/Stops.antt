@@ -1,31 +1,28 @@
 -- The stop record is that of a command which stopped the machine.
-use Rattle.std.proofs.Common.{◌≡◌, ◌⊎◌, ◌≢◌, ℕ, zero, suc, ◌+◌, ◌<◌, ◌≤◌, ◌==◌, min, not, Bool, true, false, List, Option, Some, None, IsSome, length, map, slice_get, refl, sym, ap, ◌∙◌, subst, arith, inl, inr, true≢false}
-use Rattle.std.specs.List.{sum_by}
+use Rattle.std.proofs.Common.{◌≡◌, ◌⊎◌, ◌≢◌, ℕ, ◌+◌, ◌<◌, not, List, Option, Some, None, IsSome, slice_get, refl, sym, ap, ◌∙◌, subst, arith, inl, inr, true≢false}
 use Rattle.std.proofs.lemmas.Bool.{eq-eqb}
-use Rattle.std.proofs.lemmas.Option.{none-some, same_Some, slice_get_within}
+use Rattle.std.proofs.lemmas.Option.{slice_get_within}
 use Rattle.hwp_geom.specs.declared.Cpu.{Cpu}
 use Rattle.hwp_geom.specs.declared.Who.{Who}
-use Rattle.hwp_words.specs.Stops.{is_stopped, stopper_of}
+use Rattle.hwp_words.specs.Stops.{stopper_of}
 use Rattle.hwp_rule.specs.declared.Sight.{Sight}
 use Rattle.hwp_rule.specs.declared.State.{State}
 use Rattle.hwp_rule.specs.declared.View.{View}
 use Rattle.hwp_rule.specs.Lists.{SomeMember}
 use Rattle.hwp_rule.specs.Words.{words_of}
-use Rattle.hwp_rule.proofs.Lists.{at_map, map-was, sum-map, term-le}
+use Rattle.hwp_rule.proofs.Lists.{at_map, map-was}
 use Rattle.hwp_step.specs.Boards.{view_of}
 use Rattle.hwp_known.specs.Known.{SawStop}
 use Rattle.hwp_script.specs.declared.Command.{Command}
 use Rattle.hwp_script.specs.declared.Command.TheVariants as commands
 use Rattle.hwp_script.specs.declared.Script.{Script}
-use Rattle.hwp_report.specs.declared.Answer.TheVariants as answers
 use Rattle.hwp_report.specs.declared.CpuLine.{CpuLine}
-use Rattle.hwp_report.specs.declared.CpuLine.TheVariants as lines
 use Rattle.hwp_report.specs.declared.Report.{Report}
 use Rattle.hwp_report.specs.declared.Stop.{Stop}
 use Rattle.hwp_report.specs.declared.StopCause.{StopCause}
 use Rattle.hwp_report.specs.declared.StopCause.TheVariants as causes
 use Rattle.hwp_law.specs.Places.{command_at}
-use Rattle.hwp_law.specs.Stops.{IsCause, IsStop, StaysStopped, StopFits}
+use Rattle.hwp_law.specs.Stops.{IsCause, StopFits}
 use Rattle.hwp_runs.specs.Ends.{IsStopOn}
 use Rattle.hwp_served.specs.Causes.{FoundStopped}
 use Rattle.hwp_served.specs.Served.{IsOwnStop}

@@ -1,7 +1,6 @@
 -- As long as nothing is poisoned, no step marks a frame.
-use Rattle.std.proofs.Common.{◌≡◌, ◌≢◌, ℕ, ◌<◌, ◌==◌, Bool, true, false, List, [], ◌∷◌, ◌++◌, Some, bit_or, set, slice_get, slice_index, refl, sym, ap, ◌∙◌, subst, arith}
+use Rattle.std.proofs.Common.{◌≡◌, ℕ, ◌<◌, List, [], ◌∷◌, ◌++◌, Some, bit_or, slice_get, slice_index, refl, sym, ap, ◌∙◌, subst, arith}
 use Rattle.std.proofs.lemmas.Bool.{eqb-true}
-use Rattle.std.proofs.lemmas.Option.{none-some}
 use Rattle.hwp_geom.specs.declared.Frame.{Frame}
 use Rattle.hwp_geom.specs.declared.Layout.{Layout}
 use Rattle.hwp_words.specs.Frames.{handled_of, poison_of}

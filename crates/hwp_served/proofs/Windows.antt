@@ -1,15 +1,12 @@
 -- Each answer that says what state a page was in names a number of entries in its command's window.
-use Rattle.std.proofs.Common.{◌≡◌, ◌⊎◌, ℕ, ◌<◌, ◌≤◌, List, Some, length, slice_get, refl, sym, ap, ◌∙◌, subst, arith, inl, inr}
+use Rattle.std.proofs.Common.{◌≡◌, ◌⊎◌, ℕ, ◌<◌, ◌≤◌, List, Some, length, slice_get, sym, ap, ◌∙◌, subst, arith, inl, inr}
 use Rattle.std.proofs.lemmas.Option.{same_Some, slice_get_within}
 use Rattle.hwp_geom.specs.declared.Cpu.{Cpu}
-use Rattle.hwp_geom.specs.declared.Page.{Page}
 use Rattle.hwp_geom.specs.declared.Who.{Who}
 use Rattle.hwp_page.specs.declared.At.{At}
-use Rattle.hwp_page.specs.declared.Entry.{Entry}
 use Rattle.hwp_rule.specs.declared.Length.{Length}
 use Rattle.hwp_rule.specs.declared.Log.{Log}
 use Rattle.hwp_rule.specs.declared.State.{State}
-use Rattle.hwp_rule.specs.declared.View.{View}
 use Rattle.hwp_step.specs.Boards.{view_of}
 use Rattle.hwp_script.specs.declared.Command.{Command}
 use Rattle.hwp_script.specs.declared.Script.{Script}
@@ -18,23 +15,26 @@ use Rattle.hwp_report.specs.declared.CpuLine.{CpuLine}
 use Rattle.hwp_report.specs.declared.CpuLine.TheVariants as lines
 use Rattle.hwp_report.specs.declared.Report.{Report}
 use Rattle.hwp_law.specs.Answers.{AreInWindows}
-use Rattle.hwp_law.specs.Places.{entry_at}
-use Rattle.hwp_law.specs.States.{IsInWindow, place_named, state_named}
+use Rattle.hwp_law.specs.Places.{command_at}
+use Rattle.hwp_law.specs.States.{IsInWindow}
 use Rattle.hwp_law.proofs.Windows.{same_answer}
 use Rattle.hwp_runs.proofs.Homes.{there-is}
 use Rattle.hwp_runs.proofs.Reported.{before-later, listed-entry, not-below-seen, past-earlier}
 use Rattle.hwp_served.specs.Causes.{IsCaused}
-use Rattle.hwp_served.proofs.Ending.{IsEnd, IsOf, command-of, list-of}
+use Rattle.hwp_served.proofs.Ending.{IsEnd, command-of, list-of}
+use Rattle.hwp_served.proofs.Made.{command-is}
 use Rattle.hwp_served.proofs.Seen.{MadeAt, SawAt, names-place, names-state}
 
 module _ (script : Script) (seat : Cpu → ℕ) (last : State) (report : Report) (end : IsEnd script seat last report) where
   -- the command that a line of a processor answers, with the answer
   pub record Answers (cpu : Cpu) (rows : List CpuLine) (seq : ℕ) (answer : Answer) : Type 0 where
     pub inside : cpu.0 < script.layout.cpus
+    pub list : List Command
     pub command : Command
-    pub caused : IsCaused script (view_of last (seat cpu)) (record { cpu = cpu; seq = seq }) command answer
+    pub command_is : command_at script (record { cpu = cpu; seq = seq }) ≡ Some command
+    pub caused : IsCaused script.layout list (view_of last (seat cpu)) (record { cpu = cpu; seq = seq }) command answer
 
-  line-answers : (cpu : Cpu) (rows : List CpuLine) (i seq : ℕ) (answer : Answer) → slice_get report.cpus cpu.0 ≡ Some rows → slice_get rows i ≡ Some (lines.Answer seq answer) → Answers cpu rows seq answer
+  pub line-answers : (cpu : Cpu) (rows : List CpuLine) (i seq : ℕ) (answer : Answer) → slice_get report.cpus cpu.0 ≡ Some rows → slice_get rows i ≡ Some (lines.Answer seq answer) → Answers cpu rows seq answer
   line-answers cpu rows i seq answer rows_is line =
       let inside : cpu.0 < script.layout.cpus = subst (λ (n : ℕ). cpu.0 < n) end.cpus_fit (slice_get_within report.cpus cpu.0 rows rows_is) in
       let list = list-of script seat last report end cpu inside in
@@ -45,53 +45,56 @@ module _ (script : Script) (seat : Cpu → ℕ) (last : State) (report : Report)
       let told = same_answer i seq of.answer answer (same_Some (lines.Answer i of.answer) (lines.Answer seq answer) (sym of.answer_is ∙ ap (λ (l : List CpuLine). slice_get l i) same_rows ∙ line)) in
       record {
         inside = inside;
+        list = of.list;
         command = of.command;
-        caused = subst (λ (n : ℕ). IsCaused script (view_of last (seat cpu)) (record { cpu = cpu; seq = n }) of.command answer) told.0 (subst (IsCaused script (view_of last (seat cpu)) (record { cpu = cpu; seq = i }) of.command) told.1 of.caused);
+        command_is = subst (λ (n : ℕ). command_at script (record { cpu = cpu; seq = n }) ≡ Some of.command) told.0 (command-is script (record { cpu = cpu; seq = i }) of.list of.command of.list_is of.command_is);
+        caused = subst (λ (n : ℕ). IsCaused script.layout of.list (view_of last (seat cpu)) (record { cpu = cpu; seq = n }) of.command answer) told.0 (subst (IsCaused script.layout of.list (view_of last (seat cpu)) (record { cpu = cpu; seq = i }) of.command) told.1 of.caused);
       }
+
+  -- where the command saw the page is in its window
+  pub in-window : (cpu : Cpu) (rows : List CpuLine) → slice_get report.cpus cpu.0 ≡ Some rows → (seq : ℕ) (at : At) → slice_get last.views (seat cpu) ≡ Some (view_of last (seat cpu)) → SawAt (view_of last (seat cpu)) (record { cpu = cpu; seq = seq }) at
+      → IsInWindow report.pages rows (record { cpu = cpu; seq = seq }) at
+  in-window cpu rows rows_is seq at there saw =
+      let x : Length = saw.saw.1 in
+      let seen = saw.saw.2 in
+      let who : x.stamp.who ≡ record { cpu = cpu; seq = seq } = saw.saw.3.0 in
+      let log : x.log ≡ saw.log = saw.saw.3.2 in
+      let page : x.log.page ≡ at.page = ap (λ (l : Log). l.page) log ∙ saw.page_is in
+      let long : length x.log.entries ≡ at.entry = ap (λ (l : Log). length l.entries) log ∙ saw.place_is in
+      let cpu_is : x.stamp.who.cpu ≡ cpu = ap (λ (w : Who). w.cpu) who in
+      let seq_is : x.stamp.who.seq ≡ seq = ap (λ (w : Who). w.seq) who in
+      record {
+        past_earlier = λ bt e is same_page same_cpu earlier.
+            let below : bt.entry < length x.log.entries = past-earlier script.layout last report end.board (seat cpu) saw.saw.0 (view_of last (seat cpu)) x there seen bt e is (same_page ∙ sym page) (same_cpu ∙ sym cpu_is) (let before : e.who.seq < seq = earlier in omega arith) in
+            omega arith;
+        before_later = λ bt e is same_page same_cpu later.
+            let above : length x.log.entries ≤ bt.entry = before-later script.layout last report end.board (seat cpu) saw.saw.0 (view_of last (seat cpu)) x there seen bt e is (same_page ∙ sym page) (same_cpu ∙ sym cpu_is) (let after : seq < e.who.seq = later in omega arith) in
+            omega arith;
+        not_below = λ k n answer bt line earlier named same_page.
+            let b = line-answers cpu rows k n answer rows_is line in
+            not-below cpu seq at x saw.saw.0 there seen page long cpu_is seq_is n bt earlier same_page (names-place script.layout b.list (view_of last (seat cpu)) (record { cpu = cpu; seq = n }) b.command answer b.caused bt named);
+      }
+    where
+      not-below : (cpu : Cpu) (seq : ℕ) (at : At) (x : Length) (j : ℕ) → slice_get last.views (seat cpu) ≡ Some (view_of last (seat cpu)) → slice_get (view_of last (seat cpu)).lengths j ≡ Some x → x.log.page ≡ at.page → length x.log.entries ≡ at.entry
+          → x.stamp.who.cpu ≡ cpu → x.stamp.who.seq ≡ seq → (n : ℕ) (bt : At) → n < seq → bt.page ≡ at.page
+          → MadeAt (view_of last (seat cpu)) (record { cpu = cpu; seq = n }) bt ⊎ SawAt (view_of last (seat cpu)) (record { cpu = cpu; seq = n }) bt → bt.entry ≤ at.entry
+      not-below cpu seq at x j there seen page long cpu_is seq_is n bt earlier same_page (inl made) =
+          let listed = listed-entry script.layout last report end.board (seat cpu) made.j (view_of last (seat cpu)) made.made there made.there in
+          let below : made.made.place < length x.log.entries = past-earlier script.layout last report end.board (seat cpu) j (view_of last (seat cpu)) x there seen (record { page = made.made.page; entry = made.made.place }) made.made.entry listed
+          (made.page_is ∙ same_page ∙ sym page) (ap (λ (w : Who). w.cpu) made.own ∙ sym cpu_is) (let is : made.made.entry.who.seq ≡ n = ap (λ (w : Who). w.seq) made.own in omega (arith, earlier)) in
+          let place : made.made.place ≡ bt.entry = made.place_is in
+          omega arith
+      not-below cpu seq at x j there seen page long cpu_is seq_is n bt earlier same_page (inr saw) =
+          let y : Length = saw.saw.1 in
+          let log : y.log ≡ saw.log = saw.saw.3.2 in
+          let below : length y.log.entries ≤ length x.log.entries = not-below-seen script.layout last report end.board (seat cpu) j (view_of last (seat cpu)) x there seen (seat cpu) saw.saw.0 (view_of last (seat cpu)) y there saw.saw.2
+          (ap (λ (l : Log). l.page) log ∙ saw.page_is ∙ same_page ∙ sym page) (ap (λ (w : Who). w.cpu) saw.saw.3.0 ∙ sym cpu_is) (let is : y.stamp.who.seq ≡ n = ap (λ (w : Who). w.seq) saw.saw.3.0 in omega (arith, earlier)) in
+          let place : length y.log.entries ≡ bt.entry = ap (λ (l : Log). length l.entries) log ∙ saw.place_is in
+          omega arith
 
   pub states-in-windows : AreInWindows report.pages report.cpus
   states-in-windows cpu rows i seq answer at rows_is line state =
       let a = line-answers cpu rows i seq answer rows_is line in
       let there = end.seated.there cpu a.inside in
-      let saw = names-state script (view_of last (seat cpu)) (record { cpu = cpu; seq = seq }) a.command answer a.caused at state in
+      let saw = names-state script.layout a.list (view_of last (seat cpu)) (record { cpu = cpu; seq = seq }) a.command answer a.caused at state in
       in-window cpu rows rows_is seq at there saw
-    where
-      in-window : (cpu : Cpu) (rows : List CpuLine) → slice_get report.cpus cpu.0 ≡ Some rows → (seq : ℕ) (at : At) → slice_get last.views (seat cpu) ≡ Some (view_of last (seat cpu)) → SawAt (view_of last (seat cpu)) (record { cpu = cpu; seq = seq }) at
-          → IsInWindow report.pages rows (record { cpu = cpu; seq = seq }) at
-      in-window cpu rows rows_is seq at there saw =
-          let x : Length = saw.saw.1 in
-          let seen = saw.saw.2 in
-          let who : x.stamp.who ≡ record { cpu = cpu; seq = seq } = saw.saw.3.0 in
-          let log : x.log ≡ saw.log = saw.saw.3.2 in
-          let page : x.log.page ≡ at.page = ap (λ (l : Log). l.page) log ∙ saw.page_is in
-          let long : length x.log.entries ≡ at.entry = ap (λ (l : Log). length l.entries) log ∙ saw.place_is in
-          let cpu_is : x.stamp.who.cpu ≡ cpu = ap (λ (w : Who). w.cpu) who in
-          let seq_is : x.stamp.who.seq ≡ seq = ap (λ (w : Who). w.seq) who in
-          record {
-            past_earlier = λ bt e is same_page same_cpu earlier.
-                let below : bt.entry < length x.log.entries = past-earlier script.layout last report end.board (seat cpu) saw.saw.0 (view_of last (seat cpu)) x there seen bt e is (same_page ∙ sym page) (same_cpu ∙ sym cpu_is) (let before : e.who.seq < seq = earlier in omega arith) in
-                omega arith;
-            before_later = λ bt e is same_page same_cpu later.
-                let above : length x.log.entries ≤ bt.entry = before-later script.layout last report end.board (seat cpu) saw.saw.0 (view_of last (seat cpu)) x there seen bt e is (same_page ∙ sym page) (same_cpu ∙ sym cpu_is) (let after : seq < e.who.seq = later in omega arith) in
-                omega arith;
-            not_below = λ k n answer bt line earlier named same_page.
-                let b = line-answers cpu rows k n answer rows_is line in
-                not-below cpu seq at x saw.saw.0 there seen page long cpu_is seq_is n bt earlier same_page (names-place script (view_of last (seat cpu)) (record { cpu = cpu; seq = n }) b.command answer b.caused bt named);
-          }
-        where
-          not-below : (cpu : Cpu) (seq : ℕ) (at : At) (x : Length) (j : ℕ) → slice_get last.views (seat cpu) ≡ Some (view_of last (seat cpu)) → slice_get (view_of last (seat cpu)).lengths j ≡ Some x → x.log.page ≡ at.page → length x.log.entries ≡ at.entry
-              → x.stamp.who.cpu ≡ cpu → x.stamp.who.seq ≡ seq → (n : ℕ) (bt : At) → n < seq → bt.page ≡ at.page
-              → MadeAt (view_of last (seat cpu)) (record { cpu = cpu; seq = n }) bt ⊎ SawAt (view_of last (seat cpu)) (record { cpu = cpu; seq = n }) bt → bt.entry ≤ at.entry
-          not-below cpu seq at x j there seen page long cpu_is seq_is n bt earlier same_page (inl made) =
-              let listed = listed-entry script.layout last report end.board (seat cpu) made.j (view_of last (seat cpu)) made.made there made.there in
-              let below : made.made.place < length x.log.entries = past-earlier script.layout last report end.board (seat cpu) j (view_of last (seat cpu)) x there seen (record { page = made.made.page; entry = made.made.place }) made.made.entry listed
-              (made.page_is ∙ same_page ∙ sym page) (ap (λ (w : Who). w.cpu) made.own ∙ sym cpu_is) (let is : made.made.entry.who.seq ≡ n = ap (λ (w : Who). w.seq) made.own in omega (arith, earlier)) in
-              let place : made.made.place ≡ bt.entry = made.place_is in
-              omega arith
-          not-below cpu seq at x j there seen page long cpu_is seq_is n bt earlier same_page (inr saw) =
-              let y : Length = saw.saw.1 in
-              let log : y.log ≡ saw.log = saw.saw.3.2 in
-              let below : length y.log.entries ≤ length x.log.entries = not-below-seen script.layout last report end.board (seat cpu) j (view_of last (seat cpu)) x there seen (seat cpu) saw.saw.0 (view_of last (seat cpu)) y there saw.saw.2
-              (ap (λ (l : Log). l.page) log ∙ saw.page_is ∙ same_page ∙ sym page) (ap (λ (w : Who). w.cpu) saw.saw.3.0 ∙ sym cpu_is) (let is : y.stamp.who.seq ≡ n = ap (λ (w : Who). w.seq) saw.saw.3.0 in omega (arith, earlier)) in
-              let place : length y.log.entries ≡ bt.entry = ap (λ (l : Log). length l.entries) log ∙ saw.place_is in
-              omega arith

@@ -1,6 +1,6 @@
 -- Why a command was answered so: by what a processor knows of it, of the words that its steps showed, of the histories that it
 -- saw and of the entries that it made.
-use Rattle.std.specs.Prelude.{◌≡◌, ◌⊎◌, ℕ, ◌+◌, ◌<◌, List, Some}
+use Rattle.std.specs.Prelude.{◌≡◌, ◌⊎◌, ℕ, ◌+◌, ◌<◌, List, Some, take}
 use Rattle.hwp_geom.specs.declared.Layout.{Layout}
 use Rattle.hwp_geom.specs.declared.Mask.{Mask}
 use Rattle.hwp_geom.specs.declared.Page.{Page}
@@ -23,12 +23,11 @@ use Rattle.hwp_known.specs.Known.{BringsIn, HasMade, HasMadeNone, HasOnly, Saw, 
 use Rattle.hwp_known.specs.Pages.{SawState}
 use Rattle.hwp_script.specs.declared.Command.{Command}
 use Rattle.hwp_script.specs.declared.Command.TheVariants as commands
-use Rattle.hwp_script.specs.declared.Script.{Script}
 use Rattle.hwp_report.specs.declared.Answer.{Answer}
 use Rattle.hwp_report.specs.declared.Answer.TheVariants as answers
 use Rattle.hwp_law.specs.Answers.{reply_answer}
 use Rattle.hwp_law.specs.Commands.{process_of_thread}
-use Rattle.hwp_law.specs.Policies.{arguments, policy_before}
+use Rattle.hwp_law.specs.Policies.{arguments, last_policy, settings}
 
 -- a step of the command showed this word of its thread's process
 pub record SawProcess (layout : Layout) (view : View) (who : Who) (thread : Thread) (word : ℕ) : Type 0 where
@@ -92,29 +91,29 @@ IsPageCaused layout view who page what (answers.DoneAt at) = (at.page ≡ page) 
 IsPageCaused layout view who page what (answers.NotResident at) = (at.page ≡ page) × FoundState layout view who at IsAway
 IsPageCaused layout view who page what _ = ⊥
 
--- the reply of prctl(2) to the thread's policy
-pub record IsReplied (script : Script) (view : View) (who : Who) (thread : Thread) (given : List ℕ) (answer : Answer) : Type 0 where
-  pub going : SawProcess script.layout view who thread 0
+-- the reply of prctl(2) to the policy that the processor's commands before this one left the thread
+pub record IsReplied (layout : Layout) (list : List Command) (view : View) (who : Who) (thread : Thread) (given : List ℕ) (answer : Answer) : Type 0 where
+  pub going : SawProcess layout view who thread 0
   pub made : HasMadeNone view who
-  pub replied : answer ≡ reply_answer (reply (policy_before script who thread) given)
+  pub replied : answer ≡ reply_answer (reply (last_policy (settings thread (take who.seq list))) given)
 
--- the answer has its cause in what the processor knows of the command
-abbrev pub IsCaused : Script → View → Who → Command → Answer → Type 0
-IsCaused script view who command answers.Stopped = FoundStopped view who
-IsCaused script view who (commands.Load thread slot line) answer = IsLoadCaused script.layout view who thread slot line answer
-IsCaused script view who (commands.Fetch thread slot line) answer = IsLoadCaused script.layout view who thread slot line answer
-IsCaused script view who (commands.KLoad thread slot line) answer = IsLoadCaused script.layout view who thread slot line answer
-IsCaused script view who (commands.Store thread slot line word) answer = IsStoreCaused script.layout view who thread slot line word answer
-IsCaused script view who (commands.Free slot) (answers.DoneAt at) = IsOf script.layout at.page slot × MadeOne view who at (entries.Free slot)
-IsCaused script view who (commands.Free slot) (answers.NotMapped at) = IsOf script.layout at.page slot × FoundState script.layout view who at (IsUnused slot)
-IsCaused script view who (commands.Drop page) (answers.Dirty at) = (at.page ≡ page) × FoundState script.layout view who at IsDirty
-IsCaused script view who (commands.Drop page) (answers.Mapped at) = (at.page ≡ page) × FoundState script.layout view who at IsMapped
-IsCaused script view who (commands.Drop page) answer = IsPageCaused script.layout view who page entries.Drop answer
-IsCaused script view who (commands.Sync page) answer = IsPageCaused script.layout view who page entries.Sync answer
-IsCaused script view who (commands.Out page) answer = IsPageCaused script.layout view who page entries.Out answer
-IsCaused script view who (commands.Fsync file) answers.Done = HasMadeNone view who × Saw view who (places.Loss file) 0
-IsCaused script view who (commands.Fsync file) (answers.Eio lost) = HasMadeNone view who × (0 < lost) × Saw view who (places.Loss file) lost
-IsCaused script view who (commands.Prctl thread args) (answers.Gone page) = FoundGone script.layout view who thread page
-IsCaused script view who (commands.Prctl thread args) answer = IsReplied script view who thread (arguments args) answer
-IsCaused script view who (commands.Log status addr misc) answers.Done = HasMadeNone view who
-IsCaused script view who _ _ = ⊥
+-- the answer of a command among all of its processor's has its cause in what the processor knows of the command
+abbrev pub IsCaused : Layout → List Command → View → Who → Command → Answer → Type 0
+IsCaused layout list view who command answers.Stopped = FoundStopped view who
+IsCaused layout list view who (commands.Load thread slot line) answer = IsLoadCaused layout view who thread slot line answer
+IsCaused layout list view who (commands.Fetch thread slot line) answer = IsLoadCaused layout view who thread slot line answer
+IsCaused layout list view who (commands.KLoad thread slot line) answer = IsLoadCaused layout view who thread slot line answer
+IsCaused layout list view who (commands.Store thread slot line word) answer = IsStoreCaused layout view who thread slot line word answer
+IsCaused layout list view who (commands.Free slot) (answers.DoneAt at) = IsOf layout at.page slot × MadeOne view who at (entries.Free slot)
+IsCaused layout list view who (commands.Free slot) (answers.NotMapped at) = IsOf layout at.page slot × FoundState layout view who at (IsUnused slot)
+IsCaused layout list view who (commands.Drop page) (answers.Dirty at) = (at.page ≡ page) × FoundState layout view who at IsDirty
+IsCaused layout list view who (commands.Drop page) (answers.Mapped at) = (at.page ≡ page) × FoundState layout view who at IsMapped
+IsCaused layout list view who (commands.Drop page) answer = IsPageCaused layout view who page entries.Drop answer
+IsCaused layout list view who (commands.Sync page) answer = IsPageCaused layout view who page entries.Sync answer
+IsCaused layout list view who (commands.Out page) answer = IsPageCaused layout view who page entries.Out answer
+IsCaused layout list view who (commands.Fsync file) answers.Done = HasMadeNone view who × Saw view who (places.Loss file) 0
+IsCaused layout list view who (commands.Fsync file) (answers.Eio lost) = HasMadeNone view who × (0 < lost) × Saw view who (places.Loss file) lost
+IsCaused layout list view who (commands.Prctl thread args) (answers.Gone page) = FoundGone layout view who thread page
+IsCaused layout list view who (commands.Prctl thread args) answer = IsReplied layout list view who thread (arguments args) answer
+IsCaused layout list view who (commands.Log status addr misc) answers.Done = HasMadeNone view who
+IsCaused layout list view who _ _ = ⊥

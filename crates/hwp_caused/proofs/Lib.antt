@@ -1,0 +1,5 @@
+pub mod Undamaged
+mod Accessed
+mod Evicted
+mod Called
+pub mod Causing

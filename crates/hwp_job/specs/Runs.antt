@@ -1,0 +1,48 @@
+-- Which command a task is of, whatever state it is in, and what a processor has where a command begins.
+use Rattle.std.specs.Prelude.{◌≡◌}
+use Rattle.hwp_geom.specs.declared.Frame.{Frame}
+use Rattle.hwp_geom.specs.declared.Layout.{Layout}
+use Rattle.hwp_geom.specs.declared.Thread.{Thread}
+use Rattle.hwp_geom.specs.declared.Who.{Who}
+use Rattle.hwp_form.specs.declared.Command.{Command}
+use Rattle.hwp_rule.specs.declared.Place.TheVariants as places
+use Rattle.hwp_rule.specs.declared.Sight.{Sight}
+use Rattle.hwp_rule.specs.declared.View.{View}
+use Rattle.hwp_rule.specs.Lists.{EachMember}
+use Rattle.hwp_step.specs.Calls.{IsOnTurn}
+use Rattle.hwp_step.specs.Hands.{hand_of, empty}
+use Rattle.hwp_known.specs.Known.{HasMadeNone}
+use Rattle.hwp_control.specs.Nesteds as nesteds
+use Rattle.hwp_control.specs.Prctls as prctls
+use Rattle.hwp_control.specs.Prctls.{HasSettingLeft}
+use Rattle.hwp_control.specs.ReadStops as read_stops
+use Rattle.hwp_evict.specs.Evicts as evicts
+use Rattle.hwp_evict.specs.Fsyncs as fsyncs
+use Rattle.hwp_fault.specs.Accesses as accesses
+use Rattle.hwp_job.specs.declared.job.Job.{Job}
+use Rattle.hwp_job.specs.declared.job.Job.TheVariants as jobs
+use Rattle.hwp_job.specs.Begins.{Begins}
+
+-- the task of the same command at its beginning
+abbrev pub anew : Job → Job
+anew (jobs.Access a) = jobs.Access (accesses.begin a.request.who a.request.thread a.request.slot a.request.line a.request.kind a.request.page a.request.process)
+anew (jobs.Evict e) = jobs.Evict (evicts.begin e.who e.page e.what)
+anew (jobs.Fsync f) = jobs.Fsync (fsyncs.begin f.who f.file)
+anew (jobs.Prctl p) = jobs.Prctl (prctls.begin p.who p.thread p.process p.arguments)
+anew (jobs.ReadStop r) = jobs.ReadStop (read_stops.begin r.who)
+anew (jobs.Nested n) = jobs.Nested (nesteds.begin n.who)
+
+-- the task is of the command: begun anew, it is what the command begins as
+abbrev pub Runs : Layout → Who → Command → Job → Type 0
+Runs layout who command j = Begins layout who command (anew j)
+
+-- the processor holds nothing, and may begin the command, which has made no entry yet; each thread can be set once more
+pub record AtRest (view : View) (who : Who) : Type 0 where
+  pub on_turn : IsOnTurn view who
+  pub hand_is : hand_of view ≡ empty
+  pub made : HasMadeNone view who
+  pub left : (thread : Thread) → HasSettingLeft thread view
+
+-- no step of the processor was shown a bad line
+abbrev pub NoneBad : View → Type 0
+NoneBad view = EachMember (λ (s : Sight). (frame : Frame) → s.place ≡ places.Bad frame → s.word ≡ 0) view.sights

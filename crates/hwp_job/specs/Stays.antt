@@ -1,0 +1,108 @@
+-- What stays true from one command of a processor to the next: the stop of the machine, what bars a thread from setting its
+-- policy, and the policies that are set.
+use Rattle.std.specs.Prelude.{◌≡◌, ◌≢◌, ◌⊎◌, ℕ, ◌+◌, ◌≤◌, true, List, [], ◌∷◌, ◌++◌, Option, Some, length}
+use Rattle.hwp_geom.specs.declared.Layout.{Layout}
+use Rattle.hwp_geom.specs.declared.Proc.{Proc}
+use Rattle.hwp_geom.specs.declared.Thread.{Thread}
+use Rattle.hwp_geom.specs.declared.Who.{Who}
+use Rattle.hwp_page.specs.History.{BodyValue}
+use Rattle.hwp_words.specs.Stops.{is_stopped}
+use Rattle.hwp_rule.specs.declared.Place.TheVariants as places
+use Rattle.hwp_rule.specs.declared.Sight.{Sight}
+use Rattle.hwp_rule.specs.declared.Step.{Step}
+use Rattle.hwp_rule.specs.declared.View.{View}
+use Rattle.hwp_rule.specs.Lists.{SomeMember}
+use Rattle.hwp_rule.specs.parts.Policies.{settings_of}
+use Rattle.hwp_step.specs.declared.Turn.{Turn}
+use Rattle.hwp_step.specs.Calls.{Steps, logs}
+use Rattle.hwp_form.specs.declared.Command.{Command}
+use Rattle.hwp_report.specs.declared.Answer.TheVariants as answers
+use Rattle.hwp_law.specs.Commands.{process_of_thread}
+use Rattle.hwp_control.specs.declared.Nested.{Nested}
+use Rattle.hwp_control.specs.declared.NestedAnswer.TheVariants as nested_answers
+use Rattle.hwp_control.specs.declared.PrctlAnswer.TheVariants as prctl_answers
+use Rattle.hwp_control.specs.declared.nested.NestedAt.TheVariants as nested_at
+use Rattle.hwp_control.specs.declared.prctl.PrctlAt.{PrctlAt}
+use Rattle.hwp_control.specs.declared.prctl.PrctlAt.TheVariants as prctl_at
+use Rattle.hwp_control.specs.declared.read_stop.ReadStopAt.TheVariants as read_stop_at
+use Rattle.hwp_evict.specs.declared.evict.EvictAt.TheVariants as evict_at
+use Rattle.hwp_evict.specs.declared.fsync.FsyncAt.TheVariants as fsync_at
+use Rattle.hwp_fault.specs.declared.access.AccessAt.TheVariants as access_at
+use Rattle.hwp_job.specs.declared.job.Job.{Job}
+use Rattle.hwp_job.specs.declared.job.Job.TheVariants as jobs
+use Rattle.hwp_job.specs.Jobs.{Fits, Next, answer, bare, plan, put, who}
+use Rattle.hwp_job.specs.Settings.{IsCounted, set_now}
+
+-- the command made the step that came, and what follows is told
+pub record Stepped (layout : Layout) (old new : View) (j after : Job) : Type 0 where
+  pub step : Step
+  pub found : ℕ
+  pub got : Option BodyValue
+  pub turn : Turn
+  pub fits : Fits layout old j
+  pub planned : plan j ≡ Some step
+  pub made : Steps layout (who j) step (logs (put j)) old new found got
+  pub follows : Next layout (bare j) found got after turn
+
+-- ---- the stop
+
+-- a step showed that a processor had stopped the machine, or a command of this one stopped it
+abbrev pub IsHalted : View → Type 0
+IsHalted view = SomeMember (λ (s : Sight). (s.place ≡ places.Stop) × (is_stopped s.word ≡ true)) view.sights ⊎ SomeMember (λ (w : Who). Unit {0}) view.stops
+
+-- the command has yet to look whether the machine has stopped
+abbrev pub IsAtStop : Job → Type 0
+IsAtStop (jobs.Access a) = a.at ≡ access_at.LoadStop
+IsAtStop (jobs.Evict e) = e.at ≡ evict_at.LoadStop
+IsAtStop (jobs.Fsync f) = f.at ≡ fsync_at.LoadStop
+IsAtStop (jobs.Prctl p) = p.at ≡ prctl_at.LoadStop
+IsAtStop (jobs.ReadStop r) = r.at ≡ read_stop_at.LoadStop
+IsAtStop (jobs.Nested n) = n.at ≡ nested_at.LoadStop
+
+-- on a machine that has stopped the command has no other answer: it has yet to look, or is answered `stopped`
+abbrev pub EndsStopped : Job → Type 0
+EndsStopped j = IsAtStop j ⊎ (answer j ≡ Some answers.Stopped)
+
+-- the command, a machine check inside a machine check, stopped the machine with this step
+pub record StopsItself (j after : Job) (old new : View) : Type 0 where
+  pub nested : Nested
+  pub job_is : j ≡ jobs.Nested nested
+  pub at_is : nested.at ≡ nested_at.Stop
+  pub after_is : after ≡ jobs.Nested (record nested { at = nested_at.Over (Some nested_answers.Shutdown) })
+  pub stops_are : new.stops ≡ old.stops ++ nested.who ∷ []
+
+-- ---- threads that can't set their policy
+
+-- a step showed that the thread's process had ended
+pub record HasEnded (layout : Layout) (view : View) (thread : Thread) : Type 0 where
+  pub process : Proc
+  pub process_is : process_of_thread layout thread ≡ Some process
+  pub shown : SomeMember (λ (s : Sight). (s.place ≡ places.Process process) × (s.word ≢ 0)) view.sights
+
+-- a call of prctl(2) by the thread that begins now comes to no reply
+abbrev pub IsBarred : Layout → View → Thread → Type 0
+IsBarred layout view thread = IsHalted view ⊎ HasEnded layout view thread
+
+-- the call hasn't got past the word of its process
+abbrev pub IsNotPast : PrctlAt → Type 0
+IsNotPast prctl_at.LoadPolicy = ⊥
+IsNotPast (prctl_at.SetPolicy policy settings) = ⊥
+IsNotPast (prctl_at.Over (prctl_answers.Replied reply)) = ⊥
+IsNotPast _ = Unit {0}
+
+-- the command is no call by the thread, or is one that hasn't got past the word of the process
+abbrev pub HasNotReplied : Thread → Job → Type 0
+HasNotReplied thread (jobs.Prctl p) = p.thread ≡ thread → IsNotPast p.at
+HasNotReplied thread _ = Unit {0}
+
+-- neither this command nor a later one sets the thread's policy or tells it
+abbrev pub CannotReply : Layout → View → Thread → Job → Type 0
+CannotReply layout view thread j = (IsHalted view × EndsStopped j) ⊎ (HasEnded layout view thread × HasNotReplied thread j)
+
+-- ---- policies
+
+-- What a processor knows of policies while it runs a command of its list: those of each thread are listed as the commands say,
+-- but for threads that can't set theirs any more; and no thread was set more often than there were commands.
+pub record KnowsPolicies (layout : Layout) (list : List Command) (view : View) (who : Who) (j : Job) : Type 0 where
+  pub each : (thread : Thread) → CannotReply layout view thread j ⊎ IsCounted list view who j thread
+  pub few : (thread : Thread) → length (settings_of thread view.settings) ≤ who.seq + length (set_now thread j)

@@ -1,0 +1,125 @@
+-- The commands of one processor as one task: in all that it plans, shows and needs it is the command that runs, until that is
+-- answered; then the next one begins.
+use Rattle.std.specs.Prelude.{◌≡◌, ℕ, ◌+◌, ◌-◌, ◌*◌, ◌<◌, ◌≤◌, true, List, [], ◌∷◌, ◌++◌, Option, Some, None, All, length, option_map, slice_get, vec_capacity}
+use Rattle.std.specs.Arc.{arc_value}
+use Rattle.hwp_geom.specs.declared.Cpu.{Cpu}
+use Rattle.hwp_geom.specs.declared.Layout.{Layout}
+use Rattle.hwp_geom.specs.declared.Who.{Who}
+use Rattle.hwp_geom.specs.Layout.{IsSound}
+use Rattle.hwp_geom.specs.Limits.{command_limit}
+use Rattle.hwp_page.specs.History.{BodyValue}
+use Rattle.hwp_form.specs.declared.Command.{Command}
+use Rattle.hwp_script.specs.Valid.{IsCommandOf}
+use Rattle.hwp_report.specs.declared.Answer.{Answer}
+use Rattle.hwp_report.specs.declared.CpuLine.TheVariants as lines
+use Rattle.hwp_rule.specs.declared.Step.{Step}
+use Rattle.hwp_rule.specs.Words.{Words}
+use Rattle.hwp_step.specs.declared.Turn.{Turn}
+use Rattle.hwp_step.specs.declared.Turn.TheVariants as turns
+use Rattle.hwp_job.specs.declared.Job.{Job}
+use Rattle.hwp_job.specs.Begins.{Begins, is_supported}
+use Rattle.hwp_job.specs.Jobs as jobs
+use Rattle.hwp_processor.specs.declared.processor.Processor.{Processor}
+
+-- the command of this number of the processor
+abbrev pub at_number : Cpu → ℕ → Who
+at_number cpu n = record { cpu = cpu; seq = n }
+
+-- commands of the processor, which name what the layout declares, and which processors run yet
+pub record AreCommands (layout : Layout) (cpu : Cpu) (list : List Command) : Type 0 where
+  pub named : All (IsCommandOf layout cpu.0) list
+  pub supported : All (λ (c : Command). is_supported c ≡ true) list
+  pub few : length list ≤ command_limit
+
+-- the processor can run its commands, and has memory for a line of each
+pub record IsReady (p : Processor) : Type 0 where
+  pub sound : IsSound (arc_value p.layout)
+  pub commands : AreCommands (arc_value p.layout) p.cpu p.commands
+  pub room : length p.commands ≤ vec_capacity p.lines
+
+-- the command is at its beginning; past the last command none runs
+abbrev pub BeginsAt : Layout → Who → Option Command → Option Job → Type 0
+BeginsAt layout who (Some command) (Some j) = Begins layout who command j
+BeginsAt layout who None None = Unit {0}
+BeginsAt layout who _ _ = ⊥
+
+-- the processor is at the beginning of its first command, and has answered none
+pub record AtBeginning (layout : Layout) (cpu : Cpu) (list : List Command) (p : Processor) : Type 0 where
+  pub layout_is : arc_value p.layout ≡ layout
+  pub cpu_is : p.cpu ≡ cpu
+  pub commands_are : p.commands ≡ list
+  pub ready : IsReady p
+  pub no_line : p.lines.items ≡ []
+  pub begins : BeginsAt layout (at_number cpu 0) (slice_get list 0) p.job
+
+-- ---- the command that runs
+
+abbrev pub who_of : Cpu → Option Job → Who
+who_of cpu (Some j) = jobs.who j
+who_of cpu None = at_number cpu 0
+
+abbrev pub who : Processor → Who
+who p = who_of p.cpu p.job
+
+abbrev pub plan_of : Option Job → Option Step
+plan_of (Some j) = jobs.plan j
+plan_of None = None
+
+abbrev pub plan : Processor → Option Step
+plan p = plan_of p.job
+
+abbrev pub put_of : Option Job → Option BodyValue
+put_of (Some j) = jobs.put j
+put_of None = None
+
+abbrev pub put : Processor → Option BodyValue
+put p = put_of p.job
+
+abbrev pub bare : Processor → Processor
+bare p = record p { job = option_map jobs.bare p.job }
+
+abbrev pub class_of : Option Job → ℕ
+class_of (Some j) = jobs.class j
+class_of None = 4
+
+abbrev pub class : Processor → ℕ
+class p = class_of p.job
+
+abbrev pub cost_of : Option Job → Words → ℕ
+cost_of (Some j) words = jobs.cost j words
+cost_of None words = 0
+
+-- each command that isn't answered costs more than all turns of one, and the one that runs its turns beside
+abbrev pub cost : Processor → Words → ℕ
+cost p words = 32768 * (length p.commands - length p.lines.items) + cost_of p.job words
+
+-- ---- what a turn comes to
+
+-- what the command shows, where there is a command that can be answered
+abbrev pub ShowsOf : Processor → Option Job → ℕ → Option BodyValue → Type 0
+ShowsOf p (Some j) found got = jobs.Shows j found got × IsReady p × (length p.lines.items < length p.commands)
+ShowsOf p None found got = Unit {0}
+
+abbrev pub Shows : Processor → ℕ → Option BodyValue → Type 0
+Shows p found got = ShowsOf p p.job found got
+
+-- the command that ran is answered so by a line, which is the last one, and the next command begins
+pub record IsAnswered (p : Processor) (answer : Answer) (after : Processor) : Type 0 where
+  pub layout_is : arc_value after.layout ≡ arc_value p.layout
+  pub cpu_is : after.cpu ≡ p.cpu
+  pub commands_are : after.commands ≡ p.commands
+  pub lines_are : after.lines.items ≡ p.lines.items ++ lines.Answer (length p.lines.items) answer ∷ []
+  pub room : vec_capacity after.lines ≡ vec_capacity p.lines
+  pub begins : BeginsAt (arc_value p.layout) (at_number p.cpu (length p.lines.items + 1)) (slice_get p.commands (length p.lines.items + 1)) after.job
+
+-- the turn is that of the command, until the command has its answer
+abbrev pub Follows : Processor → Job → Option Answer → Turn → Processor → Turn → Type 0
+Follows p j None t after turn = (after ≡ record p { job = Some j }) × (turn ≡ t)
+Follows p j (Some answer) t after turn = IsAnswered p answer after × (turn ≡ turns.Answered)
+
+abbrev pub NextOf : Layout → Processor → Option Job → ℕ → Option BodyValue → Processor → Turn → Type 0
+NextOf layout p (Some j) found got after turn = (k : Job) × (t : Turn) × jobs.Next layout j found got k t × Follows p k (jobs.answer k) t after turn
+NextOf layout p None found got after turn = (after ≡ p) × (turn ≡ turns.Moved)
+
+abbrev pub Next : Layout → Processor → ℕ → Option BodyValue → Processor → Turn → Type 0
+Next layout p found got after turn = NextOf layout p p.job found got after turn

@@ -1,0 +1,215 @@
+-- What a command's cause rests on was shown by turns of the command itself.
+use Rattle.std.proofs.Common.{◌≡◌, ◌≢◌, ◌⊎◌, ℕ, ◌+◌, not, false, List, Option, Some, None, length, take, slice_get, option_and_then, refl, sym, ap, ◌∙◌, subst, inl, inr, true≢false}
+use Rattle.std.specs.Prelude.{IsSomeAnd}
+use Rattle.std.proofs.lemmas.Bool.{eq-eqb}
+use Rattle.std.proofs.lemmas.Option.{none-some, same_Some}
+use Rattle.hwp_geom.specs.declared.Layout.{Layout}
+use Rattle.hwp_geom.specs.declared.Page.{Page}
+use Rattle.hwp_geom.specs.declared.Proc.{Proc}
+use Rattle.hwp_geom.specs.declared.Thread.{Thread}
+use Rattle.hwp_geom.specs.declared.TransDecl.{TransDecl}
+use Rattle.hwp_geom.specs.declared.VSlot.{VSlot}
+use Rattle.hwp_geom.specs.declared.Who.{Who}
+use Rattle.hwp_kill.specs.declared.Reply.{Reply}
+use Rattle.hwp_kill.specs.declared.Reply.TheVariants as replies
+use Rattle.hwp_kill.specs.Prctl.{reply}
+use Rattle.hwp_page.specs.declared.At.{At}
+use Rattle.hwp_page.specs.declared.PageState.{PageState}
+use Rattle.hwp_page.specs.Refusals.{IsAway}
+use Rattle.hwp_page.specs.Step.{IsOf}
+use Rattle.hwp_words.specs.Stops.{stopper_of}
+use Rattle.hwp_rule.specs.declared.Length.{Length}
+use Rattle.hwp_rule.specs.declared.Log.{Log}
+use Rattle.hwp_rule.specs.declared.Place.{Place}
+use Rattle.hwp_rule.specs.declared.Place.TheVariants as places
+use Rattle.hwp_rule.specs.declared.Rec.{Rec}
+use Rattle.hwp_rule.specs.declared.Sight.{Sight}
+use Rattle.hwp_rule.specs.declared.Step.TheVariants as steps
+use Rattle.hwp_rule.specs.declared.View.{View}
+use Rattle.hwp_rule.specs.Lists.{SomeMember}
+use Rattle.hwp_rule.specs.Logs.{state_of}
+use Rattle.hwp_rule.specs.Steps.{place_of}
+use Rattle.hwp_step.specs.Boards.{Played}
+use Rattle.hwp_known.specs.Known.{Saw, SawLog, SawStop}
+use Rattle.hwp_known.specs.Pages.{SawState}
+use Rattle.hwp_script.specs.declared.Command.{Command}
+use Rattle.hwp_script.specs.declared.Command.TheVariants as commands
+use Rattle.hwp_script.specs.declared.PrctlArgs.{PrctlArgs}
+use Rattle.hwp_script.specs.declared.Script.{Script}
+use Rattle.hwp_report.specs.declared.Answer.{Answer}
+use Rattle.hwp_report.specs.declared.Answer.TheVariants as answers
+use Rattle.hwp_law.specs.Answers.{reply_answer}
+use Rattle.hwp_law.specs.Commands.{process_at, process_of_thread, thread_of}
+use Rattle.hwp_law.specs.Places.{command_at}
+use Rattle.hwp_law.specs.Policies.{arguments, last_policy, settings}
+use Rattle.hwp_law.specs.Runs.{slot_of}
+use Rattle.hwp_runs.specs.Shown.{AnswerShown, GoesOn, GoneShown, LengthShown, NoFrameShown, ProcessShown, StopShown}
+use Rattle.hwp_runs.specs.Turns.{Finds, SawPage, SeesPage, TurnBy}
+use Rattle.hwp_runs.proofs.Knowing.{Said}
+use Rattle.hwp_runs.proofs.Telling.{told}
+use Rattle.hwp_served.specs.Causes.{FoundGone, FoundNoFrame, FoundStopped, IsCaused, SawProcess}
+use Rattle.hwp_served.proofs.Made.{some-so}
+
+-- a translation is of one page
+one-page : (layout : Layout) (slot : VSlot) (a b : Page) → IsOf layout a slot → IsOf layout b slot → a ≡ b
+one-page layout slot a b = which (slice_get layout.trans slot.0)
+  where
+    which : (o : Option TransDecl) → IsSomeAnd o (λ (t : TransDecl). t.page ≡ a) → IsSomeAnd o (λ (t : TransDecl). t.page ≡ b) → a ≡ b
+    which None of is = absurd of
+    which (Some t) of is = sym of ∙ is
+
+-- the process of a command, from the command
+process-is : (script : Script) (who : Who) (command : Command) → command_at script who ≡ Some command → process_at script who ≡ option_and_then (process_of_thread script.layout) (thread_of command)
+process-is script who command is = ap (λ (o : Option Command). option_and_then (process_of_thread script.layout) (option_and_then thread_of o)) is
+
+module _ (layout : Layout) (turns : List Played) (view : View) (said : Said (told layout turns) view) (who : Who) where
+  turn-so : (Such Other : Rec → View → Type 0) (by : Who) → by ≡ who → ((made : Rec) (v : View) → Such made v → Other made v) → TurnBy layout turns by Such → TurnBy layout turns who Other
+  turn-so Such Other by same so turn = record {
+    before = turn.before;
+    turn = turn.turn;
+    after = turn.after;
+    all = turn.all;
+    board = turn.board;
+    led = turn.led;
+    view = turn.view;
+    knows = turn.knows;
+    own = turn.own ∙ same;
+    such = so turn.turn.made turn.view turn.such;
+  }
+
+  -- a word that the command saw
+  pub word-shown : (P : ℕ → Type 0) (place : Place) (word : ℕ) → P word → Saw view who place word → Finds layout turns who place P
+  word-shown P place word such saw =
+      let s : Sight = saw.1 in
+      turn-so (λ (made : Rec) (v : View). (place_of made.step ≡ s.place) × (made.found ≡ s.word)) (λ (made : Rec) (v : View). (place_of made.step ≡ place) × P made.found) s.stamp.who saw.3.0
+      (λ made v is. (is.0 ∙ saw.3.1, subst P (sym (is.1 ∙ saw.3.2)) such)) (said.sights saw.0 s saw.2)
+
+  -- a history that the command saw
+  pub log-shown : (P : Log → Type 0) (log : Log) → P log → SawLog view who log → SawPage layout turns who log.page P
+  log-shown P log such saw =
+      let l : Length = saw.1 in
+      let same : l.log ≡ log = saw.3.2 in
+      turn-so (λ (made : Rec) (v : View). SeesPage l.log.page (λ (x : Log). x ≡ l.log) v) (λ (made : Rec) (v : View). SeesPage log.page P v) l.stamp.who saw.3.0
+      (λ made v sees. sees-so l same v sees) (said.lengths saw.0 l saw.2 (saw.3.1 ∙ ap (λ (x : Log). Some x.page) (sym same)))
+    where
+      sees-so : (l : Length) → l.log ≡ log → (v : View) → SeesPage l.log.page (λ (x : Log). x ≡ l.log) v → SeesPage log.page P v
+      sees-so l same v sees = record {
+        locked = (sees.locked.0, sees.locked.1, sees.locked.2, sees.locked.3 ∙ ap (λ (x : Log). x.page) same);
+        body = (
+          sees.body.0,
+          sees.body.1,
+          sees.body.2,
+          (
+            sees.body.3.0 ∙ ap (λ (x : Log). x.page) same,
+            subst P (sym (sees.body.3.1 ∙ same)) such,
+          ),
+        );
+      }
+
+  page-shown : (P : Log → Type 0) (page : Page) (place : ℕ) (Such : PageState → Type 0) → (saw : SawState layout view who page place Such) → P saw.log → SawPage layout turns who page P
+  page-shown P page place Such saw such = subst (λ (p : Page). SawPage layout turns who p P) saw.page_is (log-shown P saw.log such saw.saw)
+
+  -- a number of entries after which the command saw the page
+  pub length-shown : {at : At} {Such : PageState → Type 0} → SawState layout view who at.page at.entry Such → LengthShown layout turns who at
+  length-shown {at = at} {Such = Such} saw = page-shown (λ (log : Log). length log.entries ≡ at.entry) at.page at.entry Such saw saw.place_is
+
+  -- the machine had stopped, or the command stopped it
+  pub stop-shown : FoundStopped view who → StopShown layout turns who
+  stop-shown found = which found.stopped
+    where
+      which : SawStop view who ⊎ SomeMember (λ (w : Who). w ≡ who) view.stops → StopShown layout turns who
+      which (inl saw) = inl (word-shown (λ (word : ℕ). stopper_of word ≢ 0) places.Stop saw.word (λ none. true≢false (sym saw.stopped ∙ ap not (eq-eqb (stopper_of saw.word) 0 none))) saw.saw)
+      which (inr own) = inr (subst (λ (by : Who). TurnBy layout turns by (λ (made : Rec) (v : View). (made.step ≡ steps.Stop by.cpu) × (made.found ≡ 0))) own.3 (said.stops own.0 own.1 own.2))
+
+  -- the word of the process of the command's thread
+  pub process-shown : {thread : Thread} {word : ℕ} (process : Proc) → process_of_thread layout thread ≡ Some process → SawProcess layout view who thread word → ProcessShown layout turns who process word
+  process-shown {word = word} process is saw =
+      subst (λ (p : Proc). ProcessShown layout turns who p word) (same_Some saw.process process (sym saw.process_is ∙ is)) (word-shown (λ (found : ℕ). found ≡ word) (places.Process saw.process) word refl saw.saw)
+
+module _ (script : Script) (turns : List Played) (view : View) (said : Said (told script.layout turns) view) (who : Who) (list : List Command) where
+  -- the process of the command's thread had ended
+  gone-shown : (command : Command) (thread : Thread) (page : Page) → command_at script who ≡ Some command → thread_of command ≡ Some thread → FoundGone script.layout view who thread page → GoneShown script turns who page
+  gone-shown command thread page at of gone =
+      let process = gone.ended.process in
+      let is : process_at script who ≡ Some process = process-is script who command at ∙ ap (λ (o : Option Thread). option_and_then (process_of_thread script.layout) o) of ∙ gone.ended.process_is in
+      some-so (λ (p : Proc). ProcessShown script.layout turns who p (page.0 + 1)) (process_at script who) process is (process-shown script.layout turns view said who process gone.ended.process_is gone.ended)
+
+  -- no frame was available, and the page was in none
+  no-frame-shown : (command : Command) (thread : Thread) (slot : VSlot) → slot_of command ≡ Some slot → FoundNoFrame script.layout view who thread slot → NoFrameShown script turns who command
+  no-frame-shown command thread slot its found = record {
+    available = word-shown script.layout turns view said who (λ (word : ℕ). word ≡ 0) places.Available 0 refl found.available;
+    out = λ other page other_is of.
+        let same : other ≡ slot = same_Some other slot (sym other_is ∙ its) in
+        let page_is : found.page ≡ page = one-page script.layout slot found.page page found.page_is (subst (IsOf script.layout page) same of) in
+        subst (λ (p : Page). SawPage script.layout turns who p (λ (log : Log). (state_of script.layout log).cached ≡ false)) page_is
+        (page-shown script.layout turns view said who (λ (log : Log). (state_of script.layout log).cached ≡ false) found.page found.place IsAway found.away found.away.such);
+  }
+
+  abbrev Shows : Command → Answer → Type 0
+  Shows command answer = command_at script who ≡ Some command → IsCaused script.layout list view who command answer → AnswerShown script turns who command answer
+
+  replied-shown : (thread : Thread) (args : PrctlArgs) (r : Reply) → AnswerShown script turns who (commands.Prctl thread args) (reply_answer r)
+  replied-shown thread args (replies.Set policy) = tt
+  replied-shown thread args (replies.Is policy) = tt
+  replied-shown thread args replies.Einval = tt
+
+  -- what the answer rests on
+  pub answer-shown : (command : Command) (answer : Answer) → Shows command answer
+  answer-shown command answers.Stopped at caused = stop-shown script.layout turns view said who caused
+  answer-shown (commands.Load thread slot line) (answers.Value word entry) at caused = tt
+  answer-shown (commands.Load thread slot line) answers.NoFrame at caused = no-frame-shown (commands.Load thread slot line) thread slot refl caused
+  answer-shown (commands.Load thread slot line) (answers.Gone page) at caused = gone-shown (commands.Load thread slot line) thread page at refl caused
+  answer-shown (commands.Fetch thread slot line) (answers.Value word entry) at caused = tt
+  answer-shown (commands.Fetch thread slot line) answers.NoFrame at caused = no-frame-shown (commands.Fetch thread slot line) thread slot refl caused
+  answer-shown (commands.Fetch thread slot line) (answers.Gone page) at caused = gone-shown (commands.Fetch thread slot line) thread page at refl caused
+  answer-shown (commands.KLoad thread slot line) (answers.Value word entry) at caused = tt
+  answer-shown (commands.KLoad thread slot line) answers.NoFrame at caused = no-frame-shown (commands.KLoad thread slot line) thread slot refl caused
+  answer-shown (commands.KLoad thread slot line) (answers.Gone page) at caused = gone-shown (commands.KLoad thread slot line) thread page at refl caused
+  answer-shown (commands.Store thread slot line word) (answers.Stored entry) at caused = tt
+  answer-shown (commands.Store thread slot line word) answers.NoFrame at caused = no-frame-shown (commands.Store thread slot line word) thread slot refl caused
+  answer-shown (commands.Store thread slot line word) (answers.Gone page) at caused = gone-shown (commands.Store thread slot line word) thread page at refl caused
+  answer-shown (commands.Free slot) (answers.DoneAt entry) at caused = tt
+  answer-shown (commands.Free slot) (answers.NotMapped place) at caused = length-shown script.layout turns view said who caused.1.saw
+  answer-shown (commands.Drop page) (answers.DoneAt entry) at caused = tt
+  answer-shown (commands.Drop page) (answers.NotResident place) at caused = length-shown script.layout turns view said who caused.1.saw
+  answer-shown (commands.Drop page) (answers.Dirty place) at caused = length-shown script.layout turns view said who caused.1.saw
+  answer-shown (commands.Drop page) (answers.Mapped place) at caused = length-shown script.layout turns view said who caused.1.saw
+  answer-shown (commands.Sync page) (answers.DoneAt entry) at caused = tt
+  answer-shown (commands.Sync page) (answers.NotResident place) at caused = length-shown script.layout turns view said who caused.1.saw
+  answer-shown (commands.Out page) (answers.DoneAt entry) at caused = tt
+  answer-shown (commands.Out page) (answers.NotResident place) at caused = length-shown script.layout turns view said who caused.1.saw
+  answer-shown (commands.Fsync file) answers.Done at caused = word-shown script.layout turns view said who (λ (word : ℕ). word ≡ 0) (places.Loss file) 0 refl caused.1
+  answer-shown (commands.Fsync file) (answers.Eio lost) at caused = word-shown script.layout turns view said who (λ (word : ℕ). word ≡ lost) (places.Loss file) lost refl caused.2
+  answer-shown (commands.Prctl thread args) (answers.Gone page) at caused = gone-shown (commands.Prctl thread args) thread page at refl caused
+  answer-shown (commands.Prctl thread args) answer at caused =
+      subst (AnswerShown script turns who (commands.Prctl thread args)) (sym caused.replied) (replied-shown thread args (reply (last_policy (settings thread (take who.seq list))) (arguments args)))
+  answer-shown (commands.Log status addr misc) answers.Done at caused = tt
+  answer-shown command answer at caused = absurd caused
+
+  module _ (process : Proc) where
+    -- the thread of the command found its process going on
+    runs-on : (command : Command) (thread : Thread) → thread_of command ≡ Some thread → option_and_then (process_of_thread script.layout) (thread_of command) ≡ Some process → SawProcess script.layout view who thread 0 → ProcessShown script.layout turns who process 0
+    runs-on command thread of is saw = process-shown script.layout turns view said who process (sym (ap (λ (o : Option Thread). option_and_then (process_of_thread script.layout) o) of) ∙ is) saw
+
+    goes : (command : Command) (answer : Answer) → option_and_then (process_of_thread script.layout) (thread_of command) ≡ Some process → IsCaused script.layout list view who command answer → GoesOn script.layout turns who process answer
+    goes command answers.Stopped is caused = tt
+    goes command (answers.Gone page) is caused = tt
+    goes (commands.Load thread slot line) (answers.Value word entry) is caused = runs-on (commands.Load thread slot line) thread refl is caused.1.going
+    goes (commands.Load thread slot line) answers.NoFrame is caused = runs-on (commands.Load thread slot line) thread refl is caused.going
+    goes (commands.Fetch thread slot line) (answers.Value word entry) is caused = runs-on (commands.Fetch thread slot line) thread refl is caused.1.going
+    goes (commands.Fetch thread slot line) answers.NoFrame is caused = runs-on (commands.Fetch thread slot line) thread refl is caused.going
+    goes (commands.KLoad thread slot line) (answers.Value word entry) is caused = runs-on (commands.KLoad thread slot line) thread refl is caused.1.going
+    goes (commands.KLoad thread slot line) answers.NoFrame is caused = runs-on (commands.KLoad thread slot line) thread refl is caused.going
+    goes (commands.Store thread slot line word) (answers.Stored entry) is caused = runs-on (commands.Store thread slot line word) thread refl is caused.1.going
+    goes (commands.Store thread slot line word) answers.NoFrame is caused = runs-on (commands.Store thread slot line word) thread refl is caused.going
+    goes (commands.Prctl thread args) answer is caused = runs-on (commands.Prctl thread args) thread refl is caused.going
+    goes (commands.Free slot) answer is caused = absurd (none-some process is)
+    goes (commands.Drop page) answer is caused = absurd (none-some process is)
+    goes (commands.Sync page) answer is caused = absurd (none-some process is)
+    goes (commands.Out page) answer is caused = absurd (none-some process is)
+    goes (commands.Fsync file) answer is caused = absurd (none-some process is)
+    goes (commands.Log status addr misc) answer is caused = absurd (none-some process is)
+    goes command answer is caused = absurd caused
+
+    pub goes-shown : (command : Command) (answer : Answer) → command_at script who ≡ Some command → process_at script who ≡ Some process → IsCaused script.layout list view who command answer → GoesOn script.layout turns who process answer
+    goes-shown command answer at is caused = goes command answer (sym (process-is script who command at) ∙ is) caused
