@@ -47,7 +47,7 @@ use Rattle.hwp_processor.proofs.Lines.{answered-more, at_front, own-more, past-e
 -- ---- the turn
 
 -- a command that fits is that of the turn
-pub on-turn : (layout : Layout) (view : View) (j : Job) → jobs.Fits layout view j → IsOnTurn view (jobs.who j)
+on-turn : (layout : Layout) (view : View) (j : Job) → jobs.Fits layout view j → IsOnTurn view (jobs.who j)
 on-turn layout view (kinds.Access a) fits = fits.on_turn
 on-turn layout view (kinds.Evict e) fits = fits.on_turn
 on-turn layout view (kinds.Fsync f) fits = fits.on_turn
@@ -165,7 +165,7 @@ module _ (layout : Layout) (old new : View) (cpu : Cpu) (list : List Command) (r
     where
       same : length longer ≡ length list
       same =
-          let most : length list ≤ n + 1 = past-end list (n + 1) now.command none in
+          let most : length list ≤ n + 1 = past-end list (n + 1) none in
           let within : n < length list = slice_get_within list n now.command now.there in
           let at : length longer ≡ n + 1 = number in
           omega arith

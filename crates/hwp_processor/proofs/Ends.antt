@@ -45,7 +45,7 @@ at-below (suc n) i less = which (at-below n i) (cases_lt i n)
     which before (inr past) = last-below n i past less
 
 -- at opening each seat knows what a processor of its number knows
-pub opening-view : (layout : Layout) (i : ℕ) → view_of (opening layout) i ≡ opening_view i
+opening-view : (layout : Layout) (i : ℕ) → view_of (opening layout) i ≡ opening_view i
 opening-view layout i = which (cases_lt i layout.cpus)
   where
     which : (i < layout.cpus) ⊎ (layout.cpus ≤ i) → view_of (opening layout) i ≡ opening_view i
@@ -63,7 +63,7 @@ opening-fits layout cpu list p at = subst (λ (v : View). Fits layout v p) (sym 
 })
 
 -- its commands are those of the processor
-pub fits-own : (layout : Layout) (view : View) (p : Processor) → Fits layout view p → (who p).cpu ≡ p.cpu
+fits-own : (layout : Layout) (view : View) (p : Processor) → Fits layout view p → (who p).cpu ≡ p.cpu
 fits-own layout view p fits = own-cpu layout view p.cpu p.commands p.lines.items p.job fits.at
 
 pub opening-own : (layout : Layout) (cpu : Cpu) (list : List Command) (p : Processor) → AtBeginning layout cpu list p → (who p).cpu ≡ cpu
