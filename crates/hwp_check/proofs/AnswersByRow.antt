@@ -87,12 +87,12 @@ module _ (script : Script) (report : Report) (cpu : Cpu) where
   pub by-rows : (commands : List Command) (rows : List CpuLine) → AreCaused script report cpu 0 commands rows → AreAnswered script report cpu commands rows
   by-rows commands rows h = record {
     in_place = λ row line is.
-      let p = place-of 0 commands rows h row line is in
-      let at : seq_of line ≡ 0 + answers_in row rows = p.0 in let below : seq_of line < 0 + length commands = p.1 in
-      record { of_next = omega (arith, at); of_some = omega (arith, below) };
+        let p = place-of 0 commands rows h row line is in
+        let at : seq_of line ≡ 0 + answers_in row rows = p.0 in let below : seq_of line < 0 + length commands = p.1 in
+        record { of_next = omega (arith, at); of_some = omega (arith, below) };
     each = λ seq less. each-of 0 commands rows h seq seq less (omega arith);
     right = λ row seq answer command is there.
-      let r = right-of 0 commands rows h row seq seq answer command is (omega arith) there in record { shown = inr r.0; heeded = r.1 };
+        let r = right-of 0 commands rows h row seq seq answer command is (omega arith) there in record { shown = inr r.0; heeded = r.1 };
   }
 
   -- and where an answer is `stopped` there is a stop
@@ -142,6 +142,7 @@ module _ (script : Script) (report : Report) (cpu : Cpu) where
       later_at : (m m2 : ℕ) → m ≡ m2 → n < m → (row : ℕ) (answer : Answer) → slice_get (lines.Answer s a ∷ rest) row ≡ Some (lines.Answer m answer) → HasAnswer rest m2
       later_at m m2 same more zero answer is = let e : s ≡ m = ap seq_of (same_Some _ _ is) in absurd (omega (arith, e, first, more))
       later_at m m2 same more (suc row) answer is = record { row = row; answer = answer; there = is ∙ ap (λ (x : ℕ). Some (lines.Answer x answer)) same }
+
       later : (m m2 : ℕ) → m ≡ m2 → n < m → HasAnswer (lines.Answer s a ∷ rest) m → HasAnswer rest m2
       later m m2 same more h = later_at m m2 same more h.row h.answer h.there
 

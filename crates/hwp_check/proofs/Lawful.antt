@@ -79,8 +79,8 @@ module _ (script : Script) (report : Report) where
     frames_fit = record {
       shown = λ frame kernel line declared there. let l = law.frames.lines frame kernel line declared there in record { place = l.place; bad = l.bad; weak = l.weak };
       held = λ page entries state there replay.
-        let h = law.histories.legal page entries there in
-        h.held ∙ ap (λ (s : PageState). cond s.cached 1 0) (replay-same script.layout page entries h.state state h.replay replay);
+          let h = law.histories.legal page entries there in
+          h.held ∙ ap (λ (s : PageState). cond s.cached 1 0) (replay-same script.layout page entries h.state state h.replay replay);
     }
 
     -- a lawful report keeps each rule
@@ -115,20 +115,28 @@ module _ (script : Script) (report : Report) where
       where
         shape_fits : ShapeFits script report
         shape_fits = holds Shape
+
         of_histories : HistoriesFit script report
         of_histories = holds Histories
+
         of_answers : AnswersFit script report
         of_answers = holds Answers
+
         of_seen : SeenFit script report
         of_seen = holds Seen
+
         of_marks : MarksFit script report
         of_marks = holds Marks
+
         of_stop : StopFits script report
         of_stop = holds Stop
+
         of_frames : FramesFit script report
         of_frames = holds Frames
+
         legal : (page : Page) (entries : List Entry) → slice_get report.pages page.0 ≡ Some entries → IsHistory script.layout report.frames page entries
         legal page entries there = let r = of_histories.legal page entries there in record { state = r.0; replay = r.1; held = of_frames.held page entries r.0 there r.1 }
+
         frame_lines : (frame : Frame) (kernel : Bool) (line : FrameLine) → slice_get script.layout.kernel frame.0 ≡ Some kernel → slice_get report.frames frame.0 ≡ Some line → IsFrameLine script report kernel frame line
         frame_lines frame kernel line declared there =
             let s = of_frames.shown frame kernel line declared there in

@@ -1,2 +1,3 @@
 mod AnswersByRow
 pub mod Lawful
+mod Shapes
