@@ -2,7 +2,11 @@
 #![tactic(auto)]
 
 mod count;
+mod first;
+mod pasts;
+mod policies;
 mod shape;
+mod sights;
 mod standing;
 mod verdicts;
 
