@@ -1,5 +1,5 @@
 -- The policies that the failures of a report list as seen, each with its line; and what is known of a thread to judge them.
-use Rattle.std.specs.Prelude.{◌≡◌, ◌⊎◌, ℕ, ◌+◌, ◌*◌, ◌^◌, ◌<◌, ◌&&◌, Bool, List, [], ◌∷◌, ◌++◌, Some, Contains, is_some, length, slice_get, slice_index_or, slice_set, unwrap_or}
+use Rattle.std.specs.Prelude.{◌≡◌, ◌⊎◌, ℕ, ◌+◌, ◌*◌, ◌^◌, ◌<◌, ◌≤◌, ◌==◌, ◌&&◌, Bool, cond, List, [], ◌∷◌, ◌++◌, Option, Some, MatchOption, All, Contains, is_some, length, slice_get, slice_index_or, slice_set, unwrap_or}
 use Rattle.std.specs.Int.{from_bool}
 use Rattle.hwp_geom.specs.declared.Thread.{Thread}
 use Rattle.hwp_geom.specs.declared.Who.{Who}
@@ -15,6 +15,7 @@ use Rattle.hwp_law.specs.Policies.{setting_of, settings}
 use Rattle.hwp_law.specs.Seen.{IsOwnCount, IsPolicySeen, commands_around, cpu_of_thread, is_done, seen_in}
 use Rattle.hwp_check.specs.declared.sights.Sight.{Sight}
 use Rattle.hwp_check.specs.declared.pasts.Past.{Past}
+use Rattle.hwp_check.specs.Firsts.{IsLeast}
 use Rattle.hwp_check.specs.Standing.{entry_height, page_height, page_line}
 
 -- the policies seen of an entry of a command; given is the line of the first
@@ -52,7 +53,11 @@ abbrev pub IsRight : Script → Report → Sight → Type 0
 IsRight script report sight = IsPolicySeen script sight.seen × IsOwnCount script report sight.who sight.seen
 
 abbrev pub IsWrong : Script → Report → Sight → Type 0
-IsWrong script report sight = IsRight script report sight → ⊥
+IsWrong script report sight = (IsPolicySeen script sight.seen → ⊥) ⊎ (IsOwnCount script report sight.who sight.seen → ⊥)
+
+-- all in the list are so, or first the one on the line that was found is such
+abbrev pub IsFirstOf : (Sight → Type 0) → (Sight → Type 0) → List Sight → Option ℕ → Type 0
+IsFirstOf So Such list found = MatchOption found (All So list) (IsLeast (IsLineOf Such list))
 
 -- one in the list is of an earlier command of the processor and of the same thread, and later than this one
 pub record IsBelow (list : List Sight) (sight : Sight) : Type 0 where
@@ -63,12 +68,26 @@ pub record IsBelow (list : List Sight) (sight : Sight) : Type 0 where
   pub rises : before.who.seq < sight.who.seq
   pub falls : sight.seen.n < before.seen.n
 
+-- there is none such in the list
+abbrev pub IsNotBelow : List Sight → Sight → Type 0
+IsNotBelow list sight = IsBelow list sight → ⊥
+
 -- the processor and the thread of a policy seen as one number; and this, the command and the policy's number as one number
 abbrev pub group_of : Sight → ℕ
 group_of sight = sight.who.cpu.0 * 256 + sight.seen.thread.0
 
 abbrev pub key_of : Sight → ℕ
 key_of sight = (group_of sight * 2 ^ 32 + sight.who.seq) * 2 ^ 32 + sight.seen.n
+
+-- its numbers are of their widths
+pub record IsSmall (sight : Sight) : Type 0 where
+  pub thread : sight.seen.thread.0 < 256
+  pub seq : sight.who.seq < 2 ^ 32
+  pub n : sight.seen.n < 2 ^ 32
+
+-- the highest number so far, which counts only in the same group
+abbrev pub top_of : ℕ → ℕ → ℕ → ℕ
+top_of group own top = cond (group == own) top 0
 
 -- which commands were answered `done`, a value for each command
 abbrev pub AreDone : List CpuLine → List Bool → Type 0
@@ -98,3 +117,10 @@ pub record IsPast (script : Script) (report : Report) (thread : Thread) (past : 
 pub record ArePasts (script : Script) (report : Report) (pasts : List Past) : Type 0 where
   pub many : length pasts ≡ length script.layout.threads
   pub each : (thread : Thread) (past : Past) → slice_get pasts thread.0 ≡ Some past → IsPast script report thread past
+
+-- of the things seen so far in the order of keys, the last group and the highest number in it
+pub record IsTop (front : List Sight) (group top : ℕ) : Type 0 where
+  pub below : (s : Sight) → Contains front s → group_of s ≡ group → s.seen.n ≤ top
+  pub reached : (top ≡ 0) ⊎ ((s : Sight) × Contains front s × (group_of s ≡ group) × (s.seen.n ≡ top))
+  pub last : (s : Sight) → Contains front s → group_of s ≤ group
+  pub low : (k : ℕ) → ((s : Sight) → Contains front s → group_of s ≤ k) → group ≤ k

@@ -1,5 +1,5 @@
 ghost use Rattle.std.specs.Prelude.{◌≡◌};
-ghost use Rattle.hwp_check.specs.Firsts.{sooner, soonest};
+ghost use Rattle.hwp_check.specs.Firsts.{sooner, sooner_if, soonest};
 
 /// The lower of a line that was found so far, if one was, and one more.
 pub(crate) fn sooner(found: Option<u64>, line: u64) -> Option<u64>
@@ -19,4 +19,11 @@ pub(crate) fn soonest(found: Option<u64>, other: Option<u64>) -> Option<u64>
         None => found,
         Some(line) => sooner(found, line),
     }
+}
+
+/// The lower of a line that was found so far, if one was, and one more where it counts.
+pub(crate) fn sooner_if(counts: bool, found: Option<u64>, line: u64) -> Option<u64>
+    ensures { result ≡ sooner_if counts found line }
+{
+    if counts { sooner(found, line) } else { found }
 }

@@ -5,6 +5,7 @@ mod count;
 mod first;
 mod pasts;
 mod policies;
+mod seen;
 mod shape;
 mod sights;
 mod standing;

@@ -17,12 +17,7 @@ pub struct Sight {
 }
 
 /// Adds the policies seen of an entry of a command; the first of them is on the line.
-fn add_listed(
-    out: &mut Vec<Sight>,
-    who: Who,
-    list: &[Seen],
-    first: u64,
-) -> Result<(), OutOfMemory>
+fn add_listed(out: &mut Vec<Sight>, who: Who, list: &[Seen], first: u64) -> Result<(), OutOfMemory>
     requires room { first + length list.now < 2 ^ 64 }
     ensures { OnOk result (out.new.items ≡ out.old.items ++ listed_sights who first list.now) }
 {
