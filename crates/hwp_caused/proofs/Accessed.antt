@@ -35,7 +35,7 @@ use Rattle.hwp_job.specs.Begins.{BeginsAccess}
 use Rattle.hwp_job.specs.Jobs.{Fits, answer}
 use Rattle.hwp_job.specs.Runs.{anew}
 use Rattle.hwp_job.proofs.Ending.{mapped}
-use Rattle.hwp_job.proofs.Kinds.{of-access}
+use Rattle.hwp_job.proofs.OfKind.{of-access}
 use Rattle.hwp_served.specs.Causes.{IsCaused, FoundGone, FoundNoFrame, FoundStopped, Reached, SawProcess}
 
 -- the access, and what it knows of its answer
@@ -65,12 +65,12 @@ knows-access {layout} {view} {who} {thread} {slot} {line} {kind} j {a} runs fits
     own = mapped access_answer (accesses.answer task.0) (sym (ap answer task.1) ∙ is)
 
 -- a load is no store
-is_load : AccessKind → Bool
+abbrev is_load : AccessKind → Bool
 is_load kinds.Load = true
 is_load (kinds.Store word) = false
 
 load-no-store : (word : ℕ) → kinds.Load ≡ kinds.Store word → ⊥
-load-no-store word is = both_ways true (sym (ap is_load is)) refl
+load-no-store word is = both_ways true (ap is_load is) refl
 
 module _ (layout : Layout) (list : List Command) (view : View) (who : Who) (thread : Thread) (slot : VSlot) (line : ℕ) (kind : AccessKind) (page : Page) (process : Proc) (names : IsDeclared layout (begin who thread slot line kind page process).request) where
   going : {word : ℕ} → Saw view who (places.Process process) word → SawProcess layout view who thread word
@@ -131,7 +131,7 @@ module _ (layout : Layout) (list : List Command) (view : View) (who : Who) (thre
   store word names (answers.Gone of) has = gone layout list view who thread slot line (kinds.Store word) page process names of has
   store word names answers.Stopped has = stopped layout list view who thread slot line (kinds.Store word) page process names has
 
-module _ {layout : Layout} {list : List Command} {view : View} {who : Who} {thread : Thread} {slot : VSlot} {line : ℕ} {a : Answer} where
+module _ (list : List Command) {layout : Layout} {view : View} {who : Who} {thread : Thread} {slot : VSlot} {line : ℕ} {a : Answer} where
   pub load-caused : KnowsAccess layout view who thread slot line kinds.Load a → IsCaused layout list view who (commands.Load thread slot line) a
   load-caused k = subst (IsCaused layout list view who (commands.Load thread slot line)) k.answer_is (load layout list view who thread slot line k.page k.process k.names k.own k.answered)
 

@@ -54,13 +54,13 @@ use Rattle.hwp_job.specs.Jobs.{Fits, answer}
 use Rattle.hwp_job.specs.Runs.{anew}
 use Rattle.hwp_job.specs.Settings.{HasReplied, IsCounted, policies_in, set_at, set_now}
 use Rattle.hwp_job.proofs.Ending.{fsync-over, mapped, nested-over, prctl-over, read-over}
-use Rattle.hwp_job.proofs.Kinds.{of-fsync, of-nested, of-prctl, of-read-stop}
+use Rattle.hwp_job.proofs.OfKind.{of-fsync, of-nested, of-prctl, of-read-stop}
 use Rattle.hwp_served.specs.Causes.{IsCaused, IsReplied, SawProcess}
 
 -- ---- the losses of a file
 
-pub fsync-caused : {layout : Layout} {list : List Command} {view : View} {who : Who} {file : FileNo} (j : Job) {a : Answer} → anew j ≡ jobs.Fsync (fsyncs.begin who file) → Fits layout view j → answer j ≡ Some a → IsCaused layout list view who (commands.Fsync file) a
-fsync-caused {layout} {list} {view} {who} {file} j {a} runs fits is =
+pub fsync-caused : (layout : Layout) (list : List Command) (view : View) {who : Who} {file : FileNo} (j : Job) {a : Answer} → anew j ≡ jobs.Fsync (fsyncs.begin who file) → Fits layout view j → answer j ≡ Some a → IsCaused layout list view who (commands.Fsync file) a
+fsync-caused layout list view {who} {file} j {a} runs fits is =
     subst (λ (f : Fsync). IsCaused layout list view f.who (commands.Fsync f.file) a) task.2
     (subst (IsCaused layout list view task.0.who (commands.Fsync task.0.file)) own.2 (by own.0 (subst (fsyncs.FitsAt view task.0.who task.0.file) (fsync-over task.0 own.1) fit.at)))
   where
@@ -80,9 +80,9 @@ fsync-caused {layout} {list} {view} {who} {file} j {a} runs fits is =
 
 -- ---- commands that look at the machine
 
-pub log-caused : {layout : Layout} {list : List Command} {view : View} {who : Who} {status addr misc : ℕ} (j : Job) {a : Answer} → anew j ≡ jobs.ReadStop (read_stops.begin who) → Fits layout view j → answer j ≡ Some a
+pub log-caused : (layout : Layout) (list : List Command) (view : View) (status addr misc : ℕ) {who : Who} (j : Job) {a : Answer} → anew j ≡ jobs.ReadStop (read_stops.begin who) → Fits layout view j → answer j ≡ Some a
     → IsCaused layout list view who (commands.Log status addr misc) a
-log-caused {layout} {list} {view} {who} {status} {addr} {misc} j {a} runs fits is =
+log-caused layout list view status addr misc {who} j {a} runs fits is =
     subst (λ (r : ReadStop). IsCaused layout list view r.who (commands.Log status addr misc) a) task.2
     (subst (IsCaused layout list view task.0.who (commands.Log status addr misc)) own.2 (by own.0 (subst (read_stops.FitsAt view task.0.who) (read-over task.0 own.1) fit.at)))
   where
@@ -99,8 +99,8 @@ log-caused {layout} {list} {view} {who} {status} {addr} {misc} j {a} runs fits i
     by read_answers.Stopped has = record { stopped = inl has; made = fit.made }
     by read_answers.Done has = fit.made
 
-pub nested-caused : {layout : Layout} {list : List Command} {view : View} {who : Who} (j : Job) {a : Answer} → anew j ≡ jobs.Nested (nesteds.begin who) → Fits layout view j → answer j ≡ Some a → IsCaused layout list view who commands.RaiseNested a
-nested-caused {layout} {list} {view} {who} j {a} runs fits is =
+pub nested-caused : (layout : Layout) (list : List Command) (view : View) {who : Who} (j : Job) {a : Answer} → anew j ≡ jobs.Nested (nesteds.begin who) → Fits layout view j → answer j ≡ Some a → IsCaused layout list view who commands.RaiseNested a
+nested-caused layout list view {who} j {a} runs fits is =
     subst (λ (n : Nested). IsCaused layout list view n.who commands.RaiseNested a) task.2
     (subst (IsCaused layout list view task.0.who commands.RaiseNested) own.2 (by own.0 (subst (nesteds.FitsAt view task.0.who) (nested-over task.0 own.1) fit.at)))
   where
@@ -124,17 +124,17 @@ last-same : (d : Policy) (l : List Setting) → last_policy d l ≡ fold (λ ear
 last-same d [] = refl
 last-same d (s ∷ l) = last-same s.policy l
 
-module _ {list : List Command} {view : View} (p : Prctl) where
+module _ (list : List Command) (view : View) (p : Prctl) where
   -- what was set before the call is what the commands before it set
   before-is : (policy : Policy) (before : List Setting) (last : Setting) → settings_of p.thread view.settings ≡ before ++ last ∷ [] → p.at ≡ prctl_at.Over (prctl_answers.Replied (replies.Set policy)) → IsCounted list view p.who (jobs.Prctl p) p.thread
       → map (λ (s : Setting). s.policy) before ≡ settings p.thread (take p.who.seq list)
   before-is policy before last all over counted = (same_from_push (map (λ (s : Setting). s.policy) before) (settings p.thread (take p.who.seq list)) last.policy policy (
-    sym (map-append (λ (s : Setting). s.policy) before (last ∷ []))
-    ∙ sym (ap (map (λ (s : Setting). s.policy)) all)
-    ∙ counted
-    ∙ ap (λ (b : Bool). settings p.thread (take p.who.seq list) ++ cond b (set_at p.at) []) (eq-eqb p.thread.0 p.thread.0 refl)
-    ∙ ap (λ (x : PrctlAt). settings p.thread (take p.who.seq list) ++ set_at x) over
-  )).0
+      sym (map-append (λ (s : Setting). s.policy) before (last ∷ []))
+      ∙ sym (ap (map (λ (s : Setting). s.policy)) all)
+      ∙ counted
+      ∙ ap (λ (b : Bool). settings p.thread (take p.who.seq list) ++ cond b (set_at p.at) []) (eq-eqb p.thread.0 p.thread.0 refl)
+      ∙ ap (λ (x : PrctlAt). settings p.thread (take p.who.seq list) ++ set_at x) over
+      )).0
 
   now-is : set_at p.at ≡ [] → IsCounted list view p.who (jobs.Prctl p) p.thread → policies_in p.thread view ≡ settings p.thread (take p.who.seq list)
   now-is none counted = counted
@@ -152,7 +152,7 @@ module _ {list : List Command} {view : View} (p : Prctl) where
   replied-so replies.Einval over has counted =
       sym has ∙ ap (λ (x : Policy). reply x p.arguments) (last-same policy_names.Default (settings_of p.thread view.settings) ∙ ap laws.last_policy (now-is (ap set_at over) counted))
 
-module _ {layout : Layout} {list : List Command} {view : View} (p : Prctl) (fits : prctls.Fits layout view p) where
+module _ {layout : Layout} (list : List Command) {view : View} (p : Prctl) (fits : prctls.Fits layout view p) where
   going : {word : ℕ} → Saw view p.who (places.Process p.process) word → SawProcess layout view p.who p.thread word
   going saw = record { process = p.process; process_is = ap (option_map (λ (t : ThreadDecl). t.process)) fits.declared ∙ ap Some fits.process_is; saw = saw }
 
@@ -166,15 +166,15 @@ module _ {layout : Layout} {list : List Command} {view : View} (p : Prctl) (fits
   called same prctl_answers.Stopped over has counted = record { stopped = inl has; made = fits.made }
   called same (prctl_answers.Gone page) over has counted = record { ended = going has; made = fits.made }
   called same (prctl_answers.Replied r) over has counted =
-      replied-caused same r (record { going = going has.0; made = fits.made; replied = ap reply_answer (replied-so p r over has.1 (counted r refl)) })
+      replied-caused same r (record { going = going has.0; made = fits.made; replied = ap reply_answer (replied-so list view p r over has.1 (counted r refl)) })
 
-pub prctl-caused : {layout : Layout} {list : List Command} {view : View} {who : Who} {thread : Thread} {args : PrctlArgs} (j : Job) {a : Answer} → BeginsPrctl layout who thread args (anew j) → Fits layout view j → answer j ≡ Some a
+pub prctl-caused : {layout : Layout} (list : List Command) (view : View) {who : Who} {thread : Thread} {args : PrctlArgs} (j : Job) {a : Answer} → BeginsPrctl layout who thread args (anew j) → Fits layout view j → answer j ≡ Some a
     → ((t : Thread) → HasReplied j t → IsCounted list view who j t) → IsCaused layout list view who (commands.Prctl thread args) a
-prctl-caused {layout} {list} {view} {who} {thread} {args} j {a} runs fits is counted =
+prctl-caused {layout} list view {who} {thread} {args} j {a} runs fits is counted =
     subst (λ (w : Who). IsCaused layout list view w (commands.Prctl thread args) a) own-who
     (subst (λ (t : Thread). IsCaused layout list view task.0.who (commands.Prctl t args) a) own-thread
     (subst (IsCaused layout list view task.0.who (commands.Prctl task.0.thread args)) own.2
-    (called task.0 fit own-arguments own.0 over (subst (prctls.FitsAt view task.0.who task.0.thread task.0.process task.0.arguments) over fit.at) known)))
+    (called list task.0 fit own-arguments own.0 over (subst (prctls.FitsAt view task.0.who task.0.thread task.0.process task.0.arguments) over fit.at) known)))
   where
     task : (p : Prctl) × (j ≡ jobs.Prctl p) × (prctls.begin p.who p.thread p.process p.arguments ≡ prctls.begin who thread runs.decl.process (arguments args))
     task = of-prctl j runs.job_is

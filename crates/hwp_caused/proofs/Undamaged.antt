@@ -32,7 +32,7 @@ no-bits (suc n) fits none =
     absurd (none (trailing_zeros w64 (suc n)) lowest.0 ((bit_set_by_shift (suc n) (trailing_zeros w64 (suc n))).0 (shr_and_one (suc n) (trailing_zeros w64 (suc n)) ∙ lowest.1)))
 
 -- the sight shows no bad line
-goods : Sayings
+abbrev goods : Sayings
 goods = record {
   sight = λ (s : Sight). (frame : Frame) → s.place ≡ places.Bad frame → s.word ≡ 0;
   length = λ (l : Length). Unit {0};

@@ -18,7 +18,7 @@ use Rattle.hwp_served.proofs.Lawful.{law-holds}
 use Rattle.hwp_served.proofs.Showing.{report-shown, scrubs-shown}
 use Rattle.hwp_core.specs.Closing.{IsClosing}
 use Rattle.hwp_core.specs.Runs.{IsCoreRun, IsPlayed, own_seat}
-use Rattle.hwp_core.proofs.Ended.{board-led}
+use Rattle.hwp_core.proofs.Led.{board-led}
 
 module _ (script : Script) (board : Board) (cpus : List (List CpuLine)) (lists : length script.lists ≡ script.layout.cpus) (played : IsPlayed script board cpus)
     (report : Report) (closing : IsClosing board.layout board.state cpus report) where

@@ -1,12 +1,11 @@
 -- Why a command answers so: it stays so, and it comes to be so when the body goes home.
-use Rattle.std.proofs.Common.{◌≡◌, ◌≢◌, ℕ, Bool, true, false, List, [], ◌∷◌, ◌++◌, Option, Some, None, length, slice_get, refl, sym, ap, ◌∙◌, subst}
+use Rattle.std.proofs.Common.{◌≡◌, ℕ, List, [], ◌∷◌, ◌++◌, Option, Some, None, length, refl, sym, ◌∙◌, subst}
 use Rattle.std.proofs.lemmas.Option.{none-some}
 use Rattle.hwp_geom.specs.declared.Frame.{Frame}
 use Rattle.hwp_geom.specs.declared.Layout.{Layout}
 use Rattle.hwp_geom.specs.declared.Page.{Page}
 use Rattle.hwp_geom.specs.declared.Who.{Who}
 use Rattle.hwp_page.specs.declared.At.{At}
-use Rattle.hwp_page.specs.declared.Entry.{Entry}
 use Rattle.hwp_page.specs.History.{BodyValue}
 use Rattle.hwp_rule.specs.declared.InHand.{InHand}
 use Rattle.hwp_rule.specs.declared.Log.{Log}
@@ -18,10 +17,10 @@ use Rattle.hwp_rule.specs.declared.View.{View}
 use Rattle.hwp_rule.specs.Lists.{EachMember}
 use Rattle.hwp_rule.specs.Logs.{log_of}
 use Rattle.hwp_rule.specs.Served.{IsServed}
-use Rattle.hwp_rule.specs.Views.{is_body_of, stamp_of}
+use Rattle.hwp_rule.specs.Views.{is_body_of}
 use Rattle.std.specs.List.{find}
 use Rattle.hwp_step.specs.Calls.{Steps, logs}
-use Rattle.hwp_known.specs.Known.{HasMade, HasMadeNone, HasOnly, IsAt, SawStop, deeds}
+use Rattle.hwp_known.specs.Known.{HasMade, IsAt, deeds}
 use Rattle.hwp_known.proofs.Listing.{Lists, deeds-none, deeds-one, deeds-same, frame-lists, has-made, has-made-stays, page-lists}
 use Rattle.hwp_known.proofs.Seeing.{saw-stays, saw-state-stays}
 use Rattle.hwp_hold.specs.declared.release.Release.{Release}

@@ -1,8 +1,7 @@
 -- What fits once the page is held: the command is refused, gives up, or has made its entry.
-use Rattle.std.proofs.Common.{◌≡◌, ◌≢◌, ◌⊎◌, inl, inr, ℕ, ◌+◌, ◌<◌, ◌≤◌, ◌==◌, Bool, true, false, not, cond, List, [], ◌∷◌, ◌++◌, Option, Some, None, is_none, length, drop, slice_get, refl, sym, ap, ◌∙◌, subst, arith}
-use Rattle.std.proofs.lemmas.Bool.{both_ways}
+use Rattle.std.proofs.Common.{◌≡◌, ℕ, ◌+◌, ◌<◌, ◌≤◌, Bool, false, cond, [], ◌∷◌, Option, Some, None, is_none, length, drop, refl, sym, ap, ◌∙◌, subst, arith}
 use Rattle.std.proofs.lemmas.List.{drop_all}
-use Rattle.std.proofs.lemmas.Option.{none-some, same_Some}
+use Rattle.std.proofs.lemmas.Option.{same_Some}
 use Rattle.std.specs.FinSet as set
 use Rattle.std.specs.List.{find}
 use Rattle.hwp_geom.specs.declared.Frame.{Frame}
@@ -10,39 +9,32 @@ use Rattle.hwp_geom.specs.declared.Layout.{Layout}
 use Rattle.hwp_geom.specs.declared.Page.{Page}
 use Rattle.hwp_geom.specs.declared.Who.{Who}
 use Rattle.hwp_geom.specs.Layout.{IsSound}
-use Rattle.hwp_page.specs.declared.At.{At}
-use Rattle.hwp_page.specs.declared.PageState.{PageState}
 use Rattle.hwp_page.specs.History.{BodyValue}
-use Rattle.hwp_page.specs.Step.{after}
 use Rattle.hwp_rule.specs.declared.InHand.{InHand}
 use Rattle.hwp_rule.specs.declared.Log.{Log}
-use Rattle.hwp_rule.specs.declared.PageLock.{PageLock}
 use Rattle.hwp_rule.specs.declared.View.{View}
 use Rattle.hwp_rule.specs.Logs.{log_of, state_of}
-use Rattle.hwp_rule.specs.Views.{is_body_of, more_of}
+use Rattle.hwp_rule.specs.Views.{is_body_of}
 use Rattle.hwp_rule.specs.parts.Entries.{HasSeen}
 use Rattle.hwp_rule.specs.parts.Fits.{FitsWords}
 use Rattle.hwp_rule.proofs.Lists.{same-number}
 use Rattle.hwp_step.specs.Calls.{IsOnTurn}
-use Rattle.hwp_step.specs.Hands.{Hand, hand_of, body_in}
+use Rattle.hwp_step.specs.Hands.{Hand, body_in}
 use Rattle.hwp_known.specs.Known.{HasMadeNone, SawLog}
-use Rattle.hwp_hold.specs.Holds.{HoldsPage, IsBodyOf, held, page_lock}
+use Rattle.hwp_hold.specs.Holds.{HoldsPage, held, page_lock}
 use Rattle.hwp_hold.specs.Unholds as unholds
 use Rattle.hwp_hold.specs.Unholds.{HoldsAhead}
 use Rattle.hwp_hold.proofs.GivingUp.{page-given-up}
 use Rattle.hwp_hold.proofs.Linking.{ahead-unholds, held-unholds}
-use Rattle.hwp_evict.specs.declared.evict.EvictAnswer.{EvictAnswer}
 use Rattle.hwp_evict.specs.declared.evict.EvictAnswer.TheVariants as answers
-use Rattle.hwp_evict.specs.declared.evict.EvictAt.{EvictAt}
 use Rattle.hwp_evict.specs.declared.evict.EvictAt.TheVariants as at
 use Rattle.hwp_evict.specs.declared.evict.Eviction.{Eviction}
-use Rattle.hwp_evict.specs.declared.evict.Eviction.TheVariants as evictions
 use Rattle.hwp_evict.specs.declared.evict.Refusal.{Refusal}
 use Rattle.hwp_evict.specs.Evictions.{entry_of, IsOfKind, IsWhy, Passes, SawLines}
-use Rattle.hwp_evict.specs.Evicts.{HasEntry, IsAhead, IsLettingGo, KnowsPut, FitsAt, given_up, place, refused, with_entry}
+use Rattle.hwp_evict.specs.Evicts.{HasEntry, IsAhead, KnowsPut, FitsAt, given_up, place, refused, with_entry}
 use Rattle.hwp_evict.specs.Vacates as vacates
-use Rattle.hwp_evict.proofs.Entering.{extends, goes-home, kills-none, one-more, same-words, shelf-words, words}
-use Rattle.hwp_evict.proofs.Judging.{allows, is-cached, replay-is, state-is}
+use Rattle.hwp_evict.proofs.Entering.{extends, goes-home, kills-none, one-more, words}
+use Rattle.hwp_evict.proofs.Judging.{allows, is-cached, replay-is}
 
 -- the body that is in hand is the page's
 in-hand : (view : View) {page : Page} (taken : InHand) → view.bodies ≡ taken ∷ [] → taken.log.page ≡ page → find (is_body_of page) view.bodies ≡ Some taken

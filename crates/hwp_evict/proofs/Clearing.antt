@@ -1,24 +1,19 @@
 -- The laws of `Clear`.
-use Rattle.std.proofs.Common.{◌≡◌, ◌≢◌, ◌⊎◌, inl, inr, ℕ, ◌+◌, ◌-◌, ◌^◌, ◌<◌, ◌≤◌, ◌==◌, Bool, true, false, cond, nat_lt, List, [], ◌∷◌, Option, Some, None, is_none, MatchOption, length, slice_get, slice_set, refl, sym, ap, ◌∙◌, subst, arith}
+use Rattle.std.proofs.Common.{◌≡◌, ◌≢◌, ◌⊎◌, inl, inr, ℕ, ◌+◌, ◌-◌, ◌^◌, ◌<◌, ◌≤◌, Bool, true, false, cond, nat_lt, List, [], ◌∷◌, Option, Some, None, length, slice_get, slice_set, refl, sym, ap, ◌∙◌, subst, arith}
 use Rattle.std.proofs.lemmas.Bool.{both_ways, lt-ltb, le-ltb, cases_lt}
 use Rattle.std.proofs.lemmas.Option.{none-some, same_Some, slice_get_within}
 use Rattle.std.specs.FinSet as set
 use Rattle.std.specs.List.{find}
-use Rattle.std.specs.Ordering.{nat_cmp}
 use Rattle.hwp_geom.specs.declared.Frame.{Frame}
 use Rattle.hwp_geom.specs.declared.Layout.{Layout}
 use Rattle.hwp_geom.specs.declared.Page.{Page}
 use Rattle.hwp_geom.specs.declared.TransDecl.{TransDecl}
 use Rattle.hwp_geom.specs.declared.VSlot.{VSlot}
-use Rattle.hwp_geom.specs.declared.Who.{Who}
 use Rattle.hwp_kill.specs.Limits.{slot_limit}
-use Rattle.hwp_kill.specs.Lowest.{IsLowestFrom}
 use Rattle.hwp_page.specs.declared.PageState.{PageState}
 use Rattle.hwp_page.specs.History.{BodyValue}
 use Rattle.hwp_words.specs.Translations.{pte_word}
 use Rattle.hwp_words.specs.declared.Pte.TheVariants as ptes
-use Rattle.hwp_rule.specs.declared.InHand.{InHand}
-use Rattle.hwp_rule.specs.declared.PageLock.{PageLock}
 use Rattle.hwp_rule.specs.declared.Ref.{Ref}
 use Rattle.hwp_rule.specs.declared.Step.{Step}
 use Rattle.hwp_rule.specs.declared.Step.TheVariants as steps
@@ -31,7 +26,7 @@ use Rattle.hwp_rule.proofs.Lists.{same-number, same-or, set_here, set_else}
 use Rattle.hwp_rule.proofs.Meeting.{frame-named, lock-knows}
 use Rattle.hwp_step.specs.declared.Turn.{Turn}
 use Rattle.hwp_step.specs.declared.Turn.TheVariants.{Moved}
-use Rattle.hwp_step.specs.Calls.{CanMake, IsOnTurn, Steps}
+use Rattle.hwp_step.specs.Calls.{CanMake, Steps}
 use Rattle.hwp_step.specs.Hands.{Hand, hand_of}
 use Rattle.hwp_step.specs.Ranks.{Member, member, IsRanked, is_waits, words_at}
 use Rattle.hwp_step.specs.Boards.{view_of}

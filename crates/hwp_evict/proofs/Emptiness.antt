@@ -1,5 +1,5 @@
 -- A set of translations that has no member from 0 on is empty.
-use Rattle.std.proofs.Common.{◌↔◌, Option, Some, None, MatchOption, not, true≢false, ◌≡◌, ℕ, Bool, true, false, refl, sym, ap, ◌∙◌, arith}
+use Rattle.std.proofs.Common.{◌↔◌, Option, Some, None, MatchOption, not, true≢false, ◌≡◌, Bool, true, false, refl, sym, ap, ◌∙◌, arith}
 use Rattle.std.proofs.lemmas.Bool.{both_ways}
 use Rattle.std.specs.Prelude.{IsTrue, is_some}
 use Rattle.std.specs.Ordering.{nat_cmp}

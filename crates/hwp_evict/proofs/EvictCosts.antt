@@ -1,5 +1,5 @@
 -- Each turn of `Evict` that doesn't wait lowers its cost, and its class tells what it holds.
-use Rattle.std.proofs.Common.{◌≡◌, ◌≢◌, ◌⊎◌, inl, inr, ℕ, ◌+◌, ◌<◌, ◌≤◌, ◌==◌, Bool, true, false, cond, [], Option, Some, None, is_none, MatchBool, refl, sym, ap, ◌∙◌, subst, arith}
+use Rattle.std.proofs.Common.{◌≡◌, ◌≢◌, ◌⊎◌, inl, inr, ℕ, ◌+◌, ◌<◌, ◌≤◌, ◌==◌, Bool, true, false, cond, Option, Some, None, is_none, MatchBool, refl, sym, ap, ◌∙◌, subst, arith}
 use Rattle.std.proofs.lemmas.Bool.{both_ways}
 use Rattle.std.proofs.lemmas.Option.{none-some}
 use Rattle.std.specs.FinSet as set
@@ -17,7 +17,6 @@ use Rattle.hwp_rule.specs.declared.View.{View}
 use Rattle.hwp_rule.specs.Steps.{place_of, word_after}
 use Rattle.hwp_rule.specs.Words.{Words, read}
 use Rattle.hwp_step.specs.declared.Turn.{Turn}
-use Rattle.hwp_step.specs.declared.Turn.TheVariants.{Moved, Answered, Waits}
 use Rattle.hwp_rule.specs.Moves.{Move}
 use Rattle.hwp_step.specs.Boards.{view_of}
 use Rattle.hwp_step.specs.Calls.{rec_of}
@@ -52,7 +51,7 @@ use Rattle.hwp_evict.specs.declared.evict.Refusal.{Refusal}
 use Rattle.hwp_evict.specs.declared.evict.Refusal.TheVariants as refusals
 use Rattle.hwp_evict.specs.declared.vacate.Vacate.{Vacate}
 use Rattle.hwp_evict.specs.Evictions.{copies, absence}
-use Rattle.hwp_evict.specs.Evicts.{AfterBad, AfterHeld, AfterHold, AfterHoldAt, Enters, Fits, FitsAt, Follows, FollowsAt, Shows, ShowsAt, after_clear, after_stop, after_unhold, after_vacate, bare, bare_at, begin, class, class_at, cost, cost_at, GoesOut, given_up, place, plan, plan_at, put, refused, turn_after}
+use Rattle.hwp_evict.specs.Evicts.{AfterBad, AfterHeld, AfterHold, AfterHoldAt, Enters, Fits, FitsAt, Follows, FollowsAt, Shows, ShowsAt, after_clear, after_stop, after_unhold, after_vacate, bare, bare_at, class, class_at, cost, cost_at, GoesOut, place, plan, plan_at, put, refused, turn_after}
 use Rattle.hwp_evict.specs.Clears as clears
 use Rattle.hwp_evict.specs.Vacates as vacates
 use Rattle.hwp_evict.proofs.Clearing.{clear-small, clears-fall}

@@ -1,8 +1,7 @@
 -- The laws of `Evict`.
-use Rattle.std.proofs.Common.{◌≡◌, ◌≢◌, ℕ, ◌+◌, ◌<◌, ◌≤◌, ◌==◌, Bool, true, false, cond, [], ◌∷◌, Option, Some, None, is_none, length, slice_get, refl, sym, ap, ◌∙◌, subst, arith}
+use Rattle.std.proofs.Common.{◌≡◌, ℕ, ◌<◌, Bool, true, false, cond, Option, Some, None, is_none, length, slice_get, refl, sym, ap, ◌∙◌, subst}
 use Rattle.std.proofs.lemmas.Bool.{both_ways}
 use Rattle.std.proofs.lemmas.Option.{none-some, slice_get_within}
-use Rattle.hwp_geom.specs.declared.Frame.{Frame}
 use Rattle.hwp_geom.specs.declared.Layout.{Layout}
 use Rattle.hwp_geom.specs.declared.Page.{Page}
 use Rattle.hwp_geom.specs.declared.TransDecl.{TransDecl}
@@ -12,23 +11,18 @@ use Rattle.hwp_page.specs.declared.At.{At}
 use Rattle.hwp_page.specs.History.{BodyValue}
 use Rattle.hwp_page.specs.Step.{IsOf}
 use Rattle.hwp_words.specs.Stops.{is_stopped}
-use Rattle.hwp_words.specs.declared.Pte.TheVariants as ptes
 use Rattle.hwp_rule.specs.declared.Place.TheVariants as places
 use Rattle.hwp_rule.specs.declared.Step.{Step}
 use Rattle.hwp_rule.specs.declared.Step.TheVariants as steps
 use Rattle.hwp_rule.specs.declared.View.{View}
-use Rattle.hwp_rule.specs.Asks.{CanSetPte}
-use Rattle.hwp_rule.specs.Logs.{log_of}
 use Rattle.hwp_rule.specs.Served.{IsServed}
 use Rattle.hwp_step.specs.declared.Turn.{Turn}
 use Rattle.hwp_step.specs.Calls.{CanMake, IsOnTurn, Steps, logs}
 use Rattle.hwp_step.specs.Hands.{hand_of, empty}
 use Rattle.hwp_step.proofs.Stepping.{on-turn-after, hand-planned, steps-planned, can-make}
-use Rattle.hwp_known.specs.Known.{HasMadeNone, SawStop}
+use Rattle.hwp_known.specs.Known.{HasMadeNone}
 use Rattle.hwp_known.proofs.Listing.{deeds-same}
 use Rattle.hwp_known.proofs.Seeing.{saw-load}
-use Rattle.hwp_hold.specs.declared.give_up.GiveUp.{GiveUp}
-use Rattle.hwp_hold.specs.declared.hold.Hold.{Hold}
 use Rattle.hwp_hold.specs.declared.release.Release.{Release}
 use Rattle.hwp_hold.specs.declared.release.ReleaseAt.{ReleaseAt}
 use Rattle.hwp_hold.specs.declared.release.ReleaseAt.TheVariants as release_at
@@ -47,12 +41,11 @@ use Rattle.hwp_evict.specs.declared.evict.EvictAnswer.TheVariants as answers
 use Rattle.hwp_evict.specs.declared.evict.EvictAt.{EvictAt}
 use Rattle.hwp_evict.specs.declared.evict.EvictAt.TheVariants as at
 use Rattle.hwp_evict.specs.declared.evict.Eviction.{Eviction}
-use Rattle.hwp_evict.specs.declared.evict.Eviction.TheVariants as evictions
 use Rattle.hwp_evict.specs.declared.vacate.Vacate.{Vacate}
 use Rattle.hwp_evict.specs.declared.vacate.VacateAt.{VacateAt}
 use Rattle.hwp_evict.specs.declared.vacate.VacateAt.TheVariants as vacate_at
 use Rattle.hwp_evict.specs.Evictions.{IsCaused, IsOfKind}
-use Rattle.hwp_evict.specs.Evicts.{plan, plan_at, put, put_at, bare, bare_at, after_stop, after_unhold, after_vacate, Follows, FollowsAt, Shows, ShowsAt, IsAhead, IsFreeing, IsGivingUp, IsHolding, IsLettingGo, IsReading, IsVacating, KnowsPut, Fits, FitsAt}
+use Rattle.hwp_evict.specs.Evicts.{plan, plan_at, put, put_at, bare, bare_at, after_stop, after_unhold, after_vacate, Follows, FollowsAt, Shows, ShowsAt, IsAhead, IsFreeing, IsLettingGo, IsVacating, KnowsPut, Fits, FitsAt}
 use Rattle.hwp_evict.specs.Vacates as vacates
 use Rattle.hwp_evict.proofs.Answering.{ahead-stays, home-after, home-by-page, unhold-causes}
 use Rattle.hwp_evict.proofs.Following.{bad-fits, held-enters, hold-fits, recent-held}

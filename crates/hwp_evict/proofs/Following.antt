@@ -1,5 +1,5 @@
 -- What follows a step of a page that is being held, read or vacated.
-use Rattle.std.proofs.Common.{◌≡◌, ◌≢◌, ◌⊎◌, inl, inr, ℕ, ◌+◌, ◌<◌, ◌≤◌, ◌==◌, Bool, true, false, cond, List, [], ◌∷◌, ◌++◌, Option, Some, None, is_none, length, drop, slice_get, option_map, MatchBool, refl, sym, ap, ◌∙◌, subst, arith}
+use Rattle.std.proofs.Common.{◌≡◌, inl, inr, ℕ, ◌+◌, ◌<◌, ◌≤◌, ◌==◌, Bool, true, false, cond, List, [], ◌∷◌, ◌++◌, Option, Some, None, is_none, length, drop, slice_get, option_map, MatchBool, refl, sym, ap, ◌∙◌, subst, arith}
 use Rattle.std.proofs.lemmas.Bool.{both_ways, eqb-true, eqb-false}
 use Rattle.std.proofs.lemmas.List.{drop-append-le, length-append}
 use Rattle.std.proofs.lemmas.Option.{none-some, same_Some}
@@ -8,7 +8,6 @@ use Rattle.hwp_geom.specs.declared.Layout.{Layout}
 use Rattle.hwp_geom.specs.declared.Page.{Page}
 use Rattle.hwp_geom.specs.declared.Who.{Who}
 use Rattle.hwp_geom.specs.Layout.{IsSound}
-use Rattle.hwp_page.specs.declared.At.{At}
 use Rattle.hwp_page.specs.declared.PageState.{PageState}
 use Rattle.hwp_page.specs.History.{BodyValue}
 use Rattle.hwp_rule.specs.declared.FrameLock.{FrameLock}
@@ -21,11 +20,10 @@ use Rattle.hwp_rule.specs.declared.Step.TheVariants as steps
 use Rattle.hwp_rule.specs.declared.View.{View}
 use Rattle.hwp_rule.specs.Lists.{SomeMember}
 use Rattle.hwp_rule.specs.Logs.{log_of, state_of}
-use Rattle.hwp_rule.specs.Served.{IsServed}
 use Rattle.hwp_rule.specs.Views.{frame_in, lock_found, noted, stamp_of, taken}
 use Rattle.hwp_rule.specs.parts.Entries.{HasSeen, Shows}
 use Rattle.hwp_rule.proofs.Lists.{some-last}
-use Rattle.hwp_step.specs.Calls.{IsOnTurn, Steps, logs}
+use Rattle.hwp_step.specs.Calls.{IsOnTurn, Steps}
 use Rattle.hwp_step.specs.Hands.{Hand, body_in, hand_of, taking}
 use Rattle.hwp_step.proofs.Stepping.{content_of, hand-planned, steps-planned}
 use Rattle.hwp_known.specs.Known.{HasMadeNone, SawLog}
@@ -47,7 +45,7 @@ use Rattle.hwp_evict.specs.declared.evict.Eviction.TheVariants as evictions
 use Rattle.hwp_evict.specs.declared.evict.Refusal.{Refusal}
 use Rattle.hwp_evict.specs.declared.evict.Refusal.TheVariants as refusals
 use Rattle.hwp_evict.specs.Evictions.{absence, copies, entry_of, Bars, IsOfKind, IsWhy, SawLines}
-use Rattle.hwp_evict.specs.Evicts.{AfterBad, AfterHeld, AfterHold, AfterHoldAt, CanEnterHeld, Enters, FitsAt, GoesOn, IsReading, refused}
+use Rattle.hwp_evict.specs.Evicts.{AfterBad, AfterHeld, AfterHold, AfterHoldAt, CanEnterHeld, Enters, FitsAt, IsReading, refused}
 use Rattle.hwp_evict.proofs.Beginning.{refused-fits}
 use Rattle.hwp_evict.proofs.Entered.{enters-fits}
 use Rattle.hwp_evict.proofs.Judging.{away-why, bars-why, can-enter, copying-passes, is-cached}

@@ -1,33 +1,28 @@
 -- The laws of `Fsync`.
-use Rattle.std.proofs.Common.{◌≡◌, ◌≢◌, ℕ, ◌+◌, ◌<◌, ◌≤◌, ◌==◌, Bool, true, false, cond, [], ◌∷◌, Option, Some, None, refl, sym, ap, ◌∙◌, subst, arith}
+use Rattle.std.proofs.Common.{◌≡◌, ◌≢◌, ℕ, ◌<◌, ◌≤◌, ◌==◌, Bool, true, false, cond, Option, Some, None, refl, sym, ap, ◌∙◌, subst, arith}
 use Rattle.std.proofs.lemmas.Bool.{both_ways, eqb-true, eqb-false}
 use Rattle.std.proofs.lemmas.Option.{none-some}
-use Rattle.hwp_geom.specs.declared.FileNo.{FileNo}
 use Rattle.hwp_geom.specs.declared.Layout.{Layout}
-use Rattle.hwp_geom.specs.declared.Who.{Who}
 use Rattle.hwp_page.specs.History.{BodyValue}
 use Rattle.hwp_words.specs.Stops.{is_stopped}
 use Rattle.hwp_rule.specs.declared.Place.TheVariants as places
 use Rattle.hwp_rule.specs.declared.Step.{Step}
-use Rattle.hwp_rule.specs.declared.Step.TheVariants as steps
 use Rattle.hwp_rule.specs.declared.View.{View}
-use Rattle.hwp_rule.specs.Served.{IsServed}
 use Rattle.hwp_rule.specs.Words.{Words}
 use Rattle.hwp_step.specs.declared.Turn.{Turn}
 use Rattle.hwp_step.specs.declared.Turn.TheVariants.{Moved, Answered}
-use Rattle.hwp_step.specs.Calls.{CanMake, Steps, IsOnTurn}
-use Rattle.hwp_step.specs.Hands.{Hand, hand_of, empty}
+use Rattle.hwp_step.specs.Calls.{CanMake, Steps}
+use Rattle.hwp_step.specs.Hands.{hand_of, empty}
 use Rattle.hwp_step.specs.Ranks.{Member, member, IsRanked, is_waits, words_at}
 use Rattle.hwp_step.specs.Classes.{TellsClass}
 use Rattle.hwp_step.proofs.Ranking.{rank-of}
 use Rattle.hwp_step.proofs.Stepping.{on-turn-after, hand-planned, steps-planned, can-make}
-use Rattle.hwp_known.specs.Known.{Saw, SawStop, HasMadeNone}
+use Rattle.hwp_known.specs.Known.{Saw, HasMadeNone}
 use Rattle.hwp_known.proofs.Seeing.{saw-load, saw-report}
 use Rattle.hwp_known.proofs.Listing.{deeds-same}
 use Rattle.hwp_evict.specs.declared.fsync.Fsync.{Fsync}
 use Rattle.hwp_evict.specs.declared.fsync.FsyncAt.{FsyncAt}
 use Rattle.hwp_evict.specs.declared.fsync.FsyncAt.TheVariants as at
-use Rattle.hwp_evict.specs.declared.fsync.FsyncAnswer.{FsyncAnswer}
 use Rattle.hwp_evict.specs.declared.fsync.FsyncAnswer.TheVariants as answers
 use Rattle.hwp_hold.proofs.Telling.{no-frame, no-page}
 use Rattle.hwp_evict.specs.Fsyncs.{plan, plan_at, next, next_at, turn, turn_at, Fits, FitsAt, cost, cost_at}

@@ -1,7 +1,6 @@
 -- What a page's state says of a command: its kind stays, a translation in use is not barred, and why a command is refused.
-use Rattle.std.proofs.Common.{◌≡◌, ◌≢◌, ◌⊎◌, inl, inr, ℕ, ◌+◌, ◌==◌, ◌&&◌, ◌||◌, Bool, true, false, not, List, [], ◌∷◌, Option, Some, None, slice_get, refl, sym, ap, ◌∙◌, subst, arith, IsSomeAnd}
+use Rattle.std.proofs.Common.{◌≡◌, inl, inr, ℕ, ◌+◌, ◌==◌, ◌&&◌, ◌||◌, Bool, true, false, not, List, [], ◌∷◌, Option, Some, None, slice_get, refl, sym, ap, ◌∙◌, subst, arith, IsSomeAnd}
 use Rattle.std.proofs.lemmas.Bool.{both_ways, eqb-true, ne_eqb}
-use Rattle.std.proofs.lemmas.Option.{none-some, same_Some}
 use Rattle.std.specs.Cmp.{nat_cmp_total, unsigned_tied}
 use Rattle.std.specs.FinSet as set
 use Rattle.std.specs.Ordering.{nat_cmp}
@@ -21,7 +20,6 @@ use Rattle.hwp_page.specs.Actions.{acted}
 use Rattle.hwp_page.specs.History.{BodyValue, IsReplay, Leads}
 use Rattle.hwp_page.specs.Refusals.{IsUnsaved}
 use Rattle.hwp_page.specs.Step.{Allowed, after, opening_of, is_file}
-use Rattle.hwp_words.specs.Names.{frame_name}
 use Rattle.hwp_rule.specs.Logs.{log_of, state_of}
 use Rattle.hwp_hold.specs.Holds.{IsBodyOf}
 use Rattle.hwp_hold.proofs.Bringing.{replay-state, replay-unused}

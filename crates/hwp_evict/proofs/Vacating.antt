@@ -1,10 +1,8 @@
 -- The laws of `Vacate`.
-use Rattle.std.proofs.Common.{◌≡◌, ◌≢◌, ◌⊎◌, inl, inr, ℕ, ◌+◌, ◌-◌, ◌*◌, ◌^◌, ◌<◌, ◌≤◌, ◌==◌, Bool, true, false, cond, List, [], ◌∷◌, ◌++◌, Option, Some, None, is_none, length, slice_get, refl, sym, ap, ◌∙◌, subst, arith}
-use Rattle.std.proofs.Math.Nat.{le_refl}
-use Rattle.std.proofs.lemmas.Bool.{both_ways, leb-true}
+use Rattle.std.proofs.Common.{◌≡◌, ◌≢◌, inl, inr, ℕ, ◌+◌, ◌-◌, ◌^◌, ◌<◌, ◌≤◌, ◌==◌, Bool, true, false, cond, List, [], ◌∷◌, ◌++◌, Option, Some, None, is_none, length, slice_get, refl, sym, ap, ◌∙◌, subst, arith}
+use Rattle.std.proofs.lemmas.Bool.{both_ways}
 use Rattle.std.proofs.lemmas.Option.{none-some, same_Some}
 use Rattle.std.specs.FinSet as set
-use Rattle.std.specs.Int.{from_bool}
 use Rattle.std.specs.List.{find}
 use Rattle.std.specs.Ordering.{nat_cmp}
 use Rattle.hwp_geom.specs.declared.Frame.{Frame}
@@ -23,14 +21,13 @@ use Rattle.hwp_rule.specs.declared.InHand.{InHand}
 use Rattle.hwp_rule.specs.declared.Log.{Log}
 use Rattle.hwp_rule.specs.declared.PageLock.{PageLock}
 use Rattle.hwp_rule.specs.declared.Ref.{Ref}
-use Rattle.hwp_rule.specs.declared.Sight.{Sight}
 use Rattle.hwp_rule.specs.declared.Step.{Step}
 use Rattle.hwp_rule.specs.declared.Step.TheVariants as steps
 use Rattle.hwp_rule.specs.declared.View.{View}
 use Rattle.hwp_rule.specs.Asks.{HasLock, HasPage, CanFree, CanGoHome, CanUnlockPage, PutFits}
 use Rattle.hwp_rule.specs.Logs.{log_of, state_of, fitting_word}
 use Rattle.hwp_rule.specs.Steps.{is_last}
-use Rattle.hwp_rule.specs.Views.{refs_on, locks_on, is_body_of, is_page_lock_of, is_lock_of, without, frame_in, with_named, less_refs, page_locks_on}
+use Rattle.hwp_rule.specs.Views.{refs_on, locks_on, is_body_of, is_page_lock_of, without, frame_in, with_named, less_refs, page_locks_on}
 use Rattle.hwp_rule.specs.parts.Fits.{FitsWords}
 use Rattle.hwp_rule.proofs.Lists.{same-number}
 use Rattle.hwp_rule.proofs.Meeting.{cache-word, frame-named, lock-knows}
@@ -49,7 +46,7 @@ use Rattle.hwp_hold.proofs.Releasing as releasing_laws
 use Rattle.hwp_evict.specs.declared.vacate.Vacate.{Vacate}
 use Rattle.hwp_evict.specs.declared.vacate.VacateAt.{VacateAt}
 use Rattle.hwp_evict.specs.declared.vacate.VacateAt.TheVariants as at
-use Rattle.hwp_evict.specs.Vacates.{plan, plan_at, put, put_at, bare, left_at, after_release, next, next_at, page_held, with_frame, releasing, GoesToShelf, hand_at, IsLeaving, IsReleasing, Fits, FitsAt}
+use Rattle.hwp_evict.specs.Vacates.{plan, plan_at, put, put_at, bare, left_at, after_release, next, next_at, page_held, with_frame, releasing, GoesToShelf, IsLeaving, IsReleasing, Fits, FitsAt}
 use Rattle.hwp_evict.proofs.Growing.{Grown, extends-grown, length-grown}
 
 -- ---- what is held

@@ -1,5 +1,5 @@
 -- What the commands ask by which a page, or a part of it, leaves its frame: the entry that each makes, and why it is refused.
-use Rattle.std.specs.Prelude.{◌≡◌, ◌≢◌, ◌⊎◌, ℕ, Bool, true, false, List, [], ◌∷◌, Option, Some, None, length, slice_get, IsTrue, IsSomeAnd, MatchOption}
+use Rattle.std.specs.Prelude.{◌≡◌, ◌≢◌, Bool, true, false, Option, slice_get, IsTrue, IsSomeAnd, MatchOption}
 use Rattle.std.specs.FinSet as set
 use Rattle.hwp_geom.specs.declared.Frame.{Frame}
 use Rattle.hwp_geom.specs.declared.Layout.{Layout}
@@ -7,18 +7,13 @@ use Rattle.hwp_geom.specs.declared.Page.{Page}
 use Rattle.hwp_geom.specs.declared.PageKind.{PageKind}
 use Rattle.hwp_geom.specs.declared.Who.{Who}
 use Rattle.hwp_page.specs.declared.At.{At}
-use Rattle.hwp_page.specs.declared.Entry.{Entry}
 use Rattle.hwp_page.specs.declared.PageState.{PageState}
 use Rattle.hwp_page.specs.declared.What.{What}
 use Rattle.hwp_page.specs.declared.What.TheVariants as entries
 use Rattle.hwp_page.specs.Refusals.{IsAway, IsDirty, IsMapped, IsUnsaved, IsUnused}
 use Rattle.hwp_page.specs.Step.{IsOf, is_file}
-use Rattle.hwp_rule.specs.declared.InHand.{InHand}
-use Rattle.hwp_rule.specs.declared.Log.{Log}
-use Rattle.hwp_rule.specs.declared.Made.{Made}
 use Rattle.hwp_rule.specs.declared.Place.TheVariants as places
 use Rattle.hwp_rule.specs.declared.View.{View}
-use Rattle.hwp_rule.specs.Views.{more_of}
 use Rattle.hwp_known.specs.Known.{HasMade, HasMadeNone, Saw, SawStop}
 use Rattle.hwp_known.specs.Pages.{SawState}
 use Rattle.hwp_evict.specs.declared.evict.EvictAnswer.{EvictAnswer}

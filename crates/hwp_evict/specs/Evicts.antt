@@ -1,5 +1,5 @@
 -- A page, or a part of it, that leaves its frame: the task's states, its steps and what they come to.
-use Rattle.std.specs.Prelude.{◌≡◌, ◌≢◌, ◌⊎◌, ℕ, ◌+◌, ◌<◌, ◌≤◌, ◌==◌, Bool, true, false, cond, List, [], ◌∷◌, ◌++◌, Option, Some, None, is_some, is_none, length, drop, MatchBool, MatchOption}
+use Rattle.std.specs.Prelude.{◌≡◌, ◌⊎◌, ℕ, ◌+◌, ◌<◌, ◌≤◌, ◌==◌, Bool, true, false, cond, [], ◌∷◌, ◌++◌, Option, Some, None, is_none, length, drop, MatchBool}
 use Rattle.std.specs.FinSet as set
 use Rattle.std.specs.Ordering.{nat_cmp}
 use Rattle.hwp_geom.specs.declared.Frame.{Frame}
@@ -8,7 +8,6 @@ use Rattle.hwp_geom.specs.declared.Page.{Page}
 use Rattle.hwp_geom.specs.declared.Who.{Who}
 use Rattle.hwp_geom.specs.Layout.{IsSound}
 use Rattle.hwp_page.specs.declared.At.{At}
-use Rattle.hwp_page.specs.declared.Entry.{Entry}
 use Rattle.hwp_page.specs.declared.What.{What}
 use Rattle.hwp_page.specs.History.{BodyValue, IsReplay}
 use Rattle.hwp_page.specs.Step.{Allowed, after}
@@ -111,6 +110,10 @@ place page body = record { page = page; entry = length body.log }
 abbrev pub refused : Who → Page → Option Frame → BodyValue → Refusal → EvictAt
 refused who page frame body refusal = at.Unhold (unholds.begin who page frame 1 body) (answers.Refused refusal (place page body))
 
+-- the translation is written, and the page is let go with the reference that it had
+abbrev pub freed : Who → Page → Frame → BodyValue → At → EvictAt
+freed who page frame body done = at.Unhold (unholds.begin who page (Some frame) 2 body) (answers.Done done)
+
 -- memory for the entry is refused, and the command gives up
 abbrev pub given_up : Who → Page → Frame → BodyValue → EvictAt
 given_up who page frame body = at.GiveUp (give_ups.with_page who page (Some frame) 1 body)
@@ -191,7 +194,7 @@ abbrev pub FollowsAt : Who → Page → Eviction → EvictAt → ℕ → Option 
 FollowsAt who page what at.LoadStop found got x turn = (x ≡ after_stop who page found) × (turn ≡ turn_after (after_stop who page found))
 FollowsAt who page what (at.Hold h) found got x turn = AfterHold who page what (holds.next h found got) x × (turn ≡ holds.turn h found)
 FollowsAt who page what (at.LoadBad frame body) found got x turn = AfterBad who page what frame body found x × (turn ≡ Moved)
-FollowsAt who page what (at.SetPte slot frame body done) found got x turn = (x ≡ at.Unhold (unholds.begin who page (Some frame) 2 body) (answers.Done done)) × (turn ≡ Moved)
+FollowsAt who page what (at.SetPte slot frame body done) found got x turn = (x ≡ freed who page frame body done) × (turn ≡ Moved)
 FollowsAt who page what (at.Clear c body done) found got x turn = IsCleared who page c body done x × (turn ≡ Moved)
 FollowsAt who page what (at.Vacate v done) found got x turn = (x ≡ after_vacate (vacates.next v found) done) × (turn ≡ turn_after (after_vacate (vacates.next v found) done))
 FollowsAt who page what (at.Unhold u answer) found got x turn = (x ≡ after_unhold (unholds.next u found) answer) × (turn ≡ turn_after (after_unhold (unholds.next u found) answer))

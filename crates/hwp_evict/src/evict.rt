@@ -1,9 +1,14 @@
 ghost use Rattle.std.specs.Prelude.{◌≡◌, ◌↔◌, IsTrue, MatchResult};
+ghost use Rattle.hwp_evict.specs.declared.evict.EvictAt.TheVariants as states;
 ghost use Rattle.std.specs.FinSet as set;
 ghost use Rattle.hwp_evict.specs.declared.evict.Eviction.TheVariants as evictions;
 ghost use Rattle.hwp_evict.specs.Evictions.{entry_of, copies, absence, IsJudged};
 ghost use Rattle.hwp_evict.specs.Clears as clears;
-ghost use Rattle.hwp_evict.specs.Evicts.{begin, answer, CanEnter, CanEnterHeld, CanMakeEntry, after_stop, AfterHold, AfterHeld, AfterBad, Enters, GoesOut, IsCleared, StartsClearing, refused, with_entry, after_clear, after_vacate, after_unhold, turn_after};
+ghost use Rattle.hwp_evict.specs.Vacates as vacates;
+ghost use Rattle.hwp_hold.specs.GiveUps as give_ups;
+ghost use Rattle.hwp_hold.specs.Holds as holds;
+ghost use Rattle.hwp_hold.specs.Unholds as unholds;
+ghost use Rattle.hwp_evict.specs.Evicts.{begin, answer, CanEnter, CanEnterHeld, CanMakeEntry, after_stop, AfterHold, AfterHeld, AfterBad, Enters, GoesOut, FollowsAt, IsCleared, ShowsAt, StartsClearing, freed, refused, with_entry, after_clear, after_vacate, after_unhold, turn_after};
 
 use crate::clear::Clear;
 use crate::vacate::Vacate;
@@ -348,14 +353,7 @@ fn go_out(
 }
 
 /// The translations that were in use are written, one by one.
-fn start_clearing(
-    who: Who,
-    page: Page,
-    frame: Frame,
-    maps: Slots,
-    body: Body,
-    done: At,
-) -> EvictAt
+fn start_clearing(who: Who, page: Page, frame: Frame, maps: Slots, body: Body, done: At) -> EvictAt
     ensures { StartsClearing who page frame maps body done result }
 {
     let clear = Clear::new(who, page, frame, maps, false);
@@ -413,6 +411,40 @@ fn enter(who: Who, page: Page, what: Eviction, frame: Frame, body: Body) -> Evic
     }
 }
 
+/// The translation is written, and the page is let go.
+fn freed(who: Who, page: Page, frame: Frame, body: Body, done: At) -> EvictAt
+    ensures { result ≡ freed who page frame body done }
+{
+    EvictAt::Unhold {
+        unhold: Unhold::new(who, page, Some(frame), 2, body),
+        answer: EvictAnswer::Done(done),
+    }
+}
+
+/// The page goes on leaving its frame.
+fn vacate_more(layout: &Layout, vacate: Vacate, found: u64, got: Option<Body>, done: At) -> EvictAt
+    ensures { result ≡ after_vacate (vacates.next vacate found) done }
+{
+    let mut vacate = vacate;
+    let _turn = vacate.settle(layout, found, got);
+    after_vacate(vacate, done)
+}
+
+/// The page goes on being let go.
+fn unhold_more(
+    layout: &Layout,
+    unhold: Unhold,
+    found: u64,
+    got: Option<Body>,
+    answer: EvictAnswer,
+) -> EvictAt
+    ensures { result ≡ after_unhold (unholds.next unhold found) answer }
+{
+    let mut unhold = unhold;
+    let _turn = unhold.settle(layout, found, got);
+    after_unhold(unhold, answer)
+}
+
 fn after_vacate(vacate: Vacate, done: At) -> EvictAt
     ensures { result ≡ after_vacate vacate done }
 {
@@ -443,6 +475,82 @@ fn turn_after(at: &EvictAt) -> Turn
         Turn::Answered
     } else {
         Turn::Moved
+    }
+}
+
+/// Where the command is, with the turn that brought it there.
+fn moved(at: EvictAt) -> (EvictAt, Turn)
+    ensures { (result.0 ≡ at) × (result.1 ≡ turn_after at) }
+{
+    let turn = turn_after(&at);
+    (at, turn)
+}
+
+/// The page goes on being held.
+fn hold_more(
+    who: Who,
+    page: Page,
+    what: Eviction,
+    layout: &Layout,
+    hold: Hold,
+    found: u64,
+    got: Option<Body>,
+) -> (EvictAt, Turn)
+    requires shows { holds.Shows hold found got }
+    requires enters { CanEnterHeld what (holds.next hold found got).at }
+    ensures { AfterHold who page what (holds.next hold found got) result.0 × (result.1 ≡ holds.turn hold found) }
+{
+    let mut hold = hold;
+    let turn = hold.settle(layout, found, got);
+    (after_hold(who, page, what, hold), turn)
+}
+
+/// The command goes on giving up.
+fn give_up_more(layout: &Layout, give_up: GiveUp, found: u64, got: Option<Body>) -> (EvictAt, Turn)
+    ensures { (result.0 ≡ states.GiveUp (give_ups.next give_up found)) × (result.1 ≡ give_ups.turn give_up) }
+{
+    let mut give_up = give_up;
+    let turn = give_up.settle(layout, found, got);
+    (EvictAt::GiveUp { give_up }, turn)
+}
+
+/// Where the command is after its step, with the turn that brought it there.
+fn settled(
+    who: Who,
+    page: Page,
+    what: Eviction,
+    layout: &Layout,
+    at: EvictAt,
+    found: u64,
+    got: Option<Body>,
+) -> (EvictAt, Turn)
+    requires { ShowsAt what at found got }
+    ensures { FollowsAt who page what at found got result.0 result.1 }
+{
+    match at {
+        EvictAt::LoadStop => moved(after_stop(who, page, found)),
+        EvictAt::Hold { hold } => hold_more(who, page, what, layout, hold, found, got),
+        EvictAt::LoadBad { frame, body } => {
+            (after_bad(who, page, what, frame, body, found), Turn::Moved)
+        }
+        EvictAt::SetPte {
+            frame,
+            body,
+            done,
+            ..
+        } => (freed(who, page, frame, body, done), Turn::Moved),
+        EvictAt::Clear { clear, body, done } => {
+            (
+                clear_more(who, page, layout, clear, found, got, body, done),
+                Turn::Moved,
+            )
+        }
+        EvictAt::Vacate { vacate, done } => { moved(vacate_more(layout, vacate, found, got, done)) }
+        EvictAt::Unhold { unhold, answer } => {
+            moved(unhold_more(layout, unhold, found, got, answer))
+        }
+        EvictAt::GiveUp { give_up } => give_up_more(layout, give_up, found, got),
+        EvictAt::Over { answer } => (EvictAt::Over { answer }, Turn::Moved),
     }
 }
 
@@ -501,60 +609,10 @@ impl Machine for Evict {
     }
 
     fn settle(&mut self, layout: &Layout, found: u64, body: Option<Body>) -> Turn {
-        match mem::replace(&mut self.at, EvictAt::LoadStop) {
-            EvictAt::LoadStop => {
-                self.at = after_stop(self.who, self.page, found);
-                turn_after(&self.at)
-            }
-            EvictAt::Hold { mut hold } => {
-                let turn = hold.settle(layout, found, body);
-                self.at = after_hold(self.who, self.page, self.what, hold);
-                turn
-            }
-            EvictAt::LoadBad { frame, body: taken } => {
-                self.at = after_bad(self.who, self.page, self.what, frame, taken, found);
-                Turn::Moved
-            }
-            EvictAt::SetPte {
-                frame,
-                body: taken,
-                done,
-                ..
-            } => {
-                self.at = EvictAt::Unhold {
-                    unhold: Unhold::new(self.who, self.page, Some(frame), 2, taken),
-                    answer: EvictAnswer::Done(done),
-                };
-                Turn::Moved
-            }
-            EvictAt::Clear {
-                clear,
-                body: taken,
-                done,
-            } => {
-                self.at = clear_more(self.who, self.page, layout, clear, found, body, taken, done);
-                Turn::Moved
-            }
-            EvictAt::Vacate { mut vacate, done } => {
-                let _turn = vacate.settle(layout, found, body);
-                self.at = after_vacate(vacate, done);
-                turn_after(&self.at)
-            }
-            EvictAt::Unhold { mut unhold, answer } => {
-                let _turn = unhold.settle(layout, found, body);
-                self.at = after_unhold(unhold, answer);
-                turn_after(&self.at)
-            }
-            EvictAt::GiveUp { mut give_up } => {
-                let turn = give_up.settle(layout, found, body);
-                self.at = EvictAt::GiveUp { give_up };
-                turn
-            }
-            EvictAt::Over { answer } => {
-                self.at = EvictAt::Over { answer };
-                Turn::Moved
-            }
-        }
+        let at = mem::replace(&mut self.at, EvictAt::LoadStop);
+        let (after, turn) = settled(self.who, self.page, self.what, layout, at, found, body);
+        self.at = after;
+        turn
     }
 }
 

@@ -96,11 +96,11 @@ nested-over n {x} is = which n.at is
 pub evict-caused : {layout : Layout} {view : View} (e : Evict) {x : EvictAnswer} → evicts.Fits layout view e → evicts.answer e ≡ Some x → (hand_of view ≡ empty) × IsCaused layout view e.who e.page e.what x
 evict-caused {layout} {view} e fits is = subst (evicts.FitsAt layout view e.who e.page e.what) (evict-over e is) fits.at
 
-pub ends : {layout : Layout} {view : View} (j : Job) {a : Answer} → Fits layout view j → answer j ≡ Some a → (hand_of view ≡ empty) × (plan j ≡ None)
-ends {layout} {view} (jobs.Access a) fits is = let own = mapped _ (accesses.answer a) is in
+pub ends : (layout : Layout) (view : View) (j : Job) {a : Answer} → Fits layout view j → answer j ≡ Some a → (hand_of view ≡ empty) × (plan j ≡ None)
+ends layout view (jobs.Access a) fits is = let own = mapped _ (accesses.answer a) is in
     ((accessing.answered layout view a own.0 fits own.1).hand_is, ap (accesses.plan_at a.request) (access-over a own.1))
-ends (jobs.Evict e) fits is = let own = mapped _ (evicts.answer e) is in ((evict-caused e fits own.1).0, ap evicts.plan_at (evict-over e own.1))
-ends (jobs.Fsync f) fits is = let own = mapped _ (fsyncs.answer f) is in (fits.hand_is, ap (fsyncs.plan_at f.file) (fsync-over f own.1))
-ends (jobs.Prctl p) fits is = let own = mapped _ (prctls.answer p) is in (fits.hand_is, ap (prctls.plan_at p.thread p.process) (prctl-over p own.1))
-ends (jobs.ReadStop r) fits is = let own = mapped _ (read_stops.answer r) is in (fits.hand_is, ap read_stops.plan_at (read-over r own.1))
-ends (jobs.Nested n) fits is = let own = mapped _ (nesteds.answer n) is in (fits.hand_is, ap (nesteds.plan_at n.who) (nested-over n own.1))
+ends layout view (jobs.Evict e) fits is = let own = mapped _ (evicts.answer e) is in ((evict-caused e fits own.1).0, ap evicts.plan_at (evict-over e own.1))
+ends layout view (jobs.Fsync f) fits is = let own = mapped _ (fsyncs.answer f) is in (fits.hand_is, ap (fsyncs.plan_at f.file) (fsync-over f own.1))
+ends layout view (jobs.Prctl p) fits is = let own = mapped _ (prctls.answer p) is in (fits.hand_is, ap (prctls.plan_at p.thread p.process) (prctl-over p own.1))
+ends layout view (jobs.ReadStop r) fits is = let own = mapped _ (read_stops.answer r) is in (fits.hand_is, ap read_stops.plan_at (read-over r own.1))
+ends layout view (jobs.Nested n) fits is = let own = mapped _ (nesteds.answer n) is in (fits.hand_is, ap (nesteds.plan_at n.who) (nested-over n own.1))

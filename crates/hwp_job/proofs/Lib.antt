@@ -1,4 +1,9 @@
 pub mod Jobbing
 pub mod Running
 pub mod Ending
-pub mod Kinds
+pub mod OfKind
+pub mod Quiet
+pub mod Stopping
+pub mod Setting
+pub mod Barring
+pub mod Staying

@@ -30,35 +30,35 @@ use Rattle.hwp_job.specs.Runs.{AtRest, Runs, anew}
 new-so : {x j : Job} → j ≡ x → anew x ≡ x → anew j ≡ j
 new-so is same = subst (λ (y : Job). anew y ≡ y) (sym is) same
 
-begins-anew : {layout : Layout} {who : Who} (command : Command) (j : Job) → Begins layout who command j → anew j ≡ j
-begins-anew (commands.Load thread slot line) j begun = new-so begun.job_is refl
-begins-anew (commands.Fetch thread slot line) j begun = new-so begun.job_is refl
-begins-anew (commands.KLoad thread slot line) j begun = new-so begun.job_is refl
-begins-anew (commands.Store thread slot line word) j begun = new-so begun.job_is refl
-begins-anew (commands.Free slot) j begun = new-so begun.1.job_is refl
-begins-anew (commands.Drop page) j begun = new-so begun.job_is refl
-begins-anew (commands.Sync page) j begun = new-so begun.job_is refl
-begins-anew (commands.Out page) j begun = new-so begun.job_is refl
-begins-anew (commands.Fsync file) j begun = new-so begun.1 refl
-begins-anew (commands.Prctl thread args) j begun = new-so begun.job_is refl
-begins-anew (commands.Log status addr misc) j begun = new-so begun refl
-begins-anew commands.RaiseNested j begun = new-so begun refl
-begins-anew _ j begun = absurd begun
+begins-anew : (layout : Layout) (who : Who) (command : Command) (j : Job) → Begins layout who command j → anew j ≡ j
+begins-anew layout who (commands.Load thread slot line) j begun = new-so begun.job_is refl
+begins-anew layout who (commands.Fetch thread slot line) j begun = new-so begun.job_is refl
+begins-anew layout who (commands.KLoad thread slot line) j begun = new-so begun.job_is refl
+begins-anew layout who (commands.Store thread slot line word) j begun = new-so begun.job_is refl
+begins-anew layout who (commands.Free slot) j begun = new-so begun.1.job_is refl
+begins-anew layout who (commands.Drop page) j begun = new-so begun.job_is refl
+begins-anew layout who (commands.Sync page) j begun = new-so begun.job_is refl
+begins-anew layout who (commands.Out page) j begun = new-so begun.job_is refl
+begins-anew layout who (commands.Fsync file) j begun = new-so begun.1 refl
+begins-anew layout who (commands.Prctl thread args) j begun = new-so begun.job_is refl
+begins-anew layout who (commands.Log status addr misc) j begun = new-so begun refl
+begins-anew layout who commands.RaiseNested j begun = new-so begun refl
+begins-anew layout who _ j begun = absurd begun
 
-pub begins-runs : {layout : Layout} {who : Who} (command : Command) (j : Job) → Begins layout who command j → Runs layout who command j
-begins-runs {layout} {who} command j begun = subst (Begins layout who command) (sym (begins-anew command j begun)) begun
+pub begins-runs : (layout : Layout) (who : Who) (command : Command) (j : Job) → Begins layout who command j → Runs layout who command j
+begins-runs layout who command j begun = subst (Begins layout who command) (sym (begins-anew layout who command j begun)) begun
 
 -- what a command asks for never changes
-next-anew : {layout : Layout} {found : ℕ} {got : Option BodyValue} {turn : Turn} (j after : Job) → Next layout (bare j) found got after turn → anew after ≡ anew j
-next-anew (jobs.Access a) after next = ap anew next.1 ∙ ap (λ (x : Access). anew (jobs.Access x)) next.2.rest
-next-anew (jobs.Evict e) after next = ap anew next.1 ∙ ap (λ (x : Evict). anew (jobs.Evict x)) next.2.0
-next-anew (jobs.Fsync f) after next = ap anew next.0
-next-anew (jobs.Prctl p) after next = ap anew next.0
-next-anew (jobs.ReadStop r) after next = ap anew next.0
-next-anew (jobs.Nested n) after next = ap anew next.0
+next-anew : (layout : Layout) (found : ℕ) (got : Option BodyValue) (turn : Turn) (j after : Job) → Next layout (bare j) found got after turn → anew after ≡ anew j
+next-anew layout found got turn (jobs.Access a) after next = ap anew next.1 ∙ ap (λ (x : Access). anew (jobs.Access x)) next.2.rest
+next-anew layout found got turn (jobs.Evict e) after next = ap anew next.1 ∙ ap (λ (x : Evict). anew (jobs.Evict x)) next.2.0
+next-anew layout found got turn (jobs.Fsync f) after next = ap anew next.0
+next-anew layout found got turn (jobs.Prctl p) after next = ap anew next.0
+next-anew layout found got turn (jobs.ReadStop r) after next = ap anew next.0
+next-anew layout found got turn (jobs.Nested n) after next = ap anew next.0
 
-pub runs-on : {layout : Layout} {who : Who} (command : Command) (j after : Job) {found : ℕ} {got : Option BodyValue} {turn : Turn} → Runs layout who command j → Next layout (bare j) found got after turn → Runs layout who command after
-runs-on {layout} {who} command j after runs next = subst (Begins layout who command) (sym (next-anew j after next)) runs
+pub runs-on : (layout : Layout) (who : Who) (command : Command) (j after : Job) (found : ℕ) (got : Option BodyValue) (turn : Turn) → Runs layout who command j → Next layout (bare j) found got after turn → Runs layout who command after
+runs-on layout who command j after found got turn runs next = subst (Begins layout who command) (sym (next-anew layout found got turn j after next)) runs
 
 -- the command is the one that is its turn
 anew-who : (j : Job) → who (anew j) ≡ who j
@@ -69,40 +69,40 @@ anew-who (jobs.Prctl p) = refl
 anew-who (jobs.ReadStop r) = refl
 anew-who (jobs.Nested n) = refl
 
-begins-who : {layout : Layout} {by : Who} (command : Command) (j : Job) → Begins layout by command j → who j ≡ by
-begins-who (commands.Load thread slot line) j begun = ap who begun.job_is
-begins-who (commands.Fetch thread slot line) j begun = ap who begun.job_is
-begins-who (commands.KLoad thread slot line) j begun = ap who begun.job_is
-begins-who (commands.Store thread slot line word) j begun = ap who begun.job_is
-begins-who (commands.Free slot) j begun = ap who begun.1.job_is
-begins-who (commands.Drop page) j begun = ap who begun.job_is
-begins-who (commands.Sync page) j begun = ap who begun.job_is
-begins-who (commands.Out page) j begun = ap who begun.job_is
-begins-who (commands.Fsync file) j begun = ap who begun.1
-begins-who (commands.Prctl thread args) j begun = ap who begun.job_is
-begins-who (commands.Log status addr misc) j begun = ap who begun
-begins-who commands.RaiseNested j begun = ap who begun
-begins-who _ j begun = absurd begun
+begins-who : (layout : Layout) (by : Who) (command : Command) (j : Job) → Begins layout by command j → who j ≡ by
+begins-who layout by (commands.Load thread slot line) j begun = ap who begun.job_is
+begins-who layout by (commands.Fetch thread slot line) j begun = ap who begun.job_is
+begins-who layout by (commands.KLoad thread slot line) j begun = ap who begun.job_is
+begins-who layout by (commands.Store thread slot line word) j begun = ap who begun.job_is
+begins-who layout by (commands.Free slot) j begun = ap who begun.1.job_is
+begins-who layout by (commands.Drop page) j begun = ap who begun.job_is
+begins-who layout by (commands.Sync page) j begun = ap who begun.job_is
+begins-who layout by (commands.Out page) j begun = ap who begun.job_is
+begins-who layout by (commands.Fsync file) j begun = ap who begun.1
+begins-who layout by (commands.Prctl thread args) j begun = ap who begun.job_is
+begins-who layout by (commands.Log status addr misc) j begun = ap who begun
+begins-who layout by commands.RaiseNested j begun = ap who begun
+begins-who layout by _ j begun = absurd begun
 
-pub runs-who : {layout : Layout} {by : Who} (command : Command) (j : Job) → Runs layout by command j → who j ≡ by
-runs-who command j runs = sym (anew-who j) ∙ begins-who command (anew j) runs
+pub runs-who : (layout : Layout) (by : Who) (command : Command) (j : Job) → Runs layout by command j → who j ≡ by
+runs-who layout by command j runs = sym (anew-who j) ∙ begins-who layout by command (anew j) runs
 
 -- ---- the first step
 
-pub begins-plans : {layout : Layout} {who : Who} (command : Command) (j : Job) → Begins layout who command j → plan j ≡ Some (steps.Load places.Stop)
-begins-plans (commands.Load thread slot line) j begun = ap plan begun.job_is
-begins-plans (commands.Fetch thread slot line) j begun = ap plan begun.job_is
-begins-plans (commands.KLoad thread slot line) j begun = ap plan begun.job_is
-begins-plans (commands.Store thread slot line word) j begun = ap plan begun.job_is
-begins-plans (commands.Free slot) j begun = ap plan begun.1.job_is
-begins-plans (commands.Drop page) j begun = ap plan begun.job_is
-begins-plans (commands.Sync page) j begun = ap plan begun.job_is
-begins-plans (commands.Out page) j begun = ap plan begun.job_is
-begins-plans (commands.Fsync file) j begun = ap plan begun.1
-begins-plans (commands.Prctl thread args) j begun = ap plan begun.job_is
-begins-plans (commands.Log status addr misc) j begun = ap plan begun
-begins-plans commands.RaiseNested j begun = ap plan begun
-begins-plans _ j begun = absurd begun
+pub begins-plans : (layout : Layout) (who : Who) (command : Command) (j : Job) → Begins layout who command j → plan j ≡ Some (steps.Load places.Stop)
+begins-plans layout who (commands.Load thread slot line) j begun = ap plan begun.job_is
+begins-plans layout who (commands.Fetch thread slot line) j begun = ap plan begun.job_is
+begins-plans layout who (commands.KLoad thread slot line) j begun = ap plan begun.job_is
+begins-plans layout who (commands.Store thread slot line word) j begun = ap plan begun.job_is
+begins-plans layout who (commands.Free slot) j begun = ap plan begun.1.job_is
+begins-plans layout who (commands.Drop page) j begun = ap plan begun.job_is
+begins-plans layout who (commands.Sync page) j begun = ap plan begun.job_is
+begins-plans layout who (commands.Out page) j begun = ap plan begun.job_is
+begins-plans layout who (commands.Fsync file) j begun = ap plan begun.1
+begins-plans layout who (commands.Prctl thread args) j begun = ap plan begun.job_is
+begins-plans layout who (commands.Log status addr misc) j begun = ap plan begun
+begins-plans layout who commands.RaiseNested j begun = ap plan begun
+begins-plans layout who _ j begun = absurd begun
 
 -- ---- a command that may begin
 
@@ -126,18 +126,18 @@ module _ {layout : Layout} {view : View} {who : Who} (rest : AtRest view who) {j
     at = rest.left thread;
   })
 
-pub begins-fits : {layout : Layout} {view : View} {who : Who} (command : Command) (j : Job) → Begins layout who command j → AtRest view who → Fits layout view j
-begins-fits (commands.Load thread slot line) j begun rest = access-fits rest begun
-begins-fits (commands.Fetch thread slot line) j begun rest = access-fits rest begun
-begins-fits (commands.KLoad thread slot line) j begun rest = access-fits rest begun
-begins-fits (commands.Store thread slot line word) j begun rest = access-fits rest begun
-begins-fits (commands.Free slot) j begun rest = eviction-fits rest begun.1
-begins-fits (commands.Drop page) j begun rest = eviction-fits rest begun
-begins-fits (commands.Sync page) j begun rest = eviction-fits rest begun
-begins-fits (commands.Out page) j begun rest = eviction-fits rest begun
-begins-fits {layout} {view} (commands.Fsync file) j begun rest =
+pub begins-fits : (layout : Layout) (view : View) (who : Who) (command : Command) (j : Job) → Begins layout who command j → AtRest view who → Fits layout view j
+begins-fits layout view who (commands.Load thread slot line) j begun rest = access-fits rest begun
+begins-fits layout view who (commands.Fetch thread slot line) j begun rest = access-fits rest begun
+begins-fits layout view who (commands.KLoad thread slot line) j begun rest = access-fits rest begun
+begins-fits layout view who (commands.Store thread slot line word) j begun rest = access-fits rest begun
+begins-fits layout view who (commands.Free slot) j begun rest = eviction-fits rest begun.1
+begins-fits layout view who (commands.Drop page) j begun rest = eviction-fits rest begun
+begins-fits layout view who (commands.Sync page) j begun rest = eviction-fits rest begun
+begins-fits layout view who (commands.Out page) j begun rest = eviction-fits rest begun
+begins-fits layout view who (commands.Fsync file) j begun rest =
     subst (Fits layout view) (sym begun.1) (record { on_turn = rest.on_turn; file = begun.0; hand_is = rest.hand_is; made_none = rest.made; at = tt })
-begins-fits (commands.Prctl thread args) j begun rest = prctl-fits rest begun
-begins-fits {layout} {view} (commands.Log status addr misc) j begun rest = subst (Fits layout view) (sym begun) (record { on_turn = rest.on_turn; hand_is = rest.hand_is; made = rest.made; at = tt })
-begins-fits {layout} {view} commands.RaiseNested j begun rest = subst (Fits layout view) (sym begun) (record { on_turn = rest.on_turn; hand_is = rest.hand_is; made = rest.made; at = tt })
-begins-fits _ j begun rest = absurd begun
+begins-fits layout view who (commands.Prctl thread args) j begun rest = prctl-fits rest begun
+begins-fits layout view who (commands.Log status addr misc) j begun rest = subst (Fits layout view) (sym begun) (record { on_turn = rest.on_turn; hand_is = rest.hand_is; made = rest.made; at = tt })
+begins-fits layout view who commands.RaiseNested j begun rest = subst (Fits layout view) (sym begun) (record { on_turn = rest.on_turn; hand_is = rest.hand_is; made = rest.made; at = tt })
+begins-fits layout view who _ j begun rest = absurd begun

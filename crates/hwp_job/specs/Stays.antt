@@ -1,16 +1,20 @@
 -- What stays true from one command of a processor to the next: the stop of the machine, what bars a thread from setting its
 -- policy, and the policies that are set.
-use Rattle.std.specs.Prelude.{◌≡◌, ◌≢◌, ◌⊎◌, ◌+◌, ◌≤◌, true, List, [], ◌∷◌, ◌++◌, Some, length}
+use Rattle.std.specs.Prelude.{◌≡◌, ◌≢◌, ◌⊎◌, ℕ, ◌+◌, ◌≤◌, true, List, [], ◌∷◌, ◌++◌, Option, Some, length}
 use Rattle.hwp_geom.specs.declared.Layout.{Layout}
 use Rattle.hwp_geom.specs.declared.Proc.{Proc}
 use Rattle.hwp_geom.specs.declared.Thread.{Thread}
 use Rattle.hwp_geom.specs.declared.Who.{Who}
+use Rattle.hwp_page.specs.History.{BodyValue}
 use Rattle.hwp_words.specs.Stops.{is_stopped}
 use Rattle.hwp_rule.specs.declared.Place.TheVariants as places
 use Rattle.hwp_rule.specs.declared.Sight.{Sight}
+use Rattle.hwp_rule.specs.declared.Step.{Step}
 use Rattle.hwp_rule.specs.declared.View.{View}
 use Rattle.hwp_rule.specs.Lists.{SomeMember}
 use Rattle.hwp_rule.specs.parts.Policies.{settings_of}
+use Rattle.hwp_step.specs.declared.Turn.{Turn}
+use Rattle.hwp_step.specs.Calls.{Steps, logs}
 use Rattle.hwp_form.specs.declared.Command.{Command}
 use Rattle.hwp_report.specs.declared.Answer.TheVariants as answers
 use Rattle.hwp_law.specs.Commands.{process_of_thread}
@@ -26,8 +30,19 @@ use Rattle.hwp_evict.specs.declared.fsync.FsyncAt.TheVariants as fsync_at
 use Rattle.hwp_fault.specs.declared.access.AccessAt.TheVariants as access_at
 use Rattle.hwp_job.specs.declared.job.Job.{Job}
 use Rattle.hwp_job.specs.declared.job.Job.TheVariants as jobs
-use Rattle.hwp_job.specs.Jobs.{answer}
+use Rattle.hwp_job.specs.Jobs.{Fits, Next, answer, bare, plan, put, who}
 use Rattle.hwp_job.specs.Settings.{IsCounted, set_now}
+
+-- the command made the step that came, and what follows is told
+pub record Stepped (layout : Layout) (old new : View) (j after : Job) : Type 0 where
+  pub step : Step
+  pub found : ℕ
+  pub got : Option BodyValue
+  pub turn : Turn
+  pub fits : Fits layout old j
+  pub planned : plan j ≡ Some step
+  pub made : Steps layout (who j) step (logs (put j)) old new found got
+  pub follows : Next layout (bare j) found got after turn
 
 -- ---- the stop
 

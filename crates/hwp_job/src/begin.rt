@@ -44,9 +44,12 @@ impl Job {
             | Command::KLoad { thread, slot, line } => {
                 access(layout, who, thread, slot, line, AccessKind::Load)
             }
-            Command::Store { thread, slot, line, word } => {
-                access(layout, who, thread, slot, line, AccessKind::Store { word })
-            }
+            Command::Store {
+                thread,
+                slot,
+                line,
+                word,
+            } => { access(layout, who, thread, slot, line, AccessKind::Store { word }) }
             Command::Free { slot } => {
                 Job::Evict(Evict::free_slot(who, slot, page_of(layout, slot)))
             }

@@ -94,7 +94,7 @@ module _ (script : Script) (seat : Cpu → ℕ) (last : State) (report : Report)
   no-frame who saw = not-ample script.layout last end.board.holds unmarked script refl (seat cpu) saw.0 view saw.1 there saw.2 saw.3.1 saw.3.2
 
   -- no process has ended
-  not-gone : (who : Who) (thread : Thread) (page : Page) → FoundGone script.layout view who thread page → ⊥
+  pub not-gone : (who : Who) (thread : Thread) (page : Page) → FoundGone script.layout view who thread page → ⊥
   not-gone who thread page gone =
       let process : Proc = gone.ended.process in
       let sight = gone.ended.saw in
@@ -108,7 +108,7 @@ module _ (script : Script) (seat : Cpu → ℕ) (last : State) (report : Report)
       let home = home-of script.layout last report end.board page told.0 told.1 in
       word-none script.layout last end.board.holds end.board.legal process word.0 home.0 (record { page = page; entries = told.0 }) word.1 home.1 named
 
-  not-lost : (who : Who) (file : FileNo) (lost : ℕ) → 0 < lost → Saw view who (places.Loss file) lost → ⊥
+  pub not-lost : (who : Who) (file : FileNo) (lost : ℕ) → 0 < lost → Saw view who (places.Loss file) lost → ⊥
   not-lost who file lost some saw =
       let none : saw.1.word ≡ 0 = no_loss (seat cpu) saw.0 view saw.1 there saw.2 file saw.3.1 in
       let is : saw.1.word ≡ lost = saw.3.2 in

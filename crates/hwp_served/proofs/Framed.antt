@@ -15,6 +15,7 @@ use Rattle.hwp_rule.proofs.Lists.{map-was}
 use Rattle.hwp_rule.proofs.Moving.{shaped}
 use Rattle.hwp_report.specs.declared.MarkLine.{MarkLine}
 use Rattle.hwp_report.specs.declared.Place.TheVariants as places
+use Rattle.hwp_report.specs.declared.FrameLine.{FrameLine}
 use Rattle.hwp_report.specs.declared.Report.{Report}
 use Rattle.hwp_law.specs.Report.{IsFrame, IsPlace}
 use Rattle.hwp_runs.specs.Ends.{IsFrameOn, place_in, place_owned}
@@ -62,9 +63,9 @@ module _ (layout : Layout) (last : State) (report : Report) (l : IsLast layout l
           absurd (omega (arith, out.poisoned, none))
       by-handled false handled = subst (λ (b : Bool). IsPlace layout false (cond b places.Handled (place_owned (page_named (owner_of w))))) (sym handled) (by-name (owner_of w) refl)
 
-  -- the lines of frames are those of a run where no memory failed
-  pub frames-fit : Pairs (IsFrame layout) layout.kernel report.frames
-  frames-fit = pairs-each (IsFrame layout) layout.kernel report.frames (l.holds.sound.kernel ∙ sym l.frames_fit) (λ i kernel line k_there there.
+  -- the line of a frame is that of a run where no memory failed
+  pub frame-fits : (i : ℕ) (kernel : Bool) (line : FrameLine) → slice_get layout.kernel i ≡ Some kernel → slice_get report.frames i ≡ Some line → IsFrame layout kernel line
+  frame-fits i kernel line k_there there =
       let on : IsFrameOn (words_of layout last.words) last.views (record { 0 = i }) line = l.ends.frames (record { 0 = i }) line there in
       record {
         place = subst (IsPlace layout kernel) (sym on.place) (placed i on.word kernel on.there (l.holds.rule.frames.places.declared i on.word kernel on.there k_there));
@@ -75,4 +76,7 @@ module _ (layout : Layout) (last : State) (report : Report) (l : IsLast layout l
             let was = map-was (λ (v : View). v.marks) last.views listed.0 listed.1 listed.2 in
             let none : listed.1 ≡ [] = sym was.2 ∙ unmarked listed.0 was.0 was.1 in
             none-some listed.3.1 (sym (ap (λ (ms : List Mark). slice_get ms listed.3.0) none) ∙ listed.3.2));
-      })
+      }
+
+  pub frames-fit : Pairs (IsFrame layout) layout.kernel report.frames
+  frames-fit = pairs-each (IsFrame layout) layout.kernel report.frames (l.holds.sound.kernel ∙ sym l.frames_fit) frame-fits

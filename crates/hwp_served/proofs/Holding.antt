@@ -109,7 +109,7 @@ module _ (script : Script) (seat : Cpu → ℕ) (turns : List Played) (last : St
     served = run.served;
   }
 
-  all-answered : (cpu : Cpu) (list : List Command) (rows : List CpuLine) → slice_get script.lists cpu.0 ≡ Some list → slice_get report.cpus cpu.0 ≡ Some rows → AreAnswers script report.pages report.stop cpu 0 list rows
+  pub all-answered : (cpu : Cpu) (list : List Command) (rows : List CpuLine) → slice_get script.lists cpu.0 ≡ Some list → slice_get report.cpus cpu.0 ≡ Some rows → AreAnswers script report.pages report.stop cpu 0 list rows
   all-answered cpu list rows list_is rows_is =
       let inside : cpu.0 < script.layout.cpus = subst (λ (n : ℕ). cpu.0 < n) run.lengths.lists (slice_get_within script.lists cpu.0 list list_is) in
       let served = run.served cpu list rows list_is rows_is in

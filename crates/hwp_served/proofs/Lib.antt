@@ -15,3 +15,8 @@ pub mod Answered
 pub mod Holding
 pub mod Shown
 pub mod Showing
+pub mod Sound
+pub mod Unfailed
+pub mod Unlost
+pub mod Lawful
+pub mod Staying

@@ -25,11 +25,11 @@ use Rattle.hwp_rule.proofs.Lists.{sum-zero}
 use Rattle.hwp_rule.proofs.MoreEntries.{losses-in-none}
 use Rattle.hwp_rule.proofs.Moving.{shaped}
 
--- no entry is one where none is
-none-is : (es : List Entry) → list_any (λ (e : Entry). is_failure e.what) es ≡ false → EachMember (λ (e : Entry). is_failure e.what ≡ false) es
-none-is [] none i e there = absurd (none-some e there)
-none-is (x ∷ xs) none zero e there = subst (λ (y : Entry). is_failure y.what ≡ false) (same_Some x e there) (or_parts (is_failure x.what) (list_any (λ (y : Entry). is_failure y.what) xs) none).0
-none-is (x ∷ xs) none (suc i) e there = none-is xs (or_parts (is_failure x.what) (list_any (λ (y : Entry). is_failure y.what) xs) none).1 i e there
+-- where no member passes a test, each fails it
+pub none-is : {A : Type 0} (test : A → Bool) (l : List A) → list_any test l ≡ false → EachMember (λ (x : A). test x ≡ false) l
+none-is test [] none i x there = absurd (none-some x there)
+none-is test (y ∷ ys) none zero x there = subst (λ z. test z ≡ false) (same_Some y x there) (or_parts (test y) (list_any test ys) none).0
+none-is test (y ∷ ys) none (suc i) x there = none-is test ys (or_parts (test y) (list_any test ys) none).1 i x there
 
 -- a list of zeros
 all-zero : (list : List ℕ) → EachMember (λ (n : ℕ). n ≡ 0) list → list ≡ replicate (length list) 0
@@ -41,11 +41,11 @@ module _ (layout : Layout) (s : State) (h : Holds layout s) where
   lost-none file log none = which (is_same_file file (file_of layout log.page))
     where
       which : (b : Bool) → cond b (losses_in log.entries) zero ≡ zero
-      which true = losses-in-none log.entries (none-is log.entries none)
+      which true = losses-in-none log.entries (none-is (λ (e : Entry). is_failure e.what) log.entries none)
       which false = refl
 
   -- no body has a loss
-  no-losses : (file : FileNo) → sum_bodies (losses_of layout file) s.homes (map (λ (v : View). v.bodies) s.views) ≡ 0
+  pub no-losses : (file : FileNo) → sum_bodies (losses_of layout file) s.homes (map (λ (v : View). v.bodies) s.views) ≡ 0
   no-losses file =
       let home : sum_by (of_home (losses_of layout file)) s.homes ≡ 0 = sum-zero (of_home (losses_of layout file)) s.homes (λ i content there. at-home i content there) in
       let hand : sum_all (λ (b : InHand). losses_of layout file b.log) (map (λ (v : View). v.bodies) s.views) ≡ 0

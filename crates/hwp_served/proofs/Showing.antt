@@ -69,6 +69,14 @@ has-command script who command is = which (slice_get script.lists who.cpu.0) ref
     which None none there = absurd (none-some command there)
     which (Some list) some there = record { list = list; list_is = some; command_is = there }
 
+-- the command that the thread of a process makes
+pub process-command : (script : Script) (who : Who) (process : Proc) → process_at script who ≡ Some process → (command : Command) × (command_at script who ≡ Some command)
+process-command script who process is = which (command_at script who) refl is
+  where
+    which : (o : Option Command) → command_at script who ≡ o → option_and_then (process_of_thread script.layout) (option_and_then thread_of o) ≡ Some process → (command : Command) × (command_at script who ≡ Some command)
+    which None none there = absurd (none-some process there)
+    which (Some command) some there = (command, some)
+
 module _ (script : Script) (seat : Cpu → ℕ) (turns : List Played) (last : State) (report : Report) (run : IsRunOf script seat turns last report) where
   -- no command has an event line
   pub eventless : (who : Who) → events_of report who ≡ []
@@ -80,6 +88,13 @@ module _ (script : Script) (seat : Cpu → ℕ) (turns : List Played) (last : St
           let inside : who.cpu.0 < script.layout.cpus = subst (λ (n : ℕ). who.cpu.0 < n) run.lengths.cpus (slice_get_within report.cpus who.cpu.0 rows some) in
           let list = list-of script seat last report (ended script seat turns last report run) who.cpu inside in
           no-events script.layout list.0 (view_of last (seat who.cpu)) who.cpu 0 list.0 rows (run.served who.cpu list.0 rows list.1 some).answered
+
+  -- the answer that a command's line says is the command's in the report
+  pub answer-told : (who : Who) (list : List Command) (rows : List CpuLine) (answer : Answer) → slice_get script.lists who.cpu.0 ≡ Some list → slice_get report.cpus who.cpu.0 ≡ Some rows → slice_get rows who.seq ≡ Some (lines.Answer who.seq answer) → answer_of report who ≡ Some answer
+  answer-told who list rows answer list_is rows_is line =
+      let served = run.served who.cpu list rows list_is rows_is in
+      let found = answer-found script.layout list (view_of last (seat who.cpu)) who.cpu 0 list rows who.seq who.seq answer served.answered line (omega arith) in
+      ap (λ (o : Option (List CpuLine)). answer_among (unwrap_or o []) who.seq) rows_is ∙ ap (λ (o : Option AnswerLine). option_map (λ (l : AnswerLine). l.answer) o) found
 
   -- the answer of a command, and its cause by what its seat knows
   pub record Answers (who : Who) (command : Command) (answer : Answer) : Type 0 where
@@ -94,10 +109,7 @@ module _ (script : Script) (seat : Cpu → ℕ) (turns : List Played) (last : St
       let inside : who.cpu.0 < script.layout.cpus = subst (λ (n : ℕ). who.cpu.0 < n) run.lengths.lists (slice_get_within script.lists who.cpu.0 has.list has.list_is) in
       let rows = rows-of script seat last report end who.cpu inside in
       let of = command-of script seat last report end who has.list rows.0 command has.list_is rows.1 has.command_is in
-      let served = run.served who.cpu of.list of.rows of.list_is of.rows_is in
-      let found = answer-found script.layout of.list (view_of last (seat who.cpu)) who.cpu 0 of.list of.rows who.seq who.seq of.answer served.answered of.answer_is (omega arith) in
-      let told : answer_of report who ≡ Some of.answer
-      = ap (λ (o : Option (List CpuLine)). answer_among (unwrap_or o []) who.seq) of.rows_is ∙ ap (λ (o : Option AnswerLine). option_map (λ (l : AnswerLine). l.answer) o) found in
+      let told : answer_of report who ≡ Some of.answer = answer-told who of.list of.rows of.answer of.list_is of.rows_is of.answer_is in
       let same : of.answer ≡ answer = same_Some of.answer answer (sym told ∙ is) in
       let same_command : of.command ≡ command = same_Some of.command command (sym of.command_is ∙ ap (λ (l : List Command). slice_get l who.seq) (same_Some of.list has.list (sym of.list_is ∙ has.list_is)) ∙ has.command_is) in
       record {
@@ -116,18 +128,11 @@ module _ (script : Script) (seat : Cpu → ℕ) (turns : List Played) (last : St
         let a = answers-of who command answer at is in
         answer-shown script turns (view_of last (seat who.cpu)) (said who.cpu a.inside) who a.list command answer at a.caused;
     going = λ who process answer at is.
-        let has = process-command who process at in
+        let has = process-command script who process at in
         let a = answers-of who has.0 answer has.1 is in
         goes-shown script turns (view_of last (seat who.cpu)) (said who.cpu a.inside) who a.list process has.0 answer has.1 at a.caused;
     events = λ who. subst (EachMember (AlreadyShown script.layout turns who)) (sym (eventless who)) (λ i e there. absurd (none-some e there));
   }
-    where
-      process-command : (who : Who) (process : Proc) → process_at script who ≡ Some process → (command : Command) × (command_at script who ≡ Some command)
-      process-command who process is = which (command_at script who) refl is
-        where
-          which : (o : Option Command) → command_at script who ≡ o → option_and_then (process_of_thread script.layout) (option_and_then thread_of o) ≡ Some process → (command : Command) × (command_at script who ≡ Some command)
-          which None none there = absurd (none-some process there)
-          which (Some command) some there = (command, some)
 
   -- no scrub is answered but by `stopped`, and no line tells one
   pub scrubs-shown : ScrubsShown script report turns

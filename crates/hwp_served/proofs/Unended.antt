@@ -82,10 +82,14 @@ module _ (layout : Layout) (last : State) (h : Holds layout last) (legal : AreLe
   opened None = opening-whole Anon
   opened (Some kind) = opening-whole kind
 
+  -- a history at home ends no process
+  pub home-unended : (process : Proc) (slot : ℕ) (log : Log) → slice_get last.homes slot ≡ Some (Some (Some log)) → has_ending layout process log.entries ≡ false
+  home-unended process slot log home =
+      none-ended layout log.page process (opening_at (slice_get layout.pages log.page.0)) (state_of layout log) log.entries (opened (slice_get layout.pages log.page.0)) (legal.home slot (Some (Some log)) home log refl)
+      (h.rule.failures.unpoisoned.no_failure.at_home slot log home)
+
   -- no process word names a page
   pub word-none : (process : Proc) (w slot : ℕ) (log : Log) → slice_get (words_of layout last.words).processes process.0 ≡ Some w → slice_get last.homes slot ≡ Some (Some (Some log)) → w ≡ log.page.0 + 1 → ⊥
   word-none process w slot log there home is =
       let ended : has_ending layout process log.entries ≡ true = (h.rule.histories.endings.caused process w there).at_home slot log home is in
-      let sound : list_any (λ (e : Entry). is_failure e.what) log.entries ≡ false = h.rule.failures.unpoisoned.no_failure.at_home slot log home in
-      let none : has_ending layout process log.entries ≡ false = none-ended layout log.page process (opening_at (slice_get layout.pages log.page.0)) (state_of layout log) log.entries (opened (slice_get layout.pages log.page.0)) (legal.home slot (Some (Some log)) home log refl) sound in
-      true≢false (sym ended ∙ none)
+      true≢false (sym ended ∙ home-unended process slot log home)

@@ -8,6 +8,7 @@ use Rattle.hwp_script.specs.declared.Why.{Why}
 use Rattle.hwp_script.specs.declared.Why.TheVariants as whys
 use Rattle.hwp_script.specs.Reads.{Reads, IsRefused}
 use Rattle.hwp_report.specs.declared.Report.{Report}
+use Rattle.hwp_law.specs.Law.{IsLawful}
 use Rattle.hwp_law.specs.Report.{IsReport}
 use Rattle.hwp_law.specs.Runs.{IsOfRun}
 use Rattle.hwp_core.specs.Runs.{AreSupported, IsCoreRun}
@@ -45,6 +46,7 @@ pub record Reports (left left' : Option (List ℕ)) (report : Report) : Type 0 w
   pub takes : Takes left left' script
   pub law : IsReport script report
   pub run : IsOfRun script report
+  pub lawful : IsLawful script report
   pub core : IsCoreRun script report
 
 -- the name of a reason

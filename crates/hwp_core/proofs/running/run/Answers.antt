@@ -5,7 +5,7 @@ use Rattle.hwp_law.specs.Report.{IsReport}
 use Rattle.hwp_law.specs.Runs.{IsOfRun}
 use Rattle.hwp_core.specs.Closing.{IsClosing}
 use Rattle.hwp_core.specs.Runs.{IsCoreRun}
-use Rattle.hwp_core.proofs.Ended.{board-ended}
+use Rattle.hwp_core.proofs.Led.{board-ended}
 use Rattle.hwp_core.proofs.Whole.{run-core, run-lawful, run-of-run, run-report}
 use Rattle.hwp_core.proofs.running.run.Goals as goal
 

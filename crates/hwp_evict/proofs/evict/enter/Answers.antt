@@ -1,4 +1,4 @@
-use Rattle.std.proofs.Common.{ℕ, inr, ap, ◌∙◌}
+use Rattle.std.proofs.Common.{inr}
 use Rattle.hwp_evict.proofs.evict.enter.Goals as goal
 
 pub returns-in-Ok : goal.returns-in-Ok

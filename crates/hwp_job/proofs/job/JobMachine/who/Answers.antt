@@ -1,5 +1,20 @@
 use Rattle.hwp_job.proofs.job.JobMachine.who.Goals as goal
 use Rattle.hwp_job.proofs.Jobbing.{can, stays}
 
-pub returns-clause-law : goal.returns-clause-law
-returns-clause-law c = record { can = can; stays = stays }
+pub returns-in-Access-clause-law : goal.returns-in-Access-clause-law
+returns-in-Access-clause-law c = record { can = can; stays = stays }
+
+pub returns-in-Evict-clause-law : goal.returns-in-Evict-clause-law
+returns-in-Evict-clause-law c = record { can = can; stays = stays }
+
+pub returns-in-Fsync-clause-law : goal.returns-in-Fsync-clause-law
+returns-in-Fsync-clause-law c = record { can = can; stays = stays }
+
+pub returns-in-Prctl-clause-law : goal.returns-in-Prctl-clause-law
+returns-in-Prctl-clause-law c = record { can = can; stays = stays }
+
+pub returns-in-ReadStop-clause-law : goal.returns-in-ReadStop-clause-law
+returns-in-ReadStop-clause-law c = record { can = can; stays = stays }
+
+pub returns-in-Nested-clause-law : goal.returns-in-Nested-clause-law
+returns-in-Nested-clause-law c = record { can = can; stays = stays }

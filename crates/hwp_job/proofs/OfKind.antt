@@ -24,7 +24,7 @@ use Rattle.hwp_job.specs.declared.job.Job.TheVariants as jobs
 use Rattle.hwp_job.specs.Runs.{anew}
 
 -- tasks of two kinds differ
-kind : Job → ℕ
+abbrev kind : Job → ℕ
 kind (jobs.Access a) = 0
 kind (jobs.Evict e) = 1
 kind (jobs.Fsync f) = 2
@@ -33,30 +33,30 @@ kind (jobs.ReadStop r) = 4
 kind (jobs.Nested n) = 5
 
 differ : {j k : Job} → j ≡ k → (kind j == kind k) ≡ false → ⊥
-differ {j} {k} is no = both_ways (kind j == kind k) (eq-eqb (kind j) (kind k) (ap kind is)) no
+differ {j} {k} is apart = both_ways (kind j == kind k) apart (eq-eqb (kind j) (kind k) (ap kind is))
 
 -- what a task of the kind is, and a given value for the others
-request_in : Request → Job → Request
+abbrev request_in : Request → Job → Request
 request_in r (jobs.Access a) = a.request
 request_in r _ = r
 
-evict_in : Evict → Job → Evict
+abbrev evict_in : Evict → Job → Evict
 evict_in d (jobs.Evict e) = e
 evict_in d _ = d
 
-fsync_in : Fsync → Job → Fsync
+abbrev fsync_in : Fsync → Job → Fsync
 fsync_in d (jobs.Fsync f) = f
 fsync_in d _ = d
 
-prctl_in : Prctl → Job → Prctl
+abbrev prctl_in : Prctl → Job → Prctl
 prctl_in d (jobs.Prctl p) = p
 prctl_in d _ = d
 
-read_in : ReadStop → Job → ReadStop
+abbrev read_in : ReadStop → Job → ReadStop
 read_in d (jobs.ReadStop r) = r
 read_in d _ = d
 
-nested_in : Nested → Job → Nested
+abbrev nested_in : Nested → Job → Nested
 nested_in d (jobs.Nested n) = n
 nested_in d _ = d
 

@@ -1,0 +1,205 @@
+-- When the command that runs has its answer, the answer has its cause, and the next command may begin.
+use Rattle.std.proofs.Common.{◌≡◌, ℕ, suc, zero, ◌+◌, ◌<◌, ◌≤◌, ◌⊎◌, inl, inr, Bool, true, false, List, [], ◌∷◌, ◌++◌, Option, Some, None, length, option_map, slice_get, refl, sym, ap, ◌∙◌, subst, arith}
+use Rattle.std.proofs.lemmas.Bool.{both_ways}
+use Rattle.std.proofs.lemmas.List.{length-append}
+use Rattle.std.proofs.lemmas.Option.{none-some, same_Some, slice_get_within}
+use Rattle.hwp_geom.specs.declared.Cpu.{Cpu}
+use Rattle.hwp_geom.specs.declared.Layout.{Layout}
+use Rattle.hwp_geom.specs.declared.Who.{Who}
+use Rattle.hwp_geom.specs.Limits.{command_limit}
+use Rattle.hwp_page.specs.History.{BodyValue}
+use Rattle.hwp_form.specs.declared.Command.{Command}
+use Rattle.hwp_form.specs.declared.Command.TheVariants as commands
+use Rattle.hwp_report.specs.declared.Answer.{Answer}
+use Rattle.hwp_report.specs.declared.Answer.TheVariants as answers
+use Rattle.hwp_report.specs.declared.CpuLine.{CpuLine}
+use Rattle.hwp_report.specs.declared.CpuLine.TheVariants as lines
+use Rattle.hwp_rule.specs.declared.Part.{Part}
+use Rattle.hwp_rule.specs.declared.Step.{Step}
+use Rattle.hwp_rule.specs.declared.View.{View}
+use Rattle.hwp_rule.specs.Asks.{IsTurnOf}
+use Rattle.hwp_rule.specs.Lists.{EachMember, SomeMember}
+use Rattle.hwp_rule.proofs.Lists.{at_last}
+use Rattle.hwp_step.specs.declared.Turn.{Turn}
+use Rattle.hwp_step.specs.Calls.{IsLater, IsOnTurn, Steps, logs}
+use Rattle.hwp_step.specs.Hands.{hand_of, empty}
+use Rattle.hwp_known.specs.Known.{HasMadeNone}
+use Rattle.hwp_known.proofs.Listing.{made-none}
+use Rattle.hwp_control.specs.declared.Nested.{Nested}
+use Rattle.hwp_control.specs.declared.nested.NestedAt.{NestedAt}
+use Rattle.hwp_control.specs.Nesteds as nesteds
+use Rattle.hwp_job.specs.declared.job.Job.{Job}
+use Rattle.hwp_job.specs.declared.job.Job.TheVariants as kinds
+use Rattle.hwp_job.specs.Answers.{nested_answer}
+use Rattle.hwp_job.specs.Begins.{Begins}
+use Rattle.hwp_job.specs.Jobs as jobs
+use Rattle.hwp_job.specs.Runs.{AtRest, Runs}
+use Rattle.hwp_job.specs.Stays.{IsHalted, KnowsPolicies, Stepped}
+use Rattle.hwp_job.proofs.Ending.{ends}
+use Rattle.hwp_job.proofs.Running.{begins-fits, begins-runs, runs-who}
+use Rattle.hwp_job.proofs.Staying.{counted, left, policies-next}
+use Rattle.hwp_job.proofs.Stopping.{begins-stop, only-stopped, stopped-halts}
+use Rattle.hwp_served.specs.Causes.{IsCaused}
+use Rattle.hwp_served.specs.Served.{IsOwnStop}
+use Rattle.hwp_served.proofs.Staying.{made-none-later}
+use Rattle.hwp_caused.proofs.Causing.{caused}
+use Rattle.hwp_processor.specs.Processors.{BeginsAt, at_number}
+use Rattle.hwp_processor.specs.Serving.{FitsAt, HasStopped, HasStoppedIt, IsDone, IsRunning, Serves}
+use Rattle.hwp_processor.proofs.Carrying.{can, carried, other, own}
+use Rattle.hwp_processor.proofs.Lines.{answered-more, at_front, own-more, past-end, stays-more, stopped-was}
+
+-- ---- the turn
+
+-- a command that fits is that of the turn
+pub on-turn : (layout : Layout) (view : View) (j : Job) → jobs.Fits layout view j → IsOnTurn view (jobs.who j)
+on-turn layout view (kinds.Access a) fits = fits.on_turn
+on-turn layout view (kinds.Evict e) fits = fits.on_turn
+on-turn layout view (kinds.Fsync f) fits = fits.on_turn
+on-turn layout view (kinds.Prctl p) fits = fits.on_turn
+on-turn layout view (kinds.ReadStop r) fits = fits.on_turn
+on-turn layout view (kinds.Nested n) fits = fits.on_turn
+
+-- a processor that has come to a command may make steps of the next one
+next-turn : (view : View) (cpu : Cpu) (n : ℕ) → IsOnTurn view (at_number cpu n) → IsOnTurn view (at_number cpu (n + 1))
+next-turn view cpu n on = record {
+  turn = record { part = later on.turn.part };
+  later = λ i p there same. let few : p.latest ≤ n = on.later i p there same in omega arith;
+}
+  where
+    later : SomeMember (λ (p : Part). (p.cpu ≡ cpu) × (p.latest ≤ n)) view.parts → SomeMember (λ (p : Part). (p.cpu ≡ cpu) × (p.latest ≤ n + 1)) view.parts
+    later (i, p, there, h) = let few : p.latest ≤ n = h.1 in (i, p, there, (h.0, omega (arith, few)))
+
+-- ---- a machine check inside a machine check
+
+abbrev is_nested : Job → Bool
+is_nested (kinds.Nested n) = true
+is_nested j = false
+
+other-kind : {A : Type 0} (n : Nested) (j : Job) → kinds.Nested n ≡ j → is_nested j ≡ false → A
+other-kind n j is other = absurd (both_ways true (ap is_nested is ∙ other) refl)
+
+-- is the task of the command that says so alone
+nested-begins : (layout : Layout) (who : Who) (n : Nested) (command : Command) → Begins layout who command (kinds.Nested n) → command ≡ commands.RaiseNested
+nested-begins layout who n (commands.Load thread slot line) begun = other-kind n _ begun.job_is refl
+nested-begins layout who n (commands.Fetch thread slot line) begun = other-kind n _ begun.job_is refl
+nested-begins layout who n (commands.KLoad thread slot line) begun = other-kind n _ begun.job_is refl
+nested-begins layout who n (commands.Store thread slot line word) begun = other-kind n _ begun.job_is refl
+nested-begins layout who n (commands.Free slot) begun = other-kind n _ begun.1.job_is refl
+nested-begins layout who n (commands.Drop page) begun = other-kind n _ begun.job_is refl
+nested-begins layout who n (commands.Sync page) begun = other-kind n _ begun.job_is refl
+nested-begins layout who n (commands.Out page) begun = other-kind n _ begun.job_is refl
+nested-begins layout who n (commands.Fsync file) begun = other-kind n _ begun.1 refl
+nested-begins layout who n (commands.Prctl thread args) begun = other-kind n _ begun.job_is refl
+nested-begins layout who n (commands.Log status addr misc) begun = other-kind n _ begun refl
+nested-begins layout who n commands.RaiseNested begun = refl
+nested-begins layout who n command begun = absurd begun
+
+-- the one that stopped the machine is answered `stopped`, as the first of its processor
+module _ (layout : Layout) (view : View) (cpu : Cpu) (list : List Command) (rows : List CpuLine) (k : Job) (a : Answer) (run : IsRunning layout view cpu list rows k) (has : jobs.answer k ≡ Some a) where
+  own-stop : (who : Who) → HasStoppedIt rows k who → IsOwnStop cpu list (rows ++ lines.Answer (length rows) a ∷ []) who
+  own-stop who it = subst (IsOwnStop cpu list (rows ++ lines.Answer (length rows) a ∷ [])) (sym named) (record {
+    cpu_is = refl;
+    command = run.there ∙ ap (λ (c : Command). Some c) (nested-begins layout (at_number cpu (length rows)) (nesteds.begin it.nested.who) run.command (subst (λ (j : Job). Runs layout (at_number cpu (length rows)) run.command j) it.job_is run.runs));
+    answered = at_last rows (lines.Answer (length rows) a) ∙ ap (λ (x : Answer). Some (lines.Answer (length rows) x)) stopped;
+    first = λ i less is. it.first (i, i, at_front rows (lines.Answer (length rows) a ∷ []) i (lines.Answer i answers.Stopped) less is);
+  })
+    where
+      named : who ≡ at_number cpu (length rows)
+      named = sym it.who_is ∙ sym (ap jobs.who it.job_is) ∙ runs-who layout (at_number cpu (length rows)) run.command k run.runs
+
+      stopped : a ≡ answers.Stopped
+      stopped = same_Some a answers.Stopped (sym has ∙ ap jobs.answer it.job_is ∙ ap (λ (x : NestedAt). option_map nested_answer (nesteds.answer_at x)) it.at_is)
+
+-- ---- the answer
+
+module _ (layout : Layout) (old new : View) (cpu : Cpu) (list : List Command) (rows : List CpuLine) (j k : Job) (run : IsRunning layout old cpu list rows j) (made : Stepped layout old new j k)
+    (a : Answer) (has : jobs.answer k ≡ Some a) (few : length list ≤ command_limit) where
+  abbrev n : ℕ
+  n = length rows
+
+  abbrev longer : List CpuLine
+  longer = rows ++ lines.Answer n a ∷ []
+
+  now : IsRunning layout new cpu list rows k
+  now = carried layout old new cpu list rows j k run made
+
+  number : length longer ≡ n + 1
+  number = length-append rows (lines.Answer n a ∷ [])
+
+  because : IsCaused layout list new (at_number cpu n) now.command a
+  because = caused layout list new (at_number cpu n) now.command k now.runs now.fits has now.serves.none_bad (λ thread replied. counted now.policies thread replied)
+
+  serves : Serves layout new cpu list longer
+  serves = record {
+    answered = answered-more layout list new cpu 0 list rows n now.command a (omega arith) now.serves.answered now.there because;
+    stays = stays-more rows n a now.serves.stays (λ some. only-stopped k (now.stopped some) has);
+    halted = λ some. by (stopped-was rows n a some);
+    none_bad = now.serves.none_bad;
+  }
+    where
+      by : HasStopped rows ⊎ (a ≡ answers.Stopped) → IsHalted new
+      by (inl early) = now.serves.halted early
+      by (inr last) = stopped-halts layout new k now.fits (has ∙ ap (λ (x : Answer). Some x) last)
+
+  stops : EachMember (IsOwnStop cpu list longer) new.stops
+  stops i who there = which (now.stops i who there)
+    where
+      which : IsOwnStop cpu list rows who ⊎ HasStoppedIt rows k who → IsOwnStop cpu list longer who
+      which (inl early) = own-more cpu list rows (lines.Answer n a) who early
+      which (inr it) = own-stop layout new cpu list rows k a now has who it
+
+  -- no later command has made an entry
+  later-none : (q : ℕ) → n < q → HasMadeNone new (at_number cpu q)
+  later-none q less = made-none-later (can layout old new cpu list rows j k run made) made.made (at_number cpu q) (other layout old new cpu list rows j k run made q (λ same. absurd (omega arith))) (made-none made.made (at_number cpu q) n less later)
+    where
+      later : IsLater old (at_number cpu q) n
+      later = (subst (IsOnTurn old) (own layout old new cpu list rows j k run made) (on-turn layout old j run.fits)).later
+
+  nothing : hand_of new ≡ empty
+  nothing = (ends layout new k now.fits has).0
+
+  done : slice_get list (n + 1) ≡ None → IsDone layout new cpu list longer
+  done none = record {
+    serves = serves;
+    all = same;
+    made = λ q past. later-none q (let at : length longer ≡ n + 1 = number in let all : length longer ≡ length list = same in omega (arith, past));
+    hand_is = nothing;
+    stops = stops;
+  }
+    where
+      same : length longer ≡ length list
+      same =
+          let most : length list ≤ n + 1 = past-end list (n + 1) now.command none in
+          let within : n < length list = slice_get_within list n now.command now.there in
+          let at : length longer ≡ n + 1 = number in
+          omega arith
+
+  begun : (command : Command) (b : Job) → slice_get list (n + 1) ≡ Some command → Begins layout (at_number cpu (n + 1)) command b → IsRunning layout new cpu list longer b
+  begun command b there begins = record {
+    serves = serves;
+    command = command;
+    there = subst (λ (i : ℕ). slice_get list i ≡ Some command) (sym number) there;
+    runs = subst (λ (i : ℕ). Runs layout (at_number cpu i) command b) (sym number) (begins-runs layout (at_number cpu (n + 1)) command b begins);
+    fits = begins-fits layout new (at_number cpu (n + 1)) command b begins (record {
+      on_turn = next-turn new cpu n (subst (IsOnTurn new) (runs-who layout (at_number cpu n) now.command k now.runs) (on-turn layout new k now.fits));
+      hand_is = nothing;
+      made = later-none (n + 1) (omega arith);
+      left = left know (begins-stop layout (at_number cpu (n + 1)) command b begins) (let within : n + 1 < length list = slice_get_within list (n + 1) command there in omega (arith, few, within));
+    });
+    policies = subst (λ (i : ℕ). KnowsPolicies layout list new (at_number cpu i) b) (sym number) know;
+    stopped = λ some. inl (begins-stop layout (at_number cpu (n + 1)) command b begins);
+    stops = λ i who at. inl (stops i who at);
+  }
+    where
+      know : KnowsPolicies layout list new (at_number cpu (n + 1)) b
+      know = policies-next layout list new (at_number cpu n) now.command k a now.runs now.fits has now.there now.policies (at_number cpu (n + 1)) b refl (begins-stop layout (at_number cpu (n + 1)) command b begins)
+
+  -- the next command begins, where there is one
+  pub settled : (b : Option Job) → BeginsAt layout (at_number cpu (n + 1)) (slice_get list (n + 1)) b → FitsAt layout new cpu list longer b
+  settled b begins = which (slice_get list (n + 1)) refl b begins
+    where
+      which : (o : Option Command) → slice_get list (n + 1) ≡ o → (x : Option Job) → BeginsAt layout (at_number cpu (n + 1)) o x → FitsAt layout new cpu list longer x
+      which (Some command) there (Some x) at = begun command x there at
+      which None there None at = done there
+      which (Some command) there None at = absurd at
+      which None there (Some x) at = absurd at

@@ -1,0 +1,91 @@
+-- A step of the command that runs leaves what the processor keeps.
+use Rattle.std.proofs.Common.{◌≡◌, ◌≢◌, ℕ, ◌<◌, ◌⊎◌, inl, inr, List, [], ◌∷◌, Option, Some, None, length, slice_get, refl, sym, ap, ◌∙◌, arith}
+use Rattle.std.proofs.lemmas.Option.{none-some}
+use Rattle.hwp_geom.specs.declared.Cpu.{Cpu}
+use Rattle.hwp_geom.specs.declared.Layout.{Layout}
+use Rattle.hwp_geom.specs.declared.Who.{Who}
+use Rattle.hwp_page.specs.History.{BodyValue}
+use Rattle.hwp_form.specs.declared.Command.{Command}
+use Rattle.hwp_report.specs.declared.CpuLine.{CpuLine}
+use Rattle.hwp_rule.specs.declared.Step.{Step}
+use Rattle.hwp_rule.specs.declared.View.{View}
+use Rattle.hwp_rule.specs.Lists.{EachMember}
+use Rattle.hwp_rule.proofs.Lists.{at_push}
+use Rattle.hwp_step.specs.declared.Turn.{Turn}
+use Rattle.hwp_step.specs.Calls.{CanMake, Steps, logs}
+use Rattle.hwp_control.specs.declared.Nested.{Nested}
+use Rattle.hwp_control.specs.declared.NestedAnswer.TheVariants as nested_answers
+use Rattle.hwp_control.specs.declared.nested.NestedAt.{NestedAt}
+use Rattle.hwp_control.specs.declared.nested.NestedAt.TheVariants as nested_at
+use Rattle.hwp_control.specs.Nesteds as nesteds
+use Rattle.hwp_job.specs.declared.job.Job.{Job}
+use Rattle.hwp_job.specs.Jobs as jobs
+use Rattle.hwp_job.specs.Stays.{Stepped, StopsItself}
+use Rattle.hwp_job.proofs.Jobbing as jobbing
+use Rattle.hwp_job.proofs.Running.{runs-on, runs-who}
+use Rattle.hwp_job.proofs.Staying.{policies-stay}
+use Rattle.hwp_job.proofs.Stopping.{halted-stays, no-own-stop, stops-after}
+use Rattle.hwp_served.specs.Served.{IsOwnStop}
+use Rattle.hwp_served.proofs.Staying.{caused-stays}
+use Rattle.hwp_caused.proofs.Undamaged.{none-bad}
+use Rattle.hwp_processor.specs.Processors.{at_number}
+use Rattle.hwp_processor.specs.Serving.{HasStopped, HasStoppedIt, IsRunning, Serves}
+use Rattle.hwp_processor.proofs.Lines.{answered-as}
+
+-- a command that has stopped the machine makes no step
+over : (rows : List CpuLine) (who : Who) (j : Job) (step : Step) → HasStoppedIt rows j who → jobs.plan j ≡ Some step → ⊥
+over rows who j step it is = none-some step (sym (ap jobs.plan it.job_is ∙ ap (λ (x : NestedAt). nesteds.plan_at it.nested.who x) it.at_is) ∙ is)
+
+module _ (layout : Layout) (old new : View) (cpu : Cpu) (list : List Command) (rows : List CpuLine) (j k : Job) (run : IsRunning layout old cpu list rows j) (made : Stepped layout old new j k) where
+  pub can : CanMake layout (jobs.who j) made.step (jobs.put j) old
+  can = jobbing.can layout old j made.step made.fits made.planned
+
+  pub own : jobs.who j ≡ at_number cpu (length rows)
+  own = runs-who layout (at_number cpu (length rows)) run.command j run.runs
+
+  -- another command of the processor is another
+  pub other : (n : ℕ) → n ≢ length rows → at_number cpu n ≢ jobs.who j
+  other n differs same = differs (ap (λ (w : Who). w.seq) (same ∙ own))
+
+  serves : Serves layout new cpu list rows
+  serves = record {
+    answered = answered-as layout list old new cpu (length rows)
+        (λ n c a less caused. caused-stays can made.made (at_number cpu n) (other n (λ same. absurd (omega arith))) list c a caused) 0 list rows (omega arith) run.serves.answered;
+    stays = run.serves.stays;
+    halted = λ some. (halted-stays made (run.serves.halted some) (run.stopped some)).0;
+    none_bad = none-bad can made.made run.serves.none_bad;
+  }
+
+  -- a stop of the machine is one from before, or that of this step
+  stops : EachMember (λ (who : Who). IsOwnStop cpu list rows who ⊎ HasStoppedIt rows k who) new.stops
+  stops i who there = which (stops-after made)
+    where
+      before : IsOwnStop cpu list rows who ⊎ HasStoppedIt rows j who → IsOwnStop cpu list rows who ⊎ HasStoppedIt rows k who
+      before (inl first) = inl first
+      before (inr it) = absurd (over rows who j made.step it made.planned)
+
+      by-it : (itself : StopsItself j k old new) → (slice_get old.stops i ≡ Some who) ⊎ (itself.nested.who ≡ who) → IsOwnStop cpu list rows who ⊎ HasStoppedIt rows k who
+      by-it itself (inl early) = before (run.stops i who early)
+      by-it itself (inr last) = inr (record {
+        nested = record itself.nested { at = nested_at.Over (Some nested_answers.Shutdown) };
+        job_is = itself.after_is;
+        at_is = refl;
+        who_is = last;
+        first = λ some. no-own-stop (run.stopped some) itself;
+      })
+
+      which : (new.stops ≡ old.stops) ⊎ StopsItself j k old new → IsOwnStop cpu list rows who ⊎ HasStoppedIt rows k who
+      which (inl same) = before (run.stops i who (sym (ap (λ (l : List Who). slice_get l i) same) ∙ there))
+      which (inr itself) = by-it itself (at_push old.stops itself.nested.who who i (sym (ap (λ (l : List Who). slice_get l i) itself.stops_are) ∙ there))
+
+  pub carried : IsRunning layout new cpu list rows k
+  carried = record {
+    serves = serves;
+    command = run.command;
+    there = run.there;
+    runs = runs-on layout (at_number cpu (length rows)) run.command j k made.found made.got made.turn run.runs made.follows;
+    fits = ((jobbing.stays layout old new j made.step made.found made.got made.fits made.planned made.made).1 k made.turn made.follows).0;
+    policies = policies-stay made list (at_number cpu (length rows)) run.policies;
+    stopped = λ some. (halted-stays made (run.serves.halted some) (run.stopped some)).1;
+    stops = stops;
+  }

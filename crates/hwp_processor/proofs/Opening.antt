@@ -1,0 +1,83 @@
+-- At opening a processor fits: it has made no step, and its first command begins.
+use Rattle.std.proofs.Common.{◌≡◌, ℕ, zero, suc, ◌+◌, ◌<◌, ◌≤◌, inl, List, [], ◌∷◌, Option, Some, None, length, slice_get, refl, sym, ap, ◌∙◌, subst, arith}
+use Rattle.std.proofs.lemmas.Option.{none-some, same_Some, slice_get_within}
+use Rattle.hwp_geom.specs.declared.Cpu.{Cpu}
+use Rattle.hwp_geom.specs.declared.Layout.{Layout}
+use Rattle.hwp_geom.specs.Limits.{command_limit}
+use Rattle.hwp_form.specs.declared.Command.{Command}
+use Rattle.hwp_rule.specs.declared.Part.{Part}
+use Rattle.hwp_rule.specs.declared.View.{View}
+use Rattle.hwp_rule.specs.Opening.{opening_view}
+use Rattle.hwp_step.specs.Calls.{IsOnTurn}
+use Rattle.hwp_job.specs.declared.job.Job.{Job}
+use Rattle.hwp_job.specs.Begins.{Begins}
+use Rattle.hwp_job.specs.Stays.{KnowsPolicies}
+use Rattle.hwp_job.proofs.Running.{begins-fits, begins-runs}
+use Rattle.hwp_job.proofs.Staying.{left, policies-first}
+use Rattle.hwp_job.proofs.Stopping.{begins-stop}
+use Rattle.hwp_served.specs.Served.{AreAnswered}
+use Rattle.hwp_processor.specs.Processors.{BeginsAt, at_number}
+use Rattle.hwp_processor.specs.Serving.{FitsAt, IsDone, IsRunning, Serves}
+
+module _ (layout : Layout) (cpu : Cpu) (list : List Command) (few : length list ≤ command_limit) where
+  abbrev view : View
+  view = opening_view cpu.0
+
+  first-part : (i : ℕ) (p : Part) → slice_get view.parts i ≡ Some p → p.latest ≤ 0
+  first-part zero p there = subst (λ (x : Part). x.latest ≤ 0) (same_Some _ p there) (omega arith)
+  first-part (suc i) p there = absurd (none-some p there)
+
+  first-turn : IsOnTurn view (at_number cpu 0)
+  first-turn = record {
+    turn = record { part = (0, record { cpu = record { 0 = cpu.0 }; latest = 0 }, refl, (refl, omega arith)) };
+    later = λ i p there same. first-part i p there;
+  }
+
+  serves : Serves layout view cpu list []
+  serves = record {
+    answered = by list;
+    stays = λ i j m n answer less first second. absurd (none-some _ first);
+    halted = λ some. absurd (none-some _ some.2);
+    none_bad = λ i s at frame is. absurd (none-some s at);
+  }
+    where
+      by : (l : List Command) → AreAnswered layout list view cpu 0 l []
+      by [] = tt
+      by (c ∷ cs) = tt
+
+  running : (command : Command) (j : Job) → slice_get list 0 ≡ Some command → Begins layout (at_number cpu 0) command j → IsRunning layout view cpu list [] j
+  running command j there begins = record {
+    serves = serves;
+    command = command;
+    there = there;
+    runs = begins-runs layout (at_number cpu 0) command j begins;
+    fits = begins-fits layout view (at_number cpu 0) command j begins (record { on_turn = first-turn; hand_is = refl; made = refl; left = left know (begins-stop layout (at_number cpu 0) command j begins) (let within : 0 < length list = slice_get_within list 0 command there in omega (arith, few, within)) });
+    policies = know;
+    stopped = λ some. inl (begins-stop layout (at_number cpu 0) command j begins);
+    stops = λ i who at. absurd (none-some who at);
+  }
+    where
+      know : KnowsPolicies layout list view (at_number cpu 0) j
+      know = policies-first layout list view (at_number cpu 0) j refl refl (begins-stop layout (at_number cpu 0) command j begins)
+
+  done : slice_get list 0 ≡ None → IsDone layout view cpu list []
+  done none = record {
+    serves = serves;
+    all = sym (let most : length list ≤ 0 = empty list none in omega arith);
+    made = λ k past. refl;
+    hand_is = refl;
+    stops = λ i who at. absurd (none-some who at);
+  }
+    where
+      empty : (l : List Command) → slice_get l 0 ≡ None → length l ≤ 0
+      empty [] is = omega arith
+      empty (c ∷ cs) is = absurd (none-some c (sym is))
+
+  pub begun : (x : Option Job) → BeginsAt layout (at_number cpu 0) (slice_get list 0) x → FitsAt layout view cpu list [] x
+  begun x begins = which (slice_get list 0) refl x begins
+    where
+      which : (o : Option Command) → slice_get list 0 ≡ o → (y : Option Job) → BeginsAt layout (at_number cpu 0) o y → FitsAt layout view cpu list [] y
+      which (Some command) there (Some j) at = running command j there at
+      which None there None at = done there
+      which (Some command) there None at = absurd at
+      which None there (Some j) at = absurd at

@@ -1,0 +1,31 @@
+-- The class of a processor tells what it holds.
+use Rattle.std.proofs.Common.{◌≡◌, ◌≢◌, ℕ, ◌≤◌, Option, Some, None}
+use Rattle.std.proofs.lemmas.Option.{none-some}
+use Rattle.hwp_geom.specs.declared.Layout.{Layout}
+use Rattle.hwp_rule.specs.declared.View.{View}
+use Rattle.hwp_step.specs.Classes.{TellsClass}
+use Rattle.hwp_step.specs.Ranks.{HasFrame, HasPage}
+use Rattle.hwp_control.proofs.Glancing.{no-frame, no-page}
+use Rattle.hwp_job.specs.declared.job.Job.{Job}
+use Rattle.hwp_job.proofs.Jobbing as jobbing
+use Rattle.hwp_processor.specs.declared.processor.Processor.{Processor}
+use Rattle.hwp_processor.specs.Processors.{class, class_of, plan, plan_of}
+use Rattle.hwp_processor.specs.Serving.{Fits, FitsAt}
+use Rattle.hwp_processor.proofs.Ranking.{the-member}
+
+pub tells : TellsClass the-member
+tells = record { frame = frame; page = page; claim = λ layout view p f cycle fits claims. absurd (none-some (f, cycle) claims) }
+  where
+    frame : (layout : Layout) (view : View) (p : Processor) → Fits layout view p → HasFrame view → (class p ≡ 1) × (plan p ≢ None)
+    frame layout view p fits has = which p.job fits.at
+      where
+        which : (x : Option Job) → FitsAt layout view p.cpu p.commands p.lines.items x → (class_of x ≡ 1) × (plan_of x ≢ None)
+        which (Some j) at = jobbing.tells.frame layout view j at.fits has
+        which None at = absurd (no-frame view at.hand_is has)
+
+    page : (layout : Layout) (view : View) (p : Processor) → Fits layout view p → HasPage view → (class p ≤ 2) × (plan p ≢ None)
+    page layout view p fits has = which p.job fits.at
+      where
+        which : (x : Option Job) → FitsAt layout view p.cpu p.commands p.lines.items x → (class_of x ≤ 2) × (plan_of x ≢ None)
+        which (Some j) at = jobbing.tells.page layout view j at.fits has
+        which None at = absurd (no-page view at.hand_is has)
