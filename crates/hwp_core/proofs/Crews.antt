@@ -1,11 +1,10 @@
 -- The processors of a script, at their beginning and when all their turns are made.
-use Rattle.std.proofs.Common.{◌≡◌, ◌⊎◌, ℕ, zero, suc, ◌+◌, ◌<◌, ◌≤◌, inl, inr, true, List, [], ◌∷◌, ◌++◌, Option, Some, None, All, length, get_or, slice_get, refl, sym, ap, ◌∙◌, subst, arith}
+use Rattle.std.proofs.Common.{◌≡◌, ◌⊎◌, ℕ, zero, suc, ◌+◌, ◌<◌, ◌≤◌, inl, inr, true, List, [], ◌∷◌, ◌++◌, Some, None, All, length, get_or, slice_get, refl, sym, ap, ◌∙◌, subst, arith}
 use Rattle.std.proofs.lemmas.Bool.{cases_lt}
 use Rattle.std.proofs.lemmas.List.{length-append}
 use Rattle.std.proofs.lemmas.List.Elements.{All-get_or}
 use Rattle.std.proofs.lemmas.List.Sums.{get_or-le-sum_by}
 use Rattle.std.proofs.lemmas.Option.{get_or_from_slice_get, same_Some, slice_get-get_or, slice_get_within}
-use Rattle.hwp_geom.specs.Pairs.{Pairs}
 use Rattle.hwp_geom.specs.declared.Cpu.{Cpu}
 use Rattle.hwp_geom.specs.declared.Layout.{Layout}
 use Rattle.hwp_rule.specs.declared.State.{State}
@@ -129,8 +128,8 @@ module _ (script : Script) (tasks : List Processor) (valid : IsValid script) (be
       let p = pair.0 in
       let at : IsAt last.tasks cpu.0 p = is-at last.tasks cpu.0 p pair.1 in
       let kept : Keeps cpu.0 p = kept-ordered processors Keeps turn-keeps script.go (running script.layout own_seat tasks (opening script.layout)) last turns order (λ c q there.
-          let begins = begins-at c q there in
-          record { cpu_is = begins.2.cpu_is; listed = begins.1 ∙ ap (λ (l : List Command). Some l) (sym begins.2.commands_are) }) cpu.0 p at in
+      let begins = begins-at c q there in
+      record { cpu_is = begins.2.cpu_is; listed = begins.1 ∙ ap (λ (l : List Command). Some l) (sym begins.2.commands_are) }) cpu.0 p at in
       let inside : p.cpu.0 < script.layout.cpus = subst (λ (c : Cpu). c.0 < script.layout.cpus) (sym kept.cpu_is) (subst (λ (n : ℕ). cpu.0 < n) valid.one_each (slice_get_within script.lists cpu.0 list list_is)) in
       let fits : Fits script.layout (view_of last.state p.cpu.0) p = subst (λ (c : Cpu). Fits script.layout (view_of last.state c.0) p) (sym kept.cpu_is) (crew.fits cpu.0 p at) in
       let served : IsServed script.layout (view_of last.state p.cpu.0) p.cpu p.commands p.lines.items = served-of script.layout last.state own_seat holds seated unmarked p inside fits pair.2.1 in

@@ -5,7 +5,7 @@ use Rattle.hwp_geom.specs.declared.Layout.{Layout}
 use Rattle.hwp_rule.specs.declared.State.{State}
 use Rattle.hwp_rule.specs.Opening.{opening}
 use Rattle.hwp_rule.specs.Rule.{Holds}
-use Rattle.hwp_step.specs.Boards.{AreSeated, Played}
+use Rattle.hwp_step.specs.Boards.{AreSeated}
 use Rattle.hwp_plain.specs.Boards.{Board, IsReached}
 use Rattle.hwp_script.specs.declared.Go.{Go}
 use Rattle.hwp_script.specs.declared.Script.{Script}

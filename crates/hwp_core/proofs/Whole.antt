@@ -1,5 +1,5 @@
 -- The report of a run is lawful, and the law of the run holds of it.
-use Rattle.std.proofs.Common.{◌≡◌, ℕ, List, length, sym, ap, ◌∙◌, subst}
+use Rattle.std.proofs.Common.{◌≡◌, List, length, sym, ap, ◌∙◌, subst}
 use Rattle.hwp_geom.specs.declared.Layout.{Layout}
 use Rattle.hwp_plain.specs.Boards.{Board}
 use Rattle.hwp_script.specs.declared.Script.{Script}

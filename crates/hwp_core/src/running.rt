@@ -46,10 +46,7 @@ fn lines_of(alloc: Global, crew: Vec<Processor>) -> Result<List<List<CpuLine>>, 
 }
 
 /// All turns of a script's processors, in the order of its schedule: the board to which they lead, and the lines of each processor.
-fn play(
-    alloc: Global,
-    script: &Script,
-) -> Result<(PlainBoard, List<List<CpuLine>>), OutOfMemory>
+fn play(alloc: Global, script: &Script) -> Result<(PlainBoard, List<List<CpuLine>>), OutOfMemory>
     requires valid { IsValid script.now }
     requires supported { AreSupported script.now }
     ensures { IfOk result (λ end. IsPlayed script.now end.0 end.1) }

@@ -1,4 +1,3 @@
-use Rattle.std.proofs.Common.{◌≡◌, ◌∙◌}
 use Rattle.std.proofs.lemmas.Result.{IfOk-weaker}
 use Rattle.hwp_law.specs.Law.{IsLawful}
 use Rattle.hwp_law.specs.Report.{IsReport}
