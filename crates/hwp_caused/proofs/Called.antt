@@ -1,11 +1,10 @@
 -- Why a call of prctl(2), and a command that only looks at the machine, is answered so.
-use Rattle.std.proofs.Common.{◌≡◌, ℕ, ◌==◌, eq-eqb, Bool, true, cond, List, [], ◌∷◌, ◌++◌, Option, Some, map, take, refl, sym, ap, ◌∙◌, subst, inl, inr}
+use Rattle.std.proofs.Common.{◌≡◌, ℕ, eq-eqb, Bool, cond, List, [], ◌∷◌, ◌++◌, Some, map, take, refl, sym, ap, ◌∙◌, subst, inl, inr}
 use Rattle.std.specs.List.{fold}
 use Rattle.std.specs.Option.{option_map}
 use Rattle.std.proofs.lemmas.List.{append-nil, map-append, same_from_push}
 use Rattle.hwp_geom.specs.declared.FileNo.{FileNo}
 use Rattle.hwp_geom.specs.declared.Layout.{Layout}
-use Rattle.hwp_geom.specs.declared.Proc.{Proc}
 use Rattle.hwp_geom.specs.declared.Thread.{Thread}
 use Rattle.hwp_geom.specs.declared.ThreadDecl.{ThreadDecl}
 use Rattle.hwp_geom.specs.declared.Who.{Who}
@@ -52,7 +51,7 @@ use Rattle.hwp_job.specs.Answers.{fsync_answer, nested_answer, prctl_answer, rea
 use Rattle.hwp_job.specs.Begins.{BeginsPrctl}
 use Rattle.hwp_job.specs.Jobs.{Fits, answer}
 use Rattle.hwp_job.specs.Runs.{anew}
-use Rattle.hwp_job.specs.Settings.{HasReplied, IsCounted, policies_in, set_at, set_now}
+use Rattle.hwp_job.specs.Settings.{HasReplied, IsCounted, policies_in, set_at}
 use Rattle.hwp_job.proofs.Ending.{fsync-over, mapped, nested-over, prctl-over, read-over}
 use Rattle.hwp_job.proofs.OfKind.{of-fsync, of-nested, of-prctl, of-read-stop}
 use Rattle.hwp_served.specs.Causes.{IsCaused, IsReplied, SawProcess}

@@ -1,21 +1,17 @@
 -- Why a command by which a page, or a part of it, leaves its frame is answered so.
-use Rattle.std.proofs.Common.{◌≡◌, List, Option, Some, refl, sym, ap, ◌∙◌, subst, inl}
+use Rattle.std.proofs.Common.{◌≡◌, List, Some, sym, ap, ◌∙◌, subst, inl}
 use Rattle.hwp_geom.specs.declared.Layout.{Layout}
 use Rattle.hwp_geom.specs.declared.Mask.{Mask}
 use Rattle.hwp_geom.specs.declared.Page.{Page}
 use Rattle.hwp_geom.specs.declared.VSlot.{VSlot}
 use Rattle.hwp_geom.specs.declared.Who.{Who}
 use Rattle.hwp_page.specs.declared.At.{At}
-use Rattle.hwp_page.specs.declared.PageState.{PageState}
-use Rattle.hwp_page.specs.declared.What.{What}
-use Rattle.hwp_page.specs.declared.What.TheVariants as entries
-use Rattle.hwp_page.specs.Refusals.{IsUnused}
 use Rattle.hwp_page.specs.Step.{IsOf}
 use Rattle.hwp_rule.specs.declared.View.{View}
 use Rattle.hwp_form.specs.declared.Command.{Command}
 use Rattle.hwp_form.specs.declared.Command.TheVariants as commands
 use Rattle.hwp_report.specs.declared.Answer.{Answer}
-use Rattle.hwp_known.specs.Known.{HasMade, HasMadeNone}
+use Rattle.hwp_known.specs.Known.{HasMade}
 use Rattle.hwp_known.specs.Pages.{SawState}
 use Rattle.hwp_evict.specs.declared.Evict.{Evict}
 use Rattle.hwp_evict.specs.declared.EvictAnswer.{EvictAnswer}
@@ -24,7 +20,7 @@ use Rattle.hwp_evict.specs.declared.Eviction.{Eviction}
 use Rattle.hwp_evict.specs.declared.Eviction.TheVariants as evictions
 use Rattle.hwp_evict.specs.declared.Refusal.{Refusal}
 use Rattle.hwp_evict.specs.declared.Refusal.TheVariants as refusals
-use Rattle.hwp_evict.specs.Evictions.{IsCaused as IsEvictCaused, IsWhy, SawLines, SawRefusal, entry_of}
+use Rattle.hwp_evict.specs.Evictions.{IsCaused as IsEvictCaused, IsWhy, SawLines, entry_of}
 use Rattle.hwp_evict.specs.Evicts as evicts
 use Rattle.hwp_job.specs.declared.Job.{Job}
 use Rattle.hwp_job.specs.declared.Job.TheVariants as jobs

@@ -1,6 +1,6 @@
 -- As long as no line goes bad, no step of a processor is shown a bad line.
-use Rattle.std.proofs.Common.{◌≡◌, ◌≢◌, ℕ, zero, suc, ◌<◌, ◌^◌, Option, slice_index, refl, sym, ap, ◌∙◌, subst, arith}
-use Rattle.std.specs.Int.{IsBitSet, bit_at, trailing_zeros, w64}
+use Rattle.std.proofs.Common.{◌≡◌, ℕ, zero, suc, ◌<◌, ◌^◌, Option, slice_index, refl, sym, ap, ◌∙◌, subst, arith}
+use Rattle.std.specs.Int.{IsBitSet, trailing_zeros, w64}
 use Rattle.std.proofs.lemmas.Nat.{bit_set_by_shift}
 use Rattle.std.proofs.lemmas.Nat.Bits.{bit_at-trailing_zeros, shr_and_one}
 use Rattle.hwp_geom.specs.declared.Frame.{Frame}
@@ -22,7 +22,7 @@ use Rattle.hwp_step.specs.Calls.{CanMake, Steps, logs}
 use Rattle.hwp_step.proofs.Stepping.{content_of}
 use Rattle.hwp_fault.proofs.Translating.{line-good}
 use Rattle.hwp_job.specs.Runs.{NoneBad}
-use Rattle.hwp_runs.proofs.Knowing.{AreSaid, Said, Sayings, said-by}
+use Rattle.hwp_runs.proofs.Knowing.{Sayings, said-by}
 
 -- a word of 64 bits without a bit is 0
 no-bits : (w : ℕ) → w < 2 ^ 64 → ((line : ℕ) → line < 64 → ¬ IsBitSet w line) → w ≡ 0

@@ -65,4 +65,5 @@ module _ (script : Script) (board : Board) (cpus : List (List CpuLine)) (lists :
       shown = report-shown script own_seat played.turns board.state report run-of;
       scrubs = scrubs-shown script own_seat played.turns board.state report run-of;
     };
+    served = subst (λ (s : State). AreServed script own_seat s report.cpus) (sym played.state_is) (subst (AreServed script own_seat board.state) (sym closed.lines) played.served);
   }

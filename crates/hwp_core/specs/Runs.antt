@@ -55,8 +55,10 @@ pub record IsPlayed (script : Script) (board : Board) (cpus : List (List CpuLine
   pub served : AreServed script own_seat board.state cpus
   pub count : length cpus ≡ script.layout.cpus
 
--- the report is of a run that the tasks of the script's processors make from their beginning
+-- The report is of a run that the tasks of the script's processors make from their beginning, and on its last board each processor
+-- has served its commands by the report's lines.
 pub record IsCoreRun (script : Script) (report : Report) : Type 0 where
   pub tasks : List Processor
   pub begin : AreAtBeginning script tasks
   pub run : CoreRun processors tasks own_seat script report
+  pub served : AreServed script own_seat run.last.state report.cpus

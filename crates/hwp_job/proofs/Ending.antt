@@ -49,14 +49,14 @@ mapped f (Some a) {b} is = (a, refl, same_Some (f a) b is)
 
 -- ---- each kind of task is over once it has an answer
 
-pub access-over : (a : Access) {x : AccessAnswer} → accesses.answer a ≡ Some x → a.at ≡ access_at.Over x
+access-over : (a : Access) {x : AccessAnswer} → accesses.answer a ≡ Some x → a.at ≡ access_at.Over x
 access-over a {x} is = which a.at is
   where
     which : (y : AccessAt) → accesses.answer_at y ≡ Some x → y ≡ access_at.Over x
     which (access_at.Over other) some = ap access_at.Over (same_Some other x some)
     which _ none = absurd (none-some x none)
 
-pub evict-over : (e : Evict) {x : EvictAnswer} → evicts.answer e ≡ Some x → e.at ≡ evict_at.Over x
+evict-over : (e : Evict) {x : EvictAnswer} → evicts.answer e ≡ Some x → e.at ≡ evict_at.Over x
 evict-over e {x} is = which e.at is
   where
     which : (y : EvictAt) → evicts.answer_at y ≡ Some x → y ≡ evict_at.Over x

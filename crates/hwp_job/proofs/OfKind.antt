@@ -1,11 +1,6 @@
 -- The kind of task that a command runs as, whatever state it is in.
-use Rattle.std.proofs.Common.{◌≡◌, ℕ, List, eq-eqb, ◌==◌, false, refl, ap}
+use Rattle.std.proofs.Common.{◌≡◌, ℕ, eq-eqb, ◌==◌, false, refl, ap}
 use Rattle.std.proofs.lemmas.Bool.{both_ways}
-use Rattle.hwp_geom.specs.declared.FileNo.{FileNo}
-use Rattle.hwp_geom.specs.declared.Page.{Page}
-use Rattle.hwp_geom.specs.declared.Proc.{Proc}
-use Rattle.hwp_geom.specs.declared.Thread.{Thread}
-use Rattle.hwp_geom.specs.declared.Who.{Who}
 use Rattle.hwp_control.specs.declared.Nested.{Nested}
 use Rattle.hwp_control.specs.declared.Prctl.{Prctl}
 use Rattle.hwp_control.specs.declared.ReadStop.{ReadStop}
@@ -13,7 +8,6 @@ use Rattle.hwp_control.specs.Nesteds as nesteds
 use Rattle.hwp_control.specs.Prctls as prctls
 use Rattle.hwp_control.specs.ReadStops as read_stops
 use Rattle.hwp_evict.specs.declared.Evict.{Evict}
-use Rattle.hwp_evict.specs.declared.Eviction.{Eviction}
 use Rattle.hwp_evict.specs.declared.Fsync.{Fsync}
 use Rattle.hwp_evict.specs.Evicts as evicts
 use Rattle.hwp_evict.specs.Fsyncs as fsyncs

@@ -1,5 +1,5 @@
 -- A task stays one of its command, from the beginning on; and a command that may begin fits.
-use Rattle.std.proofs.Common.{◌≡◌, ℕ, Option, Some, refl, sym, ap, ◌∙◌, subst}
+use Rattle.std.proofs.Common.{◌≡◌, ℕ, Option, refl, sym, ap, ◌∙◌, subst}
 use Rattle.hwp_geom.specs.declared.Layout.{Layout}
 use Rattle.hwp_geom.specs.declared.Page.{Page}
 use Rattle.hwp_geom.specs.declared.Thread.{Thread}
@@ -9,9 +9,6 @@ use Rattle.hwp_page.specs.History.{BodyValue}
 use Rattle.hwp_form.specs.declared.Command.{Command}
 use Rattle.hwp_form.specs.declared.Command.TheVariants as commands
 use Rattle.hwp_form.specs.declared.PrctlArgs.{PrctlArgs}
-use Rattle.hwp_rule.specs.declared.Place.TheVariants as places
-use Rattle.hwp_rule.specs.declared.Step.{Step}
-use Rattle.hwp_rule.specs.declared.Step.TheVariants as steps
 use Rattle.hwp_rule.specs.declared.View.{View}
 use Rattle.hwp_step.specs.declared.Turn.{Turn}
 use Rattle.hwp_evict.specs.declared.Evict.{Evict}
@@ -21,7 +18,7 @@ use Rattle.hwp_fault.specs.declared.AccessKind.{AccessKind}
 use Rattle.hwp_job.specs.declared.job.Job.{Job}
 use Rattle.hwp_job.specs.declared.job.Job.TheVariants as jobs
 use Rattle.hwp_job.specs.Begins.{Begins, BeginsAccess, BeginsEviction, BeginsPrctl}
-use Rattle.hwp_job.specs.Jobs.{Fits, Next, bare, plan, who}
+use Rattle.hwp_job.specs.Jobs.{Fits, Next, bare, who}
 use Rattle.hwp_job.specs.Runs.{AtRest, Runs, anew}
 
 -- ---- a task of its command
@@ -86,23 +83,6 @@ begins-who layout by _ j begun = absurd begun
 
 pub runs-who : (layout : Layout) (by : Who) (command : Command) (j : Job) → Runs layout by command j → who j ≡ by
 runs-who layout by command j runs = sym (anew-who j) ∙ begins-who layout by command (anew j) runs
-
--- ---- the first step
-
-pub begins-plans : (layout : Layout) (who : Who) (command : Command) (j : Job) → Begins layout who command j → plan j ≡ Some (steps.Load places.Stop)
-begins-plans layout who (commands.Load thread slot line) j begun = ap plan begun.job_is
-begins-plans layout who (commands.Fetch thread slot line) j begun = ap plan begun.job_is
-begins-plans layout who (commands.KLoad thread slot line) j begun = ap plan begun.job_is
-begins-plans layout who (commands.Store thread slot line word) j begun = ap plan begun.job_is
-begins-plans layout who (commands.Free slot) j begun = ap plan begun.1.job_is
-begins-plans layout who (commands.Drop page) j begun = ap plan begun.job_is
-begins-plans layout who (commands.Sync page) j begun = ap plan begun.job_is
-begins-plans layout who (commands.Out page) j begun = ap plan begun.job_is
-begins-plans layout who (commands.Fsync file) j begun = ap plan begun.1
-begins-plans layout who (commands.Prctl thread args) j begun = ap plan begun.job_is
-begins-plans layout who (commands.Log status addr misc) j begun = ap plan begun
-begins-plans layout who commands.RaiseNested j begun = ap plan begun
-begins-plans layout who _ j begun = absurd begun
 
 -- ---- a command that may begin
 

@@ -1,7 +1,6 @@
 -- A processor at opening can begin a task.
 use Rattle.std.proofs.Common.{◌≡◌, ℕ, zero, suc, ◌<◌, ◌≤◌, Some, map, slice_get, refl, ap, arith}
 use Rattle.std.proofs.lemmas.Option.{none-some, same_Some, get_or_from_slice_get}
-use Rattle.hwp_geom.specs.declared.Frame.{Frame}
 use Rattle.hwp_geom.specs.declared.Layout.{Layout}
 use Rattle.hwp_geom.specs.declared.Who.{Who}
 use Rattle.hwp_rule.specs.declared.Part.{Part}
@@ -10,7 +9,6 @@ use Rattle.hwp_rule.proofs.Lists.{at_map}
 use Rattle.hwp_rule.proofs.OpeningWords.{below-at}
 use Rattle.hwp_step.specs.Boards.{view_of}
 use Rattle.hwp_step.specs.Calls.{IsOnTurn}
-use Rattle.hwp_hold.specs.Pins as pins
 use Rattle.hwp_hold.specs.Takes as takes
 
 pub view-open : (layout : Layout) (c : ℕ) → c < layout.cpus → view_of (opening layout) c ≡ opening_view c
@@ -26,9 +24,6 @@ on-turn-open who = record {
   later = λ i p e same. later-open who i p e;
 }
 
--- a frame can be taken, and a reference
+-- a frame can be taken
 pub take-open : (layout : Layout) (who : Who) → takes.Fits layout (opening_view who.cpu.0) (takes.begin who)
 take-open layout who = record { on_turn = on-turn-open who; at = (omega arith, omega arith) }
-
-pub pin-open : (layout : Layout) (who : Who) (frame : Frame) → frame.0 < layout.frames → pins.Fits layout (opening_view who.cpu.0) (pins.begin who frame)
-pin-open layout who frame inside = record { on_turn = on-turn-open who; frame = inside; at = record { shares = omega arith; first = λ _. omega arith } }

@@ -1,8 +1,7 @@
 //! The kill table, the policies that it reads, and prctl(2).
 
-ghost use Rattle.hwp_geom.specs.Layout.{IsSound};
-
-use hwp_geom::{Cpu, Layout, List, Page, PageKind, Proc, Thread, ThreadDecl, TransDecl, VSlot};
+use crate::machine::machine;
+use hwp_geom::{List, Proc, Thread, VSlot};
 use hwp_kill::{
     Code, Policy, Reply, Seen, Signal, SignalList, Slots, are_policies_read, prctl, signals,
 };
@@ -10,40 +9,12 @@ use std::alloc::Global;
 use std::process::Abort;
 
 /// Process 0 has threads 0 and 1 and translation 0, process 1 threads 2 and 3 and translations 1 and 2, process 2 thread 4
-/// and translation 3. `early` is the system default.
-fn three_processes(rt: &impl Abort, alloc: Global, early: bool) -> Layout
-    ensures { IsSound result }
-{
-    let thread = |process| ThreadDecl {
-        process: Proc(process),
-        cpu: Cpu(0),
-        handler: true,
-    };
-    let translation = |process| TransDecl {
-        process: Proc(process),
-        page: Page(0),
-    };
-    let threads = [thread(0), thread(0), thread(1), thread(1), thread(2)].to_vec(alloc);
-    let trans = [
-        translation(0),
-        translation(1),
-        translation(1),
-        translation(2),
-    ]
-    .to_vec(alloc);
-    Layout {
-        cpus: 1,
-        frames: 1,
-        kernel: List::from_vec([false].to_vec(alloc).expect(rt, "memory")),
-        recovery: true,
-        early,
-        files: 0,
-        procs: 3,
-        threads: List::from_vec(threads.expect(rt, "memory")),
-        pages: List::from_vec([PageKind::Anon].to_vec(alloc).expect(rt, "memory")),
-        trans: List::from_vec(trans.expect(rt, "memory")),
-    }
-}
+/// and translation 3. `early` is the system default, or is not.
+const EARLY: &[u8] =
+    b"hwp 1\ncpus 1\nframes 1\nearly 1\nproc 0\nproc 1\nproc 2\nthread 0 0 0 handler\nthread 1 0 0 handler\nthread 2 1 0 handler\nthread 3 1 0 handler\nthread 4 2 0 handler\npage 0 anon\ntrans 0 0 0\ntrans 1 1 0\ntrans 2 1 0\ntrans 3 2 0\nend\n";
+
+const LATE: &[u8] =
+    b"hwp 1\ncpus 1\nframes 1\nproc 0\nproc 1\nproc 2\nthread 0 0 0 handler\nthread 1 0 0 handler\nthread 2 1 0 handler\nthread 3 1 0 handler\nthread 4 2 0 handler\npage 0 anon\ntrans 0 0 0\ntrans 1 1 0\ntrans 2 1 0\ntrans 3 2 0\nend\n";
 
 /// The set of these translations, which are below 512.
 fn in_use(slots: &[u16]) -> Slots {
@@ -81,8 +52,8 @@ type Sent<'a> = (
 );
 
 /// A failure of the page of three processes sends what each row says.
-fn sends(rt: &impl Abort, alloc: Global, early: bool, rows: &[Sent<'_>]) {
-    let layout = three_processes(rt, alloc, early);
+fn sends(rt: &impl Abort, alloc: Global, script: &[u8], rows: &[Sent<'_>]) {
+    let layout = machine(rt, alloc, script);
     for (slots, at_all, current, policies, want) in rows {
         let maps = in_use(slots);
         let seen = all_seen(rt, alloc, policies);
@@ -200,8 +171,8 @@ const SENT_WHERE_LATE: &[Sent<'static>] = &[
 
 #[test]
 fn whom_a_failure_signals(rt: HostRuntime) {
-    sends(&rt, rt.alloc(), true, SENT);
-    sends(&rt, rt.alloc(), false, SENT_WHERE_LATE);
+    sends(&rt, rt.alloc(), EARLY, SENT);
+    sends(&rt, rt.alloc(), LATE, SENT_WHERE_LATE);
 }
 
 /// Translations in use, the current thread, and policies; whether they are those that a failure reads.
@@ -209,7 +180,7 @@ type Read<'a> = (&'a [u16], Option<u8>, &'a [(u8, Policy)], bool);
 
 /// The policies of each row are those that a failure reads, or not.
 fn reads(rt: &impl Abort, alloc: Global, rows: &[Read<'_>]) {
-    let layout = three_processes(rt, alloc, true);
+    let layout = machine(rt, alloc, EARLY);
     for (slots, current, policies, want) in rows {
         let maps = in_use(slots);
         let seen = all_seen(rt, alloc, policies);
@@ -278,42 +249,4 @@ const REPLIES: &[([u64; 5], Reply)] = &[
 #[test]
 fn what_prctl_answers(rt: HostRuntime) {
     replies(&rt, REPLIES);
-}
-
-#[test]
-fn policies_have_their_numbers(rt: HostRuntime) {
-    let numbers = [Policy::Late, Policy::Early, Policy::Default].map(Policy::number);
-    assert_eq!(rt; numbers, [0, 1, 2]);
-}
-
-/// The lowest translation of the set from this one on.
-fn lowest_from(set: &Slots, from: u16) -> Option<u16> {
-    set.lowest_from(VSlot(from)).map(|found| found.0)
-}
-
-#[test]
-fn members_across_words(rt: HostRuntime) {
-    let mut set = in_use(&[511, 64, 63, 130]);
-    set.remove(VSlot(63));
-    set.remove(VSlot(600));
-    let has = [0, 63, 64, 65, 130, 511, 512].map(|slot| set.has(VSlot(slot)));
-    assert_eq!(rt; has, [false, false, true, false, true, true, false]);
-    let lowest = [0, 64, 65, 131, 512].map(|from| lowest_from(&set, from));
-    assert_eq!(rt; lowest, [Some(64), Some(64), Some(130), Some(511), None]);
-}
-
-#[test]
-fn a_list_takes_sixteen_signals(rt: HostRuntime) {
-    let mut list = SignalList::new();
-    for process in 0..16 {
-        if list.as_slice().len() < 16 {
-            list.push(Signal {
-                process: Proc(process),
-                ..AO_TO_4
-            });
-        }
-    }
-    let copy = list.copy();
-    let last = copy.as_slice().last().map(|signal| signal.process);
-    assert_eq!(rt; (copy.as_slice().len(), last), (16, Some(Proc(15))));
 }

@@ -2,12 +2,10 @@
 #![tactic(auto)]
 
 #[cfg(test)]
-mod holds;
-#[cfg(test)]
 mod killing;
 #[cfg(test)]
-mod pages;
+mod machine;
 #[cfg(test)]
-mod races;
+mod pages;
 #[cfg(test)]
 mod turns;

@@ -1,13 +1,12 @@
 -- When the command that runs has its answer, the answer has its cause, and the next command may begin.
-use Rattle.std.proofs.Common.{◌≡◌, ℕ, suc, zero, ◌+◌, ◌<◌, ◌≤◌, ◌⊎◌, inl, inr, Bool, true, false, List, [], ◌∷◌, ◌++◌, Option, Some, None, length, option_map, slice_get, refl, sym, ap, ◌∙◌, subst, arith}
+use Rattle.std.proofs.Common.{◌≡◌, ℕ, ◌+◌, ◌<◌, ◌≤◌, ◌⊎◌, inl, inr, Bool, true, false, List, [], ◌∷◌, ◌++◌, Option, Some, None, length, option_map, slice_get, refl, sym, ap, ◌∙◌, subst, arith}
 use Rattle.std.proofs.lemmas.Bool.{both_ways}
 use Rattle.std.proofs.lemmas.List.{length-append}
-use Rattle.std.proofs.lemmas.Option.{none-some, same_Some, slice_get_within}
+use Rattle.std.proofs.lemmas.Option.{same_Some, slice_get_within}
 use Rattle.hwp_geom.specs.declared.Cpu.{Cpu}
 use Rattle.hwp_geom.specs.declared.Layout.{Layout}
 use Rattle.hwp_geom.specs.declared.Who.{Who}
 use Rattle.hwp_geom.specs.Limits.{command_limit}
-use Rattle.hwp_page.specs.History.{BodyValue}
 use Rattle.hwp_form.specs.declared.Command.{Command}
 use Rattle.hwp_form.specs.declared.Command.TheVariants as commands
 use Rattle.hwp_report.specs.declared.Answer.{Answer}
@@ -15,13 +14,10 @@ use Rattle.hwp_report.specs.declared.Answer.TheVariants as answers
 use Rattle.hwp_report.specs.declared.CpuLine.{CpuLine}
 use Rattle.hwp_report.specs.declared.CpuLine.TheVariants as lines
 use Rattle.hwp_rule.specs.declared.Part.{Part}
-use Rattle.hwp_rule.specs.declared.Step.{Step}
 use Rattle.hwp_rule.specs.declared.View.{View}
-use Rattle.hwp_rule.specs.Asks.{IsTurnOf}
 use Rattle.hwp_rule.specs.Lists.{EachMember, SomeMember}
 use Rattle.hwp_rule.proofs.Lists.{at_last}
-use Rattle.hwp_step.specs.declared.Turn.{Turn}
-use Rattle.hwp_step.specs.Calls.{IsLater, IsOnTurn, Steps, logs}
+use Rattle.hwp_step.specs.Calls.{IsLater, IsOnTurn}
 use Rattle.hwp_step.specs.Hands.{hand_of, empty}
 use Rattle.hwp_known.specs.Known.{HasMadeNone}
 use Rattle.hwp_known.proofs.Listing.{made-none}
@@ -33,7 +29,7 @@ use Rattle.hwp_job.specs.declared.job.Job.TheVariants as kinds
 use Rattle.hwp_job.specs.Answers.{nested_answer}
 use Rattle.hwp_job.specs.Begins.{Begins}
 use Rattle.hwp_job.specs.Jobs as jobs
-use Rattle.hwp_job.specs.Runs.{AtRest, Runs}
+use Rattle.hwp_job.specs.Runs.{Runs}
 use Rattle.hwp_job.specs.Stays.{IsHalted, KnowsPolicies, Stepped}
 use Rattle.hwp_job.proofs.Ending.{ends}
 use Rattle.hwp_job.proofs.Running.{begins-fits, begins-runs, runs-who}
@@ -51,7 +47,7 @@ use Rattle.hwp_processor.proofs.Lines.{answered-more, at_front, own-more, past-e
 -- ---- the turn
 
 -- a command that fits is that of the turn
-pub on-turn : (layout : Layout) (view : View) (j : Job) → jobs.Fits layout view j → IsOnTurn view (jobs.who j)
+on-turn : (layout : Layout) (view : View) (j : Job) → jobs.Fits layout view j → IsOnTurn view (jobs.who j)
 on-turn layout view (kinds.Access a) fits = fits.on_turn
 on-turn layout view (kinds.Evict e) fits = fits.on_turn
 on-turn layout view (kinds.Fsync f) fits = fits.on_turn
@@ -169,7 +165,7 @@ module _ (layout : Layout) (old new : View) (cpu : Cpu) (list : List Command) (r
     where
       same : length longer ≡ length list
       same =
-          let most : length list ≤ n + 1 = past-end list (n + 1) now.command none in
+          let most : length list ≤ n + 1 = past-end list (n + 1) none in
           let within : n < length list = slice_get_within list n now.command now.there in
           let at : length longer ≡ n + 1 = number in
           omega arith

@@ -1,19 +1,16 @@
 -- A step of the command that runs leaves what the processor keeps.
-use Rattle.std.proofs.Common.{◌≡◌, ◌≢◌, ℕ, ◌<◌, ◌⊎◌, inl, inr, List, [], ◌∷◌, Option, Some, None, length, slice_get, refl, sym, ap, ◌∙◌, arith}
+use Rattle.std.proofs.Common.{◌≡◌, ◌≢◌, ℕ, ◌⊎◌, inl, inr, List, Some, length, slice_get, refl, sym, ap, ◌∙◌, arith}
 use Rattle.std.proofs.lemmas.Option.{none-some}
 use Rattle.hwp_geom.specs.declared.Cpu.{Cpu}
 use Rattle.hwp_geom.specs.declared.Layout.{Layout}
 use Rattle.hwp_geom.specs.declared.Who.{Who}
-use Rattle.hwp_page.specs.History.{BodyValue}
 use Rattle.hwp_form.specs.declared.Command.{Command}
 use Rattle.hwp_report.specs.declared.CpuLine.{CpuLine}
 use Rattle.hwp_rule.specs.declared.Step.{Step}
 use Rattle.hwp_rule.specs.declared.View.{View}
 use Rattle.hwp_rule.specs.Lists.{EachMember}
 use Rattle.hwp_rule.proofs.Lists.{at_push}
-use Rattle.hwp_step.specs.declared.Turn.{Turn}
-use Rattle.hwp_step.specs.Calls.{CanMake, Steps, logs}
-use Rattle.hwp_control.specs.declared.Nested.{Nested}
+use Rattle.hwp_step.specs.Calls.{CanMake}
 use Rattle.hwp_control.specs.declared.NestedAnswer.TheVariants as nested_answers
 use Rattle.hwp_control.specs.declared.nested.NestedAt.{NestedAt}
 use Rattle.hwp_control.specs.declared.nested.NestedAt.TheVariants as nested_at
@@ -29,7 +26,7 @@ use Rattle.hwp_served.specs.Served.{IsOwnStop}
 use Rattle.hwp_served.proofs.Staying.{caused-stays}
 use Rattle.hwp_caused.proofs.Undamaged.{none-bad}
 use Rattle.hwp_processor.specs.Processors.{at_number}
-use Rattle.hwp_processor.specs.Serving.{HasStopped, HasStoppedIt, IsRunning, Serves}
+use Rattle.hwp_processor.specs.Serving.{HasStoppedIt, IsRunning, Serves}
 use Rattle.hwp_processor.proofs.Lines.{answered-as}
 
 -- a command that has stopped the machine makes no step

@@ -1,5 +1,5 @@
 -- A processor fits at its beginning, stays the processor that it is, and has served its commands at its end.
-use Rattle.std.proofs.Common.{◌≡◌, ℕ, zero, suc, ◌+◌, ◌<◌, ◌≤◌, ◌⊎◌, inl, inr, List, [], ◌∷◌, ◌++◌, Option, Some, None, length, map, option_map, slice_get, refl, sym, ap, ◌∙◌, subst, arith}
+use Rattle.std.proofs.Common.{◌≡◌, ℕ, zero, suc, ◌<◌, ◌≤◌, ◌⊎◌, inl, inr, List, [], ◌∷◌, ◌++◌, Option, Some, None, length, map, option_map, slice_get, sym, ap, ◌∙◌, subst, arith}
 use Rattle.std.proofs.lemmas.Bool.{cases_lt}
 use Rattle.std.proofs.lemmas.List.{get_or_past, length-map}
 use Rattle.std.proofs.lemmas.Option.{get_or_from_slice_get}
@@ -23,7 +23,7 @@ use Rattle.hwp_job.specs.declared.job.Job.{Job}
 use Rattle.hwp_job.specs.Jobs as jobs
 use Rattle.hwp_served.specs.Served.{IsServed}
 use Rattle.hwp_processor.specs.declared.processor.Processor.{Processor}
-use Rattle.hwp_processor.specs.Processors.{AtBeginning, Follows, IsAnswered, Next, NextOf, bare, who}
+use Rattle.hwp_processor.specs.Processors.{AtBeginning, Follows, Next, NextOf, bare, who}
 use Rattle.hwp_processor.specs.Serving.{Fits, FitsAt}
 use Rattle.hwp_processor.proofs.Opening.{begun}
 use Rattle.hwp_processor.proofs.Served.{served}
@@ -45,7 +45,7 @@ at-below (suc n) i less = which (at-below n i) (cases_lt i n)
     which before (inr past) = last-below n i past less
 
 -- at opening each seat knows what a processor of its number knows
-pub opening-view : (layout : Layout) (i : ℕ) → view_of (opening layout) i ≡ opening_view i
+opening-view : (layout : Layout) (i : ℕ) → view_of (opening layout) i ≡ opening_view i
 opening-view layout i = which (cases_lt i layout.cpus)
   where
     which : (i < layout.cpus) ⊎ (layout.cpus ≤ i) → view_of (opening layout) i ≡ opening_view i
@@ -63,7 +63,7 @@ opening-fits layout cpu list p at = subst (λ (v : View). Fits layout v p) (sym 
 })
 
 -- its commands are those of the processor
-pub fits-own : (layout : Layout) (view : View) (p : Processor) → Fits layout view p → (who p).cpu ≡ p.cpu
+fits-own : (layout : Layout) (view : View) (p : Processor) → Fits layout view p → (who p).cpu ≡ p.cpu
 fits-own layout view p fits = own-cpu layout view p.cpu p.commands p.lines.items p.job fits.at
 
 pub opening-own : (layout : Layout) (cpu : Cpu) (list : List Command) (p : Processor) → AtBeginning layout cpu list p → (who p).cpu ≡ cpu

@@ -1,5 +1,5 @@
 -- What is so of some lines is so of them and one more.
-use Rattle.std.proofs.Common.{◌≡◌, ℕ, zero, suc, ◌+◌, ◌<◌, ◌≤◌, ◌⊎◌, inl, inr, List, [], ◌∷◌, ◌++◌, Option, Some, None, length, slice_get, get_or, refl, sym, ap, ◌∙◌, subst, arith}
+use Rattle.std.proofs.Common.{◌≡◌, ℕ, zero, suc, ◌+◌, ◌<◌, ◌≤◌, ◌⊎◌, inl, inr, List, [], ◌∷◌, ◌++◌, Some, None, length, slice_get, get_or, sym, ap, ◌∙◌, subst, arith}
 use Rattle.std.proofs.lemmas.Option.{none-some, same_Some, slice_get-get_or, slice_get_within}
 use Rattle.hwp_geom.specs.declared.Cpu.{Cpu}
 use Rattle.hwp_geom.specs.declared.Layout.{Layout}
@@ -24,10 +24,10 @@ at_front l m i a within is =
     here ∙ ap (λ x. Some x) (same_Some (get_or l i a) a (sym (at_longer l m i (get_or l i a) here) ∙ is))
 
 -- a list that has no member of this number has no more
-pub past-end : {A : Type 0} (l : List A) (i : ℕ) (d : A) → slice_get l i ≡ None → length l ≤ i
-past-end [] i d none = omega arith
-past-end (x ∷ xs) zero d none = absurd (none-some x (sym none))
-past-end (x ∷ xs) (suc i) d none = let few : length xs ≤ i = past-end xs i d none in omega arith
+pub past-end : {A : Type 0} (l : List A) (i : ℕ) → slice_get l i ≡ None → length l ≤ i
+past-end [] i none = omega arith
+past-end (x ∷ xs) zero none = absurd (none-some x (sym none))
+past-end (x ∷ xs) (suc i) none = let few : length xs ≤ i = past-end xs i none in omega arith
 
 abbrev answer_in : CpuLine → Answer
 answer_in (lines.Answer seq answer) = answer

@@ -1,5 +1,5 @@
 -- A processor whose commands are all answered has served them.
-use Rattle.std.proofs.Common.{◌≡◌, ℕ, ◌+◌, ◌<◌, ◌≤◌, ◌==◌, ◌⊎◌, inl, inr, List, [], ◌∷◌, Option, Some, None, length, map, slice_get, refl, sym, ap, ◌∙◌, subst, arith}
+use Rattle.std.proofs.Common.{◌≡◌, ℕ, ◌+◌, ◌<◌, ◌≤◌, ◌==◌, ◌⊎◌, inl, inr, List, [], ◌∷◌, Some, length, map, slice_get, refl, sym, ap, ◌∙◌, subst, arith}
 use Rattle.std.specs.Int.{from_bool}
 use Rattle.std.specs.List.{sum_by}
 use Rattle.std.proofs.lemmas.Bool.{cases_lt, eq-eqb}
@@ -7,10 +7,8 @@ use Rattle.std.proofs.lemmas.Option.{none-some}
 use Rattle.hwp_geom.specs.declared.Cpu.{Cpu}
 use Rattle.hwp_geom.specs.declared.FileNo.{FileNo}
 use Rattle.hwp_geom.specs.declared.Layout.{Layout}
-use Rattle.hwp_geom.specs.declared.Who.{Who}
 use Rattle.hwp_form.specs.declared.Command.{Command}
 use Rattle.hwp_report.specs.declared.CpuLine.{CpuLine}
-use Rattle.hwp_rule.specs.declared.Debts.{Debts}
 use Rattle.hwp_rule.specs.declared.Made.{Made}
 use Rattle.hwp_rule.specs.declared.Part.{Part}
 use Rattle.hwp_rule.specs.declared.State.{State}
@@ -20,22 +18,19 @@ use Rattle.hwp_rule.specs.Rule.{Holds, count_debts_of, losing_of}
 use Rattle.hwp_rule.specs.Views.{no_debts}
 use Rattle.hwp_rule.specs.Words.{words_of}
 use Rattle.hwp_rule.specs.parts.Counter.{IsCovered, is_poisoning, is_revival}
-use Rattle.hwp_rule.specs.parts.Holdings.{HoldsNothing}
 use Rattle.hwp_rule.specs.parts.Losses.{Losing}
 use Rattle.hwp_rule.proofs.Lists.{at_map, term-le}
 use Rattle.hwp_rule.proofs.Moving.{shaped}
 use Rattle.hwp_rule.proofs.NotLater.{one-view}
 use Rattle.hwp_step.specs.Boards.{AreSeated, view_of}
-use Rattle.hwp_step.specs.Hands.{Hand, hand_of, empty}
+use Rattle.hwp_step.specs.Hands.{Hand}
 use Rattle.hwp_known.specs.Known.{HasMadeNone}
-use Rattle.hwp_job.specs.declared.job.Job.{Job}
 use Rattle.hwp_runs.proofs.Homes.{there-is}
 use Rattle.hwp_served.specs.Served.{IsBegun, IsServed}
 use Rattle.hwp_served.proofs.Ending.{of-deeds}
 use Rattle.hwp_served.proofs.Losses.{no-losses}
-use Rattle.hwp_processor.specs.declared.processor.Processor.{Processor}
 use Rattle.hwp_processor.specs.Processors.{at_number}
-use Rattle.hwp_processor.specs.Serving.{Fits, FitsAt, IsDone}
+use Rattle.hwp_processor.specs.Serving.{IsDone}
 
 -- a list without members is empty
 without-members : {A : Type 0} (l : List A) → EachMember (λ (x : A). ⊥) l → l ≡ []

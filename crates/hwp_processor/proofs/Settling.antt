@@ -1,5 +1,5 @@
 -- A processor is a task: where it fits, its step can be made, and what follows fits.
-use Rattle.std.proofs.Common.{◌≡◌, ℕ, ◌+◌, ◌<◌, ◌≤◌, List, [], ◌∷◌, ◌++◌, Option, Some, None, length, option_map, slice_get, vec_capacity, refl, sym, ap, ◌∙◌, subst, arith}
+use Rattle.std.proofs.Common.{◌≡◌, ℕ, ◌+◌, ◌≤◌, List, [], ◌∷◌, ◌++◌, Option, Some, None, length, option_map, slice_get, vec_capacity, refl, sym, ap, ◌∙◌, subst}
 use Rattle.std.proofs.lemmas.Option.{none-some, slice_get_within}
 use Rattle.std.specs.Arc.{arc_value}
 use Rattle.hwp_geom.specs.declared.Cpu.{Cpu}
@@ -59,9 +59,10 @@ module _ (layout : Layout) (old new : View) (p : Processor) (step : Step) (found
   follows : (k : Job) (t : Turn) → jobs.Next layout (jobs.bare j) found got k t → (o : Option Answer) → jobs.answer k ≡ o → (after : Processor) (turn : Turn) → Follows (bare p) k o t after turn
       → Fits layout new after × ((who after).cpu ≡ (jobs.who j).cpu)
   follows k t next None has after turn (after_is, turn_is) =
-      subst (λ (q : Processor). Fits layout new q × ((who q).cpu ≡ (jobs.who j).cpu)) (sym after_is)
-      (record { ready = record { sound = ready.sound; commands = ready.commands; room = ready.room }; layout_is = same; at = carried layout old new p.cpu p.commands rows j k at (stepped k t next) },
-      ((jobbing.stays layout old new j step found got at.fits is made).1 k t next).1)
+      subst (λ (q : Processor). Fits layout new q × ((who q).cpu ≡ (jobs.who j).cpu)) (sym after_is) (
+        record { ready = record { sound = ready.sound; commands = ready.commands; room = ready.room }; layout_is = same; at = carried layout old new p.cpu p.commands rows j k at (stepped k t next) },
+        ((jobbing.stays layout old new j step found got at.fits is made).1 k t next).1,
+      )
   follows k t next (Some a) has after turn (answered, turn_is) = (
     record { ready = ready-after p after a ready those; layout_is = answered.layout_is ∙ same; at = there },
     own-cpu layout new after.cpu after.commands after.lines.items after.job there ∙ answered.cpu_is ∙ sym (own-cpu layout old p.cpu p.commands rows (Some j) at),

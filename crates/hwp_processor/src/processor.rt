@@ -56,7 +56,7 @@ impl Processor {
     /// The answers of all commands, in order.
     ///
     /// # Errors
-    /// `OutOfMemory` where a command was not answered, which gave up because memory ran out.
+    /// `OutOfMemory` where a command is not answered: of a processor that is over, one that gave up because memory ran out.
     pub fn finish(self) -> Result<List<CpuLine>, OutOfMemory>
         ensures all { IfOk result (λ lines. (lines ≡ self.lines.items) × (self.job ≡ None)) }
         ensures gave_up { OnErr result (IsSome self.job) }
@@ -75,16 +75,13 @@ impl Processor {
         ensures { IsAnswered self.old answer self.new }
     {
         let number = self.lines.len();
-        self.lines.push_reserved(CpuLine::Answer {
+        let line = CpuLine::Answer {
             seq: number as u32,
             answer,
-        });
-        self.job = begin(
-            &self.layout,
-            self.cpu,
-            self.commands.as_slice(),
-            number + 1,
-        );
+        };
+        self.lines.push_reserved(line);
+        let commands = self.commands.as_slice();
+        self.job = begin(&self.layout, self.cpu, commands, number + 1);
     }
 }
 

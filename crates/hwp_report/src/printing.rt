@@ -1,6 +1,6 @@
-ghost use Rattle.std.specs.Prelude.{◌≡◌, ◌∷◌, ◌++◌, OnOk, IfOk, string_bytes, codes, decimal, map};
+ghost use Rattle.std.specs.Prelude.{◌≡◌, [], ◌∷◌, ◌++◌, OnOk, IfOk, string_bytes, codes, decimal, map};
 ghost use Rattle.std.specs.List.{flat_map};
-ghost use Rattle.hwp_geom.specs.Words.{line};
+ghost use Rattle.hwp_geom.specs.Words.{hex, line};
 ghost use Rattle.hwp_report.specs.Text.{cause_words, cpu_lines, file_lines, frame_lines, frame_words, graded_words, head_lines, how_words, mark_words, numbered, page_lines, report_text, stop_words};
 
 use crate::frames::{FrameLine, How, MarkLine, Place};
@@ -8,7 +8,7 @@ use crate::lines::CpuLine;
 use crate::report::{Report, Stop, StopCause};
 use answers::put_cpu_lines;
 use entries::put_entries;
-use hwp_geom::{List, Mode, OutOfMemory, Text, Who};
+use hwp_geom::{List, Mask, Mode, OutOfMemory, Page, Text, Who};
 use hwp_page::Entry;
 use hwp_severity::McgBits;
 use std::alloc::Global;
@@ -127,18 +127,48 @@ fn put_frame(out: &mut String, number: usize, frame: &FrameLine) -> Result<(), O
 fn put_frame_head(out: &mut String, number: usize, frame: &FrameLine) -> Result<(), OutOfMemory>
     ensures { OnOk result (string_bytes out.new ≡ string_bytes out.old ++ line (frame_words number frame.now)) }
 {
-    let bad = frame.bad.0;
-    let weak = frame.weak.0;
+    let bad = frame.bad;
+    let weak = frame.weak;
     match frame.place {
-        Place::Free => writeln!(out, "frame {number} free bad {bad:x} weak {weak:x}"),
-        Place::Kernel => writeln!(out, "frame {number} kernel bad {bad:x} weak {weak:x}"),
-        Place::Handled => writeln!(out, "frame {number} handled bad {bad:x} weak {weak:x}"),
-        Place::Of(page) => writeln!(
-            out,
-            "frame {number} page {} bad {bad:x} weak {weak:x}",
-            page.0
-        ),
+        Place::Free => put_pageless(out, number, "free", bad, weak),
+        Place::Kernel => put_pageless(out, number, "kernel", bad, weak),
+        Place::Handled => put_pageless(out, number, "handled", bad, weak),
+        Place::Of(page) => put_holding(out, number, page, bad, weak),
     }
+}
+
+fn put_pageless(
+    out: &mut String,
+    number: usize,
+    state: &str,
+    bad: Mask,
+    weak: Mask,
+) -> Result<(), OutOfMemory>
+    ensures { OnOk result (string_bytes out.new ≡ string_bytes out.old
+        ++ line (codes "frame" ∷ decimal number ∷ state.now ∷ codes "bad" ∷ hex bad.0 ∷ codes "weak" ∷ hex weak.0 ∷ [])) }
+{
+    writeln!(
+        out,
+        "frame {number} {state} bad {:x} weak {:x}",
+        bad.0, weak.0
+    )
+}
+
+fn put_holding(
+    out: &mut String,
+    number: usize,
+    page: Page,
+    bad: Mask,
+    weak: Mask,
+) -> Result<(), OutOfMemory>
+    ensures { OnOk result (string_bytes out.new ≡ string_bytes out.old
+        ++ line (codes "frame" ∷ decimal number ∷ codes "page" ∷ decimal page.0 ∷ codes "bad" ∷ hex bad.0 ∷ codes "weak" ∷ hex weak.0 ∷ [])) }
+{
+    writeln!(
+        out,
+        "frame {number} page {} bad {:x} weak {:x}",
+        page.0, bad.0, weak.0
+    )
 }
 
 fn put_marks(out: &mut String, marks: &[MarkLine]) -> Result<(), OutOfMemory>

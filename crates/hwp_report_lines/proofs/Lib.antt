@@ -5,3 +5,4 @@ mod SameWords
 pub mod SameForms
 mod HeadLaws
 mod NoLines
+mod Naming

@@ -32,11 +32,13 @@ use Rattle.hwp_report_lines.specs.Fits.{AccessFits, AnswerFits, AtFits, CauseFit
 use Rattle.hwp_report_lines.specs.Forms.{FormFits, IsFormRead, IsPageless, IsRestRead, MasksFit, MceFits, PlainFits, access_words, form_words, masks_words, mce_words}
 use Rattle.hwp_report_lines.specs.Heads.{head_of, head_text, verb_of}
 use Rattle.hwp_report_lines.specs.Reads.{AreBelow, IsReadAs, two_words}
-use Rattle.hwp_report_lines.specs.Answers.{IsShort, IsUsual, counted_text, placed_text, reply, valued_text}
+use Rattle.hwp_report_lines.specs.Answers.{counted_text, placed_text, short_text, valued_text}
 use Rattle.hwp_report_lines.specs.declared.replies.Counted.{Counted}
 use Rattle.hwp_report_lines.specs.declared.replies.Counted.TheVariants as counted
 use Rattle.hwp_report_lines.specs.declared.replies.Placed.{Placed}
 use Rattle.hwp_report_lines.specs.declared.replies.Placed.TheVariants as placed
+use Rattle.hwp_report_lines.specs.declared.replies.Short.{Short}
+use Rattle.hwp_report_lines.specs.declared.replies.Short.TheVariants as short
 use Rattle.hwp_report_lines.specs.declared.replies.Valued.{Valued}
 use Rattle.hwp_report_lines.specs.declared.replies.Valued.TheVariants as valued
 use Rattle.hwp_report_lines.specs.Words.{EndFits, StandingFits, at_words, bits_words, end_words, standing_words}
@@ -157,45 +159,20 @@ pub rest_of : {X : Type 0} (f : X → List ℕ) (ws : List X) (k : ℕ) → drop
 rest_of f ws k = drop-map f k ws ∙ ap (map f) (sym (take_rest ws k))
 
 -- an answer of one word
-usual_short : (answer : Answer) → IsUsual answer → IsShort answer
-usual_short answers.NotPoisoned h = absurd h
-usual_short answers.HardwareSeen h = absurd h
-usual_short answer h = h
-
-no_reply : (word : List ℕ) → (word ≡ codes "notpoisoned" → ⊥) → (word ≡ codes "hardwareseen" → ⊥) → ((answer : Answer) → IsUsual answer → word ≡ reply answer → ⊥)
-    → (answer : Answer) → IsShort answer → word ≡ reply answer → ⊥
-no_reply word a b none answers.NotPoisoned h e = a e
-no_reply word a b none answers.HardwareSeen h e = b e
-no_reply word a b none answer h e = none answer h e
-
-pub reply_read : (word : List ℕ) (read : Option Answer) → (word ≡ codes "notpoisoned" → ⊥) → (word ≡ codes "hardwareseen" → ⊥) → IsReadAs IsUsual reply word read
-    → IsReadAs IsShort reply word read
-reply_read word None a b none = no_reply word a b none
-reply_read word (Some answer) a b some = (usual_short answer some.0, some.1)
-
-short_fits : (answer : Answer) → IsShort answer → AnswerFits answer
-short_fits answers.NoFrame h = tt
-short_fits answers.Stopped h = tt
-short_fits answers.Done h = tt
-short_fits answers.Einval h = tt
-short_fits answers.Recovered h = tt
-short_fits answers.Delayed h = tt
-short_fits answers.Ignored h = tt
-short_fits answers.Already h = tt
-short_fits answers.TakenFree h = tt
-short_fits answers.Kernel h = tt
-short_fits answers.NotPoisoned h = tt
-short_fits answers.HardwareSeen h = tt
-short_fits answer h = absurd (omega (arith, h))
-
-one_word : (ws : List (List ℕ)) → length ws ≡ 1 → get_or ws 0 [] ∷ [] ≡ ws
-one_word [] h = absurd (omega (arith, h))
-one_word (w ∷ []) h = refl
-one_word (w ∷ v ∷ ws) h = absurd (omega (arith, h))
-
-pub short_read : (word : List ℕ) (read : Option Answer) → IsReadAs IsShort reply word read → IsReadAs AnswerFits answer_words (word ∷ []) read
-short_read word None none = λ answer fits e. none answer (sym (ap length e)) (word_at 0 e)
-short_read word (Some answer) some = (short_fits answer some.0, ap (λ w. w ∷ []) some.1 ∙ one_word (answer_words answer) some.0)
+pub no_short : (word : List ℕ) → ((kind : Short) → word ≡ short_text kind → ⊥) → (answer : Answer) → word ∷ [] ≡ answer_words answer → ⊥
+no_short word none answers.NoFrame e = none short.NoFrame (word_at 0 e)
+no_short word none answers.Stopped e = none short.Stopped (word_at 0 e)
+no_short word none answers.Done e = none short.Done (word_at 0 e)
+no_short word none answers.Einval e = none short.Einval (word_at 0 e)
+no_short word none answers.Recovered e = none short.Recovered (word_at 0 e)
+no_short word none answers.Delayed e = none short.Delayed (word_at 0 e)
+no_short word none answers.Ignored e = none short.Ignored (word_at 0 e)
+no_short word none answers.Already e = none short.Already (word_at 0 e)
+no_short word none answers.TakenFree e = none short.TakenFree (word_at 0 e)
+no_short word none answers.Kernel e = none short.Kernel (word_at 0 e)
+no_short word none answers.NotPoisoned e = none short.NotPoisoned (word_at 0 e)
+no_short word none answers.HardwareSeen e = none short.HardwareSeen (word_at 0 e)
+no_short word none answer e = absurd (omega (arith, ap length e))
 
 -- an answer with a place
 pub no_placed : (word page entry : List ℕ) → ((kind : Placed) → word ≡ placed_text kind → ⊥) → (answer : Answer) → word ∷ page ∷ entry ∷ [] ≡ answer_words answer → ⊥

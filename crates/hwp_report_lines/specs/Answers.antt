@@ -1,27 +1,28 @@
 -- The words of answers.
-use Rattle.std.specs.Prelude.{◌≡◌, ℕ, List, [], get_or, length, codes}
-use Rattle.hwp_report.specs.declared.Answer.{Answer}
-use Rattle.hwp_report.specs.declared.Answer.TheVariants as answers
-use Rattle.hwp_report.specs.Text.{answer_words}
+use Rattle.std.specs.Prelude.{ℕ, List, codes}
 use Rattle.hwp_report_lines.specs.declared.replies.Counted.{Counted}
 use Rattle.hwp_report_lines.specs.declared.replies.Counted.TheVariants as counted
 use Rattle.hwp_report_lines.specs.declared.replies.Placed.{Placed}
 use Rattle.hwp_report_lines.specs.declared.replies.Placed.TheVariants as placed
+use Rattle.hwp_report_lines.specs.declared.replies.Short.{Short}
+use Rattle.hwp_report_lines.specs.declared.replies.Short.TheVariants as short
 use Rattle.hwp_report_lines.specs.declared.replies.Valued.{Valued}
 use Rattle.hwp_report_lines.specs.declared.replies.Valued.TheVariants as valued
 
--- an answer of one word
-abbrev pub IsShort : Answer → Type 0
-IsShort answer = length (answer_words answer) ≡ 1
-
--- the same, other than the two longest
-abbrev pub IsUsual : Answer → Type 0
-IsUsual answers.NotPoisoned = ⊥
-IsUsual answers.HardwareSeen = ⊥
-IsUsual answer = IsShort answer
-
-abbrev pub reply : Answer → List ℕ
-reply answer = get_or (answer_words answer) 0 []
+-- a word that is an answer
+abbrev pub short_text : Short → List ℕ
+short_text short.NoFrame = codes "noframe"
+short_text short.Stopped = codes "stopped"
+short_text short.Done = codes "done"
+short_text short.Einval = codes "einval"
+short_text short.Recovered = codes "recovered"
+short_text short.Delayed = codes "delayed"
+short_text short.Ignored = codes "ignored"
+short_text short.Already = codes "already"
+short_text short.TakenFree = codes "takenfree"
+short_text short.Kernel = codes "kernel"
+short_text short.NotPoisoned = codes "notpoisoned"
+short_text short.HardwareSeen = codes "hardwareseen"
 
 -- a word of an answer that a number follows
 abbrev pub counted_text : Counted → List ℕ

@@ -3,54 +3,48 @@ ghost use Rattle.hwp_report.specs.Text.{answer_words, cpu_line_words, placed};
 ghost use Rattle.hwp_report_lines.specs.Reads.{IsReadAs};
 ghost use Rattle.hwp_report_lines.specs.Forms.{IsLineOf};
 ghost use Rattle.hwp_report_lines.specs.Fits.{AnswerFits, AtFits, CpuLineFits};
-ghost use Rattle.hwp_report_lines.specs.Answers.{IsShort, IsUsual, placed_text, reply};
+ghost use Rattle.hwp_report_lines.specs.Answers.{placed_text, short_text};
 ghost use Rattle.hwp_report_lines.specs.Words.{EndFits, end_words};
 
 use crate::numbers::{is_text, read_at, read_hex, read_number, read_u8, read_u16, read_u32};
-use crate::replies::{Counted, Placed, Valued, read_counted, read_placed, read_valued};
+use crate::replies::{
+    Counted, Placed, Short, Valued, read_counted, read_placed, read_short, read_valued,
+};
 use crate::stops::read_row;
 use crate::terms::read_acted;
 use hwp_geom::{Frame, Mask, Page};
 use hwp_page::At;
 use hwp_report::{Acted, Answer, CpuLine};
 
-/// The answer of one word that a word is, unless it is one of the two longest.
-fn read_usual_reply(word: &[u8]) -> Option<Answer>
-    ensures { IsReadAs IsUsual reply word.now result }
+/// The answer that this word is.
+fn short_answer(kind: Short) -> Answer
+    ensures words { answer_words result ≡ short_text kind ∷ [] }
+    ensures fits { AnswerFits result }
 {
-    match word {
-        b"noframe" => Some(Answer::NoFrame),
-        b"stopped" => Some(Answer::Stopped),
-        b"done" => Some(Answer::Done),
-        b"einval" => Some(Answer::Einval),
-        b"recovered" => Some(Answer::Recovered),
-        b"delayed" => Some(Answer::Delayed),
-        b"ignored" => Some(Answer::Ignored),
-        b"already" => Some(Answer::Already),
-        b"takenfree" => Some(Answer::TakenFree),
-        b"kernel" => Some(Answer::Kernel),
-        _ => None,
+    match kind {
+        Short::NoFrame => Answer::NoFrame,
+        Short::Stopped => Answer::Stopped,
+        Short::Done => Answer::Done,
+        Short::Einval => Answer::Einval,
+        Short::Recovered => Answer::Recovered,
+        Short::Delayed => Answer::Delayed,
+        Short::Ignored => Answer::Ignored,
+        Short::Already => Answer::Already,
+        Short::TakenFree => Answer::TakenFree,
+        Short::Kernel => Answer::Kernel,
+        Short::NotPoisoned => Answer::NotPoisoned,
+        Short::HardwareSeen => Answer::HardwareSeen,
     }
-}
-
-/// The answer of one word that a word is.
-fn read_reply(word: &[u8]) -> Option<Answer>
-    ensures { IsReadAs IsShort reply word.now result }
-{
-    if is_text(word, "notpoisoned") {
-        return Some(Answer::NotPoisoned);
-    }
-    if is_text(word, "hardwareseen") {
-        return Some(Answer::HardwareSeen);
-    }
-    read_usual_reply(word)
 }
 
 /// An answer of one word.
 fn read_short_answer(word: &[u8]) -> Option<Answer>
     ensures { IsReadAs AnswerFits answer_words (word.now ∷ []) result }
 {
-    read_reply(word)
+    let Some(kind) = read_short(word) else {
+        return None;
+    };
+    Some(short_answer(kind))
 }
 
 /// An answer with a number.
@@ -140,7 +134,16 @@ fn read_event_end(words: &[&[u8]]) -> Option<(u64, u8, Acted)>
     let [misc, row, acted] = words else {
         return None;
     };
-    Some((read_hex(misc)?, read_row(row)?, read_acted(acted)?))
+    let Some(misc) = read_hex(misc) else {
+        return None;
+    };
+    let Some(row) = read_row(row) else {
+        return None;
+    };
+    let Some(acted) = read_acted(acted) else {
+        return None;
+    };
+    Some((misc, row, acted))
 }
 
 /// The event of a bank in a machine check of this command, by the words behind `event`.

@@ -49,21 +49,29 @@ fn read_access(words: &[&[u8]]) -> Option<(VSlot, Line, Met)>
     let [slot, line, first, second] = words else {
         return None;
     };
-    Some((
-        VSlot(read_u16(slot)?),
-        read_line_number(line)?,
-        read_met(first, second)?,
-    ))
+    let Some(slot) = read_u16(slot) else {
+        return None;
+    };
+    let Some(line) = read_line_number(line) else {
+        return None;
+    };
+    let Some(met) = read_met(first, second) else {
+        return None;
+    };
+    Some((VSlot(slot), line, met))
 }
 
 /// The translation that is the only word.
 fn read_slot(words: &[&[u8]]) -> Option<VSlot>
     ensures { IsReadAs (λ slot. slot.0 < 2 ^ 16) (λ slot. decimal slot.0 ∷ []) (map (λ w. w.now) words.now) result }
 {
-    match words {
-        [slot] => Some(VSlot(read_u16(slot)?)),
-        _ => None,
-    }
+    let [slot] = words else {
+        return None;
+    };
+    let Some(slot) = read_u16(slot) else {
+        return None;
+    };
+    Some(VSlot(slot))
 }
 
 /// The translation, the line and the bad lines, of a machine check.
@@ -73,11 +81,16 @@ fn read_mce(words: &[&[u8]]) -> Option<(VSlot, Line, Mask)>
     let [slot, line, mask] = words else {
         return None;
     };
-    Some((
-        VSlot(read_u16(slot)?),
-        read_line_number(line)?,
-        Mask(read_hex(mask)?),
-    ))
+    let Some(slot) = read_u16(slot) else {
+        return None;
+    };
+    let Some(line) = read_line_number(line) else {
+        return None;
+    };
+    let Some(mask) = read_hex(mask) else {
+        return None;
+    };
+    Some((VSlot(slot), line, Mask(mask)))
 }
 
 /// A happening that has no words of its own.
@@ -129,14 +142,16 @@ fn read_plain(verb: Verb, words: &[&[u8]]) -> Option<What>
 fn read_required(first: &[u8], second: &[u8]) -> Option<Option<Thread>>
     ensures { IsReadAs (λ thread. IfSome thread ThreadFits) required_words (first.now ∷ second.now ∷ []) result }
 {
-    match first {
-        b"opt" => match second {
-            b"-" => Some(None),
-            _ => None,
-        },
-        b"req" => Some(Some(Thread(read_u8(second)?))),
-        _ => None,
+    if is_text(first, "opt") && is_text(second, "-") {
+        return Some(None);
     }
+    if !is_text(first, "req") {
+        return None;
+    }
+    let Some(thread) = read_u8(second) else {
+        return None;
+    };
+    Some(Some(Thread(thread)))
 }
 
 /// The number of a failure's signals.
@@ -160,7 +175,13 @@ fn read_counts(words: &[&[u8]]) -> Option<(u64, u64)>
     let [seen, signals] = words else {
         return None;
     };
-    Some((read_number(seen)?, read_signal_count(signals)?))
+    let Some(seen) = read_number(seen) else {
+        return None;
+    };
+    let Some(signals) = read_signal_count(signals) else {
+        return None;
+    };
+    Some((seen, signals))
 }
 
 /// Whether a memory failure was required, and the numbers of its policies and of its signals.
@@ -245,10 +266,19 @@ pub(crate) fn read_seen(words: &[&[u8]]) -> Option<Seen>
     let [thread, policy, n] = words else {
         return None;
     };
+    let Some(thread) = read_u8(thread) else {
+        return None;
+    };
+    let Some(policy) = read_policy(policy) else {
+        return None;
+    };
+    let Some(n) = read_u32(n) else {
+        return None;
+    };
     Some(Seen {
-        thread: Thread(read_u8(thread)?),
-        policy: read_policy(policy)?,
-        n: read_u32(n)?,
+        thread: Thread(thread),
+        policy,
+        n,
     })
 }
 
@@ -259,7 +289,13 @@ fn read_aim(words: &[&[u8]]) -> Option<(Code, VSlot)>
     let [code, slot] = words else {
         return None;
     };
-    Some((read_code(code)?, VSlot(read_u16(slot)?)))
+    let Some(code) = read_code(code) else {
+        return None;
+    };
+    let Some(slot) = read_u16(slot) else {
+        return None;
+    };
+    Some((code, VSlot(slot)))
 }
 
 /// A signal, by the words behind `signal`.

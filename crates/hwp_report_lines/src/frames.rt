@@ -15,22 +15,35 @@ use hwp_report::{How, MarkLine, Place};
 fn read_state(word: &[u8]) -> Option<Place>
     ensures { IsReadAs IsPageless (λ place. get_or (place_words place) 0 []) word.now result }
 {
-    match word {
-        b"free" => Some(Place::Free),
-        b"kernel" => Some(Place::Kernel),
-        b"handled" => Some(Place::Handled),
-        _ => None,
+    if is_text(word, "free") {
+        return Some(Place::Free);
     }
+    if is_text(word, "kernel") {
+        return Some(Place::Kernel);
+    }
+    if is_text(word, "handled") {
+        return Some(Place::Handled);
+    }
+    None
 }
 
 /// The bad and the weak lines of a frame.
 fn read_masks(words: &[&[u8]]) -> Option<(Mask, Mask)>
     ensures { IsReadAs MasksFit masks_words (map (λ w. w.now) words.now) result }
 {
-    match words {
-        [b"bad", bad, b"weak", weak] => Some((Mask(read_hex(bad)?), Mask(read_hex(weak)?))),
-        _ => None,
+    let [first, bad, second, weak] = words else {
+        return None;
+    };
+    if !is_text(first, "bad") || !is_text(second, "weak") {
+        return None;
     }
+    let Some(bad) = read_hex(bad) else {
+        return None;
+    };
+    let Some(weak) = read_hex(weak) else {
+        return None;
+    };
+    Some((Mask(bad), Mask(weak)))
 }
 
 /// Where a frame is that holds a page, and its bad and its weak lines, by the words behind `page`.
@@ -118,10 +131,19 @@ fn read_failed(cause: &[u8], situation: &[u8], outcome: &[u8]) -> Option<How>
     requires { cause.now ≢ codes "soft" }
     ensures { IsReadAs Any how_words (cause.now ∷ situation.now ∷ outcome.now ∷ []) result }
 {
+    let Some(hardware) = read_cause(cause) else {
+        return None;
+    };
+    let Some(situation) = read_situation(situation) else {
+        return None;
+    };
+    let Some(outcome) = read_outcome(outcome) else {
+        return None;
+    };
     Some(How::Failure {
-        hardware: read_cause(cause)?,
-        situation: read_situation(situation)?,
-        outcome: read_outcome(outcome)?,
+        hardware,
+        situation,
+        outcome,
     })
 }
 
@@ -165,8 +187,11 @@ pub(crate) fn read_unpoisoned(words: &[&[u8]]) -> Option<MarkLine>
     let [cycle, cpu, seq] = words else {
         return None;
     };
-    Some(MarkLine::Unpoisoned {
-        cycle: read_u32(cycle)?,
-        who: read_who(cpu, seq)?,
-    })
+    let Some(cycle) = read_u32(cycle) else {
+        return None;
+    };
+    let Some(who) = read_who(cpu, seq) else {
+        return None;
+    };
+    Some(MarkLine::Unpoisoned { cycle, who })
 }

@@ -1,5 +1,8 @@
+ghost use Rattle.std.specs.Prelude.{◌≡◌};
 ghost use Rattle.hwp_report_lines.specs.Reads.{IsNamedBy};
 ghost use Rattle.hwp_report_lines.specs.Heads.{head_text, verb_text};
+
+use crate::words::{HasWord, named};
 
 /// The first word of an entry.
 #[derive(Clone, Copy)]
@@ -35,23 +38,73 @@ pub(crate) enum Head {
     End,
 }
 
-/// The first word of an entry that a word is.
-fn read_verb(word: &[u8]) -> Option<Verb>
-    ensures { IsNamedBy verb_text word.now result }
-{
-    match word {
-        b"load" => Some(Verb::Load),
-        b"store" => Some(Verb::Store),
-        b"in" => Some(Verb::In),
-        b"map" => Some(Verb::Map),
-        b"free" => Some(Verb::Free),
-        b"drop" => Some(Verb::Drop),
-        b"sync" => Some(Verb::Sync),
-        b"out" => Some(Verb::Out),
-        b"mce" => Some(Verb::Mce),
-        b"fail" => Some(Verb::Fail),
-        b"soft" => Some(Verb::Soft),
-        _ => None,
+/// The first words of all lines, other than a processor's.
+const HEADS: [Head; 23] = [
+    Head::Header,
+    Head::Stop,
+    Head::Count,
+    Head::File,
+    Head::Frame,
+    Head::Poisoned,
+    Head::Unpoisoned,
+    Head::Page,
+    Head::Seen,
+    Head::Signal,
+    Head::Cpu,
+    Head::End,
+    Head::Entry(Verb::Load),
+    Head::Entry(Verb::Store),
+    Head::Entry(Verb::In),
+    Head::Entry(Verb::Map),
+    Head::Entry(Verb::Free),
+    Head::Entry(Verb::Drop),
+    Head::Entry(Verb::Sync),
+    Head::Entry(Verb::Out),
+    Head::Entry(Verb::Mce),
+    Head::Entry(Verb::Fail),
+    Head::Entry(Verb::Soft),
+];
+
+impl Verb {
+    /// The text of the word.
+    fn text(self) -> &'static str
+        ensures { result.now ≡ verb_text self }
+    {
+        match self {
+            Verb::Load => "load",
+            Verb::Store => "store",
+            Verb::In => "in",
+            Verb::Map => "map",
+            Verb::Free => "free",
+            Verb::Drop => "drop",
+            Verb::Sync => "sync",
+            Verb::Out => "out",
+            Verb::Mce => "mce",
+            Verb::Fail => "fail",
+            Verb::Soft => "soft",
+        }
+    }
+}
+
+impl HasWord for Head {
+    ghost text = { head_text };
+
+    fn word(self) -> &'static str {
+        match self {
+            Head::Header => "hwp-report",
+            Head::Stop => "stop",
+            Head::Count => "count",
+            Head::File => "file",
+            Head::Frame => "frame",
+            Head::Poisoned => "poisoned",
+            Head::Unpoisoned => "unpoisoned",
+            Head::Page => "page",
+            Head::Seen => "seen",
+            Head::Signal => "signal",
+            Head::Cpu => "cpu",
+            Head::End => "end",
+            Head::Entry(verb) => verb.text(),
+        }
     }
 }
 
@@ -59,24 +112,5 @@ fn read_verb(word: &[u8]) -> Option<Verb>
 pub(crate) fn read_head(word: &[u8]) -> Option<Head>
     ensures { IsNamedBy head_text word.now result }
 {
-    match word {
-        b"hwp-report" => Some(Head::Header),
-        b"stop" => Some(Head::Stop),
-        b"count" => Some(Head::Count),
-        b"file" => Some(Head::File),
-        b"frame" => Some(Head::Frame),
-        b"poisoned" => Some(Head::Poisoned),
-        b"unpoisoned" => Some(Head::Unpoisoned),
-        b"page" => Some(Head::Page),
-        b"seen" => Some(Head::Seen),
-        b"signal" => Some(Head::Signal),
-        b"cpu" => Some(Head::Cpu),
-        b"end" => Some(Head::End),
-        _ => {
-            let Some(verb) = read_verb(word) else {
-                return None;
-            };
-            Some(Head::Entry(verb))
-        }
-    }
+    named(word, &HEADS)
 }

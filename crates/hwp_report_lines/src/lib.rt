@@ -11,6 +11,7 @@ mod numbers;
 mod replies;
 mod stops;
 mod terms;
+mod words;
 
 pub use form::{Failure, Form};
 pub use lines::read_line;

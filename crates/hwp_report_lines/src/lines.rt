@@ -8,7 +8,7 @@ use crate::entries::{read_entry, read_seen, read_signal};
 use crate::form::Form;
 use crate::frames::{read_frame, read_poisoned, read_unpoisoned};
 use crate::heads::{Head, read_head};
-use crate::numbers::read_number;
+use crate::numbers::{is_text, read_number};
 use crate::stops::read_stop;
 use hwp_geom::OutOfMemory;
 use std::alloc::Global;
@@ -34,23 +34,35 @@ fn one_number(words: &[&[u8]]) -> Option<u64>
 fn two_numbers(words: &[&[u8]]) -> Option<(u64, u64)>
     ensures { IsReadAs AreBelow two_words (map (λ w. w.now) words.now) result }
 {
-    match words {
-        [first, second] => Some((read_number(first)?, read_number(second)?)),
-        _ => None,
-    }
+    let [first, second] = words else {
+        return None;
+    };
+    let Some(first) = read_number(first) else {
+        return None;
+    };
+    let Some(second) = read_number(second) else {
+        return None;
+    };
+    Some((first, second))
 }
 
 /// A file, by the words behind `file`.
 fn read_file(words: &[&[u8]]) -> Option<Form>
     ensures { IsRestRead Head.File (map (λ w. w.now) words.now) result }
 {
-    match words {
-        [number, b"lost", lost] => Some(Form::File {
-            number: read_number(number)?,
-            lost: read_number(lost)?,
-        }),
-        _ => None,
+    let [number, middle, lost] = words else {
+        return None;
+    };
+    if !is_text(middle, "lost") {
+        return None;
     }
+    let Some(number) = read_number(number) else {
+        return None;
+    };
+    let Some(lost) = read_number(lost) else {
+        return None;
+    };
+    Some(Form::File { number, lost })
 }
 
 /// The head of a report, by the words behind `hwp-report`.

@@ -27,11 +27,16 @@ fn read_bits(words: &[&[u8]]) -> Option<(McgBits, Mode)>
     let [ripv, eipv, mode] = words else {
         return None;
     };
-    let mcg = McgBits {
-        ripv: read_bit(ripv)?,
-        eipv: read_bit(eipv)?,
+    let Some(ripv) = read_bit(ripv) else {
+        return None;
     };
-    Some((mcg, read_mode(mode)?))
+    let Some(eipv) = read_bit(eipv) else {
+        return None;
+    };
+    let Some(mode) = read_mode(mode) else {
+        return None;
+    };
+    Some((McgBits { ripv, eipv }, mode))
 }
 
 /// What stopped the machine, where it was a bank's event, by the words behind `severity`.

@@ -2,11 +2,106 @@ ghost use Rattle.std.specs.Prelude.{decimal};
 ghost use Rattle.hwp_report.specs.Terms as terms;
 ghost use Rattle.hwp_report_lines.specs.Reads.{IsNamedBy};
 
-use crate::numbers::read_below;
+use crate::numbers::{is_text, read_below};
+use crate::words::{HasWord, named};
 use hwp_geom::Mode;
 use hwp_kill::{Code, Policy};
 use hwp_page::{Outcome, Situation};
 use hwp_report::Acted;
+
+/// All policies.
+const POLICIES: [Policy; 3] = [Policy::Late, Policy::Early, Policy::Default];
+
+impl HasWord for Policy {
+    ghost text = { terms.policy_word };
+
+    fn word(self) -> &'static str {
+        match self {
+            Policy::Late => "late",
+            Policy::Early => "early",
+            Policy::Default => "default",
+        }
+    }
+}
+
+/// All situations.
+const SITUATIONS: [Situation; 7] = [
+    Situation::Free,
+    Situation::Kernel,
+    Situation::FileClean,
+    Situation::FileDirty,
+    Situation::AnonOnly,
+    Situation::SwapClean,
+    Situation::SwapDirty,
+];
+
+impl HasWord for Situation {
+    ghost text = { terms.situation_word };
+
+    fn word(self) -> &'static str {
+        match self {
+            Situation::Free => "free",
+            Situation::Kernel => "kernel",
+            Situation::FileClean => "fileclean",
+            Situation::FileDirty => "filedirty",
+            Situation::AnonOnly => "anononly",
+            Situation::SwapClean => "swapclean",
+            Situation::SwapDirty => "swapdirty",
+        }
+    }
+}
+
+/// All outcomes.
+const OUTCOMES: [Outcome; 3] = [Outcome::Recovered, Outcome::Delayed, Outcome::Ignored];
+
+impl HasWord for Outcome {
+    ghost text = { terms.outcome_word };
+
+    fn word(self) -> &'static str {
+        match self {
+            Outcome::Recovered => "recovered",
+            Outcome::Delayed => "delayed",
+            Outcome::Ignored => "ignored",
+        }
+    }
+}
+
+/// All that can be done about an event.
+const ACTED: [Acted; 12] = [
+    Acted::None,
+    Acted::Keep,
+    Acted::Deferred,
+    Acted::Logged,
+    Acted::Recovered,
+    Acted::Delayed,
+    Acted::Ignored,
+    Acted::Already,
+    Acted::Outside,
+    Acted::Stop,
+    Acted::Panic,
+    Acted::Held,
+];
+
+impl HasWord for Acted {
+    ghost text = { terms.acted_word };
+
+    fn word(self) -> &'static str {
+        match self {
+            Acted::None => "none",
+            Acted::Keep => "keep",
+            Acted::Deferred => "deferred",
+            Acted::Logged => "logged",
+            Acted::Recovered => "recovered",
+            Acted::Delayed => "delayed",
+            Acted::Ignored => "ignored",
+            Acted::Already => "already",
+            Acted::Outside => "outside",
+            Acted::Stop => "stop",
+            Acted::Panic => "panic",
+            Acted::Held => "held",
+        }
+    }
+}
 
 /// The bit that a word is.
 pub(crate) fn read_bit(word: &[u8]) -> Option<bool>
@@ -22,92 +117,65 @@ pub(crate) fn read_bit(word: &[u8]) -> Option<bool>
 pub(crate) fn read_mode(word: &[u8]) -> Option<Mode>
     ensures { IsNamedBy terms.mode_word word.now result }
 {
-    match word {
-        b"user" => Some(Mode::User),
-        b"kernel" => Some(Mode::Kernel),
-        _ => None,
+    if is_text(word, "user") {
+        return Some(Mode::User);
     }
+    if is_text(word, "kernel") {
+        return Some(Mode::Kernel);
+    }
+    None
 }
 
 /// The policy that a word names.
 pub(crate) fn read_policy(word: &[u8]) -> Option<Policy>
     ensures { IsNamedBy terms.policy_word word.now result }
 {
-    match word {
-        b"late" => Some(Policy::Late),
-        b"early" => Some(Policy::Early),
-        b"default" => Some(Policy::Default),
-        _ => None,
-    }
+    named(word, &POLICIES)
 }
 
 /// The code of a signal that a word names.
 pub(crate) fn read_code(word: &[u8]) -> Option<Code>
     ensures { IsNamedBy terms.code_word word.now result }
 {
-    match word {
-        b"ar" => Some(Code::Ar),
-        b"ao" => Some(Code::Ao),
-        _ => None,
+    if is_text(word, "ar") {
+        return Some(Code::Ar);
     }
+    if is_text(word, "ao") {
+        return Some(Code::Ao);
+    }
+    None
 }
 
 /// The situation that a word names.
 pub(crate) fn read_situation(word: &[u8]) -> Option<Situation>
     ensures { IsNamedBy terms.situation_word word.now result }
 {
-    match word {
-        b"free" => Some(Situation::Free),
-        b"kernel" => Some(Situation::Kernel),
-        b"fileclean" => Some(Situation::FileClean),
-        b"filedirty" => Some(Situation::FileDirty),
-        b"anononly" => Some(Situation::AnonOnly),
-        b"swapclean" => Some(Situation::SwapClean),
-        b"swapdirty" => Some(Situation::SwapDirty),
-        _ => None,
-    }
+    named(word, &SITUATIONS)
 }
 
 /// What a word says came of a memory failure.
 pub(crate) fn read_outcome(word: &[u8]) -> Option<Outcome>
     ensures { IsNamedBy terms.outcome_word word.now result }
 {
-    match word {
-        b"recovered" => Some(Outcome::Recovered),
-        b"delayed" => Some(Outcome::Delayed),
-        b"ignored" => Some(Outcome::Ignored),
-        _ => None,
-    }
+    named(word, &OUTCOMES)
 }
 
 /// Whether a word says that a bank's event caused a memory failure, or that a command did.
 pub(crate) fn read_cause(word: &[u8]) -> Option<bool>
     ensures { IsNamedBy terms.cause_word word.now result }
 {
-    match word {
-        b"hw" => Some(true),
-        b"sw" => Some(false),
-        _ => None,
+    if is_text(word, "hw") {
+        return Some(true);
     }
+    if is_text(word, "sw") {
+        return Some(false);
+    }
+    None
 }
 
 /// What a word says was done about an event.
 pub(crate) fn read_acted(word: &[u8]) -> Option<Acted>
     ensures { IsNamedBy terms.acted_word word.now result }
 {
-    match word {
-        b"none" => Some(Acted::None),
-        b"keep" => Some(Acted::Keep),
-        b"deferred" => Some(Acted::Deferred),
-        b"logged" => Some(Acted::Logged),
-        b"recovered" => Some(Acted::Recovered),
-        b"delayed" => Some(Acted::Delayed),
-        b"ignored" => Some(Acted::Ignored),
-        b"already" => Some(Acted::Already),
-        b"outside" => Some(Acted::Outside),
-        b"stop" => Some(Acted::Stop),
-        b"panic" => Some(Acted::Panic),
-        b"held" => Some(Acted::Held),
-        _ => None,
-    }
+    named(word, &ACTED)
 }

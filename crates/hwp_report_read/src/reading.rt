@@ -31,10 +31,17 @@ impl From<AllocError> for BadReport {
 fn with_line(alloc: Global, partial: Partial, line: &[u8]) -> Result<Option<Partial>, OutOfMemory>
     ensures { IfOk result (λ next. MatchOption next (IsRefused partial line.now) (IsNext partial line.now)) }
 {
-    let Some(form) = read_line(alloc, line)? else {
-        return Ok(None);
-    };
-    partial.with(alloc, form)
+    match read_line(alloc, line) {
+        Ok(Some(form)) => partial.with(alloc, form),
+        Ok(None) => {
+            drop(partial);
+            Ok(None)
+        }
+        Err(refused) => {
+            drop(partial);
+            Err(refused)
+        }
+    }
 }
 
 /// The report of which the bytes are the text, in one pass.

@@ -1,6 +1,8 @@
-//! Tests of the texts: the lines of a script, the script read and printed, and the report printed and read.
+//! Tests of the texts: the lines of a script, the script read, printed and made from a seed, and the report printed and read.
 #![tactic(auto)]
 
+#[cfg(test)]
+mod generated;
 #[cfg(test)]
 mod lines;
 #[cfg(test)]

@@ -2,7 +2,7 @@
 
 use hwp_geom::{Cpu, Frame, Line, List, Mask, Mode, Page, Proc, Thread, VSlot, Who};
 use hwp_kill::{Code, Policy, Seen, Signal, SignalList};
-use hwp_page::{At, Entry, Met, Situation, What};
+use hwp_page::{At, Entry, Situation, What};
 use hwp_report::{
     Acted, Answer, CpuLine, FrameLine, How, MarkLine, Outcome, Place, Report, Stop, StopCause,
     print,
@@ -76,124 +76,6 @@ fn put(rt: &impl Abort, page: &mut List<Entry>, who: Who, what: What) {
 fn put_lines(rt: &impl Abort, alloc: Global, report: &mut Report, lines: &[CpuLine]) {
     let lines = List::from_vec(lines.to_vec(alloc).expect(rt, "memory"));
     report.cpus.push(lines).expect(rt, "memory");
-}
-
-fn load(rt: &impl Abort, slot: u16, line: u8, met: Met) -> What {
-    What::Load {
-        slot: VSlot(slot),
-        line: Line::new(line).expect(rt, "a line"),
-        met,
-    }
-}
-
-fn store(rt: &impl Abort, slot: u16, line: u8, met: Met) -> What {
-    What::Store {
-        slot: VSlot(slot),
-        line: Line::new(line).expect(rt, "a line"),
-        met,
-    }
-}
-
-fn word(mask: u64, word: u64) -> Met {
-    let mask = Mask(mask);
-    Met::Word { mask, word }
-}
-
-/// Two processors and frames with bad and weak lines.
-const DAMAGED: &str = "hwp-report 1
-stop none
-count 18446744073709551615
-frame 0 page 1 bad 20 weak 8000000000000000
-frame 1 free bad ffffffffffffffff weak a5
-frame 2 kernel bad 0 weak 0
-frame 3 page 255 bad 0 weak 9
-page 0 0
-page 1 6
-in 1 0
-map 1 0 511
-load 1 0 511 63 20 18446744073709551615
-store 0 4095 511 0 8000000000000000 0
-load 0 7 3 10 sigbus 31
-store 1 8 3 10 sigbus 0
-cpu 0 0
-cpu 1 3
-0 value 18446744073709551615 1 2
-9 noframe
-4094 stored 255 18446744073709551615
-end
-";
-
-const FIRST_LINES: [CpuLine; 3] = [
-    CpuLine::Answer {
-        seq: 0,
-        answer: Answer::Value {
-            word: u64::MAX,
-            at: At {
-                page: Page(1),
-                entry: 2,
-            },
-        },
-    },
-    CpuLine::Answer {
-        seq: 9,
-        answer: Answer::NoFrame,
-    },
-    CpuLine::Answer {
-        seq: 4094,
-        answer: Answer::Stored(At {
-            page: Page(255),
-            entry: u64::MAX,
-        }),
-    },
-];
-
-#[test]
-fn a_report_with_bad_and_weak_lines(rt: HostRuntime) {
-    let alloc = rt.alloc();
-    let mut report = empty(alloc);
-    report.count = u64::MAX;
-    put_frame(
-        &rt,
-        alloc,
-        &mut report,
-        (Place::Of(Page(1)), 0x20, 1 << 63),
-        &[],
-    );
-    put_frame(&rt, alloc, &mut report, (Place::Free, u64::MAX, 0xa5), &[]);
-    put_frame(&rt, alloc, &mut report, (Place::Kernel, 0, 0), &[]);
-    put_frame(&rt, alloc, &mut report, (Place::Of(Page(255)), 0, 9), &[]);
-    let mut page = List::new(alloc);
-    put(&rt, &mut page, who(1, 0), What::FaultIn);
-    put(&rt, &mut page, who(1, 0), What::Map { slot: VSlot(511) });
-    put(
-        &rt,
-        &mut page,
-        who(1, 0),
-        load(&rt, 511, 63, word(0x20, u64::MAX)),
-    );
-    put(
-        &rt,
-        &mut page,
-        who(0, 4095),
-        store(&rt, 511, 0, word(1 << 63, 0)),
-    );
-    put(
-        &rt,
-        &mut page,
-        who(0, 7),
-        load(&rt, 3, 10, Met::Sigbus { thread: Thread(31) }),
-    );
-    put(
-        &rt,
-        &mut page,
-        who(1, 8),
-        store(&rt, 3, 10, Met::Sigbus { thread: Thread(0) }),
-    );
-    put_page(&rt, &mut report, List::new(alloc));
-    put_page(&rt, &mut report, page);
-    put_lines(&rt, alloc, &mut report, &[]);
-    put_lines(&rt, alloc, &mut report, &FIRST_LINES);
-    is_printed(&rt, alloc, &report, DAMAGED);
 }
 
 /// Each kind of entry that a page's history may have beside accesses, fault-in and map.
@@ -500,42 +382,23 @@ fn events(rt: &impl Abort, alloc: Global) -> List<CpuLine> {
 }
 
 /// A stop by an event.
-fn severity(row: u8, bank: u8, status: u64, ripv: bool, mode: Mode) -> StopCause {
-    StopCause::Severity {
-        row,
-        bank,
-        status,
-        mcg: McgBits { ripv, eipv: !ripv },
-        mode,
-    }
-}
+const SEVERITY: StopCause = StopCause::Severity {
+    row: 8,
+    bank: 1,
+    status: 0xfd80_0000_0000_00c0,
+    mcg: McgBits {
+        ripv: true,
+        eipv: false,
+    },
+    mode: Mode::User,
+};
 
 #[test]
 fn a_report_with_each_kind_of_answer(rt: HostRuntime) {
     let alloc = rt.alloc();
     let mut report = empty(alloc);
-    report.stop = stop(
-        0,
-        2,
-        severity(8, 1, 0xfd80_0000_0000_00c0, true, Mode::User),
-    );
+    report.stop = stop(0, 2, SEVERITY);
     report.cpus.push(events(&rt, alloc)).expect(&rt, "memory");
     report.cpus.push(answers(&rt, alloc)).expect(&rt, "memory");
     is_printed(&rt, alloc, &report, ANSWERED);
-}
-
-#[test]
-fn a_report_of_a_kernel_mode_stop(rt: HostRuntime) {
-    let mut report = empty(rt.alloc());
-    report.stop = stop(
-        0,
-        2,
-        severity(10, 0, 0xbd80_0000_0000_0134, false, Mode::Kernel),
-    );
-    is_printed(
-        &rt,
-        rt.alloc(),
-        &report,
-        "hwp-report 1\nstop 0 2 severity S10 0 bd80000000000134 0 1 kernel\ncount 0\nend\n",
-    );
 }

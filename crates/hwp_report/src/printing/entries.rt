@@ -5,7 +5,7 @@ ghost use Rattle.hwp_report.specs.Terms.{situation_word as situation_text};
 ghost use Rattle.hwp_report.specs.Text.{entry_lines, entry_words, met_words, required_words, seen_words, signal_words, verb_words};
 
 use super::terms::{code_word, policy_word, situation_word};
-use hwp_geom::{Line, OutOfMemory, Thread, VSlot, Who};
+use hwp_geom::{Line, Mask, OutOfMemory, Thread, VSlot, Who};
 use hwp_kill::{Seen, Signal};
 use hwp_page::{Entry, Met, Situation, What};
 
@@ -78,23 +78,49 @@ fn put_access(
     ensures { OnOk result (string_bytes out.new ≡ string_bytes out.old
         ++ line (verb_words verb.now who (decimal slot.0 ∷ decimal at ∷ met_words met))) }
 {
-    let at = at.get();
     match met {
-        Met::Word { mask, word } => {
-            writeln!(
-                out,
-                "{verb} {} {} {} {at} {:x} {word}",
-                who.cpu.0, who.seq, slot.0, mask.0
-            )
-        }
-        Met::Sigbus { thread } => {
-            writeln!(
-                out,
-                "{verb} {} {} {} {at} sigbus {}",
-                who.cpu.0, who.seq, slot.0, thread.0
-            )
-        }
+        Met::Word { mask, word } => put_word(out, verb, who, slot, at, mask, word),
+        Met::Sigbus { thread } => put_sigbus(out, verb, who, slot, at, thread),
     }
+}
+
+fn put_word(
+    out: &mut String,
+    verb: &str,
+    who: Who,
+    slot: VSlot,
+    at: Line,
+    mask: Mask,
+    word: u64,
+) -> Result<(), OutOfMemory>
+    ensures { OnOk result (string_bytes out.new ≡ string_bytes out.old
+        ++ line (verb_words verb.now who (decimal slot.0 ∷ decimal at ∷ hex mask.0 ∷ decimal word ∷ []))) }
+{
+    let at = at.get();
+    writeln!(
+        out,
+        "{verb} {} {} {} {at} {:x} {word}",
+        who.cpu.0, who.seq, slot.0, mask.0
+    )
+}
+
+fn put_sigbus(
+    out: &mut String,
+    verb: &str,
+    who: Who,
+    slot: VSlot,
+    at: Line,
+    thread: Thread,
+) -> Result<(), OutOfMemory>
+    ensures { OnOk result (string_bytes out.new ≡ string_bytes out.old
+        ++ line (verb_words verb.now who (decimal slot.0 ∷ decimal at ∷ codes "sigbus" ∷ decimal thread.0 ∷ []))) }
+{
+    let at = at.get();
+    writeln!(
+        out,
+        "{verb} {} {} {} {at} sigbus {}",
+        who.cpu.0, who.seq, slot.0, thread.0
+    )
 }
 
 fn put_failure(

@@ -6,4 +6,4 @@ use Rattle.hwp_model_tests.proofs.turns.opened.Goals as goal
 
 pub returns-clause-views : goal.returns-clause-views
 returns-clause-views c o = λ k less. ap (λ (s : State). view_of s k) (rw o.expect.ensures at o.new.ensures.state)
-    ∙ view-open o.machine-layout.result k (subst (λ (n : ℕ). k < n) (sym o.machine-layout.ensures.numbers.0) less)
+    ∙ view-open o.two_processors-layout.result k (subst (λ (n : ℕ). k < n) (sym o.two_processors-layout.ensures.cpus) less)

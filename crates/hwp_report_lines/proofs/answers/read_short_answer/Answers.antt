@@ -1,5 +1,5 @@
-use Rattle.hwp_report_lines.proofs.NoLines.{short_read}
+use Rattle.hwp_report_lines.proofs.NoLines.{no_short}
 use Rattle.hwp_report_lines.proofs.answers.read_short_answer.Goals as goal
 
-pub returns : goal.returns
-returns c = short_read c.args.word.now _ c.read_reply.ensures
+pub returns-in_default : goal.returns-in_default
+returns-in_default c = λ answer fits e. no_short c.args.word.now c.in_default.ensures answer e

@@ -1,0 +1,47 @@
+-- The answers of processors, line by line: each line at its place, and each answer with its cause.
+use Rattle.std.specs.Prelude.{◌≡◌, ◌⊎◌, ℕ, ◌<◌, Bool, true, false, List, Some, count_by, length, slice_get, take}
+use Rattle.hwp_geom.specs.declared.Cpu.{Cpu}
+use Rattle.hwp_geom.specs.declared.Who.{Who}
+use Rattle.hwp_script.specs.declared.Command.{Command}
+use Rattle.hwp_script.specs.declared.Script.{Script}
+use Rattle.hwp_report.specs.declared.Answer.{Answer}
+use Rattle.hwp_report.specs.declared.Answer.TheVariants as answers
+use Rattle.hwp_report.specs.declared.CpuLine.{CpuLine}
+use Rattle.hwp_report.specs.declared.CpuLine.TheVariants as lines
+use Rattle.hwp_report.specs.declared.Report.{Report}
+use Rattle.hwp_law.specs.Causes.{IsCaused, IsHeeded}
+
+-- the number of the command that a line is of
+abbrev pub seq_of : CpuLine → ℕ
+seq_of (lines.Event seq bank status addr misc row acted) = seq
+seq_of (lines.Answer seq answer) = seq
+
+abbrev pub is_answer : CpuLine → Bool
+is_answer (lines.Event seq bank status addr misc row acted) = false
+is_answer (lines.Answer seq answer) = true
+
+-- the line is of the command whose answer comes next: as many answers stand before it as commands before that one
+pub record IsInPlace (commands : List Command) (rows : List CpuLine) (row : ℕ) (line : CpuLine) : Type 0 where
+  pub of_next : seq_of line ≡ count_by is_answer (take row rows)
+  pub of_some : seq_of line < length commands
+
+-- the command has an answer
+pub record HasAnswer (rows : List CpuLine) (seq : ℕ) : Type 0 where
+  pub row : ℕ
+  pub answer : Answer
+  pub there : slice_get rows row ≡ Some (lines.Answer seq answer)
+
+-- the report shows the cause of an answer; that of `stopped` is the matter of the stop line
+abbrev pub IsShown : Script → Report → Who → Command → Answer → Type 0
+IsShown script report who command answer = (answer ≡ answers.Stopped) ⊎ IsCaused script report who command answer
+
+-- what a row's answer must be
+pub record IsRight (script : Script) (report : Report) (who : Who) (command : Command) (answer : Answer) : Type 0 where
+  pub shown : IsShown script report who command answer
+  pub heeded : IsHeeded report who answer
+
+-- the lines of a processor: each in its place, an answer for each command, and each answer right
+pub record AreAnswered (script : Script) (report : Report) (cpu : Cpu) (commands : List Command) (rows : List CpuLine) : Type 0 where
+  pub in_place : (row : ℕ) (line : CpuLine) → slice_get rows row ≡ Some line → IsInPlace commands rows row line
+  pub each : (seq : ℕ) → seq < length commands → HasAnswer rows seq
+  pub right : (row seq : ℕ) (answer : Answer) (command : Command) → slice_get rows row ≡ Some (lines.Answer seq answer) → slice_get commands seq ≡ Some command → IsRight script report (record { cpu = cpu; seq = seq }) command answer

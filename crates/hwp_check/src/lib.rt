@@ -1,0 +1,6 @@
+//! The checker of reports: whether a report is one that a run of a script can have, and if not, by which rule and at which line.
+#![tactic(auto)]
+
+mod verdicts;
+
+pub use verdicts::Verdict;

@@ -1,0 +1,5 @@
+pub mod Lists
+pub mod Choosing
+pub mod Made
+pub mod Fitting
+pub mod Valid

@@ -1,0 +1,4 @@
+pub mod Draws
+pub mod Machine
+pub mod Commands
+pub mod Generated
