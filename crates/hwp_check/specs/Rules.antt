@@ -14,6 +14,7 @@ use Rattle.hwp_script.specs.declared.Command.TheVariants as commands
 use Rattle.hwp_script.specs.declared.Script.{Script}
 use Rattle.hwp_report.specs.declared.Answer.TheVariants as answers
 use Rattle.hwp_report.specs.declared.CpuLine.{CpuLine}
+use Rattle.hwp_report.specs.declared.CpuLine.TheVariants as lines
 use Rattle.hwp_report.specs.declared.FrameLine.{FrameLine}
 use Rattle.hwp_report.specs.declared.Report.{Report}
 use Rattle.hwp_report.specs.declared.Stop.{Stop}
@@ -24,7 +25,6 @@ use Rattle.hwp_law.specs.Events.{AreEvents}
 use Rattle.hwp_law.specs.Frames.{IsPlaced, WasDone, poisoned_count}
 use Rattle.hwp_law.specs.Halts.{IsStopOf}
 use Rattle.hwp_law.specs.History.{AreOrdered}
-use Rattle.hwp_law.specs.Lines.{answer_of}
 use Rattle.hwp_law.specs.Losses.{answered, lost_in, told}
 use Rattle.hwp_law.specs.Pairings.{AreRecorded}
 use Rattle.hwp_law.specs.Records.{IsFrameRecord, ends_poisoned}
@@ -78,7 +78,7 @@ LossesFit script report = (file : FileNo) (left : ℕ) → slice_get report.file
 -- 8: the stop is none exactly where no answer is `stopped`, else that of a command which stopped the machine; and a processor
 -- stays stopped
 pub record StopFits (script : Script) (report : Report) : Type 0 where
-  pub told : (who : Who) → answer_of report who ≡ Some answers.Stopped → IsSome report.stop
+  pub told : (cpu : Cpu) (rows : List CpuLine) (row seq : ℕ) → slice_get report.cpus cpu.0 ≡ Some rows → slice_get rows row ≡ Some (lines.Answer seq answers.Stopped) → IsSome report.stop
   pub caused : (stop : Stop) → report.stop ≡ Some stop → IsStopOf script report stop
   pub stays : (cpu : Cpu) (rows : List CpuLine) → slice_get report.cpus cpu.0 ≡ Some rows → StaysStopped rows
 

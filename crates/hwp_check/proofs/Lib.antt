@@ -1,0 +1,3 @@
+mod AnswersByRow
+pub mod Lawful
+mod Shapes

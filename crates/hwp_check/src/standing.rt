@@ -1,0 +1,66 @@
+ghost use Rattle.std.specs.Prelude.{◌≡◌, ◌<◌, ◌≤◌, ◌^◌, length};
+ghost use Rattle.std.specs.List.{sum_by};
+ghost use Rattle.hwp_check.specs.Standing.{cpu_height, cpu_line, entry_height, file_line, frame_height, frame_line, last_line, page_height, page_line};
+
+use hwp_geom::List;
+use hwp_page::{Entry, What};
+use hwp_report::{CpuLine, FrameLine, Report};
+
+/// The lines of an entry.
+pub(crate) fn entry_height(entry: &Entry) -> u64
+    requires small { entry_height entry.now < 2 ^ 64 }
+    ensures { result ≡ entry_height entry.now }
+{
+    match &entry.what {
+        What::Fail { seen, signals, .. } => 1 + seen.len() as u64 + signals.as_slice().len() as u64,
+        _ => 1,
+    }
+}
+
+/// The lines of some entries.
+pub(crate) fn entries_height(entries: &[Entry]) -> u64
+    requires small { sum_by entry_height entries.now < 2 ^ 64 }
+    ensures { result ≡ sum_by entry_height entries.now }
+{
+    let mut lines = 0;
+    for entry in entries {
+        lines += entry_height(entry);
+    }
+    lines
+}
+
+/// The lines of some frames.
+pub(crate) fn frames_height(frames: &[FrameLine]) -> u64
+    requires small { sum_by frame_height frames.now < 2 ^ 64 }
+    ensures { result ≡ sum_by frame_height frames.now }
+{
+    let mut lines = 0;
+    for frame in frames {
+        lines += 1 + frame.marks.len() as u64;
+    }
+    lines
+}
+
+/// The lines of some pages.
+pub(crate) fn pages_height(pages: &[List<Entry>]) -> u64
+    requires small { sum_by page_height pages.now < 2 ^ 64 }
+    ensures { result ≡ sum_by page_height pages.now }
+{
+    let mut lines = 0;
+    for page in pages {
+        lines += 1 + entries_height(page.as_slice());
+    }
+    lines
+}
+
+/// The lines of some processors.
+pub(crate) fn cpus_height(cpus: &[List<CpuLine>]) -> u64
+    requires small { sum_by cpu_height cpus.now < 2 ^ 64 }
+    ensures { result ≡ sum_by cpu_height cpus.now }
+{
+    let mut lines = 0;
+    for rows in cpus {
+        lines += 1 + rows.len() as u64;
+    }
+    lines
+}
