@@ -1,3 +1,4 @@
 mod AnswersByRow
 pub mod Lawful
+mod Balances
 mod Shapes

@@ -6,3 +6,4 @@ pub mod MarkFaults
 pub mod Scans
 pub mod AnswerFaults
 pub mod Verdicts
+pub mod Balances

@@ -2,6 +2,7 @@
 #![tactic(auto)]
 
 mod count;
+mod losses;
 mod shape;
 mod standing;
 mod verdicts;
