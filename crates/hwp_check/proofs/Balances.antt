@@ -1,5 +1,5 @@
 -- The losses that are told of a file, line by line, and that histories have, page by page.
-use Rattle.std.proofs.Common.{◌≡◌, ℕ, zero, suc, ◌+◌, ◌-◌, ◌^◌, ◌<◌, ◌≤◌, min, Bool, true, false, cond, List, [], ◌∷◌, ◌++◌, Option, Some, None, count_by, filter_map, flat_map, get_or, length, slice_get, sum_by, take, add-one, inl, inr, refl, sym, ap, ◌∙◌, subst, arith}
+use Rattle.std.proofs.Common.{◌≡◌, ℕ, zero, suc, ◌+◌, ◌^◌, ◌<◌, ◌≤◌, min, Bool, true, false, cond, List, [], ◌∷◌, ◌++◌, Some, count_by, filter_map, flat_map, get_or, length, slice_get, sum_by, take, add-one, inl, inr, refl, sym, ap, ◌∙◌, subst, arith}
 use Rattle.std.specs.List.{zip}
 use Rattle.std.proofs.lemmas.List.{append-nil, length-take, take_more}
 use Rattle.std.proofs.lemmas.List.Sums.{sum_by-append, sum_by-cons, sum_by_more, sum_by_push}
@@ -11,11 +11,10 @@ use Rattle.hwp_geom.specs.declared.FileNo.{FileNo}
 use Rattle.hwp_geom.specs.declared.PageKind.{PageKind}
 use Rattle.hwp_page.specs.declared.Entry.{Entry}
 use Rattle.hwp_script.specs.declared.Command.{Command}
-use Rattle.hwp_report.specs.declared.Acted.{Acted}
 use Rattle.hwp_report.specs.declared.CpuLine.{CpuLine}
 use Rattle.hwp_report.specs.declared.CpuLine.TheVariants as lines
 use Rattle.hwp_law.specs.Lines.{AnswerLine, answer_in}
-use Rattle.hwp_law.specs.Losses.{lost_in, told, told_by}
+use Rattle.hwp_law.specs.Losses.{lost_in, told}
 use Rattle.hwp_check.specs.Answered.{is_answer}
 use Rattle.hwp_page.specs.Losses.{file_behind, is_loss, is_same_file, losses_in}
 use Rattle.hwp_page.specs.declared.What.{What}
@@ -27,7 +26,7 @@ use Rattle.hwp_law.specs.Losses.{answered}
 use Rattle.hwp_check.specs.Rules.{IsBalanced}
 use Rattle.hwp_check.specs.Standing.{entry_height, file_line, last_line, page_height, what_height}
 use Rattle.hwp_check.specs.Verdicts.{IsBroken, Losses}
-use Rattle.hwp_check.specs.Balances.{capped, told_at, told_lines, told_of}
+use Rattle.hwp_check.specs.Balances.{capped, told_at, told_lines}
 
 -- as many answers as answer lines
 length-answers : (rows : List CpuLine) → length (filter_map answer_in rows) ≡ count_by is_answer rows
@@ -45,14 +44,14 @@ zip-nil : {X Y : Type 0} (xs : List X) → zip {X = Y} xs [] ≡ []
 zip-nil [] = refl
 zip-nil (x ∷ xs) = refl
 
-zip-suc : {X Y : Type 0} (xs : List X) (ys : List Y) (i : ℕ) (x : X) (y : Y) → slice_get xs i ≡ Some x → slice_get ys i ≡ Some y → zip (take (suc i) xs) (take (suc i) ys) ≡ zip (take i xs) (take i ys) ++ (x , y) ∷ []
+zip-suc : {X Y : Type 0} (xs : List X) (ys : List Y) (i : ℕ) (x : X) (y : Y) → slice_get xs i ≡ Some x → slice_get ys i ≡ Some y → zip (take (suc i) xs) (take (suc i) ys) ≡ zip (take i xs) (take i ys) ++ (x, y) ∷ []
 zip-suc [] ys i x y one other = absurd (none-some _ one)
 zip-suc (a ∷ xs) [] i x y one other = absurd (none-some _ other)
-zip-suc (a ∷ xs) (b ∷ ys) zero x y one other = let same : a ≡ x = same_Some _ _ one in let same2 : b ≡ y = same_Some _ _ other in ap (λ (z : _). z ∷ []) (ap (λ (u : _). (u , b)) same ∙ ap (λ (v : _). (x , v)) same2)
-zip-suc (a ∷ xs) (b ∷ ys) (suc i) x y one other = ap (λ (l : _). (a , b) ∷ l) (zip-suc xs ys i x y one other)
+zip-suc (a ∷ xs) (b ∷ ys) zero x y one other = let same : a ≡ x = same_Some _ _ one in let same2 : b ≡ y = same_Some _ _ other in ap (λ (z : _). z ∷ []) (ap (λ (u : _). (u, b)) same ∙ ap (λ (v : _). (x, v)) same2)
+zip-suc (a ∷ xs) (b ∷ ys) (suc i) x y one other = ap (λ (l : _). (a, b) ∷ l) (zip-suc xs ys i x y one other)
 
 -- the first pairs of two lists, with the next one
-pub zip-more : {X Y : Type 0} (xs : List X) (ys : List Y) (i : ℕ) (x : X) (y : Y) → slice_get xs i ≡ Some x → slice_get ys i ≡ Some y → zip (take (i + 1) xs) (take (i + 1) ys) ≡ zip (take i xs) (take i ys) ++ (x , y) ∷ []
+pub zip-more : {X Y : Type 0} (xs : List X) (ys : List Y) (i : ℕ) (x : X) (y : Y) → slice_get xs i ≡ Some x → slice_get ys i ≡ Some y → zip (take (i + 1) xs) (take (i + 1) ys) ≡ zip (take i xs) (take i ys) ++ (x, y) ∷ []
 zip-more xs ys i x y one other = ap (λ (n : ℕ). zip (take n xs) (take n ys)) (add-one i) ∙ zip-suc xs ys i x y one other
 
 -- as many as the shorter list has are all
@@ -63,7 +62,7 @@ zip-all (x ∷ xs) [] zero all = refl
 zip-all (x ∷ xs) (y ∷ ys) zero all = absurd (omega arith)
 zip-all [] ys (suc n) all = refl
 zip-all (x ∷ xs) [] (suc n) all = refl
-zip-all (x ∷ xs) (y ∷ ys) (suc n) all = ap (λ (l : _). (x , y) ∷ l) (zip-all xs ys n (omega arith))
+zip-all (x ∷ xs) (y ∷ ys) (suc n) all = ap (λ (l : _). (x, y) ∷ l) (zip-all xs ys n (omega arith))
 
 got : {X : Type 0} (xs : List X) (i : ℕ) (d x : X) → i < length xs → x ≡ get_or xs i d → slice_get xs i ≡ Some x
 got [] i d x within is = absurd (omega arith)
@@ -125,20 +124,20 @@ module _ (file : FileNo) where
   pub all-next : (lists : List (List Command)) (cpus : List (List CpuLine)) (i : ℕ) (d : List Command) (e : List CpuLine) (list : List Command) (rows : List CpuLine) (sum now result : ℕ) → i < length lists → i < length cpus → list ≡ get_or lists i d → rows ≡ get_or cpus i e → sum ≡ capped (sum_by (told file) (told_lines (take i lists) (take i cpus))) → now ≡ capped (sum_by (told file) (zip list (filter_map answer_in rows))) → result ≡ capped (sum + now) → result ≡ capped (sum_by (told file) (told_lines (take (i + 1) lists) (take (i + 1) cpus)))
   all-next lists cpus i d e list rows sum now result within inside one other was is pushed =
       let more : sum_by (told file) (told_lines (take (i + 1) lists) (take (i + 1) cpus)) ≡ sum_by (told file) (told_lines (take i lists) (take i cpus)) + sum_by (told file) (zip list (filter_map answer_in rows)) =
-        ap (λ (l : List (List Command × List CpuLine)). sum_by (told file) (flat_map pairs l)) (zip-more lists cpus i list rows (got lists i d list within one) (got cpus i e rows inside other))
-        ∙ ap (sum_by (told file)) (flat_map-append pairs (zip (take i lists) (take i cpus)) ((list , rows) ∷ []))
-        ∙ sum_by-append (told file) (told_lines (take i lists) (take i cpus)) (flat_map pairs ((list , rows) ∷ []))
-        ∙ ap (λ (l : List (Command × AnswerLine)). sum_by (told file) (told_lines (take i lists) (take i cpus)) + sum_by (told file) l) (flat_map-cons pairs (list , rows) [] ∙ append-nil (zip list (filter_map answer_in rows))) in
+      ap (λ (l : List (List Command × List CpuLine)). sum_by (told file) (flat_map pairs l)) (zip-more lists cpus i list rows (got lists i d list within one) (got cpus i e rows inside other))
+      ∙ ap (sum_by (told file)) (flat_map-append pairs (zip (take i lists) (take i cpus)) ((list, rows) ∷ []))
+      ∙ sum_by-append (told file) (told_lines (take i lists) (take i cpus)) (flat_map pairs ((list, rows) ∷ []))
+      ∙ ap (λ (l : List (Command × AnswerLine)). sum_by (told file) (told_lines (take i lists) (take i cpus)) + sum_by (told file) l) (flat_map-cons pairs (list, rows) [] ∙ append-nil (zip list (filter_map answer_in rows))) in
       omega (arith, more, was, is, pushed)
 
   pub all-end : (lists : List (List Command)) (cpus : List (List CpuLine)) (i : ℕ) → min (length lists) (length cpus) ≤ i → sum_by (told file) (told_lines (take i lists) (take i cpus)) ≡ sum_by (told file) (told_lines lists cpus)
   all-end lists cpus i all = ap (λ (l : List (List Command × List CpuLine)). sum_by (told file) (flat_map pairs l)) (zip-all lists cpus i all)
 
   -- the sum with a further page
-  pub lost-next : (kinds : List PageKind) (pages : List (List Entry)) (i : ℕ) (d : PageKind) (e : List Entry) (entries : List Entry) (sum now result : ℕ) → i < length kinds → i < length pages → entries ≡ get_or pages i e → sum ≡ capped (sum_by (lost_in file) (zip (take i kinds) (take i pages))) → now ≡ lost_in file (get_or kinds i d , entries) → result ≡ capped (sum + now) → result ≡ capped (sum_by (lost_in file) (zip (take (i + 1) kinds) (take (i + 1) pages)))
+  pub lost-next : (kinds : List PageKind) (pages : List (List Entry)) (i : ℕ) (d : PageKind) (e : List Entry) (entries : List Entry) (sum now result : ℕ) → i < length kinds → i < length pages → entries ≡ get_or pages i e → sum ≡ capped (sum_by (lost_in file) (zip (take i kinds) (take i pages))) → now ≡ lost_in file (get_or kinds i d, entries) → result ≡ capped (sum + now) → result ≡ capped (sum_by (lost_in file) (zip (take (i + 1) kinds) (take (i + 1) pages)))
   lost-next kinds pages i d e entries sum now result within inside one was is pushed =
-      let more : sum_by (lost_in file) (zip (take (i + 1) kinds) (take (i + 1) pages)) ≡ sum_by (lost_in file) (zip (take i kinds) (take i pages)) + lost_in file (get_or kinds i d , entries) =
-        ap (sum_by (lost_in file)) (zip-more kinds pages i (get_or kinds i d) entries (got kinds i d (get_or kinds i d) within refl) (got pages i e entries inside one)) ∙ sum_by_push (lost_in file) (zip (take i kinds) (take i pages)) (get_or kinds i d , entries) in
+      let more : sum_by (lost_in file) (zip (take (i + 1) kinds) (take (i + 1) pages)) ≡ sum_by (lost_in file) (zip (take i kinds) (take i pages)) + lost_in file (get_or kinds i d, entries) =
+      ap (sum_by (lost_in file)) (zip-more kinds pages i (get_or kinds i d) entries (got kinds i d (get_or kinds i d) within refl) (got pages i e entries inside one)) ∙ sum_by_push (lost_in file) (zip (take i kinds) (take i pages)) (get_or kinds i d, entries) in
       omega (arith, more, was, is, pushed)
 
   pub lost-end : (kinds : List PageKind) (pages : List (List Entry)) (i : ℕ) → min (length kinds) (length pages) ≤ i → sum_by (lost_in file) (zip (take i kinds) (take i pages)) ≡ sum_by (lost_in file) (zip kinds pages)
@@ -181,11 +180,12 @@ one-loss e = at e.what
     at entries.Soft = omega arith
 
 module _ (file : FileNo) where
-  lost-page : (kind : PageKind) (history : List Entry) → lost_in file (kind , history) ≤ page_height history
+  lost-page : (kind : PageKind) (history : List Entry) → lost_in file (kind, history) ≤ page_height history
   lost-page kind history = by (is_same_file file (file_behind kind))
     where
       below : losses_in history ≤ sum_by entry_height history
       below = sum-below (λ (e : Entry). from_bool (is_loss e.what)) entry_height history one-loss
+
       by : (b : Bool) → cond b (losses_in history) 0 ≤ page_height history
       by true = let less = below in omega (arith, less)
       by false = omega arith
@@ -195,9 +195,9 @@ module _ (file : FileNo) where
   lost-lines [] pages = omega arith
   lost-lines (k ∷ ks) [] = omega arith
   lost-lines (k ∷ ks) (p ∷ ps) =
-      let first : lost_in file (k , p) ≤ page_height p = lost-page k p in
+      let first : lost_in file (k, p) ≤ page_height p = lost-page k p in
       let rest : sum_by (lost_in file) (zip ks ps) ≤ sum_by page_height ps = lost-lines ks ps in
-      let left : sum_by (lost_in file) ((k , p) ∷ zip ks ps) ≡ lost_in file (k , p) + sum_by (lost_in file) (zip ks ps) = sum_by-cons (lost_in file) (k , p) (zip ks ps) in
+      let left : sum_by (lost_in file) ((k, p) ∷ zip ks ps) ≡ lost_in file (k, p) + sum_by (lost_in file) (zip ks ps) = sum_by-cons (lost_in file) (k, p) (zip ks ps) in
       let right : sum_by page_height (p ∷ ps) ≡ page_height p + sum_by page_height ps = sum_by-cons page_height p ps in
       omega (arith, first, rest, left, right)
 
@@ -220,3 +220,23 @@ losses-first script report file left line there wrong before is = record {
   where
     line-of : (n : ℕ) → n < length report.files → file_line report n ≡ 4 + n
     line-of n within = let short : length (take n report.files) ≡ min n (length report.files) = length-take n report.files in omega (arith, short, within)
+
+at-or : (files : List ℕ) (i left d : ℕ) → slice_get files i ≡ Some left → left ≡ get_or files i d
+at-or [] i left d there = absurd (none-some _ there)
+at-or (x ∷ files) zero left d there = sym (same_Some _ _ there)
+at-or (x ∷ files) (suc i) left d there = at-or files i left d there
+
+some-at : (files : List ℕ) (i d : ℕ) → i < length files → slice_get files i ≡ Some (get_or files i d)
+some-at files i d within = got files i d (get_or files i d) within refl
+
+-- what was read of the files at a number that was widened is what stands there
+pub balanced-here : (script : Script) (report : Report) (files : List ℕ) (file at d : ℕ) → files ≡ report.files → at ≡ file → IsBalanced script report (record { 0 = file }) (get_or files at d) → (i left : ℕ) → i ≡ file → slice_get report.files i ≡ Some left → IsBalanced script report (record { 0 = i }) left
+balanced-here script report files file at d same widened is i left here there =
+    let reads : left ≡ get_or files at d = at-or report.files i left d there ∙ ap (λ (xs : List ℕ). get_or xs i d) (sym same) ∙ ap (λ (n : ℕ). get_or files n d) (here ∙ sym widened) in
+    subst (λ (n : ℕ). IsBalanced script report (record { 0 = n }) left) (sym here) (subst (λ (x : ℕ). IsBalanced script report (record { 0 = file }) x) (sym reads) is)
+
+pub losses-here : (script : Script) (report : Report) (files : List ℕ) (file at d line wide : ℕ) → files ≡ report.files → at ≡ file → file < length report.files → (IsBalanced script report (record { 0 = file }) (get_or files at d) → ⊥) → ((i : ℕ) → i < file → (other : ℕ) → slice_get report.files i ≡ Some other → IsBalanced script report (record { 0 = i }) other) → line ≡ 4 + wide → wide ≡ file → IsBroken Losses script report line
+losses-here script report files file at d line wide same widened within wrong before is widely =
+    let reads : get_or report.files file d ≡ get_or files at d = ap (λ (xs : List ℕ). get_or xs file d) (sym same) ∙ ap (λ (n : ℕ). get_or files n d) (sym widened) in
+    losses-first script report (record { 0 = file }) (get_or report.files file d) line (some-at report.files file d within)
+    (λ is. wrong (subst (λ (x : ℕ). IsBalanced script report (record { 0 = file }) x) reads is)) before (is ∙ ap (λ (n : ℕ). 4 + n) widely)

@@ -20,13 +20,7 @@ fn told_by(file: FileNo, command: &Command, answer: &Answer) -> u64
 {
     match answer {
         Answer::Eio(lost) => match command {
-            Command::Fsync { file: other } => {
-                if other.0 == file.0 {
-                    *lost
-                } else {
-                    0
-                }
-            }
+            Command::Fsync { file: other } => { if other.0 == file.0 { *lost } else { 0 } }
             _ => 0,
         },
         _ => 0,
@@ -110,7 +104,7 @@ fn is_behind(file: FileNo, kind: PageKind) -> bool
 
 /// The losses of a page's history, where the file stands behind it.
 fn lost_in(file: FileNo, kind: PageKind, entries: &[Entry]) -> u64
-    ensures { result ≡ lost_in file (kind , entries.now) }
+    ensures { result ≡ lost_in file (kind, entries.now) }
 {
     if is_behind(file, kind) {
         losses_in(entries)

@@ -1,6 +1,5 @@
-use Rattle.std.proofs.Common.{rules, ◌≡◌, ◌≤◌, min, length, sum_by, take, ap, ◌∙◌, arith}
-use Rattle.hwp_law.specs.Losses.{told}
-use Rattle.hwp_check.specs.Balances.{capped, told_lines}
+use Rattle.std.proofs.Common.{ap, ◌∙◌, arith}
+use Rattle.hwp_check.specs.Balances.{capped}
 use Rattle.hwp_check.proofs.Balances.{all-end, all-next}
 use Rattle.hwp_check.proofs.losses.all_told.Goals as goal
 

@@ -1,4 +1,4 @@
-use Rattle.std.proofs.Common.{rules, ◌≡◌, ◌+◌, IsTrue, nat_eq, sum_by, arith}
+use Rattle.std.proofs.Common.{rules, ◌≡◌, ◌+◌, sum_by}
 use Rattle.std.specs.List.{zip}
 use Rattle.hwp_law.specs.Losses.{answered, lost_in, told}
 use Rattle.hwp_check.specs.Balances.{capped}

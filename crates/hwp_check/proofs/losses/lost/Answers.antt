@@ -1,4 +1,4 @@
-use Rattle.std.proofs.Common.{rules, ◌≡◌, ◌≤◌, min, length, sum_by, take, ap, ◌∙◌, arith}
+use Rattle.std.proofs.Common.{ap, ◌∙◌, arith}
 use Rattle.hwp_check.specs.Balances.{capped}
 use Rattle.hwp_check.proofs.Balances.{lost-end, lost-next}
 use Rattle.hwp_check.proofs.losses.lost.Goals as goal

@@ -1,9 +1,8 @@
-use Rattle.std.proofs.Common.{rules, ◌≡◌, ◌+◌, ◌≤◌, count_by, filter_map, length, slice_index_or, get_or, sum_by, take, ap, sym, refl, [], arith}
+use Rattle.std.proofs.Common.{rules, ◌≡◌, sum_by, refl, [], arith}
 use Rattle.std.specs.List.{zip}
-use Rattle.hwp_law.specs.Lines.{AnswerLine, answer_in}
+use Rattle.hwp_law.specs.Lines.{AnswerLine}
 use Rattle.hwp_law.specs.Losses.{told}
-use Rattle.hwp_check.specs.Balances.{capped}
-use Rattle.hwp_check.proofs.Balances.{count-next, flag, told-next, told-none}
+use Rattle.hwp_check.proofs.Balances.{count-next, told-next, told-none}
 use Rattle.hwp_check.proofs.losses.told.Goals as goal
 
 pub loop-row-init : goal.loop-row-init
