@@ -54,9 +54,6 @@ commands-at script i d valid supported inside = record {
 pub record AreBegun (script : Script) (tasks : List Processor) : Type 0 where
   pub each : (cpu : Cpu) (list : List Command) (p : Processor) → slice_get script.lists cpu.0 ≡ Some list → slice_get tasks cpu.0 ≡ Some p → AtBeginning script.layout cpu list p
 
-pub begun-none : (script : Script) → AreBegun script []
-begun-none script = record { each = λ cpu list p there mine. absurd (cc) }
-
 -- what stands before a member that was added is as it was
 get-front : {A : Type 0} (xs : List A) (x : A) (i : ℕ) → i < length xs → slice_get (xs ++ x ∷ []) i ≡ slice_get xs i
 get-front [] x i inside = absurd (omega arith)
