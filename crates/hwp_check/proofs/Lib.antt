@@ -2,3 +2,5 @@ mod AnswersByRow
 pub mod Lawful
 mod Balances
 mod Shapes
+mod StopScans
+mod StopLaws

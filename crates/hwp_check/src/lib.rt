@@ -5,6 +5,8 @@ mod count;
 mod losses;
 mod shape;
 mod standing;
+mod stop;
+mod stopping;
 mod verdicts;
 
 pub use verdicts::Verdict;
