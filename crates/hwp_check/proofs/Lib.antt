@@ -1,3 +1,5 @@
 mod AnswersByRow
 pub mod Lawful
 mod Shapes
+mod Walking
+mod Wrongs

@@ -2,6 +2,8 @@
 #![tactic(auto)]
 
 mod count;
+mod histories;
+mod making;
 mod shape;
 mod standing;
 mod verdicts;
