@@ -7,3 +7,4 @@ pub mod MarkFaults
 pub mod Scans
 pub mod AnswerFaults
 pub mod Verdicts
+pub mod Balances

@@ -3,6 +3,7 @@
 
 mod count;
 mod histories;
+mod losses;
 mod making;
 mod shape;
 mod standing;

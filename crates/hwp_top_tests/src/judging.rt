@@ -97,13 +97,15 @@ fn is_own(report: &Report, who: Who, at: At) -> bool {
 /// Whether the entry at a place is a load of this word.
 fn is_load_of(report: &Report, at: At, word: u64) -> bool {
     match entry_at(report, at) {
-        Some(Entry {
-            what: What::Load {
-                met: Met::Word { word: loaded, .. },
+        Some(
+            Entry {
+                what: What::Load {
+                    met: Met::Word { word: loaded, .. },
+                    ..
+                },
                 ..
             },
-            ..
-        }) => *loaded == word,
+        ) => *loaded == word,
         _ => false,
     }
 }
@@ -126,7 +128,11 @@ fn is_named(report: &Report, who: Who, answer: Answer) -> bool {
 fn are_named(report: &Report, cpu: u8, lines: &[CpuLine], commands: usize) -> bool {
     let mut seq = 0;
     for line in lines {
-        let CpuLine::Answer { seq: number, answer } = line else {
+        let CpuLine::Answer {
+            seq: number,
+            answer,
+        } = line
+        else {
             return false;
         };
         let who = Who {
@@ -158,7 +164,9 @@ fn is_right(report: &Report, race: &Race) -> bool {
     lines.len() == 2
         && are_named(report, 0, lines[0].as_slice(), first)
         && are_named(report, 1, lines[1].as_slice(), second)
-        && histories.iter().all(|history| is_legal(history.as_slice(), race.fill))
+        && histories
+            .iter()
+            .all(|history| is_legal(history.as_slice(), race.fill))
 }
 
 /// Each order of the first turns gives a report that is right.
