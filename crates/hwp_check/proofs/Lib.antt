@@ -4,3 +4,5 @@ mod Balances
 mod Shapes
 mod StopScans
 mod StopLaws
+mod Walking
+mod Wrongs

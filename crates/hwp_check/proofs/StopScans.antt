@@ -1,10 +1,9 @@
 -- The answers `stopped` and the stop's cause, found line by line, are as the rule of the stop says.
-use Rattle.std.proofs.Common.{◌≡◌, ◌≢◌, ◌⊎◌, inl, inr, ℕ, zero, suc, ◌+◌, ◌<◌, ◌==◌, ◌&&◌, ◌||◌, Bool, true, false, cond, List, [], ◌∷◌, Some, slice_get, take, nat_lt, true≢false, refl, sym, ap, ◌∙◌, subst, arith}
+use Rattle.std.proofs.Common.{◌≡◌, ◌≢◌, ◌⊎◌, inl, inr, ℕ, zero, suc, ◌==◌, ◌&&◌, ◌||◌, Bool, true, false, cond, List, [], ◌∷◌, Some, slice_get, take, true≢false, refl, sym, ap, ◌∙◌, arith}
 use Rattle.std.specs.List.{list_any}
 use Rattle.std.proofs.lemmas.Bool.{eqb-true, eq-eqb}
 use Rattle.std.proofs.lemmas.Option.{same_Some, none-some}
 use Rattle.hwp_geom.specs.declared.Frame.{Frame}
-use Rattle.hwp_report.specs.declared.Acted.{Acted}
 use Rattle.hwp_report.specs.declared.Answer.{Answer}
 use Rattle.hwp_report.specs.declared.Answer.TheVariants as answers
 use Rattle.hwp_report.specs.declared.CpuLine.{CpuLine}
@@ -13,7 +12,7 @@ use Rattle.hwp_law.specs.Checks.{is_stopping}
 use Rattle.hwp_law.specs.Halts.{IsStoppedBy, is_panic_of}
 use Rattle.hwp_law.specs.Lines.{EventLine, events_among}
 use Rattle.hwp_law.specs.Stops.{StaysStopped}
-use Rattle.hwp_check.specs.Stopping.{goes_on, has_stopped, is_lower, is_of_event, is_stopped, is_stopper, rows_panic, rows_stopped_by, stays, stopped_by}
+use Rattle.hwp_check.specs.Stopping.{goes_on, has_stopped, is_lower, is_stopped, is_stopper, rows_panic, rows_stopped_by, stays, stopped_by}
 
 which : (b : Bool) → (b ≡ true) ⊎ (b ≡ false)
 which true = inl refl

@@ -1,4 +1,5 @@
 pub mod Standing
+pub mod Histories
 pub mod Answered
 pub mod Rules
 pub mod Faults

@@ -2,7 +2,9 @@
 #![tactic(auto)]
 
 mod count;
+mod histories;
 mod losses;
+mod making;
 mod shape;
 mod standing;
 mod stop;

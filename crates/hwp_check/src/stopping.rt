@@ -4,9 +4,9 @@ ghost use Rattle.hwp_law.specs.Checks.{is_panic, is_stopping};
 ghost use Rattle.hwp_law.specs.Commands.{arrival_of};
 ghost use Rattle.hwp_law.specs.Halts.{CanStop, IsStopOf, IsStoppedBy, Panics, is_panic_of};
 ghost use Rattle.hwp_law.specs.Lines.{answer_among, answer_of, events_of, rows_of};
-ghost use Rattle.hwp_law.specs.Places.{command_at};
 ghost use Rattle.hwp_check.specs.Stopping.{IsCausedStop, all_stay, goes_on, has_stopped, is_lower, is_of_event, is_stopped, is_stopper, rows_panic, rows_stopped_by, some_stopped, stays};
 
+use crate::making::command_of;
 use hwp_geom::{Frame, List, Mode, Who};
 use hwp_report::{Acted, Answer, CpuLine, Report, Stop, StopCause};
 use hwp_script::{Command, Script};
@@ -191,16 +191,6 @@ fn arrives_so(command: &Command, mcg: McgBits, mode: Mode) -> bool
     mcg.ripv == ripv && mcg.eipv == eipv && mode == expected
 }
 
-/// The command of a processor with a number.
-fn command_at(script: &Script, who: Who) -> Option<Command>
-    ensures { result ≡ command_at script.now who }
-{
-    let Some(list) = script.lists.as_slice().get(usize::from(who.cpu.0)) else {
-        return None;
-    };
-    list.as_slice().get(who.seq as usize).copied()
-}
-
 /// The lines of a command's processor.
 fn rows_of(report: &Report, who: Who) -> &[CpuLine]
     ensures { result.now ≡ rows_of report.now who }
@@ -266,7 +256,7 @@ fn was_stopped(report: &Report, who: Who) -> bool
 fn is_stop_of(script: &Script, report: &Report, stop: &Stop) -> bool
     ensures { IsTrue result ↔ IsStopOf script.now report.now stop.now }
 {
-    match command_at(script, stop.who) {
+    match command_of(script, stop.who) {
         Some(command) => {
             can_stop(script, report, stop, &command) && was_stopped(report, stop.who)
         }

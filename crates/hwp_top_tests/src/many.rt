@@ -78,11 +78,11 @@ fn crowded(rt: &impl Abort, alloc: Global) -> String {
             writeln!(report, "load {cpu} {seq} {cpu} 63 0 0").expect(rt, "memory");
         }
     }
-    for cpu in 0..8 {
+    for cpu in 0..8_u8 {
         writeln!(report, "cpu {cpu} 512").expect(rt, "memory");
-        let first = 2 + 513 * cpu;
-        for seq in 0..512 {
-            let entry = first + seq;
+        let first = 2 + 513 * u64::from(cpu);
+        for seq in 0..512_u16 {
+            let entry = first + u64::from(seq);
             writeln!(report, "{seq} value 0 0 {entry}").expect(rt, "memory");
         }
     }
