@@ -1,4 +1,5 @@
 pub mod Standing
+pub mod Histories
 pub mod Answered
 pub mod Rules
 pub mod Faults
@@ -6,3 +7,5 @@ pub mod MarkFaults
 pub mod Scans
 pub mod AnswerFaults
 pub mod Verdicts
+pub mod Balances
+pub mod Stopping

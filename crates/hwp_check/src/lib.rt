@@ -2,8 +2,13 @@
 #![tactic(auto)]
 
 mod count;
+mod histories;
+mod losses;
+mod making;
 mod shape;
 mod standing;
+mod stop;
+mod stopping;
 mod verdicts;
 
 pub use verdicts::Verdict;

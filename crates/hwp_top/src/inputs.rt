@@ -6,8 +6,8 @@ ghost use Rattle.hwp_script.specs.declared.Refused.{Refused};
 ghost use Rattle.hwp_job.specs.Begins.{is_supported};
 ghost use Rattle.hwp_top.specs.Top.{IsBuilt, Refuses, Takes};
 
-use hwp_job::is_supported;
 use hwp_io::{ReadAll, Source, read_all};
+use hwp_job::is_supported;
 use hwp_script::{Command, MAX_SCRIPT, ReadScript, Refused, Script, Why, read};
 use std::alloc::Global;
 
@@ -33,7 +33,11 @@ fn whole(why: Why) -> InputFault
 fn is_all_built(script: &Script) -> bool
     ensures { IsTrue result ↔ IsBuilt script.now }
 {
-    script.lists.as_slice().iter().all(|list| are_built(list.as_slice()))
+    script
+        .lists
+        .as_slice()
+        .iter()
+        .all(|list| are_built(list.as_slice()))
 }
 
 /// Whether all these commands are supported.

@@ -13,7 +13,9 @@ fn repeat(rt: &impl Abort, text: &mut String, piece: &str, times: u32) {
 
 /// Two processors of so many commands, each of one turn, and a schedule of 100,000 words.
 fn scheduled(rt: &impl Abort, alloc: Global) -> String {
-    let mut script = String::from_str(alloc, "hwp 1\ncpus 2\nframes 1\ncpu 0\n").expect(rt, "memory");
+    let mut script = String::from_str(alloc, "hwp 1\ncpus 2\nframes 1\ncpu 0\n").expect(
+        rt, "memory",
+    );
     repeat(rt, &mut script, "log 0x0 0x0 0x0\n", 2048);
     script.push_str("cpu 1\n").expect(rt, "memory");
     repeat(rt, &mut script, "log 0x0 0x0 0x0\n", 2048);
@@ -45,7 +47,9 @@ fn a_schedule_of_100000_words_is_played(rt: HostRuntime) {
 
 /// Eight processors, each with a thread, a translation to the one page, and 512 loads.
 fn crowd(rt: &impl Abort, alloc: Global) -> String {
-    let mut script = String::from_str(alloc, "hwp 1\ncpus 8\nframes 1\nproc 0\n").expect(rt, "memory");
+    let mut script = String::from_str(alloc, "hwp 1\ncpus 8\nframes 1\nproc 0\n").expect(
+        rt, "memory",
+    );
     for cpu in 0..8 {
         writeln!(script, "thread {cpu} 0 {cpu} handler").expect(rt, "memory");
     }
@@ -65,7 +69,8 @@ fn crowd(rt: &impl Abort, alloc: Global) -> String {
 
 /// Its report: the processors run one after the other, and the first brings the page in.
 fn crowded(rt: &impl Abort, alloc: Global) -> String {
-    let head = "hwp-report 1\nstop none\ncount 0\nframe 0 page 0 bad 0 weak 0\npage 0 4105\nin 0 0\n";
+    let head =
+        "hwp-report 1\nstop none\ncount 0\nframe 0 page 0 bad 0 weak 0\npage 0 4105\nin 0 0\n";
     let mut report = String::from_str(alloc, head).expect(rt, "memory");
     for cpu in 0..8 {
         writeln!(report, "map {cpu} 0 {cpu}").expect(rt, "memory");
@@ -73,11 +78,11 @@ fn crowded(rt: &impl Abort, alloc: Global) -> String {
             writeln!(report, "load {cpu} {seq} {cpu} 63 0 0").expect(rt, "memory");
         }
     }
-    for cpu in 0..8 {
+    for cpu in 0..8_u8 {
         writeln!(report, "cpu {cpu} 512").expect(rt, "memory");
-        let first = 2 + 513 * cpu;
-        for seq in 0..512 {
-            let entry = first + seq;
+        let first = 2 + 513 * u64::from(cpu);
+        for seq in 0..512_u16 {
+            let entry = first + u64::from(seq);
             writeln!(report, "{seq} value 0 0 {entry}").expect(rt, "memory");
         }
     }
