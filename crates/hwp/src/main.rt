@@ -14,7 +14,7 @@ const HELP: &str = "\
 usage: hwp step < SCRIPT > REPORT
 
 Simulates Linux memory failure (hwpoison) on a machine of its own. Today it runs
-scripts of one processor in which no memory fails; docs/FORMATS.md has the formats.
+scripts in which no memory fails; docs/FORMATS.md has the formats.
 
   hwp step     reads a fault script from standard input, runs it, and writes the
                report to standard output

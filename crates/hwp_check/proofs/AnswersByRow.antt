@@ -1,19 +1,18 @@
 -- The answers of a processor, told from the first command on, and told line by line: the same.
-use Rattle.std.proofs.Common.{◌≡◌, ◌⊎◌, inl, inr, ℕ, zero, suc, ◌+◌, ◌<◌, Bool, true, false, cond, true≢false, List, [], ◌∷◌, Option, Some, None, count_by, length, slice_get, take, IsSome, refl, sym, ap, ◌∙◌, subst, arith}
+use Rattle.std.proofs.Common.{◌≡◌, inl, inr, ℕ, zero, suc, ◌+◌, ◌<◌, Bool, false, cond, true≢false, List, [], ◌∷◌, Some, count_by, length, slice_get, take, IsSome, refl, sym, ap, ◌∙◌, subst, arith}
 use Rattle.std.proofs.lemmas.Option.{same_Some, none-some}
 use Rattle.std.proofs.lemmas.List.Sums.{sum_by-cons}
 use Rattle.hwp_geom.specs.declared.Cpu.{Cpu}
 use Rattle.hwp_geom.specs.declared.Who.{Who}
 use Rattle.hwp_script.specs.declared.Command.{Command}
 use Rattle.hwp_script.specs.declared.Script.{Script}
-use Rattle.hwp_report.specs.declared.Acted.{Acted}
 use Rattle.hwp_report.specs.declared.Answer.{Answer}
 use Rattle.hwp_report.specs.declared.Answer.TheVariants as answers
 use Rattle.hwp_report.specs.declared.CpuLine.{CpuLine}
 use Rattle.hwp_report.specs.declared.CpuLine.TheVariants as lines
 use Rattle.hwp_report.specs.declared.Report.{Report}
 use Rattle.hwp_law.specs.Causes.{AreCaused, IsCaused, IsHeeded}
-use Rattle.hwp_check.specs.Answered.{AreAnswered, HasAnswer, IsInPlace, IsRight, IsShown, is_answer, seq_of}
+use Rattle.hwp_check.specs.Answered.{AreAnswered, HasAnswer, IsRight, IsShown, is_answer, seq_of}
 
 -- the last of the commands that a line is of, and of which command it is, where so many were answered before
 abbrev pub answers_in : ℕ → List CpuLine → ℕ

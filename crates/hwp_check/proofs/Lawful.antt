@@ -1,5 +1,5 @@
 -- The nine rules together are the law of reports.
-use Rattle.std.proofs.Common.{◌≡◌, ℕ, zero, suc, ◌+◌, Bool, cond, List, [], ◌∷◌, Some, IsSome, count_by, length, slice_get, sum_by, refl, sym, ap, ◌∙◌, subst, arith}
+use Rattle.std.proofs.Common.{◌≡◌, ℕ, zero, suc, Bool, cond, List, [], ◌∷◌, Some, IsSome, length, slice_get, refl, sym, ap, ◌∙◌, subst, arith}
 use Rattle.std.proofs.lemmas.Option.{same_Some, none-some}
 use Rattle.hwp_geom.specs.declared.Cpu.{Cpu}
 use Rattle.hwp_geom.specs.declared.Frame.{Frame}
@@ -10,7 +10,6 @@ use Rattle.hwp_page.specs.History.{IsReplay, Leads}
 use Rattle.hwp_page.specs.Step.{after, opening_of}
 use Rattle.hwp_page.specs.declared.Entry.{Entry}
 use Rattle.hwp_page.specs.declared.PageState.{PageState}
-use Rattle.hwp_script.specs.declared.Command.{Command}
 use Rattle.hwp_script.specs.declared.Script.{Script}
 use Rattle.hwp_report.specs.declared.Answer.TheVariants as answers
 use Rattle.hwp_report.specs.declared.CpuLine.{CpuLine}
@@ -19,8 +18,8 @@ use Rattle.hwp_report.specs.declared.FrameLine.{FrameLine}
 use Rattle.hwp_report.specs.declared.Report.{Report}
 use Rattle.hwp_law.specs.Frames.{IsFrameLine}
 use Rattle.hwp_law.specs.Law.{IsLawful}
-use Rattle.hwp_law.specs.Report.{IsHistory, is_of}
-use Rattle.hwp_check.specs.Rules.{AnswersFit, FramesFit, HistoriesFit, IsFrameShown, MarksFit, SeenFit, ShapeFits, StopFits}
+use Rattle.hwp_law.specs.Report.{IsHistory}
+use Rattle.hwp_check.specs.Rules.{AnswersFit, FramesFit, HistoriesFit, MarksFit, SeenFit, ShapeFits, StopFits}
 use Rattle.hwp_check.specs.Verdicts.{Holds, Rule, Shape, Histories, Answers, Seen, Marks, Count, Losses, Stop, Frames}
 use Rattle.hwp_check.proofs.AnswersByRow.{by-rows, rows-by, told-of}
 

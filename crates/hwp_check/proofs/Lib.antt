@@ -1,5 +1,6 @@
 mod AnswersByRow
 pub mod Lawful
+mod Balances
 mod Shapes
 mod PastLaws
 mod FirstLaws
@@ -7,3 +8,7 @@ mod TopLaws
 mod OwnLaws
 mod SightLaws
 mod SeenRule
+mod StopScans
+mod StopLaws
+mod Walking
+mod Wrongs

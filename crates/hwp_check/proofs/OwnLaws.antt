@@ -1,5 +1,5 @@
 -- The settings that were done before a command.
-use Rattle.std.proofs.Common.{◌≡◌, ℕ, zero, suc, ◌+◌, ◌-◌, ◌<◌, ◌≤◌, ◌&&◌, min, ◌==◌, Bool, true, false, not, true≢false, List, [], ◌∷◌, Option, Some, is_some, MatchBool, length, take, slice_get, slice_index, slice_index_or, unwrap_or, refl, sym, ap, ◌∙◌, subst, arith}
+use Rattle.std.proofs.Common.{◌≡◌, ℕ, zero, suc, ◌+◌, ◌-◌, ◌<◌, ◌≤◌, ◌&&◌, min, ◌==◌, Bool, true, false, not, true≢false, List, [], ◌∷◌, Option, Some, is_some, MatchBool, length, take, slice_get, slice_index, slice_index_or, unwrap_or, refl, sym, ap, ◌∙◌, arith}
 use Rattle.std.specs.Int.{from_bool}
 use Rattle.std.specs.Option.{option_and_then}
 use Rattle.std.proofs.lemmas.Bool.{eqb-false, eqb-true}
@@ -15,9 +15,9 @@ use Rattle.hwp_report.specs.declared.CpuLine.{CpuLine}
 use Rattle.hwp_report.specs.declared.Report.{Report}
 use Rattle.hwp_law.specs.Lines.{answer_among, rows_of}
 use Rattle.hwp_law.specs.Policies.{commands_before, setting_of}
-use Rattle.hwp_law.specs.Seen.{IsOwnCount, commands_around, cpu_of_thread, is_done, settings_done}
+use Rattle.hwp_law.specs.Seen.{IsOwnCount, commands_around, is_done, settings_done}
 use Rattle.hwp_check.specs.declared.pasts.Past.{Past}
-use Rattle.hwp_check.specs.Sights.{AreDone, IsPast, counts}
+use Rattle.hwp_check.specs.Sights.{IsPast, counts}
 
 pub counts-length : (thread : Thread) (count : ℕ) (list : List Command) (flags : List Bool) → length flags ≡ length list → length (counts thread count list flags) ≡ length list + 1
 counts-length thread count [] flags each = refl
@@ -25,7 +25,7 @@ counts-length thread count (command ∷ rest) [] each = absurd (omega arith)
 counts-length thread count (command ∷ rest) (flag ∷ flags) each =
     let same : length flags ≡ length rest = omega (arith, each) in
     let more : length (counts thread (count + from_bool (is_some (setting_of thread command) && flag)) rest flags) ≡ length rest + 1 =
-        counts-length thread (count + from_bool (is_some (setting_of thread command) && flag)) rest flags same in
+    counts-length thread (count + from_bool (is_some (setting_of thread command) && flag)) rest flags same in
     omega (arith, more)
 
 module _ (thread : Thread) (rows : List CpuLine) where

@@ -1,6 +1,5 @@
 -- What is known of a thread: the policies set, the commands done, and the counts of both.
-use Rattle.std.proofs.Common.{◌≡◌, ◌⊎◌, inl, inr, ℕ, zero, suc, ◌+◌, ◌-◌, ◌<◌, ◌≤◌, ◌==◌, ◌&&◌, Bool, true, false, List, [], ◌∷◌, ◌++◌, Option, Some, None, cond, is_some, length, min, take, drop, slice_get, slice_set, slice_index_or, unwrap_or, refl, sym, ap, ◌∙◌, subst, arith}
-use Rattle.std.specs.Int.{from_bool}
+use Rattle.std.proofs.Common.{◌≡◌, ◌⊎◌, inl, inr, ℕ, ◌+◌, ◌-◌, ◌<◌, ◌≤◌, ◌==◌, Bool, false, List, [], ◌∷◌, ◌++◌, Option, Some, None, cond, length, take, drop, slice_get, slice_set, slice_index_or, unwrap_or, refl, sym, ap, ◌∙◌, subst, arith}
 use Rattle.std.specs.List.{filter_map, find}
 use Rattle.std.specs.Option.{option_and_then, option_map, option_to_list}
 use Rattle.std.proofs.lemmas.Bool.{cases_eq, cases_lt, eq-eqb, ne_eqb}
@@ -18,7 +17,7 @@ use Rattle.hwp_report.specs.declared.CpuLine.TheVariants as lines
 use Rattle.hwp_report.specs.declared.Report.{Report}
 use Rattle.hwp_law.specs.Lines.{AnswerLine, answer_among, answer_in}
 use Rattle.hwp_law.specs.Policies.{setting_of, settings}
-use Rattle.hwp_law.specs.Seen.{commands_around, cpu_of_thread, is_done, settings_done}
+use Rattle.hwp_law.specs.Seen.{commands_around, cpu_of_thread, is_done}
 use Rattle.hwp_check.specs.declared.pasts.Past.{Past}
 use Rattle.hwp_check.specs.Sights.{AreDone, IsPast, counts, noted}
 

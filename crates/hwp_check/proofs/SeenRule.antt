@@ -1,12 +1,10 @@
 -- The rule of policies seen, and the first line that breaks it.
-use Rattle.std.proofs.Common.{◌≡◌, ◌⊎◌, inl, inr, ℕ, ◌+◌, ◌<◌, ◌≤◌, min, List, [], ◌∷◌, Option, Some, None, MatchOption, slice_get, refl, sym, ap, ◌∙◌, subst, arith}
+use Rattle.std.proofs.Common.{◌≡◌, ◌⊎◌, inl, inr, ℕ, ◌<◌, ◌≤◌, min, List, Option, Some, None, MatchOption, refl, sym, ap, ◌∙◌, subst, arith}
 use Rattle.std.specs.List.{All, Contains}
 use Rattle.std.specs.List.Sorted.{IsPermutation}
 use Rattle.std.proofs.lemmas.Bool.{cases_lt}
 use Rattle.std.proofs.lemmas.List.Elements.{All-contains}
 use Rattle.std.proofs.lemmas.List.Sorted.{Contains-permutation, IsPermutation-sym}
-use Rattle.hwp_geom.specs.declared.Cpu.{Cpu}
-use Rattle.hwp_geom.specs.declared.Thread.{Thread}
 use Rattle.hwp_geom.specs.declared.Who.{Who}
 use Rattle.hwp_kill.specs.declared.Seen.{Seen}
 use Rattle.hwp_page.specs.declared.At.{At}
@@ -14,10 +12,10 @@ use Rattle.hwp_page.specs.declared.Entry.{Entry}
 use Rattle.hwp_script.specs.declared.Script.{Script}
 use Rattle.hwp_report.specs.declared.Report.{Report}
 use Rattle.hwp_law.specs.Places.{entry_at}
-use Rattle.hwp_law.specs.Seen.{IsOwnCount, IsPolicySeen, seen_in}
+use Rattle.hwp_law.specs.Seen.{IsOwnCount, seen_in}
 use Rattle.hwp_check.specs.declared.sights.Sight.{Sight}
 use Rattle.hwp_check.specs.Faults.{HasFallen, IsSeenFault}
-use Rattle.hwp_check.specs.Firsts.{IsLeast, soonest}
+use Rattle.hwp_check.specs.Firsts.{soonest}
 use Rattle.hwp_check.specs.Rules.{SeenFit}
 use Rattle.hwp_check.specs.Sights.{IsBelow, IsFirstOf, IsLineOf, IsNotBelow, IsRight, IsWrong, sights}
 use Rattle.hwp_check.specs.Standing.{seen_line}
@@ -131,7 +129,7 @@ module _ (script : Script) (report : Report) (sorted : List Sight) (moved : IsPe
         | inr (inl no-count) ↦ no-count right.1
         | inr (inr f) ↦
             let up : f.before.n ≤ fault.seen.n = fit.falls_never f.earlier fault.at f.other fault.entry f.before fault.seen f.there fault.there f.listed (from-place (seen_in fault.entry.what) fault.number fault.seen fault.listed)
-                f.same_cpu f.rises f.same_thread in
+            f.same_cpu f.rises f.same_thread in
             let down : fault.seen.n < f.before.n = f.falls in
             omega (arith, up, down)
       ]

@@ -1,13 +1,11 @@
 -- Where the shape of a report first differs from its script's.
-use Rattle.std.proofs.Common.{◌≡◌, ◌≢◌, ◌⊎◌, inl, inr, ℕ, ◌+◌, ◌≤◌, min, List, length, sum_by, take, refl, sym, ap, ◌∙◌, arith}
+use Rattle.std.proofs.Common.{◌≡◌, ◌≢◌, inl, inr, ℕ, ◌≤◌, min, length, sum_by, take, arith}
 use Rattle.std.proofs.lemmas.List.{length-take}
 use Rattle.std.proofs.lemmas.List.Sums.{sum_by-take-le}
-use Rattle.hwp_page.specs.declared.Entry.{Entry}
 use Rattle.hwp_script.specs.declared.Script.{Script}
 use Rattle.hwp_report.specs.declared.Report.{Report}
-use Rattle.hwp_check.specs.Faults.{IsShapeFault}
 use Rattle.hwp_check.specs.Rules.{ShapeFits}
-use Rattle.hwp_check.specs.Standing.{cpu_height, cpu_line, file_line, frame_height, frame_line, page_height, page_line}
+use Rattle.hwp_check.specs.Standing.{cpu_line, file_line, frame_height, frame_line, page_height, page_line}
 use Rattle.hwp_check.specs.Verdicts.{IsBroken, Shape}
 
 module _ (script : Script) (report : Report) where

@@ -1,5 +1,5 @@
 -- The policies seen in a report, by their places.
-use Rattle.std.proofs.Common.{◌≡◌, ◌⊎◌, inl, inr, ℕ, zero, suc, ◌+◌, ◌<◌, ◌≤◌, List, [], ◌∷◌, ◌++◌, Option, Some, None, length, take, slice_get, slice_index_or, sum_by, unwrap_or, refl, sym, ap, ◌∙◌, subst, arith}
+use Rattle.std.proofs.Common.{◌≡◌, ◌⊎◌, inl, inr, ℕ, zero, suc, ◌+◌, List, [], ◌∷◌, Option, Some, None, take, slice_get, sum_by, unwrap_or, refl, sym, ap, ◌∙◌, subst, arith}
 use Rattle.std.specs.List.{Contains}
 use Rattle.std.specs.Option.{option_and_then}
 use Rattle.std.proofs.lemmas.List.Elements.{Contains-append_cases, Contains-append_left, Contains-append_right}
@@ -14,7 +14,7 @@ use Rattle.hwp_law.specs.Places.{entry_at}
 use Rattle.hwp_law.specs.Seen.{seen_in}
 use Rattle.hwp_check.specs.declared.sights.Sight.{Sight}
 use Rattle.hwp_check.specs.Sights.{entry_sights, listed_sights, page_sights, pages_sights, sights}
-use Rattle.hwp_check.specs.Standing.{entry_height, entry_line, page_height, page_line, seen_line}
+use Rattle.hwp_check.specs.Standing.{entry_height, page_height, page_line, seen_line}
 
 -- members of lists
 cons-cases : {X : Type 0} (y : X) (ys : List X) (x : X) → Contains (y ∷ ys) x → (y ≡ x) ⊎ Contains ys x
@@ -47,17 +47,17 @@ in-entry : (who : Who) (first : ℕ) (list : List Seen) (s : Sight) → Contains
 in-entry who first [] s c = nothing s c
 in-entry who first (seen ∷ rest) s c = elim (cons-cases (record { who = who; seen = seen; line = first }) (listed_sights who (first + 1) rest) s c) [
   | inl same ↦ record {
-      number = 0;
-      listed = ap (λ (t : Sight). Some t.seen) same;
-      who_is = sym (ap (λ (t : Sight). t.who) same);
-      line_is = let line : first ≡ s.line = ap (λ (t : Sight). t.line) same in omega (arith, line);
-    }
+    number = 0;
+    listed = ap (λ (t : Sight). Some t.seen) same;
+    who_is = sym (ap (λ (t : Sight). t.who) same);
+    line_is = let line : first ≡ s.line = ap (λ (t : Sight). t.line) same in omega (arith, line);
+  }
   | inr more ↦ let m = in-entry who (first + 1) rest s more in record {
-      number = suc m.number;
-      listed = m.listed;
-      who_is = m.who_is;
-      line_is = let line : s.line ≡ first + 1 + m.number = m.line_is in omega (arith, line);
-    }
+    number = suc m.number;
+    listed = m.listed;
+    who_is = m.who_is;
+    line_is = let line : s.line ≡ first + 1 + m.number = m.line_is in omega (arith, line);
+  }
 ]
 
 of-entry : (who : Who) (first : ℕ) (list : List Seen) (number : ℕ) (s : Sight) → slice_get list number ≡ Some s.seen → s.who ≡ who → s.line ≡ first + number → Contains (listed_sights who first list) s
@@ -82,26 +82,26 @@ in-page : (first : ℕ) (entries : List Entry) (s : Sight) → Contains (page_si
 in-page first [] s c = nothing s c
 in-page first (e ∷ rest) s c = elim (Contains-append_cases (entry_sights first e) (page_sights (first + entry_height e) rest) s c) [
   | inl here ↦ let m = in-entry e.who (first + 1) (seen_in e.what) s here in record {
-      place = 0;
-      entry = e;
-      number = m.number;
-      there = refl;
-      listed = m.listed;
-      who_is = m.who_is;
-      line_is = let line : s.line ≡ first + 1 + m.number = m.line_is in omega (arith, line);
-    }
+    place = 0;
+    entry = e;
+    number = m.number;
+    there = refl;
+    listed = m.listed;
+    who_is = m.who_is;
+    line_is = let line : s.line ≡ first + 1 + m.number = m.line_is in omega (arith, line);
+  }
   | inr more ↦ let m = in-page (first + entry_height e) rest s more in record {
-      place = suc m.place;
-      entry = m.entry;
-      number = m.number;
-      there = m.there;
-      listed = m.listed;
-      who_is = m.who_is;
-      line_is =
-          let line : s.line ≡ first + entry_height e + sum_by entry_height (take m.place rest) + 1 + m.number = m.line_is in
-          let cons : sum_by entry_height (e ∷ take m.place rest) ≡ entry_height e + sum_by entry_height (take m.place rest) = sum_by-cons entry_height e (take m.place rest) in
-          omega (arith, line, cons);
-    }
+    place = suc m.place;
+    entry = m.entry;
+    number = m.number;
+    there = m.there;
+    listed = m.listed;
+    who_is = m.who_is;
+    line_is =
+        let line : s.line ≡ first + entry_height e + sum_by entry_height (take m.place rest) + 1 + m.number = m.line_is in
+        let cons : sum_by entry_height (e ∷ take m.place rest) ≡ entry_height e + sum_by entry_height (take m.place rest) = sum_by-cons entry_height e (take m.place rest) in
+        omega (arith, line, cons);
+  }
 ]
 
 of-page : (first : ℕ) (entries : List Entry) (place : ℕ) (entry : Entry) (number : ℕ) (s : Sight) → slice_get entries place ≡ Some entry → slice_get (seen_in entry.what) number ≡ Some s.seen
@@ -134,32 +134,32 @@ in-pages : (first : ℕ) (pages : List (List Entry)) (s : Sight) → Contains (p
 in-pages first [] s c = nothing s c
 in-pages first (entries ∷ rest) s c = elim (Contains-append_cases (page_sights (first + 1) entries) (pages_sights (first + page_height entries) rest) s c) [
   | inl here ↦ let m = in-page (first + 1) entries s here in record {
-      page = 0;
-      entries = entries;
-      place = m.place;
-      entry = m.entry;
-      number = m.number;
-      of_page = refl;
-      there = m.there;
-      listed = m.listed;
-      who_is = m.who_is;
-      line_is = let line : s.line ≡ first + 1 + sum_by entry_height (take m.place entries) + 1 + m.number = m.line_is in omega (arith, line);
-    }
+    page = 0;
+    entries = entries;
+    place = m.place;
+    entry = m.entry;
+    number = m.number;
+    of_page = refl;
+    there = m.there;
+    listed = m.listed;
+    who_is = m.who_is;
+    line_is = let line : s.line ≡ first + 1 + sum_by entry_height (take m.place entries) + 1 + m.number = m.line_is in omega (arith, line);
+  }
   | inr more ↦ let m = in-pages (first + page_height entries) rest s more in record {
-      page = suc m.page;
-      entries = m.entries;
-      place = m.place;
-      entry = m.entry;
-      number = m.number;
-      of_page = m.of_page;
-      there = m.there;
-      listed = m.listed;
-      who_is = m.who_is;
-      line_is =
-          let line : s.line ≡ first + page_height entries + sum_by page_height (take m.page rest) + 1 + sum_by entry_height (take m.place m.entries) + 1 + m.number = m.line_is in
-          let cons : sum_by page_height (entries ∷ take m.page rest) ≡ page_height entries + sum_by page_height (take m.page rest) = sum_by-cons page_height entries (take m.page rest) in
-          omega (arith, line, cons);
-    }
+    page = suc m.page;
+    entries = m.entries;
+    place = m.place;
+    entry = m.entry;
+    number = m.number;
+    of_page = m.of_page;
+    there = m.there;
+    listed = m.listed;
+    who_is = m.who_is;
+    line_is =
+        let line : s.line ≡ first + page_height entries + sum_by page_height (take m.page rest) + 1 + sum_by entry_height (take m.place m.entries) + 1 + m.number = m.line_is in
+        let cons : sum_by page_height (entries ∷ take m.page rest) ≡ page_height entries + sum_by page_height (take m.page rest) = sum_by-cons page_height entries (take m.page rest) in
+        omega (arith, line, cons);
+  }
 ]
 
 of-pages : (first : ℕ) (pages : List (List Entry)) (page : ℕ) (entries : List Entry) (place : ℕ) (entry : Entry) (number : ℕ) (s : Sight) → slice_get pages page ≡ Some entries → slice_get entries place ≡ Some entry
@@ -198,7 +198,7 @@ module _ (report : Report) where
     line_is =
         let line : s.line ≡ page_line report 0 + sum_by page_height (take m.page report.pages) + 1 + sum_by entry_height (take m.place m.entries) + 1 + m.number = m.line_is in
         let own : sum_by entry_height (take m.place (unwrap_or (slice_get report.pages m.page) [])) ≡ sum_by entry_height (take m.place m.entries) =
-            ap (λ (o : Option (List Entry)). sum_by entry_height (take m.place (unwrap_or o []))) m.of_page in
+        ap (λ (o : Option (List Entry)). sum_by entry_height (take m.place (unwrap_or o []))) m.of_page in
         omega (arith, line, own);
   }
 
@@ -209,7 +209,7 @@ module _ (report : Report) where
       which None none = absurd (none-some is.entry (sym (ap (λ (o : Option (List Entry)). option_and_then (λ (es : List Entry). slice_get es is.at.entry) o) none) ∙ is.there))
       which (Some entries) some =
           let own : sum_by entry_height (take is.at.entry (unwrap_or (slice_get report.pages is.at.page.0) [])) ≡ sum_by entry_height (take is.at.entry entries) =
-              ap (λ (o : Option (List Entry)). sum_by entry_height (take is.at.entry (unwrap_or o []))) some in
+          ap (λ (o : Option (List Entry)). sum_by entry_height (take is.at.entry (unwrap_or o []))) some in
           let line : s.line ≡ seen_line report is.at is.number = is.line_is in
           of-pages (page_line report 0) report.pages is.at.page.0 entries is.at.entry is.entry is.number s some
           (sym (ap (λ (o : Option (List Entry)). option_and_then (λ (es : List Entry). slice_get es is.at.entry) o) some) ∙ is.there) is.listed is.who_is (omega (arith, line, own))

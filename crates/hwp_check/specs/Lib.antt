@@ -1,6 +1,7 @@
 pub mod Standing
 pub mod Firsts
 pub mod Sights
+pub mod Histories
 pub mod Answered
 pub mod Rules
 pub mod Faults
@@ -8,3 +9,5 @@ pub mod MarkFaults
 pub mod Scans
 pub mod AnswerFaults
 pub mod Verdicts
+pub mod Balances
+pub mod Stopping

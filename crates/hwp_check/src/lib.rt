@@ -3,12 +3,17 @@
 
 mod count;
 mod first;
+mod histories;
+mod losses;
+mod making;
 mod pasts;
 mod policies;
 mod seen;
 mod shape;
 mod sights;
 mod standing;
+mod stop;
+mod stopping;
 mod verdicts;
 
 pub use verdicts::Verdict;

@@ -64,3 +64,11 @@ pub(crate) fn cpus_height(cpus: &[List<CpuLine>]) -> u64
     }
     lines
 }
+
+/// The line of the first page, or that behind the frames where there is none.
+pub(crate) fn first_page_line(report: &Report) -> u64
+    requires { last_line report.now < 2 ^ 64 }
+    ensures { result ≡ page_line report.now 0 }
+{
+    4 + report.files.len() as u64 + frames_height(report.frames.as_slice())
+}

@@ -4,6 +4,8 @@
 
 mod closing;
 mod frames;
+mod running;
 mod stopping;
 
 pub use closing::report;
+pub use running::run;

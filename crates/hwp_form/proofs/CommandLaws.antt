@@ -7,7 +7,7 @@ use Rattle.std.proofs.lemmas.List.{get_or-map, length-map}
 use Rattle.std.proofs.lemmas.List.Elements.{All-from_recursion, All-same, All-get_or}
 use Rattle.hwp_geom.specs.Limits.{line_limit, frame_limit, file_limit, thread_limit, page_limit, translation_limit}
 use Rattle.hwp_form.specs.Numbers.{IsNumber, IsNumberWord, IsRegister}
-use Rattle.hwp_form.specs.Grammar.{bit, command_word, CommandFits, AreCommandWords, IsCommand, IsCommandOver, HaveNumbers, HasShape, handler_text, thread_keyword, page_keyword}
+use Rattle.hwp_form.specs.Grammar.{bit, command_word, CommandFits, AreCommandWords, IsCommand, IsCommandOver, HaveNumbers, HasShape, handler_text, thread_keyword}
 use Rattle.hwp_form.specs.declared.command.Command.{Command}
 use Rattle.hwp_form.specs.declared.command.Command.TheVariants as commands
 use Rattle.hwp_form.specs.declared.keywords.CommandWord.{CommandWord}
@@ -181,15 +181,6 @@ six ws m n p q r s h =
 
 past : (x m limit : ℕ) → x ≡ m → limit ≤ m → x < limit → ⊥
 past x m limit e h k = omega arith
-
--- where three of its words are no numbers, the numbers of a page of a file don't stand in place
-pub no_file_page : (ws : List (Bor (List ℕ))) (d : Bor (List ℕ)) → length ws ≡ 5
-    → ((m n p : ℕ) → IsNumber (get_or ws 0 d).now m → IsNumber (get_or ws 2 d).now n → IsNumber (get_or ws 4 d).now p → ⊥)
-    → HaveNumbers page_keyword (map (λ w. w.now) ws) → ⊥
-no_file_page ws d l none h =
-    let rest = h.1 (rw length-map l) in
-    none h.0.0 rest.0.0 rest.1.0 (rw (get_or-map (λ w. w.now) ws 0 d [] (omega arith)) at h.0.1) (rw (get_or-map (λ w. w.now) ws 2 d [] (omega arith)) at rest.0.1)
-    (rw (get_or-map (λ w. w.now) ws 4 d [] (omega arith)) at rest.1.1)
 
 -- where its first three words are no numbers, the numbers of a thread don't stand in place
 no_thread : (ws : List (Bor (List ℕ))) (d : Bor (List ℕ)) → length ws ≡ 4

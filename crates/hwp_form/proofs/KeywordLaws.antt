@@ -1,5 +1,5 @@
 -- The lines of one keyword: their words, and what a misfit says of them.
-use Rattle.std.proofs.Common.{ℕ, ◌≡◌, ◌≢◌, ◌<◌, ◌^◌, true, List, [], ◌∷◌, length, get_or, decimal, refl, ap, arith}
+use Rattle.std.proofs.Common.{ℕ, ◌≡◌, ◌<◌, ◌^◌, true, List, [], ◌∷◌, length, get_or, decimal, refl, ap, arith}
 use Rattle.std.specs.Prelude.{All}
 use Rattle.hwp_form.specs.Numbers.{IsNumberWord}
 use Rattle.hwp_form.specs.Grammar.{keyword, Fits, AreRestWords, IsSentence, IsCommand, HasShape, HaveNumbers, trans_keyword, command_keyword}
@@ -14,25 +14,6 @@ use Rattle.hwp_form.specs.declared.keywords.CommandWord.TheVariants as words
 use Rattle.hwp_form.specs.declared.numbers.Misfit.{Misfit}
 use Rattle.hwp_form.specs.declared.numbers.Misfit.TheVariants as misfits
 use Rattle.hwp_form.proofs.NumberLaws.{words_are}
-
--- a first word that has none of the other lines has just one number
-pub one_numbered : (k : Keyword) → k ≢ keywords.Hwp → k ≢ keywords.Thread → k ≢ keywords.Page → k ≢ keywords.Trans → ((w : CommandWord) → k ≢ keywords.Command w)
-    → k ≢ keywords.End → k ≢ keywords.Schedule → has_one_number k ≡ true
-one_numbered keywords.Cpus a b c d e f g = refl
-one_numbered keywords.Frames a b c d e f g = refl
-one_numbered keywords.Kernel a b c d e f g = refl
-one_numbered keywords.Recovery a b c d e f g = refl
-one_numbered keywords.Early a b c d e f g = refl
-one_numbered keywords.File a b c d e f g = refl
-one_numbered keywords.Proc a b c d e f g = refl
-one_numbered keywords.Cpu a b c d e f g = refl
-one_numbered keywords.Hwp a b c d e f g = absurd (a refl)
-one_numbered keywords.Thread a b c d e f g = absurd (b refl)
-one_numbered keywords.Page a b c d e f g = absurd (c refl)
-one_numbered keywords.Trans a b c d e f g = absurd (d refl)
-one_numbered (keywords.Command w) a b c d e f g = absurd (e w refl)
-one_numbered keywords.End a b c d e f g = absurd (f refl)
-one_numbered keywords.Schedule a b c d e f g = absurd (g refl)
 
 -- what holds of a first word that has just one number
 record IsOne (k : Keyword) (ws : List (List ℕ)) : Type 0 where

@@ -1,15 +1,13 @@
 -- The numbers of words, and the command that they are of.
-use Rattle.std.proofs.Common.{ℕ, ◌≡◌, ◌≢◌, ◌<◌, ◌+◌, zero, suc, List, [], ◌∷◌, length, get_or, set, map, Bor, codes, decimal, inl, inr, Bool, refl, sym, ap, subst, eq-or-lt_of_le, ◌∙◌, arith}
+use Rattle.std.proofs.Common.{ℕ, ◌≡◌, ◌≢◌, ◌<◌, ◌+◌, zero, suc, List, [], ◌∷◌, length, get_or, set, map, Bor, codes, decimal, inl, inr, refl, sym, ap, subst, ◌∙◌, arith}
 use Rattle.std.specs.Prelude.{All, ◌⊎◌, ◌≤◌}
-use Rattle.std.proofs.lemmas.List.{length-map, length-set, get_or-map, get_or-set_same, get_or-set_other}
+use Rattle.std.proofs.lemmas.List.{get_or-set_same, get_or-set_other}
 use Rattle.std.proofs.lemmas.List.Elements.{All-from_get_or}
 use Rattle.hwp_form.proofs.PairsLaws.{All-now}
 use Rattle.hwp_geom.specs.Limits.{thread_limit}
-use Rattle.hwp_geom.specs.declared.Thread.{Thread}
 use Rattle.hwp_form.specs.Numbers.{IsNumber, IsNumberWord}
-use Rattle.hwp_form.specs.Grammar.{bit, command_word, CommandFits, AreCommandWords, IsCommand, IsCommandOver, HasCommandShape, HasRaiseShape, HaveCommandNumbers, raise_word}
+use Rattle.hwp_form.specs.Grammar.{command_word, CommandFits, AreCommandWords, IsCommand, IsCommandOver, HasCommandShape, HasRaiseShape, HaveCommandNumbers, raise_word}
 use Rattle.hwp_form.specs.Misfits.{AreNumbers, AreMisfit, IsCommandMisfit, IsMisfit, command_with, log_word, number_count}
-use Rattle.hwp_form.specs.declared.command.Command.TheVariants as commands
 use Rattle.hwp_form.specs.declared.keywords.CommandWord.{CommandWord}
 use Rattle.hwp_form.specs.declared.keywords.CommandWord.TheVariants as words
 use Rattle.hwp_form.specs.declared.numbers.Misfit.{Misfit}
@@ -102,19 +100,6 @@ user_long us (inl h) = omega (arith, h.0)
 user_long us (inr (inl h)) = absurd (omega (arith, ap length h.1))
 user_long us (inr (inr e)) = absurd (omega (arith, ap (λ vs. length (get_or vs 0 [])) e))
 
-pub user_misfit : (us : List (List ℕ)) (e : Misfit) → AreMisfit IsNumberWord 3 us e → IsCommandMisfit raise_word (codes "user" ∷ us) e
-user_misfit us misfits.Unknown h = λ s. h (user_long us s)
-user_misfit us misfits.BadNumber h = (inl (omega (arith, h.0), refl), h.1)
-user_misfit us misfits.OverLimit h = absurd h
-
-pub user_command : (us : List (List ℕ)) (ns : List ℕ) (t : Thread) (r x : Bool) → AreNumbers 3 us ns → t ≡ record { 0 = get_or ns 0 0 } → get_or ns 0 0 < thread_limit
-    → get_or ns 1 0 ≡ bit r → get_or ns 2 0 ≡ bit x → IsCommand raise_word (codes "user" ∷ us) (commands.RaiseUser t r x)
-user_command us ns t r x h at fits ripv eipv = record {
-  kind = refl;
-  fits = rw at fits;
-  same = rw (at, ← ripv, ← eipv) (ap (λ vs. codes "user" ∷ vs) (words_are 3 us ns h));
-}
-
 pub user_over : (us : List (List ℕ)) (ns : List ℕ) → AreNumbers 3 us ns → (thread_limit ≤ get_or ns 0 0) ⊎ (1 < get_or ns 1 0) ⊎ (1 < get_or ns 2 0)
     → IsCommandOver raise_word (codes "user" ∷ us)
 user_over us ns h out =
@@ -127,29 +112,9 @@ kernel_long us (inl h) = absurd (omega (arith, ap length h.1))
 kernel_long us (inr (inl h)) = omega (arith, h.0)
 kernel_long us (inr (inr e)) = absurd (omega (arith, ap (λ vs. get_or (get_or vs 0 []) 0 0) e))
 
-pub kernel_misfit : (us : List (List ℕ)) (e : Misfit) → AreMisfit IsNumberWord 2 us e → IsCommandMisfit raise_word (codes "kernel" ∷ us) e
-kernel_misfit us misfits.Unknown h = λ s. h (kernel_long us s)
-kernel_misfit us misfits.BadNumber h = (inr (inl (omega (arith, h.0), refl)), h.1)
-kernel_misfit us misfits.OverLimit h = absurd h
-
-pub kernel_command : (us : List (List ℕ)) (ns : List ℕ) (r x : Bool) → AreNumbers 2 us ns → get_or ns 0 0 ≡ bit r → get_or ns 1 0 ≡ bit x
-    → IsCommand raise_word (codes "kernel" ∷ us) (commands.RaiseKernel r x)
-kernel_command us ns r x h ripv eipv = record {
-  kind = refl;
-  fits = tt;
-  same = rw (← ripv, ← eipv) (ap (λ vs. codes "kernel" ∷ vs) (words_are 2 us ns h));
-}
-
 pub kernel_over : (us : List (List ℕ)) (ns : List ℕ) → AreNumbers 2 us ns → (1 < get_or ns 0 0) ⊎ (1 < get_or ns 1 0) → IsCommandOver raise_word (codes "kernel" ∷ us)
 kernel_over us ns h out =
     over_kernel (codes "kernel" ∷ us) us (get_or ns 0 0) (get_or ns 1 0) refl ((h.each 0 (omega arith)).fits, (h.each 1 (omega arith)).fits, words_are 2 us ns h) out
-
--- the words of a raise that is none of the three
-pub no_raise : (mode : List ℕ) (us : List (List ℕ)) → (mode ≡ codes "user" → ⊥) → (mode ≡ codes "kernel" → ⊥) → (mode ≡ codes "nested" → 0 < length us)
-    → HasRaiseShape (mode ∷ us) → ⊥
-no_raise mode us user kernel nested (inl h) = user h.1
-no_raise mode us user kernel nested (inr (inl h)) = kernel h.1
-no_raise mode us user kernel nested (inr (inr e)) = let some = nested (ap (λ vs. get_or vs 0 []) e) in absurd (omega (arith, ap length e, some))
 
 -- what is read of the first i words
 pub record AreNumbersSoFar (ws : List (List ℕ)) (i : ℕ) (ns : List ℕ) : Type 0 where
@@ -161,17 +126,6 @@ more_numbers : (ws : List (List ℕ)) (i : ℕ) (ns : List ℕ) (n : ℕ) → i 
 more_numbers ws i ns n l each is k (inl e) = subst (λ j. IsNumber (get_or ws j []) (get_or (set ns i n) j 0)) (sym e) (rw (get_or-set_same ns i n 0 l) is)
 more_numbers ws i ns n l each is k (inr m) = rw (get_or-set_other ns i k n 0 (λ e. omega (arith, e, m))) (each k m)
 
-pub numbers-more : (words : List (Bor (List ℕ))) (i : ℕ) (d : Bor (List ℕ)) (ns : List ℕ) (n : ℕ) → AreNumbersSoFar (map (λ w. w.now) words) i ns → i < length words
-    → i < 6 → IsNumber (get_or words i d).now n → AreNumbersSoFar (map (λ w. w.now) words) (i + 1) (set ns i n)
-numbers-more words i d ns n h l room is = record {
-  room = length-set ns i n ∙ h.room;
-  each = λ k m. more_numbers (map (λ w. w.now) words) i ns n (omega (arith, h.room)) h.each (subst (λ w. IsNumber w n) (sym (get_or-map (λ w. w.now) words i d [] l)) is) k (eq-or-lt_of_le (omega arith));
-}
-
 pub numbers-bad : (words : List (Bor (List ℕ))) (i : ℕ) (d : Bor (List ℕ)) → i < length words → ((n : ℕ) → IsNumber (get_or words i d).now n → ⊥)
     → All IsNumberWord (map (λ w. w.now) words) → ⊥
 numbers-bad words i d l none all = let n = All-now IsNumberWord words i d l all in none n.0 n.1
-
-pub numbers-all : (words : List (Bor (List ℕ))) (i count : ℕ) (ns : List ℕ) → AreNumbersSoFar (map (λ w. w.now) words) i ns → count ≤ i → length words ≡ count
-    → AreNumbers count (map (λ w. w.now) words) ns
-numbers-all words i count ns h l e = record { long = rw length-map e; each = λ k m. h.each k (omega (arith, m, l)) }

@@ -20,12 +20,6 @@ Pairs-partner R (x ∷ xs) [] i d h l = absurd h
 Pairs-partner R (x ∷ xs) (y ∷ ys) zero d h l = (y, h.0)
 Pairs-partner R (x ∷ xs) (y ∷ ys) (suc i) d h l = Pairs-partner R xs ys i d h.1 (omega arith)
 
--- two lists that stand in pairs are empty together
-pub Pairs-some : {A B : Type 0} (R : A → B → Type 0) (xs : List A) (ys : List B) → Pairs R xs ys → 0 < length xs → 0 < length ys
-Pairs-some R [] ys h l = absurd (omega arith)
-Pairs-some R (x ∷ xs) [] h l = absurd h
-Pairs-some R (x ∷ xs) (y ∷ ys) h l = omega arith
-
 -- a member that stands with one thing only
 pub Pairs-unique : {A B : Type 0} (R : A → B → Type 0) → ((x : A) (y z : B) → R x y → R x z → y ≡ z) → (xs : List A) (ys zs : List B)
     → Pairs R xs ys → Pairs R xs zs → ys ≡ zs

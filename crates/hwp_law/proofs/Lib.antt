@@ -1,5 +1,4 @@
-pub mod Growth
-pub mod Windows
+pub mod Rows
 pub mod Extents
 pub mod Examples
 pub mod Forgeries

@@ -52,15 +52,3 @@ pub record IsInWindow (pages : List (List Entry)) (rows : List CpuLine) (who : W
   pub past_earlier : (bt : At) (e : Entry) → entry_at pages bt ≡ Some e → bt.page ≡ at.page → e.who.cpu ≡ who.cpu → e.who.seq < who.seq → bt.entry < at.entry
   pub not_below : (i seq : ℕ) (answer : Answer) (bt : At) → slice_get rows i ≡ Some (lines.Answer seq answer) → seq < who.seq → place_named answer ≡ Some bt → bt.page ≡ at.page → bt.entry ≤ at.entry
   pub before_later : (bt : At) (e : Entry) → entry_at pages bt ≡ Some e → bt.page ≡ at.page → e.who.cpu ≡ who.cpu → who.seq < e.who.seq → at.entry ≤ bt.entry
-
--- the page has at least as many entries as the place says
-abbrev pub IsWithin : List (List Entry) → At → Type 0
-IsWithin pages at = (log : List Entry) → slice_get pages at.page.0 ≡ Some log → at.entry ≤ length log
-
--- each place that an answer names is within its page's history
-abbrev pub AreWithin : List (List Entry) → List CpuLine → Type 0
-AreWithin pages rows = (i seq : ℕ) (answer : Answer) (bt : At) → slice_get rows i ≡ Some (lines.Answer seq answer) → place_named answer ≡ Some bt → IsWithin pages bt
-
--- each answer is of a command below this number
-abbrev pub AreBelow : ℕ → List CpuLine → Type 0
-AreBelow n rows = (i seq : ℕ) (answer : Answer) → slice_get rows i ≡ Some (lines.Answer seq answer) → seq < n

@@ -1,5 +1,5 @@
 -- Words that are no line of a kind, by what is missing.
-use Rattle.std.proofs.Common.{◌≡◌, ℕ, ◌<◌, ◌≤◌, ◌^◌, ◌-◌, List, [], ◌∷◌, ◌++◌, length, get_or, map, take, drop, Option, Some, None, codes, decimal, refl, sym, ap, ◌∙◌, arith}
+use Rattle.std.proofs.Common.{◌≡◌, ℕ, ◌<◌, ◌≤◌, ◌^◌, ◌-◌, List, [], ◌∷◌, ◌++◌, length, get_or, map, take, drop, Option, Some, None, codes, decimal, sym, ap, ◌∙◌, arith}
 use Rattle.std.proofs.lemmas.List.{drop-map, take_rest}
 use Rattle.hwp_geom.specs.declared.Mask.{Mask}
 use Rattle.hwp_geom.specs.declared.Thread.{Thread}
@@ -31,7 +31,7 @@ use Rattle.hwp_report_lines.specs.declared.heads.Verb.TheVariants as verbs
 use Rattle.hwp_report_lines.specs.Fits.{AccessFits, AnswerFits, AtFits, CauseFits, CpuLineFits, MetFits}
 use Rattle.hwp_report_lines.specs.Forms.{FormFits, IsFormRead, IsPageless, IsRestRead, MasksFit, MceFits, PlainFits, access_words, form_words, masks_words, mce_words}
 use Rattle.hwp_report_lines.specs.Heads.{head_of, head_text, verb_of}
-use Rattle.hwp_report_lines.specs.Reads.{AreBelow, IsReadAs, two_words}
+use Rattle.hwp_report_lines.specs.Reads.{AreBelow, two_words}
 use Rattle.hwp_report_lines.specs.Answers.{counted_text, placed_text, short_text, valued_text}
 use Rattle.hwp_report_lines.specs.declared.replies.Counted.{Counted}
 use Rattle.hwp_report_lines.specs.declared.replies.Counted.TheVariants as counted

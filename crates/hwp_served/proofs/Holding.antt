@@ -28,7 +28,7 @@ use Rattle.hwp_report.specs.declared.CpuLine.TheVariants as lines
 use Rattle.hwp_report.specs.declared.Report.{Report}
 use Rattle.hwp_law.specs.Answers.{AreAnswers}
 use Rattle.hwp_law.specs.Report.{IsReport}
-use Rattle.hwp_law.proofs.Windows.{same_answer}
+use Rattle.hwp_law.proofs.Rows.{same_answer}
 use Rattle.hwp_law.specs.Runs.{IsOfRun, StopsFirst, WereOut, slot_of}
 use Rattle.hwp_runs.proofs.Homes.{there-is}
 use Rattle.hwp_runs.proofs.Leading.{leads-hold}

@@ -17,7 +17,7 @@ use Rattle.hwp_report.specs.declared.Report.{Report}
 use Rattle.hwp_law.specs.Answers.{AreInWindows}
 use Rattle.hwp_law.specs.Places.{command_at}
 use Rattle.hwp_law.specs.States.{IsInWindow}
-use Rattle.hwp_law.proofs.Windows.{same_answer}
+use Rattle.hwp_law.proofs.Rows.{same_answer}
 use Rattle.hwp_runs.proofs.Homes.{there-is}
 use Rattle.hwp_runs.proofs.Reported.{before-later, listed-entry, not-below-seen, past-earlier}
 use Rattle.hwp_served.specs.Causes.{IsCaused}

@@ -8,13 +8,18 @@ use Rattle.hwp_script.specs.declared.Why.{Why}
 use Rattle.hwp_script.specs.declared.Why.TheVariants as whys
 use Rattle.hwp_script.specs.Reads.{Reads, IsRefused}
 use Rattle.hwp_report.specs.declared.Report.{Report}
+use Rattle.hwp_law.specs.Law.{IsLawful}
 use Rattle.hwp_law.specs.Report.{IsReport}
 use Rattle.hwp_law.specs.Runs.{IsOfRun}
-use Rattle.hwp_top.specs.Bench.{IsBuilt}
+use Rattle.hwp_core.specs.Runs.{AreSupported, IsCoreRun}
 
 -- the words are those of the command that runs a script step by step
 abbrev pub IsStep : List (List ℕ) → Type 0
 IsStep words = words ≡ codes "step" ∷ []
+
+-- the script has only what is built: each of its commands is supported
+abbrev pub IsBuilt : Script → Type 0
+IsBuilt script = AreSupported script
 
 -- the bytes are refused: they are the text of no script, or of one that is not built
 abbrev pub IsRefusal : List ℕ → Refused → Type 0
@@ -35,12 +40,14 @@ pub record Takes (left left' : Option (List ℕ)) (script : Script) : Type 0 whe
   pub reads : Reads bytes script
   pub built : IsBuilt script
 
--- the report is one of the script that a source gave, and of a run
+-- the report is one of the script that a source gave, and of a run of the processors on the written schedule
 pub record Reports (left left' : Option (List ℕ)) (report : Report) : Type 0 where
   pub script : Script
   pub takes : Takes left left' script
   pub law : IsReport script report
   pub run : IsOfRun script report
+  pub lawful : IsLawful script report
+  pub core : IsCoreRun script report
 
 -- the name of a reason
 abbrev pub why_text : Why → List ℕ

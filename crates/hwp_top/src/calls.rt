@@ -6,9 +6,9 @@ ghost use Rattle.hwp_script.specs.declared.Refused.{Refused};
 ghost use Rattle.hwp_report.specs.Text.{report_text};
 ghost use Rattle.hwp_top.specs.Top.{IsDone, IsStep, done_status, Refuses, Reports, Told, memory_text, refusal_text, told_text, write_fault_text};
 
-use crate::bench::run;
 use crate::inputs::{InputFault, take_script};
 use crate::messages::{OUT_OF_MEMORY, READ_FAULT, USAGE, WRITE_FAULT, refusal, tell};
+use hwp_core::run;
 use hwp_geom::{OutOfMemory, Text};
 use hwp_io::{Sink, Source, WriteFault, write_all};
 use hwp_report::{Report, print};

@@ -3,11 +3,11 @@ ghost use Rattle.std.specs.Prelude.{◌≡◌, ◌≤◌, ◌↔◌, All, true, 
 ghost use Rattle.hwp_io.specs.Causes.{Rose};
 ghost use Rattle.hwp_script.specs.Valid.{IsValid};
 ghost use Rattle.hwp_script.specs.declared.Refused.{Refused};
-ghost use Rattle.hwp_top.specs.Bench.{IsBuilt, is_built_command};
-ghost use Rattle.hwp_top.specs.Top.{Refuses, Takes};
+ghost use Rattle.hwp_job.specs.Begins.{is_supported};
+ghost use Rattle.hwp_top.specs.Top.{IsBuilt, Refuses, Takes};
 
-use crate::bench::is_built;
 use hwp_io::{ReadAll, Source, read_all};
+use hwp_job::is_supported;
 use hwp_script::{Command, MAX_SCRIPT, ReadScript, Refused, Script, Why, read};
 use std::alloc::Global;
 
@@ -31,19 +31,20 @@ fn whole(why: Why) -> InputFault
 
 /// Whether a script has only what is built.
 fn is_all_built(script: &Script) -> bool
-    requires { IsValid script.now }
     ensures { IsTrue result ↔ IsBuilt script.now }
 {
-    script.layout.cpus == 1
-        && are_built(script.lists.as_slice()[0].as_slice())
-        && script.go.len() == 0
+    script
+        .lists
+        .as_slice()
+        .iter()
+        .all(|list| are_built(list.as_slice()))
 }
 
-/// Whether the bench serves all these commands.
+/// Whether all these commands are supported.
 fn are_built(list: &[Command]) -> bool
-    ensures { IsTrue result ↔ All (λ c. is_built_command c ≡ true) list.now }
+    ensures { IsTrue result ↔ All (λ c. is_supported c ≡ true) list.now }
 {
-    list.iter().all(|command| is_built(*command))
+    list.iter().all(|command| is_supported(*command))
 }
 
 /// Reads a source to its end, and the script that it gives.

@@ -1,9 +1,6 @@
 //! The top call over memory: worked scripts, refusals, and faults of the source and the sink at each call.
 
-ghost use Rattle.std.specs.Prelude.{◌<◌};
-
-use hwp_io::{MemSink, MemSource};
-use hwp_top::{Done, top};
+use crate::helpers::{call, gives, leaves, refuses, step};
 use std::alloc::Global;
 use std::process::Abort;
 use std::str;
@@ -38,82 +35,6 @@ cpu 0 2
 1 value 77 0 3
 end
 ";
-
-/// What a call left: whether it gave a report, its status, and both sinks.
-#[derive(Drop)]
-struct Left {
-    reported: bool,
-    status: u8,
-    out: MemSink,
-    err: MemSink,
-}
-
-fn words_of(rt: &impl Abort, alloc: Global, words: &[&str]) -> Vec<String> {
-    let mut list = Vec::new(alloc);
-    for word in words {
-        let word = String::from_str(alloc, word).expect(rt, "memory");
-        list.push(word).expect(rt, "memory");
-    }
-    list
-}
-
-/// A call of `top` over memory: the source fails at the read, and the sink, which takes so many bytes a write, at the write.
-fn call(
-    rt: &impl Abort,
-    alloc: Global,
-    words: &[&str],
-    script: &[u8],
-    read: &[u64],
-    sink: (usize, &[u64]),
-) -> Left
-    requires { 0 < sink.0 }
-{
-    let list = words_of(rt, alloc, words);
-    let (take, write) = sink;
-    let script = script.to_vec(alloc).expect(rt, "memory");
-    let mut src = MemSource::new(script, read.to_vec(alloc).expect(rt, "memory"));
-    let mut out = MemSink::new(alloc, take, write.to_vec(alloc).expect(rt, "memory"));
-    let mut err = MemSink::new(alloc, 4096, Vec::new(alloc));
-    let Done { status, report } = top(alloc, list.as_slice(), &mut src, &mut out, &mut err);
-    let reported = report.is_some();
-    Left {
-        reported,
-        status,
-        out,
-        err,
-    }
-}
-
-/// The call gave a report or not, ended with the status, and left these texts on `out` and on `err`.
-fn leaves(rt: &impl Abort, left: &Left, reported: bool, status: u8, out: &str, err: &str) {
-    let texts = (
-        str::from_utf8(left.out.bytes()).ok(),
-        str::from_utf8(left.err.bytes()).ok(),
-    );
-    assert_eq!(rt; texts, (Some(out), Some(err)));
-    assert_eq!(rt; (left.reported, left.status), (reported, status));
-}
-
-/// `step` on a script, with nothing that fails.
-fn step(rt: &impl Abort, alloc: Global, script: &[u8]) -> Left {
-    call(rt, alloc, &["step"], script, &[], (4096, &[]))
-}
-
-/// `step` gives the report beside each script, and ends with this status.
-fn gives(rt: &impl Abort, alloc: Global, status: u8, rows: &[(&str, &str)]) {
-    for (script, report) in rows {
-        let left = step(rt, alloc, script.as_bytes());
-        leaves(rt, &left, true, status, report, "");
-    }
-}
-
-/// `step` refuses each script, and tells what stands beside it.
-fn refuses(rt: &impl Abort, alloc: Global, rows: &[(&str, &str)]) {
-    for (script, told) in rows {
-        let left = step(rt, alloc, script.as_bytes());
-        leaves(rt, &left, false, 3, "", told);
-    }
-}
 
 const WORKED: &[(&str, &str)] = &[
     // a store and a load
@@ -284,15 +205,11 @@ const REFUSED: &[(&str, &str)] = &[
         "script line 4: OverLimit\n",
     ),
     (
-        "hwp 1\ncpus 2\nframes 2\nend\n",
-        "script line 0: NotBuilt\n",
-    ),
-    (
         "hwp 1\ncpus 1\nframes 2\ncpu 0\nbad 0 1\nend\n",
         "script line 0: NotBuilt\n",
     ),
     (
-        "hwp 1\ncpus 1\nframes 2\nschedule 0\nend\n",
+        "hwp 1\ncpus 2\nframes 2\ncpu 1\nlog 0x0 0x0 0x0\ninject 0\nschedule 0\nend\n",
         "script line 0: NotBuilt\n",
     ),
 ];

@@ -1,5 +1,14 @@
-//! Tests of the top call: worked scripts and their reports, refusals, and faults of the source and the sink.
+//! Tests of the top call: worked scripts and their reports, on one processor and on several, refusals, and faults of the source
+//! and the sink.
 #![tactic(auto)]
 
 #[cfg(test)]
 mod calls;
+#[cfg(test)]
+mod helpers;
+#[cfg(test)]
+mod judging;
+#[cfg(test)]
+mod many;
+#[cfg(test)]
+mod processors;

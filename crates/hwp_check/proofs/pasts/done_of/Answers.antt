@@ -1,4 +1,4 @@
-use Rattle.std.proofs.Common.{◌≡◌, ◌<◌, length, ◌∙◌}
+use Rattle.std.proofs.Common.{◌∙◌}
 use Rattle.hwp_check.proofs.PastLaws.{note_more}
 use Rattle.hwp_check.proofs.pasts.done_of.Goals as goal
 

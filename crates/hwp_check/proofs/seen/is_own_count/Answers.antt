@@ -1,4 +1,4 @@
-use Rattle.std.proofs.Common.{◌≡◌, ℕ, ◌-◌, ◌<◌, List, length, min, slice_index, ap, ◌∙◌, sym, subst}
+use Rattle.std.proofs.Common.{ℕ, ◌-◌, ◌<◌, List, length, min, slice_index, ap, ◌∙◌, sym, subst}
 use Rattle.hwp_check.proofs.OwnLaws.{own-cpu, own-is, some-count}
 use Rattle.hwp_check.proofs.seen.is_own_count.Goals as goal
 

@@ -1,4 +1,4 @@
-use Rattle.std.proofs.Common.{rules, ◌≡◌, ℕ, [], ◌++◌, List, Option, MatchOption, sym, subst, ◌∙◌}
+use Rattle.std.proofs.Common.{rules, ◌≡◌, ℕ, ◌++◌, List, Option, MatchOption, sym, subst, ◌∙◌}
 use Rattle.std.specs.List.{All}
 use Rattle.std.specs.List.Sorted.{IsNonDecreasingBy, IsPermutation}
 use Rattle.std.proofs.lemmas.List.Sorted.{All-permutation, IsNonDecreasingBy-from_sort_by_key}
@@ -21,7 +21,7 @@ first_below-below-requires-clause-small c =
 pub returns : goal.returns
 returns c =
     let listed : c.add_pages.new.out.items ≡ sights c.args.report.now =
-        c.in_ok-add_pages.ensures ∙ (λ i. c.new-list.ensures.items i ++ pages_sights (c.page_at.ensures i) (c.as_slice.ensures i)) in
+    c.in_ok-add_pages.ensures ∙ (λ i. c.new-list.ensures.items i ++ pages_sights (c.page_at.ensures i) (c.as_slice.ensures i)) in
     subst (λ (o : Option ℕ). MatchOption o (SeenFit c.args.script.now c.args.report.now) (IsBroken Seen c.args.script.now c.args.report.now)) (sym c.soonest.ensures)
     (seen-is c.args.script.now c.args.report.now c.sort_by_key.new.self.items
     (subst (λ (l : List Sight). IsPermutation l c.sort_by_key.new.self.items) listed c.in_ok-sort_by_key.ensures.permutation) c.first_wrong-wrong.result c.first_below-below.result

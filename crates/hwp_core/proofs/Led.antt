@@ -1,0 +1,26 @@
+-- The turns of a run lead to its last board, on which the run has ended.
+use Rattle.std.proofs.Common.{◌≡◌, List, length, subst}
+use Rattle.hwp_rule.specs.Opening.{opening}
+use Rattle.hwp_rule.specs.Rule.{Holds}
+use Rattle.hwp_plain.specs.Boards.{Board}
+use Rattle.hwp_script.specs.declared.Script.{Script}
+use Rattle.hwp_report.specs.declared.CpuLine.{CpuLine}
+use Rattle.hwp_sched.specs.Order.{running}
+use Rattle.hwp_runs.specs.Turns.{Leads}
+use Rattle.hwp_runs.proofs.Leading.{leads-hold, leads-ordered}
+use Rattle.hwp_served.proofs.Unmarked.{run-unmarked}
+use Rattle.hwp_core.specs.Closing.{IsEnded}
+use Rattle.hwp_core.specs.Runs.{IsPlayed, own_seat, processors}
+use Rattle.hwp_core.proofs.Closable.{ended-of}
+
+module _ (script : Script) (board : Board) (cpus : List (List CpuLine)) (lists : length script.lists ≡ script.layout.cpus) (played : IsPlayed script board cpus) where
+  -- the turns lead from the opening to the board
+  pub board-led : Leads script.layout (opening script.layout) played.turns board.state
+  board-led = subst (Leads script.layout (opening script.layout) played.turns) played.state_is
+      (leads-ordered processors script.go (running script.layout own_seat played.tasks (opening script.layout)) played.last played.turns played.order)
+
+  board-holds : Holds script.layout board.state
+  board-holds = leads-hold script.layout (opening script.layout) board.state played.turns played.rule board-led
+
+  pub board-ended : IsEnded board.state.views cpus
+  board-ended = ended-of script own_seat board.state cpus board-holds played.seated_last lists played.count played.served (run-unmarked script.layout played.turns board.state played.rule board-led)

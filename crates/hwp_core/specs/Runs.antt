@@ -1,0 +1,64 @@
+-- The run of a script: the processors' tasks as they begin, how they end, and the law of the report.
+use Rattle.std.specs.Prelude.{◌≡◌, ℕ, true, false, List, Some, None, All, length, slice_get}
+use Rattle.hwp_geom.specs.Pairs.{Pairs}
+use Rattle.hwp_geom.specs.declared.Cpu.{Cpu}
+use Rattle.hwp_rule.specs.Opening.{opening}
+use Rattle.hwp_rule.specs.Rule.{Holds}
+use Rattle.hwp_step.specs.Boards.{AreSeated, Played}
+use Rattle.hwp_step.specs.Ranks.{Member, member}
+use Rattle.hwp_plain.specs.Boards.{Board}
+use Rattle.hwp_script.specs.declared.Command.{Command}
+use Rattle.hwp_script.specs.declared.Script.{Script}
+use Rattle.hwp_sched.specs.Order.{InOrder, Running, running}
+use Rattle.hwp_report.specs.declared.CpuLine.{CpuLine}
+use Rattle.hwp_report.specs.declared.Report.{Report}
+use Rattle.hwp_runs.specs.Run.{CoreRun}
+use Rattle.hwp_served.specs.Runs.{AreServed}
+use Rattle.hwp_job.specs.Begins.{is_supported}
+use Rattle.hwp_processor.specs.declared.Processor.{Processor}
+use Rattle.hwp_processor.specs.Processors.{AtBeginning, Next, bare, class, cost, plan, put, who}
+use Rattle.hwp_processor.specs.Serving.{Fits}
+
+-- all commands of all processors are supported
+abbrev pub AreSupported : Script → Type 0
+AreSupported script = All (All (λ (c : Command). is_supported c ≡ true)) script.lists
+
+-- a processor as a task: it gives nothing up, and claims no failure
+abbrev pub processors : Member Processor
+processors = member (λ p. who p) (λ p. plan p) (λ p. put p) (λ p. bare p) (λ layout p found got after turn. Next layout p found got after turn) (λ layout view p. Fits layout view p) (λ p. class p) (λ p words. cost p words) (λ p. false) (λ p. None)
+
+-- a processor's seat has its number
+abbrev pub own_seat : Cpu → ℕ
+own_seat cpu = cpu.0
+
+-- each task is at the beginning of its processor's list
+pub record AreAtBeginning (script : Script) (tasks : List Processor) : Type 0 where
+  pub one_each : length tasks ≡ length script.lists
+  pub each : (cpu : Cpu) (list : List Command) (p : Processor) → slice_get script.lists cpu.0 ≡ Some list → slice_get tasks cpu.0 ≡ Some p → AtBeginning script.layout cpu list p
+
+-- the processors have answered all their commands, by these lines
+abbrev pub AreFinished : List Processor → List (List CpuLine) → Type 0
+AreFinished tasks cpus = Pairs (λ (p : Processor) (rows : List CpuLine). (rows ≡ p.lines.items) × (p.job ≡ None)) tasks cpus
+
+-- the tasks made their turns from their beginning to this board, on which all commands are served by these lines
+pub record IsPlayed (script : Script) (board : Board) (cpus : List (List CpuLine)) : Type 0 where
+  pub tasks : List Processor
+  pub begin : AreAtBeginning script tasks
+  pub rule : Holds script.layout (opening script.layout)
+  pub seated : AreSeated script.layout (opening script.layout) own_seat
+  pub turns : List Played
+  pub last : Running Processor
+  pub order : InOrder processors script.go (running script.layout own_seat tasks (opening script.layout)) turns last
+  pub layout_is : board.layout ≡ script.layout
+  pub state_is : last.state ≡ board.state
+  pub seated_last : AreSeated script.layout board.state own_seat
+  pub served : AreServed script own_seat board.state cpus
+  pub count : length cpus ≡ script.layout.cpus
+
+-- The report is of a run that the tasks of the script's processors make from their beginning, and on its last board each processor
+-- has served its commands by the report's lines.
+pub record IsCoreRun (script : Script) (report : Report) : Type 0 where
+  pub tasks : List Processor
+  pub begin : AreAtBeginning script tasks
+  pub run : CoreRun processors tasks own_seat script report
+  pub served : AreServed script own_seat run.last.state report.cpus
