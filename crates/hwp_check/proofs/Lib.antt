@@ -12,3 +12,6 @@ mod StopScans
 mod StopLaws
 mod Walking
 mod Wrongs
+mod DoneLaws
+mod FrameLaws
+mod FrameRule

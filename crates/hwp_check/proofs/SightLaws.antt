@@ -17,17 +17,17 @@ use Rattle.hwp_check.specs.Sights.{entry_sights, listed_sights, page_sights, pag
 use Rattle.hwp_check.specs.Standing.{entry_height, page_height, page_line, seen_line}
 
 -- members of lists
-cons-cases : {X : Type 0} (y : X) (ys : List X) (x : X) → Contains (y ∷ ys) x → (y ≡ x) ⊎ Contains ys x
+pub cons-cases : {X : Type 0} (y : X) (ys : List X) (x : X) → Contains (y ∷ ys) x → (y ≡ x) ⊎ Contains ys x
 cons-cases y ys x (zero, less, is) = inl is
 cons-cases y ys x (suc k, less, is) = inr (k, omega (arith, less), is)
 
-cons-here : {X : Type 0} (y : X) (ys : List X) (x : X) → y ≡ x → Contains (y ∷ ys) x
+pub cons-here : {X : Type 0} (y : X) (ys : List X) (x : X) → y ≡ x → Contains (y ∷ ys) x
 cons-here y ys x is = (0, omega arith, is)
 
 cons-there : {X : Type 0} (y : X) (ys : List X) (x : X) → Contains ys x → Contains (y ∷ ys) x
 cons-there y ys x (k, less, is) = (suc k, omega (arith, less), is)
 
-nothing : {X : Type 0} {P : Type 0} (x : X) → Contains {X = X} [] x → P
+pub nothing : {X : Type 0} {P : Type 0} (x : X) → Contains {X = X} [] x → P
 nothing x (k, less, is) = absurd (omega (arith, less))
 
 pub from-place : {X : Type 0} (xs : List X) (k : ℕ) (x : X) → slice_get xs k ≡ Some x → Contains xs x

@@ -5,6 +5,7 @@ pub mod Histories
 pub mod Answered
 pub mod Rules
 pub mod Faults
+pub mod Frames
 pub mod MarkFaults
 pub mod Scans
 pub mod AnswerFaults

@@ -2,7 +2,9 @@
 #![tactic(auto)]
 
 mod count;
+mod dones;
 mod first;
+mod frames;
 mod histories;
 mod losses;
 mod making;

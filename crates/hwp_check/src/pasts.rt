@@ -61,7 +61,11 @@ fn note(flags: &mut Vec<bool>, row: &CpuLine)
 }
 
 /// Which of so many commands were answered `done`. The lines are read from the last one on, so the first answer counts.
-fn done_of(alloc: Global, count: usize, rows: &[CpuLine]) -> Result<Vec<bool>, OutOfMemory>
+pub(crate) fn done_of(
+    alloc: Global,
+    count: usize,
+    rows: &[CpuLine],
+) -> Result<Vec<bool>, OutOfMemory>
     ensures count { IfOk result (λ flags. length flags.items ≡ count) }
     ensures done { IfOk result (λ flags. AreDone rows.now flags.items) }
 {
@@ -101,7 +105,7 @@ fn counts_of(
 }
 
 /// The commands of a processor.
-fn commands_of(script: &Script, cpu: Cpu) -> &[Command]
+pub(crate) fn commands_of(script: &Script, cpu: Cpu) -> &[Command]
     ensures { result.now ≡ unwrap_or (slice_get script.now.lists cpu.0) [] }
 {
     match script.lists.as_slice().get(usize::from(cpu.0)) {
@@ -111,7 +115,7 @@ fn commands_of(script: &Script, cpu: Cpu) -> &[Command]
 }
 
 /// The lines of a processor.
-fn rows_of(report: &Report, cpu: Cpu) -> &[CpuLine]
+pub(crate) fn rows_of(report: &Report, cpu: Cpu) -> &[CpuLine]
     ensures { result.now ≡ unwrap_or (slice_get report.now.cpus cpu.0) [] }
 {
     match report.cpus.as_slice().get(usize::from(cpu.0)) {

@@ -17,7 +17,7 @@ fn file_at(report: &Report, at: usize) -> u64
 }
 
 /// The same of a frame.
-fn frame_at(report: &Report, at: usize) -> u64
+pub(crate) fn frame_at(report: &Report, at: usize) -> u64
     requires room { last_line report.now < 2 ^ 64 }
     requires within { at ≤ length report.now.frames }
     ensures { result ≡ frame_line report.now at }
