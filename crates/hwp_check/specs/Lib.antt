@@ -1,5 +1,6 @@
 pub mod Standing
 pub mod Histories
+pub mod Placing
 pub mod Answered
 pub mod Rules
 pub mod Faults

@@ -5,6 +5,7 @@ mod count;
 mod histories;
 mod losses;
 mod making;
+mod placing;
 mod shape;
 mod standing;
 mod verdicts;
