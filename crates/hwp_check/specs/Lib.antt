@@ -1,4 +1,6 @@
 pub mod Standing
+pub mod Firsts
+pub mod Sights
 pub mod Histories
 pub mod Placing
 pub mod Answered
@@ -9,3 +11,4 @@ pub mod Scans
 pub mod AnswerFaults
 pub mod Verdicts
 pub mod Balances
+pub mod Stopping

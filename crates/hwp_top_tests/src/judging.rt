@@ -1,4 +1,4 @@
-//! Two processors under every order of their first turns, up to ten: the main facts of the report law, judged by walking each
+//! Two processors under every order of their first ten turns: the main facts of the report law, judged by walking each
 //! history.
 
 use crate::helpers::report_of;
@@ -8,12 +8,18 @@ use hwp_report::{Answer, CpuLine, Report};
 use std::alloc::Global;
 use std::process::Abort;
 
+/// How many turns have their order from the schedule.
+const TURNS: u32 = 10;
+
+/// How many orders these turns have.
+const ORDERS: u32 = 1024;
+
 /// The script of a race, under the schedule whose turns are the bits of the number: 0 is a turn of processor 0.
 fn scheduled(rt: &impl Abort, alloc: Global, race: &Race, number: u32) -> String {
     let mut script = String::from_str(alloc, race.front).expect(rt, "memory");
     script.push_str("schedule").expect(rt, "memory");
     let mut rest = number;
-    for _turn in 0..race.turns {
+    for _turn in 0..TURNS {
         let word = if rest % 2 == 0 { " 0" } else { " 1" };
         script.push_str(word).expect(rt, "memory");
         rest /= 2;
@@ -141,12 +147,10 @@ fn are_named(report: &Report, cpu: u8, lines: &[CpuLine], commands: usize) -> bo
     lines.len() == commands
 }
 
-/// A script of two processors without its schedule: its lines, how many turns have their order from the schedule and how many
-/// orders these have, the word of all lines of its pages, and how many commands each processor has.
+/// A script of two processors without its schedule: its lines, the word of all lines of its pages, and how many commands each
+/// processor has.
 struct Race {
     front: &'static str,
-    turns: u32,
-    orders: u32,
     fill: u64,
     commands: [usize; 2],
 }
@@ -167,7 +171,7 @@ fn is_right(report: &Report, race: &Race) -> bool {
 /// Each order of the first turns gives a report that is right.
 fn all_right(rt: &impl Abort, alloc: Global, races: &[Race]) {
     for race in races {
-        for number in 0..race.orders {
+        for number in 0..ORDERS {
             let script = scheduled(rt, alloc, race, number);
             let report = report_of(rt, alloc, script.as_bytes());
             assert!(rt; is_right(&report, race));
@@ -181,8 +185,6 @@ const RACES: &[Race] = &[
     Race {
         front: "hwp 1\ncpus 2\nframes 1\nproc 0\nproc 1\nthread 0 0 0 handler\nthread 1 1 1 handler\npage 0 anon\n\
 trans 0 0 0\ntrans 1 1 0\ncpu 0\nstore 0 0 0 7\nload 0 0 0\ncpu 1\nload 1 1 0\nstore 1 1 0 8\n",
-        turns: 10,
-        orders: 1024,
         fill: 0,
         commands: [2, 2],
     },
@@ -190,8 +192,6 @@ trans 0 0 0\ntrans 1 1 0\ncpu 0\nstore 0 0 0 7\nload 0 0 0\ncpu 1\nload 1 1 0\ns
     Race {
         front: "hwp 1\ncpus 2\nframes 1\nproc 0\nproc 1\nthread 0 0 0 handler\nthread 1 1 1 handler\npage 0 anon\n\
 trans 0 0 0\ntrans 1 1 0\ncpu 0\nout 0\nstore 0 0 0 7\ncpu 1\nload 1 1 0\nout 0\n",
-        turns: 10,
-        orders: 1024,
         fill: 0,
         commands: [2, 2],
     },
@@ -199,8 +199,6 @@ trans 0 0 0\ntrans 1 1 0\ncpu 0\nout 0\nstore 0 0 0 7\ncpu 1\nload 1 1 0\nout 0\
     Race {
         front: "hwp 1\ncpus 2\nframes 1\nproc 0\nthread 0 0 0 handler\nthread 1 0 1 handler\npage 0 anon\n\
 trans 0 0 0\ncpu 0\nfree 0\nstore 0 0 0 7\nfree 0\ncpu 1\nload 1 0 0\nload 1 0 0\n",
-        turns: 8,
-        orders: 256,
         fill: 0,
         commands: [3, 2],
     },
@@ -208,8 +206,6 @@ trans 0 0 0\ncpu 0\nfree 0\nstore 0 0 0 7\nfree 0\ncpu 1\nload 1 0 0\nload 1 0 0
     Race {
         front: "hwp 1\ncpus 2\nframes 1\nproc 0\nproc 1\nthread 0 0 0 handler\nthread 1 1 1 handler\npage 0 anon\n\
 page 1 anon\ntrans 0 0 0\ntrans 1 1 1\ncpu 0\nstore 0 0 0 7\nout 0\ncpu 1\nstore 1 1 0 8\nout 1\n",
-        turns: 9,
-        orders: 512,
         fill: 0,
         commands: [2, 2],
     },
@@ -217,14 +213,12 @@ page 1 anon\ntrans 0 0 0\ntrans 1 1 1\ncpu 0\nstore 0 0 0 7\nout 0\ncpu 1\nstore
     Race {
         front: "hwp 1\ncpus 2\nframes 1\nfile 0\nproc 0\nproc 1\nthread 0 0 0 handler\nthread 1 1 1 handler\n\
 page 0 file 0 fill 9\ntrans 0 0 0\ntrans 1 1 0\ncpu 0\nload 0 0 0\nfree 0\ndrop 0\ncpu 1\nsync 0\nstore 1 1 0 8\n",
-        turns: 8,
-        orders: 256,
         fill: 9,
         commands: [3, 2],
     },
 ];
 
 #[test]
-fn every_order_of_the_first_turns_gives_a_right_report(rt: HostRuntime) {
+fn every_order_of_ten_turns_gives_a_right_report(rt: HostRuntime) {
     all_right(&rt, rt.alloc(), RACES);
 }
