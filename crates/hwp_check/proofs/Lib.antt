@@ -2,6 +2,8 @@ mod AnswersByRow
 pub mod Lawful
 mod Balances
 mod InPlace
+mod TellLaws
+mod PlainLaws
 mod Shapes
 mod PastLaws
 mod FirstLaws

@@ -3,6 +3,8 @@ pub mod Firsts
 pub mod Sights
 pub mod Histories
 pub mod Placing
+pub mod Telling
+pub mod Plain
 pub mod Answered
 pub mod Rules
 pub mod Faults

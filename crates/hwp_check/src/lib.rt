@@ -8,6 +8,7 @@ mod losses;
 mod making;
 mod pasts;
 mod placing;
+mod plain;
 mod policies;
 mod seen;
 mod shape;
@@ -15,6 +16,7 @@ mod sights;
 mod standing;
 mod stop;
 mod stopping;
+mod telling;
 mod verdicts;
 
 pub use verdicts::Verdict;
