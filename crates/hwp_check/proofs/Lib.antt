@@ -6,3 +6,4 @@ mod StopScans
 mod StopLaws
 mod Walking
 mod Wrongs
+pub mod InText
