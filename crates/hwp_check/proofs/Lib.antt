@@ -2,6 +2,12 @@ mod AnswersByRow
 pub mod Lawful
 mod Balances
 mod Shapes
+mod PastLaws
+mod FirstLaws
+mod TopLaws
+mod OwnLaws
+mod SightLaws
+mod SeenRule
 mod StopScans
 mod StopLaws
 mod Walking

@@ -1,4 +1,6 @@
 pub mod Standing
+pub mod Firsts
+pub mod Sights
 pub mod Histories
 pub mod Answered
 pub mod Rules

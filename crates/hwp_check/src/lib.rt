@@ -2,10 +2,15 @@
 #![tactic(auto)]
 
 mod count;
+mod first;
 mod histories;
 mod losses;
 mod making;
+mod pasts;
+mod policies;
+mod seen;
 mod shape;
+mod sights;
 mod standing;
 mod stop;
 mod stopping;
