@@ -1,6 +1,7 @@
 mod AnswersByRow
 pub mod Lawful
 mod Balances
+mod InPlace
 mod Shapes
 mod PastLaws
 mod FirstLaws

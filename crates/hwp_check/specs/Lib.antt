@@ -2,6 +2,7 @@ pub mod Standing
 pub mod Firsts
 pub mod Sights
 pub mod Histories
+pub mod Placing
 pub mod Answered
 pub mod Rules
 pub mod Faults

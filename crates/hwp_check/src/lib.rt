@@ -7,6 +7,7 @@ mod histories;
 mod losses;
 mod making;
 mod pasts;
+mod placing;
 mod policies;
 mod seen;
 mod shape;
