@@ -1,6 +1,15 @@
 mod AnswersByRow
 pub mod Lawful
 mod Balances
+mod InPlace
 mod Shapes
+mod PastLaws
+mod FirstLaws
+mod TopLaws
+mod OwnLaws
+mod SightLaws
+mod SeenRule
+mod StopScans
+mod StopLaws
 mod Walking
 mod Wrongs

@@ -1,5 +1,8 @@
 pub mod Standing
+pub mod Firsts
+pub mod Sights
 pub mod Histories
+pub mod Placing
 pub mod Answered
 pub mod Rules
 pub mod Faults
@@ -8,3 +11,4 @@ pub mod Scans
 pub mod AnswerFaults
 pub mod Verdicts
 pub mod Balances
+pub mod Stopping

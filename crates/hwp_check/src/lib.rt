@@ -2,11 +2,19 @@
 #![tactic(auto)]
 
 mod count;
+mod first;
 mod histories;
 mod losses;
 mod making;
+mod pasts;
+mod placing;
+mod policies;
+mod seen;
 mod shape;
+mod sights;
 mod standing;
+mod stop;
+mod stopping;
 mod verdicts;
 
 pub use verdicts::Verdict;

@@ -26,7 +26,7 @@ fn frame_at(report: &Report, at: usize) -> u64
 }
 
 /// The same of a page.
-fn page_at(report: &Report, at: usize) -> u64
+pub(crate) fn page_at(report: &Report, at: usize) -> u64
     requires room { last_line report.now < 2 ^ 64 }
     requires within { at ≤ length report.now.pages }
     ensures { result ≡ page_line report.now at }

@@ -1,0 +1,21 @@
+-- The first line of which something is true.
+use Rattle.std.specs.Prelude.{ℕ, ◌≤◌, min, Bool, cond, Option, Some, None}
+
+-- it is true of the line, and of none before
+pub record IsLeast (P : ℕ → Type 0) (line : ℕ) : Type 0 where
+  pub at : P line
+  pub first : (other : ℕ) → P other → line ≤ other
+
+-- the lower of a line that was found so far, if one was, and one more
+abbrev pub sooner : Option ℕ → ℕ → Option ℕ
+sooner None line = Some line
+sooner (Some found) line = Some (min found line)
+
+-- the lower of two lines, where there are any
+abbrev pub soonest : Option ℕ → Option ℕ → Option ℕ
+soonest found None = found
+soonest found (Some line) = sooner found line
+
+-- the same, with the one more only where it counts
+abbrev pub sooner_if : Bool → Option ℕ → ℕ → Option ℕ
+sooner_if counts found line = cond counts (sooner found line) found
