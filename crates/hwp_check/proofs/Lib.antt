@@ -15,3 +15,4 @@ mod StopScans
 mod StopLaws
 mod Walking
 mod Wrongs
+pub mod InText
