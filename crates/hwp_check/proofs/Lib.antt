@@ -3,6 +3,8 @@ pub mod Lawful
 mod Balances
 mod InPlace
 mod TellLaws
+mod AskLaws
+mod OrderLaws
 mod PlainLaws
 mod Shapes
 mod PastLaws

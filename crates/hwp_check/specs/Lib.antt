@@ -11,6 +11,8 @@ pub mod Faults
 pub mod MarkFaults
 pub mod Scans
 pub mod AnswerFaults
+pub mod Asking
+pub mod Disorders
 pub mod Verdicts
 pub mod Balances
 pub mod Stopping

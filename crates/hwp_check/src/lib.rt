@@ -1,7 +1,9 @@
 //! The checker of reports: whether a report is one that a run of a script can have, and if not, by which rule and at which line.
 #![tactic(auto)]
 
+mod asking;
 mod count;
+mod disorders;
 mod first;
 mod histories;
 mod losses;
