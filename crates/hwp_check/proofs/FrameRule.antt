@@ -60,11 +60,11 @@ lost-is n [] frames is = absurd (true≢false (sym is))
 lost-is n (cached ∷ rest) frames is = elim (which cached (sayers (record { 0 = n }) frames == 0) (is_unsaid_from (n + 1) rest frames) refl refl refl is) [
   | inl here ↦ here
   | inr more ↦ let m = lost-is (n + 1) rest frames more in record {
-      place = suc m.place;
-      within = let less : m.place < length rest = m.within in omega (arith, less);
-      cached = m.cached;
-      none = ap (λ (k : ℕ). sayers (record { 0 = k }) frames) (omega arith) ∙ m.none;
-    }
+    place = suc m.place;
+    within = let less : m.place < length rest = m.within in omega (arith, less);
+    cached = m.cached;
+    none = ap (λ (k : ℕ). sayers (record { 0 = k }) frames) (omega arith) ∙ m.none;
+  }
 ]
   where
     which : (a b c : Bool) → cached ≡ a → sayers (record { 0 = n }) frames == 0 ≡ b → is_unsaid_from (n + 1) rest frames ≡ c → ((a && b) || c) ≡ true
@@ -279,7 +279,7 @@ module _ (script : Script) (report : Report) (done : List Command) (are : AreDon
   rises : (i j : ℕ) → i ≤ j → frame_line report i ≤ frame_line report j
   rises i j less =
       let part : sum_by frame_height (take i report.frames) ≤ sum_by frame_height (take j report.frames) =
-          subst (λ (l : List FrameLine). sum_by frame_height l ≤ sum_by frame_height (take j report.frames)) (take-take i j report.frames less) (sum_by-take-le frame_height (take j report.frames) i) in
+      subst (λ (l : List FrameLine). sum_by frame_height l ≤ sum_by frame_height (take j report.frames)) (take-take i j report.frames less) (sum_by-take-le frame_height (take j report.frames) i) in
       omega (arith, part)
 
   -- where the first frames are right, no frame before is at fault
@@ -304,7 +304,7 @@ module _ (script : Script) (report : Report) (done : List Command) (are : AreDon
   no-twice : AreRight script report done cached (length report.frames) → (line : ℕ) → IsSaidTwice script report line → ⊥
   no-twice all line t =
       let below : sayers t.page (take t.frame.0 report.frames) < holders t.state =
-          below-holders (length report.frames) all t.frame.0 t.shown (slice_get_within report.frames t.frame.0 t.shown t.there) t.there t.page t.state t.ends t.says in
+      below-holders (length report.frames) all t.frame.0 t.shown (slice_get_within report.frames t.frame.0 t.shown t.there) t.there t.page t.state t.ends t.says in
       let enough : holders t.state ≤ sayers t.page (take t.frame.0 report.frames) = t.enough in
       omega (arith, below, enough)
 

@@ -1,6 +1,11 @@
 mod AnswersByRow
 pub mod Lawful
 mod Balances
+mod InPlace
+mod TellLaws
+mod AskLaws
+mod OrderLaws
+mod PlainLaws
 mod Shapes
 mod PastLaws
 mod FirstLaws
@@ -15,3 +20,4 @@ mod Wrongs
 mod DoneLaws
 mod FrameLaws
 mod FrameRule
+pub mod InText

@@ -2,6 +2,9 @@ pub mod Standing
 pub mod Firsts
 pub mod Sights
 pub mod Histories
+pub mod Placing
+pub mod Telling
+pub mod Plain
 pub mod Answered
 pub mod Rules
 pub mod Faults
@@ -9,6 +12,8 @@ pub mod Frames
 pub mod MarkFaults
 pub mod Scans
 pub mod AnswerFaults
+pub mod Asking
+pub mod Disorders
 pub mod Verdicts
 pub mod Balances
 pub mod Stopping

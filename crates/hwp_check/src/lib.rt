@@ -1,7 +1,9 @@
 //! The checker of reports: whether a report is one that a run of a script can have, and if not, by which rule and at which line.
 #![tactic(auto)]
 
+mod asking;
 mod count;
+mod disorders;
 mod dones;
 mod first;
 mod frames;
@@ -9,6 +11,8 @@ mod histories;
 mod losses;
 mod making;
 mod pasts;
+mod placing;
+mod plain;
 mod policies;
 mod seen;
 mod shape;
@@ -16,6 +20,7 @@ mod sights;
 mod standing;
 mod stop;
 mod stopping;
+mod telling;
 mod verdicts;
 
 pub use verdicts::Verdict;

@@ -41,7 +41,7 @@ fn told_at(file: FileNo, commands: &[Command], number: usize, row: &CpuLine) -> 
 }
 
 /// Whether the line is an answer.
-fn is_answer(row: &CpuLine) -> bool
+pub(crate) fn is_answer(row: &CpuLine) -> bool
     ensures { result ≡ is_answer row.now }
 {
     matches!(row, CpuLine::Answer { .. })

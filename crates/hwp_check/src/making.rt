@@ -199,7 +199,7 @@ fn makes(command: &Command, what: &What) -> bool
 }
 
 /// Whether the translation leads to the page.
-fn leads_to(layout: &Layout, page: Page, slot: VSlot) -> bool
+pub(crate) fn leads_to(layout: &Layout, page: Page, slot: VSlot) -> bool
     ensures { IsTrue result ↔ IsOf layout.now page slot }
 {
     match layout.trans.as_slice().get(usize::from(slot.0)) {

@@ -37,7 +37,7 @@ pub(crate) fn page_at(report: &Report, at: usize) -> u64
 }
 
 /// The same of a processor.
-fn cpu_at(report: &Report, at: usize) -> u64
+pub(crate) fn cpu_at(report: &Report, at: usize) -> u64
     requires room { last_line report.now < 2 ^ 64 }
     requires within { at ≤ length report.now.cpus }
     ensures { result ≡ cpu_line report.now at }
