@@ -1,11 +1,11 @@
 -- The parts of a frame's line: the lines that commands mark, the place, and the pages that are cached at the end.
-use Rattle.std.proofs.Common.{◌≡◌, ◌⊎◌, ◌↔◌, inl, inr, ℕ, zero, suc, ◌+◌, ◌^◌, ◌<◌, ◌≤◌, ◌==◌, ◌&&◌, max, Bool, true, false, not, true≢false, cond, nat_lt, List, [], ◌∷◌, ◌++◌, Option, Some, None, bit_or, fold, length, map, option_map, slice_get, slice_index_or, refl, sym, ap, ◌∙◌, subst, arith}
+use Rattle.std.proofs.Common.{◌≡◌, ◌⊎◌, ◌↔◌, inl, inr, ℕ, zero, suc, ◌^◌, ◌<◌, ◌≤◌, ◌==◌, ◌&&◌, max, Bool, true, false, not, true≢false, cond, nat_lt, List, [], ◌∷◌, Some, bit_or, length, option_map, slice_get, slice_index_or, refl, sym, ap, ◌∙◌, subst, arith}
 use Rattle.std.specs.Int.{IsBitSet, bit_at}
 use Rattle.std.specs.List.{Contains}
-use Rattle.std.proofs.lemmas.Bool.{cases_eq, eq-eqb, eqb-false, eqb-true, ltb-false, ltb-true}
+use Rattle.std.proofs.lemmas.Bool.{cases_eq, eq-eqb, eqb-true, ltb-false, ltb-true}
 use Rattle.std.proofs.lemmas.Nat.{bit_set_by_shift}
 use Rattle.std.proofs.lemmas.Nat.Bits.{bit_at-lt, bit_at-pow_other, bit_at-pow_same, bit_at-zero, bit_at_or, same_from_bits, shr_and_one}
-use Rattle.std.proofs.lemmas.Option.{get_or_from_slice_get, same_Some, slice_get-map, slice_get_within}
+use Rattle.std.proofs.lemmas.Option.{get_or_from_slice_get, slice_get-map, slice_get_within}
 use Rattle.hwp_geom.specs.declared.Frame.{Frame}
 use Rattle.hwp_geom.specs.declared.Layout.{Layout}
 use Rattle.hwp_geom.specs.declared.Page.{Page}
@@ -29,7 +29,7 @@ use Rattle.hwp_report.specs.declared.Place.TheVariants as places
 use Rattle.hwp_report.specs.declared.Report.{Report}
 use Rattle.hwp_law.specs.Frames.{IsPlaced, WasDone}
 use Rattle.hwp_law.specs.Report.{is_of}
-use Rattle.hwp_check.specs.Faults.{EndsIn, holders, sayers}
+use Rattle.hwp_check.specs.Faults.{EndsIn, sayers}
 use Rattle.hwp_check.specs.Frames.{AreDoneOf, bad_bit, cached_after, cached_by, ends_of, is_beyond, is_placed, keeps, weak_bit, with_bits}
 use Rattle.hwp_check.proofs.SightLaws.{cons-cases, nothing}
 use Rattle.std.proofs.lemmas.List.Elements.{Contains-append_right}

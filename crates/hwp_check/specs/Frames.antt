@@ -1,7 +1,6 @@
 -- The lines of frames as they are gone through: which pages are cached at the end, the commands that were done, and the lines
 -- of frames that these marked.
 use Rattle.std.specs.Prelude.{◌≡◌, ◌↔◌, ℕ, ◌+◌, ◌^◌, ◌<◌, ◌==◌, ◌&&◌, ◌||◌, Bool, true, false, not, cond, nat_lt, List, [], ◌∷◌, ◌++◌, Some, bit_or, Contains, length, map, option_map, slice_get, slice_index_or, take, unwrap_or}
-use Rattle.hwp_geom.specs.declared.Page.{Page}
 use Rattle.hwp_geom.specs.declared.Who.{Who}
 use Rattle.hwp_page.specs.declared.Entry.{Entry}
 use Rattle.hwp_page.specs.declared.Situation.{Situation}

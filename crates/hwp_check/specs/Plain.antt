@@ -1,5 +1,5 @@
 -- Answers that the command alone, the layout, a frame's bad lines, or the number of the command's event lines explains.
-use Rattle.std.specs.Prelude.{◌≡◌, ℕ, ◌<◌, Bool, true, false, List}
+use Rattle.std.specs.Prelude.{◌≡◌, ℕ, ◌<◌, Bool, true, false}
 use Rattle.hwp_geom.specs.declared.Who.{Who}
 use Rattle.hwp_script.specs.declared.Command.{Command}
 use Rattle.hwp_script.specs.declared.Command.TheVariants as commands

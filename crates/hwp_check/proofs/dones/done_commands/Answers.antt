@@ -1,4 +1,4 @@
-use Rattle.std.proofs.Common.{◌≡◌, ◌≤◌, Bool, List, length, ap, sym, subst, ◌∙◌, arith}
+use Rattle.std.proofs.Common.{◌≤◌, Bool, List, length, ap, sym, subst, ◌∙◌}
 use Rattle.hwp_check.specs.Sights.{AreDone}
 use Rattle.hwp_check.proofs.DoneLaws.{done-all, done-next}
 use Rattle.hwp_check.proofs.dones.done_commands.Goals as goal
