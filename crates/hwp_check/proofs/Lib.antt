@@ -17,6 +17,9 @@ mod StopScans
 mod StopLaws
 mod Walking
 mod Wrongs
+mod Results
+mod Keeping
+mod Unpairing
 mod DoneLaws
 mod FrameLaws
 mod FrameRule

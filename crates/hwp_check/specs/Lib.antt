@@ -10,6 +10,8 @@ pub mod Rules
 pub mod Faults
 pub mod Frames
 pub mod MarkFaults
+pub mod MarkScans
+pub mod Unpaired
 pub mod Scans
 pub mod AnswerFaults
 pub mod Asking

@@ -59,7 +59,7 @@ fn stays_stopped(rows: &[CpuLine]) -> bool
 }
 
 /// The answer of a command of the processor with these lines.
-fn answer_among(rows: &[CpuLine], seq: u32) -> Option<Answer>
+pub(crate) fn answer_among(rows: &[CpuLine], seq: u32) -> Option<Answer>
     ensures { result ≡ answer_among rows.now seq }
 {
     for row in rows {
@@ -192,7 +192,7 @@ fn arrives_so(command: &Command, mcg: McgBits, mode: Mode) -> bool
 }
 
 /// The lines of a command's processor.
-fn rows_of(report: &Report, who: Who) -> &[CpuLine]
+pub(crate) fn rows_of(report: &Report, who: Who) -> &[CpuLine]
     ensures { result.now ≡ rows_of report.now who }
 {
     match report.cpus.as_slice().get(usize::from(who.cpu.0)) {
