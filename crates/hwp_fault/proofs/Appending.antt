@@ -35,7 +35,7 @@ use Rattle.hwp_rule.specs.Logs.{log_of, opening_at, state_of, fitting_word}
 use Rattle.hwp_rule.specs.Views.{is_body_of, page_locks_on}
 use Rattle.hwp_rule.specs.parts.Entries.{HasSeen}
 use Rattle.hwp_rule.specs.parts.Fits.{FitsWords}
-use Rattle.hwp_rule.specs.parts.Unpoisoned.{is_failure}
+use Rattle.hwp_rule.specs.Unfailed.{is_failure}
 use Rattle.hwp_rule.proofs.Lists.{at_set, each-push, same-number}
 use Rattle.hwp_step.specs.Hands.{Hand, body_in}
 use Rattle.hwp_hold.specs.Holds.{page_lock}

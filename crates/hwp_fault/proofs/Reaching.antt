@@ -29,7 +29,7 @@ use Rattle.hwp_rule.specs.Lists.{EachMember, SomeMember}
 use Rattle.hwp_rule.specs.Logs.{log_of, opening_at, state_of}
 use Rattle.hwp_rule.specs.Views.{is_body_of, body_of, more_of, noted, stamp_of}
 use Rattle.hwp_rule.specs.parts.Entries.{HasSeen, Shows}
-use Rattle.hwp_rule.specs.parts.Unpoisoned.{is_failure}
+use Rattle.hwp_rule.specs.Unfailed.{is_failure}
 use Rattle.hwp_rule.proofs.Lists.{same-number, some-last}
 use Rattle.hwp_step.specs.Calls.{Steps}
 use Rattle.hwp_step.specs.Hands.{Hand, hand_of, body_in}

@@ -40,7 +40,7 @@ use Rattle.hwp_rule.specs.Logs.{log_of, opening_at, state_of, fitting, fitting_w
 use Rattle.hwp_rule.specs.Views.{is_body_of, more_of, page_locks_on}
 use Rattle.hwp_rule.specs.parts.Entries.{HasSeen}
 use Rattle.hwp_rule.specs.parts.Fits.{FitsWords}
-use Rattle.hwp_rule.specs.parts.Unpoisoned.{is_failure}
+use Rattle.hwp_rule.specs.Unfailed.{is_failure}
 use Rattle.hwp_rule.proofs.FittingWords.{fitting-at}
 use Rattle.hwp_rule.proofs.Lists.{same-number}
 use Rattle.hwp_step.specs.Hands.{Hand, hand_of, body_in}

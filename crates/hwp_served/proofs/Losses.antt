@@ -19,7 +19,7 @@ use Rattle.hwp_rule.specs.Logs.{file_of, losses_of}
 use Rattle.hwp_rule.specs.Rule.{Holds, losing_of}
 use Rattle.hwp_rule.specs.Words.{words_of}
 use Rattle.hwp_rule.specs.parts.Losses.{Losing}
-use Rattle.hwp_rule.specs.parts.Unpoisoned.{is_failure}
+use Rattle.hwp_rule.specs.Unfailed.{is_failure}
 use Rattle.hwp_rule.proofs.Keeps.{IsShaped}
 use Rattle.hwp_rule.proofs.Lists.{sum-zero}
 use Rattle.hwp_rule.proofs.MoreEntries.{losses-in-none}

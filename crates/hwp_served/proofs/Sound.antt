@@ -14,7 +14,7 @@ use Rattle.hwp_page.specs.declared.What.TheVariants as entries
 use Rattle.hwp_page.specs.Endings.{has_ending, is_ending}
 use Rattle.hwp_page.specs.Losses.{losses_in}
 use Rattle.hwp_rule.specs.declared.State.{State}
-use Rattle.hwp_rule.specs.parts.Unpoisoned.{is_failure as fails}
+use Rattle.hwp_rule.specs.Unfailed.{is_failure as fails}
 use Rattle.hwp_rule.proofs.Lists.{sum-zero}
 use Rattle.hwp_rule.proofs.MoreEntries.{losses-in-none}
 use Rattle.hwp_script.specs.declared.Command.{Command}

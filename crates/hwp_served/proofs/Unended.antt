@@ -24,7 +24,7 @@ use Rattle.hwp_rule.specs.declared.State.{State}
 use Rattle.hwp_rule.specs.Logs.{opening_at, state_of}
 use Rattle.hwp_rule.specs.Rule.{Holds}
 use Rattle.hwp_rule.specs.Words.{words_of}
-use Rattle.hwp_rule.specs.parts.Unpoisoned.{is_failure}
+use Rattle.hwp_rule.specs.Unfailed.{is_failure}
 use Rattle.hwp_runs.proofs.Legal.{AreLegal}
 
 -- no translation is barred, and the page isn't lost
