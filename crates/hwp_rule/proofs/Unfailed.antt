@@ -56,11 +56,11 @@ weigh-none page place (e ∷ es) none = which (is_failure e.what) refl
 abbrev poisons : ℕ → ℕ → Mark → ℕ
 poisons f cycle m = from_bool ((m.frame.0 == f) && ((m.cycle == cycle) && is_poisoning m.kind))
 
-none-poisoned : (p n : ℕ) → 0 ≡ cond (nat_lt n n) 1 (cond (n == n) p 0) → p ≡ 0
-none-poisoned p n is =
-    let later : cond (nat_lt n n) 1 (cond (n == n) p 0) ≡ cond (n == n) p 0 = ap (λ (b : Bool). cond b 1 (cond (n == n) p 0)) (le-ltb n n (omega arith)) in
-    let now : cond (n == n) p 0 ≡ p = ap (λ (b : Bool). cond b p 0) (same-number n n refl) in
-    omega (arith, is, later, now)
+none-poisoned : (marks p n : ℕ) → marks ≡ cond (nat_lt n n) 1 (cond (n == n) p 0) → marks ≡ 0 → p ≡ 0
+none-poisoned marks p n is none =
+    let later : cond (nat_lt n n) 1 (cond (n == n) p 0) ≡ cond (n == n) p 0 = ap (λ (b : Bool). cond {A = ℕ} b 1 (cond (n == n) p 0)) (le-ltb n n (omega arith)) in
+    let now : cond (n == n) p 0 ≡ p = ap (λ (b : Bool). cond {A = ℕ} b p 0) (same-number n n refl) in
+    omega (arith, is, none, later, now)
 
 module _ (layout : Layout) (s : State) (h : Holds layout s) where
   abbrev made : List (List Made × List Sight)
@@ -68,6 +68,9 @@ module _ (layout : Layout) (s : State) (h : Holds layout s) where
 
   abbrev bodies : List (List InHand)
   bodies = map (λ (v : View). v.bodies) s.views
+
+  abbrev marks : List (List Mark)
+  marks = map (λ (v : View). v.marks) s.views
 
   none-made : sum_by (λ (v : List Made × List Sight). sum_by (λ (m : Made). failure m.page m.place m.entry) v.0) made ≡ 0
   none-made = sum-zero (λ (v : List Made × List Sight). sum_by (λ (m : Made). failure m.page m.place m.entry) v.0) made
@@ -77,15 +80,15 @@ module _ (layout : Layout) (s : State) (h : Holds layout s) where
   none-in : sum_by (of_home (weigh failure)) s.homes + sum_all (λ (b : InHand). weigh failure b.log) bodies ≡ 0
   none-in = h.rule.histories.entries.balance failure ∙ none-made
 
-  no-marks : (f cycle : ℕ) → poisonings f cycle (map (λ (v : View). v.marks) s.views) ≡ 0
-  no-marks f cycle = sum-zero (sum_by (poisons f cycle)) (map (λ (v : View). v.marks) s.views)
+  no-marks : (f cycle : ℕ) → poisonings f cycle marks ≡ 0
+  no-marks f cycle = sum-zero (sum_by (poisons f cycle)) marks
       (each-map (λ (v : View). v.marks) (λ (l : List Mark). sum_by (poisons f cycle) l ≡ 0) s.views (λ i v there. ap (sum_by (poisons f cycle)) (h.unfailed i v there).unmarked))
 
   -- nothing is poisoned on a board that holds
   pub nothing-poisoned : NothingPoisonedYet (words_of layout s.words).frames (map (λ (v : View). v.spoiled) s.views) s.homes bodies
   nothing-poisoned = record {
-    sound = λ f w there. none-poisoned (poison_of w) (cycle_of w) (sym (no-marks f (cycle_of w)) ∙ h.rule.failures.marks.poisoned f w (cycle_of w) there);
-    unspoiled = each-map (λ (v : View). v.spoiled) (λ (l : List Spoiled). length l ≡ 0) s.views (λ i v there. ap length (h.unfailed i v there).unspoiled);
+    sound = λ f w there. none-poisoned (poisonings f (cycle_of w) marks) (poison_of w) (cycle_of w) (h.rule.failures.marks.poisoned f w (cycle_of w) there) (no-marks f (cycle_of w));
+    unspoiled = each-map (λ (v : View). v.spoiled) (λ (l : List Spoiled). length l ≡ 0) s.views (λ i v there. ap (λ (l : List Spoiled). length l) (h.unfailed i v there).unspoiled);
     no_failure = record {
       at_home = λ i log there.
           let one : weigh failure log ≤ sum_by (of_home (weigh failure)) s.homes = term-le (of_home (weigh failure)) s.homes i (Some (Some log)) there in
