@@ -1,4 +1,4 @@
-ghost use Rattle.std.specs.Prelude.{◌≡◌, ◌↔◌, ◌≤◌, IsTrue, IfOk, IsItemAt, length, slice_get, true};
+ghost use Rattle.std.specs.Prelude.{◌≡◌, ◌≢◌, ◌↔◌, ◌&&◌, IsTrue, IfOk, length, true, false};
 ghost use Rattle.std.specs.List.{All};
 ghost use Rattle.std.specs.FinSet as set;
 ghost use Rattle.std.specs.Option.{option_copied};
@@ -52,7 +52,7 @@ fn page_glances(
 }
 
 /// The same of each page.
-pub fn glances(
+pub fn glances_of(
     alloc: Global,
     layout: &Layout,
     pages: &[List<Entry>],
@@ -99,13 +99,20 @@ pub fn was_cached(layout: &Layout, pages: &[List<Entry>], all: &[List<Glance>], 
     }
 }
 
+/// Whether it is in one then, and its content doesn't stand behind it.
+fn is_dirty(glance: &Glance) -> bool
+    ensures { result ≡ (glance.now.cached && glance.now.unsaved) }
+{
+    glance.cached && glance.unsaved
+}
+
 /// Whether it was in one, and its content didn't stand behind it.
 pub fn was_dirty(layout: &Layout, pages: &[List<Entry>], all: &[List<Glance>], at: At) -> bool
     requires { AreGlances layout.now pages.now all.now }
     ensures { IsTrue result ↔ HadState layout.now pages.now at IsDirty }
 {
     match glance_at(all, at) {
-        Some(glance) => glance.cached && glance.unsaved,
+        Some(glance) => is_dirty(glance),
         None => false,
     }
 }
@@ -117,13 +124,20 @@ fn is_empty(slots: &Slots) -> bool
     slots.lowest_from(VSlot(0)).is_none()
 }
 
+/// Whether it is in one then, its content stands behind it, and translations lead to it.
+fn is_mapped(glance: &Glance) -> bool
+    ensures { IsTrue result ↔ ((glance.now.cached ≡ true) × (glance.now.unsaved ≡ false) × (glance.now.maps ≢ set.empty)) }
+{
+    glance.cached && !glance.unsaved && !is_empty(&glance.maps)
+}
+
 /// Whether it was in one, its content stood behind it, and translations led to it.
 pub fn was_mapped(layout: &Layout, pages: &[List<Entry>], all: &[List<Glance>], at: At) -> bool
     requires { AreGlances layout.now pages.now all.now }
     ensures { IsTrue result ↔ HadState layout.now pages.now at IsMapped }
 {
     match glance_at(all, at) {
-        Some(glance) => glance.cached && !glance.unsaved && !is_empty(&glance.maps),
+        Some(glance) => is_mapped(glance),
         None => false,
     }
 }
