@@ -22,7 +22,9 @@ pub mod FrameWord
 pub mod CountSteps
 pub mod Carrying
 pub mod MoreEntries
+pub mod OwedLosses
 pub mod ListingEntries
+pub mod ListingHeld
 pub mod GoingHome
 pub mod FrameLockSteps
 pub mod PageLockSteps
