@@ -133,7 +133,10 @@ made-of-file layout page file (e ∷ es) =
 
     one : (o : Option FileNo) (b : Bool) → sum_by (λ (n : FileNo). from_bool (n.0 == file.0)) (loss_made o b) ≡ cond (is_same_file file o) (from_bool b) 0
     one None b = refl
-    one (Some other) true = by-test (other.0 == file.0)
+    one (Some other) true =
+        let single : sum_by of_file (other ∷ []) ≡ from_bool (other.0 == file.0) + sum_by of_file [] = sum_by-cons of_file other [] in
+        let tested : from_bool (other.0 == file.0) ≡ cond (other.0 == file.0) 1 0 = by-test (other.0 == file.0) in
+        omega arith
     one (Some other) false = nothing-lost (other.0 == file.0)
 
 -- one for each loss, since each loss is of a file

@@ -18,4 +18,5 @@ pub mod SetCache
 pub mod Stop
 pub mod GiveUp
 pub mod SetPolicy
+pub mod Kill
 pub mod ReportLost

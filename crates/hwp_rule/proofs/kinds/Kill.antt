@@ -1,5 +1,6 @@
 -- A process that is ended keeps the frame rule.
-use Rattle.std.proofs.Common.{◌≡◌, ◌≢◌, ℕ, ◌+◌, ◌<◌, ◌≤◌, ◌==◌, eqb-true, eqb-false, Bool, true, false, cond, List, [], ◌∷◌, ◌++◌, Some, map, set, take, length, slice_get, slice_index, inl, inr, refl, sym, ap, ◌∙◌, subst, arith}
+use Rattle.std.proofs.Common.{◌≡◌, ◌≢◌, ℕ, ◌+◌, ◌<◌, ◌≤◌, ◌==◌, eqb-true, Bool, true, false, cond, List, [], ◌∷◌, ◌++◌, Some, map, set, take, length, slice_get, slice_index, inl, inr, refl, sym, ap, ◌∙◌, subst, arith}
+use Rattle.std.proofs.lemmas.Bool.{eqb-false}
 use Rattle.std.proofs.lemmas.Option.{same_Some}
 use Rattle.std.specs.Int.{from_bool}
 use Rattle.std.specs.declared.snapshot.Snapshot.{Snapshot}
@@ -44,13 +45,14 @@ changed-twice {A} test f g (x ∷ xs) again = λ i. which (test x) refl i ∷ ch
     which true is = ap (λ (b : Bool). cond b (g (f x)) (f x)) (again x is)
     which false is = ap (λ (b : Bool). cond b (g x) x) is
 
+-- the process has a word that is not 0
+abbrev IsMet : List ℕ → Proc → Type 0
+IsMet words p = (x : ℕ) → slice_get words p.0 ≡ Some x → x ≢ 0
+
 -- the word of a process was 0, and names the page now
 module _ (layout : Layout) (processes : List ℕ) (homes : Homes) (process : Proc) (page : Page) (unended : slice_get processes process.0 ≡ Some 0) where
   abbrev now : List ℕ
   now = set processes process.0 (page.0 + 1)
-
-  abbrev IsMet : List ℕ → Proc → Type 0
-  IsMet words p = (x : ℕ) → slice_get words p.0 ≡ Some x → x ≢ 0
 
   met-still : (p : Proc) → IsMet processes p → IsMet now p
   met-still p met x at = elim (at_set processes process.0 p.0 (page.0 + 1) x at) [
@@ -117,7 +119,7 @@ module _ (layout : Layout) (w : Words) (homes : Homes) (views : List View) (seat
   abbrev after : View
   after = ListingHeld.after layout w homes views seat v who log with_killed me past turn within sound h can.page_held can.extends
 
-  bodies : List (List InHand)
+  abbrev bodies : List (List InHand)
   bodies = set (all_bodies views) seat (ListingHeld.bodies layout w homes views seat v who log with_killed me past turn within sound h can.page_held can.extends)
 
   abbrev sights : List (List Sight)
@@ -156,16 +158,13 @@ module _ (layout : Layout) (w : Words) (homes : Homes) (views : List View) (seat
       unended : slice_get w.processes process.0 ≡ Some 0
       unended = there ∙ ap (λ (n : ℕ). Some n) none
 
-      abbrev Met : Proc → Type 0
-      Met p = (x : ℕ) → slice_get (set w.processes process.0 (page.0 + 1)) p.0 ≡ Some x → x ≢ 0
+      before : EachListed (λ (b : InHand). EachMember (IsMet (set w.processes process.0 (page.0 + 1))) b.killed) (all_bodies views)
+      before i list at j b here k p met = met-still layout w.processes homes process page unended p (h.processors.stops.killed i list at j b here k p met)
 
-      before : EachListed (λ (b : InHand). EachMember Met b.killed) (all_bodies views)
-      before i list at j b here k p listed = met-still layout w.processes homes process page unended p (h.processors.stops.killed i list at j b here k p listed)
-
-      killed : EachListed (λ (b : InHand). EachMember Met b.killed) bodies
-      killed = each-set (EachMember (λ (b : InHand). EachMember Met b.killed)) (all_bodies views) seat (ListingHeld.bodies layout w homes views seat v who log with_killed me past turn within sound h can.page_held can.extends)
-          (each-changed (λ (b : InHand). EachMember Met b.killed) (is_body_of log.page) (λ (b : InHand). record b { log = log; killed = b.killed ++ process ∷ [] }) v.bodies
-          (λ b is each. each-push Met b.killed process (met-now layout w.processes homes process page unended) each) (before seat v.bodies (at_map (λ (v : View). v.bodies) views seat v me)))
+      killed : EachListed (λ (b : InHand). EachMember (IsMet (set w.processes process.0 (page.0 + 1))) b.killed) bodies
+      killed = each-set (EachMember (λ (b : InHand). EachMember (IsMet (set w.processes process.0 (page.0 + 1))) b.killed)) (all_bodies views) seat (ListingHeld.bodies layout w homes views seat v who log with_killed me past turn within sound h can.page_held can.extends)
+          (each-changed (λ (b : InHand). EachMember (IsMet (set w.processes process.0 (page.0 + 1))) b.killed) (is_body_of log.page) (λ (b : InHand). record b { log = log; killed = b.killed ++ process ∷ [] }) v.bodies
+          (λ b is each. each-push (IsMet (set w.processes process.0 (page.0 + 1))) b.killed process (met-now layout w.processes homes process page unended) each) (before seat v.bodies (at_map (λ (v : View). v.bodies) views seat v me)))
           before
 
   keeps-again : found ≢ 0 → FrameRule layout (record w { processes = set w.processes process.0 found }) homes (set views seat (sighted who (places.Process process) found after))
@@ -177,12 +176,12 @@ module _ (layout : Layout) (w : Words) (homes : Homes) (views : List View) (seat
       me-after : slice_get (set views seat after) seat ≡ Some after
       me-after = set_here views seat after v me
 
-      met : (x : ℕ) → slice_get w.processes process.0 ≡ Some x → x ≢ 0
+      met : IsMet w.processes process
       met x at none = named (same_Some found x (sym there ∙ at) ∙ none)
 
       rule : FrameRule layout w homes (set views seat after)
       rule = ListingHeld.keeps-renewed layout w homes views seat v who log with_killed me past turn within sound h can.page_held can.extends
-          (λ l each. each-push (λ (p : Proc). (x : ℕ) → slice_get w.processes p.0 ≡ Some x → x ≢ 0) l process met each)
+          (λ l each. each-push (IsMet w.processes) l process met each)
 
   pub keeps-ending : (b : Bool) → (found == 0) ≡ b
       → FrameRule layout (record w { processes = set w.processes process.0 (either b (page.0 + 1) found) }) homes
