@@ -31,10 +31,14 @@ pub record NothingPoisonedYet (frames : List ℕ) (spoiled : List (List Spoiled)
   pub unspoiled : EachMember (λ (l : List Spoiled). length l ≡ 0) spoiled
   pub no_failure : EachBody (λ (log : Log). list_any (λ (e : Entry). is_failure e.what) log.entries ≡ false) homes bodies
 
+-- none of the entries is a failure
+abbrev pub HaveNoFailure : List Entry → Type 0
+HaveNoFailure es = EachMember (λ (e : Entry). is_failure e.what ≡ false) es
+
 -- the entries that a body has more than the view lists are no failures
 abbrev pub AddsNoFailure : View → Option Log → Type 0
 AddsNoFailure v None = Unit {0}
-AddsNoFailure v (Some log) = (body : InHand) → body_of log.page v ≡ Some body → EachMember (λ (e : Entry). is_failure e.what ≡ false) (more_of body log)
+AddsNoFailure v (Some log) = (body : InHand) → body_of log.page v ≡ Some body → HaveNoFailure (more_of body log)
 
 -- a step that takes a body home adds no failure
 abbrev pub BringsNoFailure : Step → Option Log → View → Type 0
