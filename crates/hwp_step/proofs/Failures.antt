@@ -236,6 +236,18 @@ sum-less (x ∷ xs) (y ∷ ys) (suc k) same each inside less =
     let rest : sum_by left_of xs < sum_by left_of ys = sum-less xs ys k (omega (arith, same)) (λ i within. each (suc i) (omega (arith, within))) (omega (arith, inside)) less in
     omega (arith, head, rest)
 
+sum-most : (l : List ℕ) → sum_by left_of l ≤ 2 * length l
+sum-most [] = omega arith
+sum-most (x ∷ xs) = let rest : sum_by left_of xs ≤ 2 * length xs = sum-most xs in omega (arith, rest)
+
+-- on a sound layout there are not many
+pub failures-few : (layout : Layout) (s : State) → Holds layout s → failures_left (words_at layout s) ≤ 512
+failures-few layout s rule =
+    let most : failures_left (words_at layout s) ≤ 2 * length (words_at layout s).frames = sum-most (words_at layout s).frames in
+    let all : length (words_at layout s).frames ≡ layout.frames = (shaped layout s rule).frames in
+    let few : layout.frames ≤ 256 = rule.sound.frames in
+    omega (arith, most, all, few)
+
 -- ---- a step on a board
 
 -- what stays of a frame's word, and what only grows

@@ -21,7 +21,7 @@ use Rattle.hwp_rule.proofs.WordsByKind.{same-put}
 use Rattle.hwp_step.specs.declared.turn.Turn.{Turn}
 use Rattle.hwp_step.specs.Boards.{view_of}
 use Rattle.hwp_step.specs.Calls.{Steps, logs, rec_of}
-use Rattle.hwp_step.specs.Ranks.{Member, Made, CostFalls, HasFailed, IsRanked, Pending, Quiet, failures_left, is_waits, top, words_at}
+use Rattle.hwp_step.specs.Ranks.{Member, Made, CostFalls, HasFailed, IsRanked, Pending, PlansServed, Quiet, failure_weight, failures_left, is_waits, top, words_at}
 use Rattle.hwp_step.proofs.Failures.{read-moved, words-moved, pending-moved, failures-moved, retire-lowers}
 
 module _ {S : Type 0} {m : Member S} {layout : Layout} {seat : ℕ} {a b : State} {s t : S} {turn : Turn} (made : Made m layout seat a b s t turn) where
@@ -84,9 +84,9 @@ module _ {class : ℕ} {layout : Layout} {a : State} {seat : ℕ} (quiet : Quiet
       which (inl same) = ap (λ (k : ℕ). (view_of a k).locks) same ∙ own
       which (inr other) = empty-list (view_of a i).locks (λ some. quiet.frames second i other (inl some))
 
--- what is planned is served
-abbrev pub PlansServed : {S : Type 0} → Member S → Type 0
-PlansServed {S} m = (layout : Layout) (view : View) (s : S) (step : Step) → m.fits layout view s → m.plan s ≡ Some step → IsServed step
+-- a turn that leaves fewer frames to fail may raise the cost as long as it stays below the weight of one
+pub failed : {S : Type 0} {m : Member S} {layout : Layout} {a b : State} {s t : S} → failures_left (words_at layout b) < failures_left (words_at layout a) → m.cost t (words_at layout b) < failure_weight → HasFailed m layout a b s t
+failed {m} {layout} {a} {b} {s} {t} fewer few = record { fewer = fewer; bounded = omega (arith, few) }
 
 -- the rank of a task that gives nothing up and claims nothing
 pub rank-failing : {S : Type 0} (m : Member S) → ((s : S) → m.aborts s ≡ false) → ((s : S) → (1 ≤ m.class s) × (m.class s ≤ 4))
