@@ -1,9 +1,10 @@
 -- What a served step leaves of the failures of frames: none begins, and none that was ended opens again.
-use Rattle.std.proofs.Common.{◌≡◌, ◌≢◌, ℕ, ◌+◌, ◌-◌, ◌*◌, ◌%◌, ◌^◌, ◌<◌, ◌≤◌, ◌==◌, ◌⊎◌, inl, inr, nat_lt, Bool, true, false, cond, List, [], ◌∷◌, Option, Some, None, map, length, get_or, set, slice_get, slice_index, suc, zero, refl, sym, ap, ◌∙◌, subst, arith, bit_and, bit_or, bit_xor}
+use Rattle.std.proofs.Common.{◌≡◌, ◌≢◌, ℕ, ◌+◌, ◌-◌, ◌*◌, ◌%◌, ◌^◌, ◌<◌, ◌≤◌, ◌==◌, ◌⊎◌, inl, inr, nat_lt, Bool, true, false, cond, List, [], ◌∷◌, ◌++◌, Option, Some, None, map, length, get_or, set, slice_get, slice_index, suc, zero, refl, sym, ap, ◌∙◌, subst, arith, bit_and, bit_or, bit_xor}
 use Rattle.std.specs.Int.{from_bool}
 use Rattle.std.specs.List.{sum_by}
 use Rattle.std.proofs.lemmas.Bool.{both_ways, cases_lt, lt-ltb, le-ltb, eqb-true, eqb-false}
 use Rattle.std.proofs.lemmas.List.{get_or-set_same, get_or-set_other, get_or_past}
+use Rattle.std.proofs.lemmas.List.Sums.{sum_by-cons}
 use Rattle.std.proofs.lemmas.Option.{same_Some, slice_get-get_or}
 use Rattle.hwp_geom.specs.declared.Frame.{Frame}
 use Rattle.hwp_geom.specs.declared.Layout.{Layout}
@@ -18,6 +19,7 @@ use Rattle.hwp_rule.specs.declared.Mark.{Mark}
 use Rattle.hwp_rule.specs.declared.Place.{Place}
 use Rattle.hwp_rule.specs.declared.Place.TheVariants as places
 use Rattle.hwp_rule.specs.declared.Rec.{Rec}
+use Rattle.hwp_rule.specs.declared.Sight.{Sight}
 use Rattle.hwp_rule.specs.declared.State.{State}
 use Rattle.hwp_rule.specs.declared.Step.{Step}
 use Rattle.hwp_rule.specs.declared.Step.TheVariants as steps
@@ -80,12 +82,12 @@ marks-by layout who steps.Unreserve found content v served = refl
 marks-by layout who (steps.Adopt frame) found content v served = refl
 marks-by layout who (steps.GetRef frame seen count) found content v served = either (found == seen) _ _ v.marks refl refl
 marks-by layout who (steps.PutRef frame count) found content v served = refl
-marks-by layout who (steps.LockFrame frame) found content v served = either (goes (steps.LockFrame frame) found) _ _ v.marks (takes-body layout who (Some frame) content _) refl
+marks-by layout who (steps.LockFrame frame) found content v served = either (goes (steps.LockFrame frame) found) _ _ v.marks (takes-body layout who (Some frame) content (record v { locks = v.locks ++ lock_found frame found ∷ [] })) refl
 marks-by layout who (steps.UnlockFrame frame) found content v served = puts-body layout who content v
 marks-by layout who (steps.Retire frame) found content v served = refl
 marks-by layout who (steps.Revive frame seen) found content v served = absurd served
 marks-by layout who (steps.SetOwner frame page owned) found content v served = refl
-marks-by layout who (steps.LockPage page) found content v served = either (goes (steps.LockPage page) found) _ _ v.marks (takes-body layout who None content _) refl
+marks-by layout who (steps.LockPage page) found content v served = either (goes (steps.LockPage page) found) _ _ v.marks (takes-body layout who None content (record v { pages = v.pages ++ lock_of_page layout page content (body_of page v) ∷ [] })) refl
 marks-by layout who (steps.UnlockPage page) found content v served = puts-body layout who content v
 marks-by layout who (steps.SetPte slot pte) found content v served = refl
 marks-by layout who (steps.SetCache page frame) found content v served = refl
@@ -124,7 +126,7 @@ not-less c d same = which (cases_lt c d)
     which (inl less) = absurd (omega (arith, same, ap from_bool (lt-ltb c d less), ap from_bool (le-ltb c c (omega arith))))
     which (inr le) = le
 
-same-cycle : (frames now : List ℕ) (marks : List (List Mark)) (sights others : _) (f x y : ℕ) → MarksAlternate frames marks sights → MarksAlternate now marks others → slice_get frames f ≡ Some x → slice_get now f ≡ Some y
+same-cycle : (frames now : List ℕ) (marks : List (List Mark)) (sights others : List (List Sight)) (f x y : ℕ) → MarksAlternate frames marks sights → MarksAlternate now marks others → slice_get frames f ≡ Some x → slice_get now f ≡ Some y
     → (cycle_of y ≡ cycle_of x) × (poison_of y ≡ poison_of x)
 same-cycle frames now marks sights others f x y was is there here = (cycles, poisons)
   where
@@ -168,7 +170,7 @@ handled-owned w n = let same : handled_of (bit_xor w (n * 2 ^ 24)) ≡ handled_o
 retired-word : (w : ℕ) → handled_of w ≡ 0 → handled_of (bit_xor w 5) ≡ 1
 retired-word w open_still = field-xor handled_bit w 5 ∙ ap (λ (b : ℕ). bit_xor b 1) open_still
 
-got-word : (seen count found : ℕ) → handled_of found ≤ handled_of (word_after (steps.GetRef (record { 0 = 0 }) seen count) found)
+got-word : (seen count found : ℕ) → handled_of found ≤ handled_of (cond (found == seen) ((seen + count * 16) % 2 ^ 64) found)
 got-word seen count found = which (found == seen) refl
   where
     which : (b : Bool) → (found == seen) ≡ b → handled_of found ≤ handled_of (cond b ((seen + count * 16) % 2 ^ 64) found)
@@ -178,7 +180,7 @@ got-word seen count found = which (found == seen) refl
 -- no served step clears HANDLED
 rises : (layout : Layout) (step : Step) (w : Words) (f : ℕ) → IsServed step → length w.frames ≡ layout.frames → IsPlace layout (place_of step) → Fresh step (read (place_of step) w)
     → handled_of (slice_index w.frames f) ≤ handled_of (slice_index (put (place_of step) (word_after step (read (place_of step) w)) w).frames f)
-rises layout (steps.Load place) w f served count place fresh = subst (λ (x : Words). handled_of (slice_index w.frames f) ≤ handled_of (slice_index x.frames f)) (sym (same-put place w)) (omega arith)
+rises layout (steps.Load of) w f served count place fresh = subst (λ (x : Words). handled_of (slice_index w.frames f) ≤ handled_of (slice_index x.frames f)) (sym (same-put of w)) (omega arith)
 rises layout (steps.Reserve seen) w f served count place fresh = omega arith
 rises layout (steps.TakeBit frame) w f served count place fresh = omega arith
 rises layout (steps.GiveBit frame) w f served count place fresh = omega arith
@@ -214,6 +216,7 @@ rises layout (steps.ReportLost file) w f served count place fresh = omega arith
 abbrev left_of : ℕ → ℕ
 left_of x = (1 - poison_of x) + (1 - handled_of x)
 
+-- words of which none adds more add no more in all
 sum-falls : (now was : List ℕ) → length now ≡ length was → ((i : ℕ) → i < length was → left_of (get_or now i 0) ≤ left_of (get_or was i 0)) → sum_by left_of now ≤ sum_by left_of was
 sum-falls [] [] same each = omega arith
 sum-falls [] (y ∷ ys) same each = absurd (omega (arith, same))
@@ -221,8 +224,11 @@ sum-falls (x ∷ xs) [] same each = absurd (omega (arith, same))
 sum-falls (x ∷ xs) (y ∷ ys) same each =
     let head : left_of x ≤ left_of y = each 0 (omega arith) in
     let rest : sum_by left_of xs ≤ sum_by left_of ys = sum-falls xs ys (omega (arith, same)) (λ i within. each (suc i) (omega (arith, within))) in
-    omega (arith, head, rest)
+    let here : sum_by left_of (x ∷ xs) ≡ left_of x + sum_by left_of xs = sum_by-cons left_of x xs in
+    let there : sum_by left_of (y ∷ ys) ≡ left_of y + sum_by left_of ys = sum_by-cons left_of y ys in
+    omega (arith, head, rest, here, there)
 
+-- and where one adds less, less
 sum-less : (now was : List ℕ) (k : ℕ) → length now ≡ length was → ((i : ℕ) → i < length was → left_of (get_or now i 0) ≤ left_of (get_or was i 0)) → k < length was → left_of (get_or now k 0) < left_of (get_or was k 0)
     → sum_by left_of now < sum_by left_of was
 sum-less [] [] k same each inside less = absurd (omega (arith, inside))
@@ -230,15 +236,22 @@ sum-less [] (y ∷ ys) k same each inside less = absurd (omega (arith, same))
 sum-less (x ∷ xs) [] k same each inside less = absurd (omega (arith, same))
 sum-less (x ∷ xs) (y ∷ ys) zero same each inside less =
     let rest : sum_by left_of xs ≤ sum_by left_of ys = sum-falls xs ys (omega (arith, same)) (λ i within. each (suc i) (omega (arith, within))) in
-    omega (arith, less, rest)
+    let here : sum_by left_of (x ∷ xs) ≡ left_of x + sum_by left_of xs = sum_by-cons left_of x xs in
+    let there : sum_by left_of (y ∷ ys) ≡ left_of y + sum_by left_of ys = sum_by-cons left_of y ys in
+    omega (arith, less, rest, here, there)
 sum-less (x ∷ xs) (y ∷ ys) (suc k) same each inside less =
     let head : left_of x ≤ left_of y = each 0 (omega arith) in
     let rest : sum_by left_of xs < sum_by left_of ys = sum-less xs ys k (omega (arith, same)) (λ i within. each (suc i) (omega (arith, within))) (omega (arith, inside)) less in
-    omega (arith, head, rest)
+    let here : sum_by left_of (x ∷ xs) ≡ left_of x + sum_by left_of xs = sum_by-cons left_of x xs in
+    let there : sum_by left_of (y ∷ ys) ≡ left_of y + sum_by left_of ys = sum_by-cons left_of y ys in
+    omega (arith, head, rest, here, there)
 
 sum-most : (l : List ℕ) → sum_by left_of l ≤ 2 * length l
 sum-most [] = omega arith
-sum-most (x ∷ xs) = let rest : sum_by left_of xs ≤ 2 * length xs = sum-most xs in omega (arith, rest)
+sum-most (x ∷ xs) =
+    let rest : sum_by left_of xs ≤ 2 * length xs = sum-most xs in
+    let here : sum_by left_of (x ∷ xs) ≡ left_of x + sum_by left_of xs = sum_by-cons left_of x xs in
+    omega (arith, rest, here)
 
 -- on a sound layout there are not many
 pub failures-few : (layout : Layout) (s : State) → Holds layout s → failures_left (words_at layout s) ≤ 512
@@ -251,7 +264,7 @@ failures-few layout s rule =
 -- ---- a step on a board
 
 -- what stays of a frame's word, and what only grows
-pub record IsLater (x y : ℕ) : Type 0 where
+pub record KeepsFailure (x y : ℕ) : Type 0 where
   pub poison : poison_of y ≡ poison_of x
   pub kernel : is_kernel y ≡ is_kernel x
   pub cycle : cycle_of y ≡ cycle_of x
@@ -272,7 +285,7 @@ module _ {layout : Layout} {seat : ℕ} {r : Rec} {a b : State} (rule : Holds la
   was-long : length was ≡ layout.frames
   was-long = (shaped layout a rule).frames
 
-  inside-of : (frame : Frame) → r.step ≡ steps.Retire frame ⊎ r.step ≡ steps.Adopt frame → frame.0 < layout.frames
+  inside-of : (frame : Frame) → (r.step ≡ steps.Retire frame) ⊎ (r.step ≡ steps.Adopt frame) → frame.0 < layout.frames
   inside-of frame (inl is) = subst (λ (x : Step). IsPlace layout (place_of x)) is move.asks.place
   inside-of frame (inr is) = subst (λ (x : Step). IsPlace layout (place_of x)) is move.asks.place
 
@@ -321,7 +334,7 @@ module _ {layout : Layout} {seat : ℕ} {r : Rec} {a b : State} (rule : Holds la
     now-long = (shaped layout b kept).frames
 
     -- of each frame
-    later : IsServed r.step → (f : ℕ) → f < layout.frames → IsLater (slice_index was f) (slice_index now f)
+    later : IsServed r.step → (f : ℕ) → f < layout.frames → KeepsFailure (slice_index was f) (slice_index now f)
     later served f inside = record { poison = marks.1; cycle = marks.0; kernel = kernels; handled = handled }
       where
         there : slice_get was f ≡ Some (slice_index was f)
@@ -347,7 +360,7 @@ module _ {layout : Layout} {seat : ℕ} {r : Rec} {a b : State} (rule : Holds la
 
     lowers : IsServed r.step → (f : ℕ) → f < length was → left_of (slice_index now f) ≤ left_of (slice_index was f)
     lowers served f inside =
-        let on : IsLater (slice_index was f) (slice_index now f) = later served f (omega (arith, inside, was-long)) in
+        let on : KeepsFailure (slice_index was f) (slice_index now f) = later served f (omega (arith, inside, was-long)) in
         let poison : poison_of (slice_index now f) ≡ poison_of (slice_index was f) = on.poison in
         let handled : handled_of (slice_index was f) ≤ handled_of (slice_index now f) = on.handled in
         omega (arith, poison, handled)
@@ -361,7 +374,7 @@ module _ {layout : Layout} {seat : ℕ} {r : Rec} {a b : State} (rule : Holds la
       where
         which : (frame.0 < layout.frames) ⊎ (layout.frames ≤ frame.0) → Pending (words_at layout a) frame cycle
         which (inl inside) =
-            let on : IsLater (slice_index was frame.0) (slice_index now frame.0) = later served frame.0 inside in
+            let on : KeepsFailure (slice_index was frame.0) (slice_index now frame.0) = later served frame.0 inside in
             record {
               poisoned = ap (λ (n : ℕ). n == 1) (sym on.poison) ∙ pending.poisoned;
               handled =
@@ -388,7 +401,7 @@ module _ {layout : Layout} {seat : ℕ} {r : Rec} {a b : State} (rule : Holds la
         inside : frame.0 < layout.frames
         inside = inside-of frame (inl is)
 
-        on : IsLater (slice_index was frame.0) (slice_index now frame.0)
+        on : KeepsFailure (slice_index was frame.0) (slice_index now frame.0)
         on = later served frame.0 inside
 
         word-is : slice_index now frame.0 ≡ bit_xor (slice_index was frame.0) 5
