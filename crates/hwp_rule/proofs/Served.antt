@@ -20,6 +20,9 @@ use Rattle.hwp_rule.proofs.kinds.LockPage.{keeps-lock_page}
 use Rattle.hwp_rule.proofs.kinds.UnlockPage.{keeps-unlock_page}
 use Rattle.hwp_rule.proofs.kinds.SetPte.{keeps-set_pte}
 use Rattle.hwp_rule.proofs.kinds.SetCache.{keeps-set_cache}
+use Rattle.hwp_rule.proofs.kinds.Poison.{keeps-poison}
+use Rattle.hwp_rule.proofs.kinds.CountPoison.{keeps-count_poison, keeps-uncount}
+use Rattle.hwp_rule.proofs.kinds.Spoil.{keeps-spoil}
 use Rattle.hwp_rule.proofs.kinds.Stop.{keeps-stop}
 use Rattle.hwp_rule.proofs.kinds.GiveUp.{keeps-give_up}
 use Rattle.hwp_rule.proofs.kinds.SetPolicy.{keeps-set_policy}
@@ -43,10 +46,10 @@ keeps-served (steps.LockPage page) served = keeps-lock_page page
 keeps-served (steps.UnlockPage page) served = keeps-unlock_page page
 keeps-served (steps.SetPte slot pte) served = keeps-set_pte slot pte
 keeps-served (steps.SetCache page frame) served = keeps-set_cache page frame
-keeps-served (steps.Poison frame hardware) served = absurd served
-keeps-served (steps.CountPoison hardware) served = absurd served
-keeps-served steps.Uncount served = absurd served
-keeps-served (steps.Spoil frame line damage) served = absurd served
+keeps-served (steps.Poison frame hardware) served = keeps-poison frame hardware
+keeps-served (steps.CountPoison hardware) served = keeps-count_poison hardware
+keeps-served steps.Uncount served = keeps-uncount
+keeps-served (steps.Spoil frame line damage) served = keeps-spoil frame line damage
 keeps-served (steps.Stop cpu) served = keeps-stop cpu
 keeps-served steps.GiveUp served = keeps-give_up
 keeps-served (steps.Kill process page body) served = absurd served

@@ -15,6 +15,9 @@ pub mod LockPage
 pub mod UnlockPage
 pub mod SetPte
 pub mod SetCache
+pub mod Poison
+pub mod CountPoison
+pub mod Spoil
 pub mod Stop
 pub mod GiveUp
 pub mod SetPolicy
