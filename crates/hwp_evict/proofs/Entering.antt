@@ -33,7 +33,7 @@ use Rattle.hwp_rule.specs.Logs.{log_of, opening_at, state_of, fitting, fitting_w
 use Rattle.hwp_rule.specs.Views.{is_body_of, more_of, page_locks_on}
 use Rattle.hwp_rule.specs.parts.Entries.{HasSeen}
 use Rattle.hwp_rule.specs.parts.Fits.{FitsWords}
-use Rattle.hwp_rule.specs.parts.Unpoisoned.{is_failure}
+use Rattle.hwp_rule.specs.Unfailed.{is_failure, HaveNoFailure}
 use Rattle.hwp_rule.proofs.FittingWords.{fitting-at}
 use Rattle.hwp_rule.proofs.Lists.{same-number}
 use Rattle.hwp_step.specs.Hands.{body_in}
@@ -118,8 +118,10 @@ module _ {layout : Layout} {who : Who} {page : Page} {what : Eviction} {log : Lo
         (subst (λ (p : Page). Allowed layout p state (entry_of what)) (sym has.page_is) has.allowed, longer-state);
     own = of-entry (λ (e : Entry). e.who ≡ who) refl;
     seen = of-entry (λ (e : Entry). HasSeen (drop seen sights) who (Some frame) e.what) saw;
-    sound = of-entry (λ (e : Entry). is_failure e.what ≡ false) (fails-none what);
   })
+
+  pub none-fails : HaveNoFailure (more_of taken (log_of body))
+  none-fails = subst (λ (l : Log). HaveNoFailure (more_of taken l)) (sym has.log_is) (of-entry (λ (e : Entry). is_failure e.what ≡ false) (fails-none what))
 
   pub kills-none : (process : Proc) → has_ending layout process (drop taken.since body.log) ≡ true → SomeMember (λ (p : Proc). p ≡ process) taken.killed
   kills-none process ended = absurd (both_ways true (sym ended ∙ ap (λ (l : Log). has_ending layout process (drop (length log.entries) l.entries)) has.log_is ∙ ap (has_ending layout process) longer-more ∙ ends-none layout process who what) refl)

@@ -27,7 +27,6 @@ extends-grown {layout} {who} {old} {new} {body} {log} (inr more) few has = subst
   leads = has.leads;
   own = has.own;
   seen = λ i e at. seen-since body.from old more.0 who body.frame e.what few (has.seen i e at);
-  sound = has.sound;
 })
 
 pub length-grown : {old new : List Sight} {n : ℕ} → Grown old new → n ≤ length old → n ≤ length new

@@ -48,7 +48,7 @@ use Rattle.hwp_evict.specs.Evicts.{FitsAt, HasEntry, IsAhead, IsClearingOut, IsC
 use Rattle.hwp_evict.specs.Vacates as vacates
 use Rattle.hwp_evict.specs.Vacates.{page_held, with_frame}
 use Rattle.hwp_evict.proofs.Clearing as clearing
-use Rattle.hwp_evict.proofs.Entering.{body-page, extends, kills-none, one-more, state-after, words}
+use Rattle.hwp_evict.proofs.Entering.{body-page, extends, kills-none, none-fails, one-more, state-after, words}
 use Rattle.hwp_evict.proofs.Freeing.{declared-of}
 use Rattle.hwp_evict.proofs.Judging.{replay-apart, replay-own, state-is}
 
@@ -123,6 +123,7 @@ module _ {layout : Layout} {view : View} {who : Who} {page : Page} {log : Log} {
             layout_is = entry.layout_is;
             from = few;
             extends = extends entry c.frame seen view.sights saw;
+            sound = none-fails entry c.frame seen;
             killed = kills-none entry c.frame seen;
             fits = fits;
             unmapped = ap (λ (s : PageState). s.maps) (state-after entry c.frame seen);

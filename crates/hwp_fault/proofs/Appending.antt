@@ -35,7 +35,7 @@ use Rattle.hwp_rule.specs.Logs.{log_of, opening_at, state_of, fitting_word}
 use Rattle.hwp_rule.specs.Views.{is_body_of, page_locks_on}
 use Rattle.hwp_rule.specs.parts.Entries.{HasSeen}
 use Rattle.hwp_rule.specs.parts.Fits.{FitsWords}
-use Rattle.hwp_rule.specs.parts.Unpoisoned.{is_failure}
+use Rattle.hwp_rule.specs.Unfailed.{is_failure}
 use Rattle.hwp_rule.proofs.Lists.{at_set, each-push, same-number}
 use Rattle.hwp_step.specs.Hands.{Hand, body_in}
 use Rattle.hwp_hold.specs.Holds.{page_lock}
@@ -146,7 +146,6 @@ module _ {layout : Layout} {view : View} {who : Who} {page : Page} {slot : VSlot
     leads = has.brings.leads;
     own = has.brings.own;
     seen = λ i e at. bringing-seen (drop has.seen view.sights) who has.from slot e.what (has.brings.only i e at);
-    sound = λ i e at. bringing-sound slot e.what (has.brings.only i e at);
   }
 
   fits : PutFits layout view taken (log_of body)
@@ -180,6 +179,7 @@ module _ {layout : Layout} {view : View} {who : Who} {page : Page} {slot : VSlot
     poisoned = has.poisoned;
     hand_is = has.hand_is;
     home = goes-home;
+    sound = λ i e at. bringing-sound slot e.what (has.brings.only i e at);
     page_is = has.page_is;
     taken_is = sym has.brings.page_is ∙ has.page_is;
     layout_is = has.layout_is;

@@ -25,10 +25,11 @@ use Rattle.hwp_rule.specs.declared.View.{View}
 use Rattle.hwp_rule.specs.Logs.{log_of, state_of, fitting, fitting_word}
 use Rattle.hwp_rule.specs.Rule.{Holds}
 use Rattle.hwp_rule.specs.Words.{index, words_of}
-use Rattle.hwp_rule.specs.parts.Unpoisoned.{is_failure}
+use Rattle.hwp_rule.specs.Unfailed.{is_failure}
 use Rattle.hwp_rule.proofs.FittingWords.{fitting-at}
 use Rattle.hwp_rule.proofs.Lists.{at_map}
 use Rattle.hwp_rule.proofs.Meeting.{frame-named, lock-knows}
+use Rattle.hwp_rule.proofs.Unfailed.{nothing-poisoned}
 use Rattle.hwp_rule.proofs.Moving.{shaped}
 use Rattle.hwp_rule.proofs.WordsByKind.{words-read}
 use Rattle.hwp_step.specs.Hands.{Hand, body_in}
@@ -93,7 +94,7 @@ module _ {layout : Layout} {view : View} {page : Page} {frame : Option Frame} {b
 
   module _ (board : State) (rule : Holds layout board) (seat : ℕ) (me : slice_get board.views seat ≡ Some view) where
     sound : list_any (λ (e : Entry). is_failure e.what) body.log ≡ false
-    sound = rule.rule.failures.unpoisoned.no_failure.in_hand seat view.bodies (at_map (λ (v : View). v.bodies) board.views seat view me) 0 (body_in frame (log_of body) has.seen)
+    sound = (nothing-poisoned layout board rule).no_failure.in_hand seat view.bodies (at_map (λ (v : View). v.bodies) board.views seat view me) 0 (body_in frame (log_of body) has.seen)
         (ap (λ (l : List InHand). slice_get l 0) bodies)
 
     unbarred : (v : ℕ) → sets.contains (state_of layout (log_of body)).bar v ≡ false

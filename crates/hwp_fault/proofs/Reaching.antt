@@ -29,14 +29,14 @@ use Rattle.hwp_rule.specs.Lists.{EachMember, SomeMember}
 use Rattle.hwp_rule.specs.Logs.{log_of, opening_at, state_of}
 use Rattle.hwp_rule.specs.Views.{is_body_of, body_of, more_of, noted, stamp_of}
 use Rattle.hwp_rule.specs.parts.Entries.{HasSeen, Shows}
-use Rattle.hwp_rule.specs.parts.Unpoisoned.{is_failure}
+use Rattle.hwp_rule.specs.Unfailed.{is_failure}
 use Rattle.hwp_rule.proofs.Lists.{same-number, some-last}
 use Rattle.hwp_step.specs.Calls.{Steps}
 use Rattle.hwp_step.specs.Hands.{Hand, hand_of, body_in}
 use Rattle.hwp_rule.specs.declared.Step.TheVariants as steps
 use Rattle.hwp_hold.specs.Unlocks.{HoldsFrame}
 use Rattle.hwp_hold.proofs.Bringing.{replay-state}
-use Rattle.hwp_hold.proofs.Linking.{as-taken, none-more}
+use Rattle.hwp_hold.proofs.Linking.{as-taken, none-fails, none-more}
 use Rattle.hwp_fault.specs.declared.access.AccessKind.{AccessKind}
 use Rattle.hwp_fault.specs.declared.access.AccessKind.TheVariants as kinds
 use Rattle.hwp_fault.specs.declared.access.Request.{Request}
@@ -82,6 +82,7 @@ module _ {layout : Layout} {view : View} {frame : Frame} {body : BodyValue} (has
     hand_is = has.hand_is;
     home = home-with who body.log (as-taken layout who (Some frame) (log_of body) has.seen view.sights) (record { cached = refl; maps = refl; bar = refl })
         (λ process. ap (has_ending layout process) (none-more layout who (Some frame) (log_of body) has.seen));
+    sound = none-fails layout who (Some frame) (log_of body) has.seen;
     taken_is = refl;
     layout_is = has.layout_is;
     within = has.within;
@@ -145,10 +146,10 @@ module _ {layout : Layout} {view : View} {frame : Frame} {body : BodyValue} (has
           leads = subst (λ (list : List Entry). Leads layout body.page (state_of layout (log_of body)) list (state_of layout more)) (sym one-more) (allowed, state-is);
           own = of-entry (λ (e : Entry). e.who ≡ a.who) refl;
           seen = of-entry (λ (e : Entry). HasSeen (drop has.seen view.sights) a.who (Some frame) e.what) (seen-by a.kind (drop has.seen view.sights) some);
-          sound = of-entry (λ (e : Entry). is_failure e.what ≡ false) (sound-by a.kind);
         })
             (subst (λ (s : PageState). HasSameWords s (state_of layout (log_of body))) state-is (same-by a.kind (state_of layout (log_of body))))
             (λ process. ap (has_ending layout process) one-more ∙ ends-by a.kind process);
+        sound = of-entry (λ (e : Entry). is_failure e.what ≡ false) (sound-by a.kind);
         taken_is = refl;
         layout_is = has.layout_is;
         within = has.within;

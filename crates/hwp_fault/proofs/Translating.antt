@@ -45,6 +45,7 @@ use Rattle.hwp_rule.proofs.FittingWords.{same-page}
 use Rattle.hwp_rule.proofs.Lists.{at_map, term-le, same-number, sum-zero, each-weaken}
 use Rattle.hwp_rule.proofs.Meeting.{frame-word, frame-named}
 use Rattle.hwp_rule.proofs.Moving.{shaped}
+use Rattle.hwp_rule.proofs.Unfailed.{nothing-poisoned}
 use Rattle.hwp_rule.proofs.WordsByKind.{words-read}
 
 -- a name is of one frame
@@ -91,7 +92,7 @@ module _ (layout : Layout) (s : State) (h : Holds layout s) where
   line-good frame found line inside within met set =
       let bit : bit_at found line ≡ min (sum_all (λ (x : Spoiled). from_bool (is_spoil frame.0 line true x)) (map (λ (v : View). v.spoiled) s.views)) 1 = h.rule.failures.damage.bad frame.0 found (bad-word frame found inside met) line within in
       let none : sum_all (λ (x : Spoiled). from_bool (is_spoil frame.0 line true x)) (map (λ (v : View). v.spoiled) s.views) ≡ 0 = sum-zero (sum_by (λ (x : Spoiled). from_bool (is_spoil frame.0 line true x))) (map (λ (v : View). v.spoiled) s.views)
-      (each-weaken (λ (l : List Spoiled). length l ≡ 0) (λ (l : List Spoiled). sum_by (λ (x : Spoiled). from_bool (is_spoil frame.0 line true x)) l ≡ 0) (map (λ (v : View). v.spoiled) s.views) empty h.rule.failures.unpoisoned.unspoiled) in
+      (each-weaken (λ (l : List Spoiled). length l ≡ 0) (λ (l : List Spoiled). sum_by (λ (x : Spoiled). from_bool (is_spoil frame.0 line true x)) l ≡ 0) (map (λ (v : View). v.spoiled) s.views) empty (nothing-poisoned layout s h).unspoiled) in
       let one : bit_and (found / 2 ^ line) 1 ≡ 1 = (bit_set_by_shift found line).1 set in
       let same : bit_and (found / 2 ^ line) 1 ≡ bit_at found line = shr_and_one found line in
       omega (arith, bit, none, one, same)
@@ -139,7 +140,7 @@ module _ (layout : Layout) (s : State) (h : Holds layout s) where
             omega (arith, balance, one, it)
 
         unhandled : is_handled w ≡ false
-        unhandled = ne_eqb (handled_of w) 1 (λ e. let poison : poison_of w ≡ 1 = (h.rule.failures.handled.out frame.0 w at e).poisoned in let none : poison_of w ≡ 0 = h.rule.failures.unpoisoned.sound frame.0 w at in omega arith)
+        unhandled = ne_eqb (handled_of w) 1 (λ e. let none : owner_of w ≡ 0 = (h.rule.failures.handled.out frame.0 w at e).unowned in let some : owner_of w ≡ t.page.0 + 1 = names-own.2 w at in omega (arith, none, some))
 
     module _ (seat : ℕ) (view : View) (me : slice_get s.views seat ≡ Some view) (lock : FrameLock) (locked : slice_get view.locks 0 ≡ Some lock) (of : lock.frame ≡ frame) where
       -- where its lock is held, the lock lists the translation's page as its owner

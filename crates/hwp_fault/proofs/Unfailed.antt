@@ -15,7 +15,7 @@ use Rattle.hwp_page.specs.History.{state_after}
 use Rattle.hwp_page.specs.Step.{after}
 use Rattle.hwp_rule.specs.declared.Log.{Log}
 use Rattle.hwp_rule.specs.Logs.{opening_at, state_of}
-use Rattle.hwp_rule.specs.parts.Unpoisoned.{is_failure}
+use Rattle.hwp_rule.specs.Unfailed.{is_failure}
 
 or-none : (a b : Bool) → (a || b) ≡ false → (a ≡ false) × (b ≡ false)
 or-none true b is = absurd (both_ways true is refl)

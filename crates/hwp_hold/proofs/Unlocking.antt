@@ -15,10 +15,13 @@ use Rattle.hwp_rule.specs.declared.Step.{Step}
 use Rattle.hwp_rule.specs.declared.Step.TheVariants as steps
 use Rattle.hwp_rule.specs.declared.View.{View}
 use Rattle.hwp_rule.specs.Asks.{CanUnlockFrame}
+use Rattle.hwp_rule.specs.Logs.{log_of}
 use Rattle.hwp_rule.specs.Steps.{is_last}
+use Rattle.hwp_rule.specs.Unfailed.{AddsNoFailure}
 use Rattle.hwp_rule.specs.Views.{without, is_lock_of, less_refs, refs_on, locks_on}
 use Rattle.hwp_rule.specs.Words.{Words}
 use Rattle.hwp_rule.proofs.Lists.{same-number}
+use Rattle.hwp_rule.proofs.Unfailed.{adds-one}
 use Rattle.hwp_step.specs.declared.Turn.{Turn}
 use Rattle.hwp_step.specs.declared.Turn.TheVariants.{Moved}
 use Rattle.hwp_step.specs.Calls.{CanMake, FitsLayout, Steps, IsOnTurn, logs}
@@ -76,6 +79,9 @@ module _ {layout : Layout} {who : Who} {view : View} {frame : Frame} {body : Opt
       lock : FrameLock
       lock = record { frame = frame; owner = has.body.page.0 + 1; handled = has.handled; poisoned = has.poisoned }
 
+  adds-sound : AddsNoFailure view (logs body)
+  adds-sound = subst (λ (b : Option BodyValue). AddsNoFailure view (logs b)) (sym has.given_is) (adds-one view (log_of has.body) has.taken (ap (λ (h : Hand). h.bodies) has.hand_is) has.sound)
+
   body-fits : FitsLayout layout body
   body-fits b is = ap (λ (x : BodyValue). x.layout) (same_Some b has.body (sym is ∙ has.given_is)) ∙ has.layout_is
 
@@ -94,8 +100,8 @@ pub can : (layout : Layout) (view : View) (u : Unlock) (step : Step) → Fits la
 can layout view u step fits is = which u.at fits.at is
   where
     which : (x : UnlockAt) → FitsAt layout view u.who x → plan_at x ≡ Some step → CanMake layout u.who step (put_at x) view
-    which (at.UnlockFrame frame None) has e = can-put fits.on_turn e tt has.within (can-free-empty has) (λ b none. absurd (none-some b none)) tt
-    which (at.UnlockFrame frame (Some body)) has e = can-put fits.on_turn e tt has.within (can-free has) (body-fits has) tt
+    which (at.UnlockFrame frame None) has e = can-put fits.on_turn e tt has.within (can-free-empty has) (λ b none. absurd (none-some b none)) tt tt
+    which (at.UnlockFrame frame (Some body)) has e = can-put fits.on_turn e tt has.within (can-free has) (body-fits has) tt (adds-sound has)
     which (at.Release r) has e = subst (λ (w : Who). CanMake layout w step None view) has.own (releasing_laws.can layout view r step has.release e)
     which at.Over has e = absurd (none-some step e)
 

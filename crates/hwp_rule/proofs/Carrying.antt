@@ -31,7 +31,6 @@ use Rattle.hwp_rule.specs.parts.Fits.{PageFits, Fits, KnowsWords, KnowsOwn}
 use Rattle.hwp_rule.specs.parts.Holdings.{CommandsOwn, AreOwn, IsPast}
 use Rattle.hwp_rule.specs.parts.Losses.{LossesBalance}
 use Rattle.hwp_rule.specs.parts.Stops.{EndingsAndStopsStay}
-use Rattle.hwp_rule.specs.parts.Unpoisoned.{NothingPoisonedYet, is_failure}
 use Rattle.hwp_rule.proofs.Lists.{change, keep, at_map, at_set, same-number, set_again, sum-set, term-le, each-set, each-push, each-weaken, not-both, same-or, terms-le}
 use Rattle.hwp_rule.proofs.Without.{each-without, others-unfound, sum-without-one}
 use Rattle.hwp_rule.proofs.EmptySlots.{is_bodiless, bodies-sum, bodies-each}
@@ -201,14 +200,6 @@ module _ (layout : Layout) (w : Words) (homes : Homes) (views : List View) (seat
       own = each-set (λ (o : List PageLock × List InHand). EachMember (λ (b : InHand). 0 < page_locks_on b.log.page.0 o.0 → KnowsOwn o.0 b) o.1) (map (λ (v : View). (v.pages, v.bodies)) views) seat (pages, bodies) x.own h.pages.fits.own;
     })
 
-    unpoisoned-carried : NothingPoisonedYet w.frames (map (λ (v : View). v.spoiled) (set views seat u)) after (map (λ (v : View). v.bodies) (set views seat u))
-    unpoisoned-carried = change (λ (v : View). v.bodies) (λ l. NothingPoisonedYet w.frames (map (λ (v : View). v.spoiled) (set views seat u)) after l) views seat u
-        (keep (λ (v : View). v.spoiled) (λ l. NothingPoisonedYet w.frames l after (set (all_bodies views) seat bodies)) views seat v u me refl (record {
-          sound = h.failures.unpoisoned.sound;
-          unspoiled = h.failures.unpoisoned.unspoiled;
-          no_failure = x.eachs (λ (log : Log). list_any (λ (e : Entry). is_failure e.what) log.entries ≡ false) h.failures.unpoisoned.no_failure;
-        }))
-
     commands-carried : CommandsOwn (set views seat u)
     commands-carried = Kept.kept-commands views seat v u me (record { made = own.made; marks = own.marks; sights = own.sights; lengths = x.past; settings = own.settings; stops = own.stops }) h.processors.commands
       where
@@ -226,7 +217,6 @@ module _ (layout : Layout) (w : Words) (homes : Homes) (views : List View) (seat
       damage = Kept.kept-damage views seat v u me refl refl h.failures.damage;
       marks = Kept.kept-marks views seat v u me refl refl h.failures.marks;
       exhaustion = Kept.kept-exhaustion views seat v u me refl refl h.failures.exhaustion;
-      unpoisoned = unpoisoned-carried;
     }
 
     pub processors-carried : ProcessorParts layout w.processes w.policies w.stop (set views seat u)

@@ -19,7 +19,6 @@ use Rattle.hwp_rule.specs.parts.Endings.{EndingsAgree}
 use Rattle.hwp_rule.specs.parts.Entries.{EntriesListed, AreInOrder, weigh, Reaches}
 use Rattle.hwp_rule.specs.parts.Fits.{PageFits}
 use Rattle.hwp_rule.specs.parts.Losses.{LossesBalance, Losing}
-use Rattle.hwp_rule.specs.parts.Unpoisoned.{NothingPoisonedYet, is_failure}
 use Rattle.hwp_rule.proofs.Lists.{at_set, sum-set, not-both}
 use Rattle.hwp_rule.specs.Rule.{HistoryParts, FailureParts, losing_of}
 use Rattle.hwp_rule.specs.declared.view.View.{View}
@@ -91,13 +90,6 @@ module _ (homes : Homes) (slot : ℕ) (was now : Option (Option Log)) (there : s
   pub slot-fits : (layout : Layout) (trans caches : List ℕ) (held : List (List PageLock × List InHand)) → PageFits layout trans caches homes held → PageFits layout trans caches after held
   slot-fits layout trans caches held h = record { at_home = λ i log at. h.at_home i log (home-was i log at); in_hand = h.in_hand; known = h.known; own = h.own }
 
-  pub slot-unpoisoned : (frames : List ℕ) (spoiled : List (List Spoiled)) (bodies : List (List InHand)) → NothingPoisonedYet frames spoiled homes bodies → NothingPoisonedYet frames spoiled after bodies
-  slot-unpoisoned frames spoiled bodies h = record {
-    sound = h.sound;
-    unspoiled = h.unspoiled;
-    no_failure = bodies-each (λ (log : Log). list_any (λ (e : Entry). is_failure e.what) log.entries ≡ false) bodies h.no_failure;
-  }
-
   -- all parts of a group that read the slots
   pub slot-histories : {layout : Layout} {processes losses : List ℕ} {views : List View} → HistoryParts layout processes losses homes views → HistoryParts layout processes losses after views
   slot-histories {layout} {processes} {losses} {views} h = record {
@@ -114,5 +106,4 @@ module _ (homes : Homes) (slot : ℕ) (was now : Option (Option Log)) (there : s
     damage = h.damage;
     marks = h.marks;
     exhaustion = h.exhaustion;
-    unpoisoned = slot-unpoisoned frames (map (λ (v : View). v.spoiled) views) (map (λ (v : View). v.bodies) views) h.unpoisoned;
   }

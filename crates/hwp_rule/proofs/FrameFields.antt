@@ -21,7 +21,6 @@ use Rattle.hwp_rule.specs.parts.Counter.{CounterAgrees, CountDebts}
 use Rattle.hwp_rule.specs.parts.Marks.{MarksAlternate, IsBefore}
 use Rattle.hwp_rule.specs.parts.Owners.{TranslationsOwned, CacheWordsOwned, NamesOwn}
 use Rattle.hwp_rule.specs.parts.Places.{HasOnePlace, IsBare, IsApart, in_hand, IsHanded}
-use Rattle.hwp_rule.specs.parts.Unpoisoned.{NothingPoisonedYet}
 use Rattle.hwp_rule.proofs.Lists.{at_set, set_here, set_else, same-or, sum-set, each-set, term-le, same-number}
 use Rattle.hwp_rule.specs.declared.view.FrameInHand.{FrameInHand}
 use Rattle.hwp_rule.specs.Rule.{FailureParts, PageParts, count_debts_of, holder_of}
@@ -154,15 +153,6 @@ module _ (frames : List ℕ) (f w u : ℕ) (there : slice_get frames f ≡ Some 
     shown = h.shown;
   }
 
-  unpoisoned-kept : poison_of u ≡ poison_of w → (spoiled : List (List Spoiled)) (homes : Homes) (bodies : List (List InHand)) → NothingPoisonedYet frames spoiled homes bodies → NothingPoisonedYet (set frames f u) spoiled homes bodies
-  unpoisoned-kept poison spoiled homes bodies h = record {
-    sound = λ g x a.
-        let was : (y : ℕ) × (slice_get frames g ≡ Some y) × (poison_of x ≡ poison_of y) = field-was poison_of poison g x a in
-        was.2 ∙ h.sound g was.0 was.1;
-    unspoiled = h.unspoiled;
-    no_failure = h.no_failure;
-  }
-
   pub handed-kept : poison_of u ≡ poison_of w → (hands : List (List FrameInHand)) → EachListed (IsHanded frames) hands → EachListed (IsHanded (set frames f u)) hands
   handed-kept poison hands each i list at j hand listed =
       let known : IsHanded frames hand = each i list at j hand listed in
@@ -202,7 +192,6 @@ module _ (frames : List ℕ) (f w u : ℕ) (there : slice_get frames f ≡ Some 
     damage = h.damage;
     marks = marks-kept poison cycle (map (λ (v : View). v.marks) views) (map (λ (v : View). v.sights) views) h.marks;
     exhaustion = h.exhaustion;
-    unpoisoned = unpoisoned-kept poison (map (λ (v : View). v.spoiled) views) homes (map (λ (v : View). v.bodies) views) h.unpoisoned;
   }
 
   -- the places, where the frame had a reference before

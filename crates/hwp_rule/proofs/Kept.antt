@@ -31,7 +31,6 @@ use Rattle.hwp_rule.specs.parts.Policies.{PoliciesListed}
 use Rattle.hwp_rule.specs.parts.Exhaustion.{ExhaustionExplained}
 use Rattle.hwp_rule.specs.parts.Stops.{EndingsAndStopsStay}
 use Rattle.hwp_rule.specs.parts.Fits.{PageFits}
-use Rattle.hwp_rule.specs.parts.Unpoisoned.{NothingPoisonedYet}
 use Rattle.hwp_rule.specs.Rule.{holder_of, holdings_of, losing_of, FrameParts, PageParts, HistoryParts, FailureParts, ProcessorParts, count_debts_of}
 use Rattle.hwp_rule.proofs.Lists.{keep, each-set, change}
 
@@ -113,13 +112,6 @@ module _ (views : List View) (seat : ℕ) (v u : View) (me : slice_get views sea
   pub kept-stops : {processes : List ℕ} {stop : ℕ} → (u.bodies) ≡ (v.bodies) → (u.sights) ≡ (v.sights) → (u.stops) ≡ (v.stops) → EndingsAndStopsStay processes stop (map (λ (v : View). v.bodies) views) (map (λ (v : View). v.sights) views) (map (λ (v : View). v.stops) views) → EndingsAndStopsStay processes stop (map (λ (v : View). v.bodies) (set views seat u)) (map (λ (v : View). v.sights) (set views seat u)) (map (λ (v : View). v.stops) (set views seat u))
   kept-stops {processes} {stop} e0 e1 e2 h = keep (λ (v : View). v.stops) (λ l. EndingsAndStopsStay processes stop (map (λ (v : View). v.bodies) (set views seat u)) (map (λ (v : View). v.sights) (set views seat u)) l) views seat v u me e2 (keep (λ (v : View). v.sights) (λ l. EndingsAndStopsStay processes stop (map (λ (v : View). v.bodies) (set views seat u)) l (map (λ (v : View). v.stops) views)) views seat v u me e1 (keep (λ (v : View). v.bodies) (λ l. EndingsAndStopsStay processes stop l (map (λ (v : View). v.sights) views) (map (λ (v : View). v.stops) views)) views seat v u me e0 (h)))
 
-  pub kept-unpoisoned : {frames : List ℕ} {homes : Homes} → u.spoiled ≡ v.spoiled → u.bodies ≡ v.bodies
-      → NothingPoisonedYet frames (map (λ (v : View). v.spoiled) views) homes (map (λ (v : View). v.bodies) views)
-      → NothingPoisonedYet frames (map (λ (v : View). v.spoiled) (set views seat u)) homes (map (λ (v : View). v.bodies) (set views seat u))
-  kept-unpoisoned {frames} {homes} e0 e1 h =
-      keep (λ (v : View). v.bodies) (λ l. NothingPoisonedYet frames (map (λ (v : View). v.spoiled) (set views seat u)) homes l) views seat v u me e1
-      (keep (λ (v : View). v.spoiled) (λ l. NothingPoisonedYet frames l homes (map (λ (v : View). v.bodies) views)) views seat v u me e0 h)
-
   pub kept-bounded : {layout : Layout} → IsBounded layout (holdings_of u) → HoldingsBounded layout (map holdings_of views) → HoldingsBounded layout (map holdings_of (set views seat u))
   kept-bounded {layout} bounded h = change holdings_of (HoldingsBounded layout) views seat u (record { bounded = each-set (IsBounded layout) (map holdings_of views) seat (holdings_of u) bounded h.bounded })
 
@@ -163,7 +155,6 @@ module _ (views : List View) (seat : ℕ) (v u : View) (me : slice_get views sea
     damage = kept-damage (λ i. (e i).1) (λ i. (e i).2) h.damage;
     marks = kept-marks (λ i. (e i).0.marks) (λ i. (e i).2) h.marks;
     exhaustion = kept-exhaustion (λ i. (e i).0.marks) (λ i. (e i).2) h.exhaustion;
-    unpoisoned = kept-unpoisoned (λ i. (e i).1) (λ i. (e i).3) h.unpoisoned;
   }
 
   -- what a view lists that its processors did

@@ -30,6 +30,7 @@ pub mod PageLockLists
 pub mod OwnerSteps
 pub mod NameSteps
 pub mod kinds
+pub mod Unfailed
 pub mod Moving
 pub mod AdoptedFrames
 pub mod OpeningWords

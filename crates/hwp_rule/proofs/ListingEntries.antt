@@ -39,7 +39,6 @@ use Rattle.hwp_rule.specs.parts.Fits.{PageFits, Fits, KnowsWords, KnowsOwn}
 use Rattle.hwp_rule.specs.parts.Holdings.{AreOwn, IsPast}
 use Rattle.hwp_rule.specs.parts.Losses.{Losing, LossesBalance, IsPoisonLoss}
 use Rattle.hwp_rule.specs.parts.Stops.{EndingsAndStopsStay}
-use Rattle.hwp_rule.specs.parts.Unpoisoned.{NothingPoisonedYet, is_failure}
 use Rattle.hwp_rule.proofs.Lists.{change, keep, at_map, at_longer, sum-set, each-set, each-weaken, each-changed}
 use Rattle.hwp_rule.proofs.Carrying.{all_bodies, held-bodies}
 use Rattle.hwp_rule.proofs.Without.{sum-changed-one, each-changed-one}
@@ -256,15 +255,6 @@ module _ (layout : Layout) (w : Words) (homes : Homes) (views : List View) (seat
       my_fit : slice_get {X = List PageLock × List InHand} (map (λ (v : View). (v.pages, v.bodies)) views) seat ≡ Some (v.pages, v.bodies)
       my_fit = at_map (λ (v : View). (v.pages, v.bodies)) views seat v me
 
-  unpoisoned-listed : NothingPoisonedYet w.frames (map (λ (v : View). v.spoiled) views) homes (set (all_bodies views) seat bodies)
-  unpoisoned-listed = record {
-    sound = h.failures.unpoisoned.sound;
-    unspoiled = h.failures.unpoisoned.unspoiled;
-    no_failure = eachs (λ (x : Log). list_any (λ (e : Entry). is_failure e.what) x.entries ≡ false)
-        (λ none. ap (list_any (λ (e : Entry). is_failure e.what)) extends.longer ∙ list_any-append (λ (e : Entry). is_failure e.what) body.log.entries more
-        ∙ (λ i. none i || failures-none more extends.sound i)) h.failures.unpoisoned.no_failure;
-  }
-
   own-listed : AreOwn u
   own-listed = record {
     made = each-append (λ (m : Made). IsPast v.parts m.entry.who) v.made (made_from (stamp_of who v) log.page body.frame (length body.log.entries) more) own.made
@@ -304,8 +294,6 @@ module _ (layout : Layout) (w : Words) (homes : Homes) (views : List View) (seat
       damage = Kept.kept-damage views seat v u me refl refl h.failures.damage;
       marks = Kept.kept-marks views seat v u me refl refl h.failures.marks;
       exhaustion = Kept.kept-exhaustion views seat v u me refl refl h.failures.exhaustion;
-      unpoisoned = change (λ (v : View). v.bodies) (λ l. NothingPoisonedYet w.frames (map (λ (v : View). v.spoiled) (set views seat u)) homes l) views seat u
-          (keep (λ (v : View). v.spoiled) (λ l. NothingPoisonedYet w.frames l homes (set (all_bodies views) seat bodies)) views seat v u me refl unpoisoned-listed);
     };
     processors = record {
       policies = Kept.kept-policies views seat v u me refl refl refl h.processors.policies;

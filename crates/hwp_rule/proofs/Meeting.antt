@@ -48,11 +48,6 @@ frame-word layout s h frame found inside met =
         let both : length (segment 0 layout.frames s.words) ≡ min layout.frames (length (drop 0 s.words)) = length-take layout.frames (drop 0 s.words) in
         omega arith
 
--- it has no poison
-pub unpoisoned : (layout : Layout) (s : State) → Holds layout s → (frame : Frame) (found : ℕ) → frame.0 < layout.frames
-    → found ≡ slice_index s.words (index layout (places.Frame frame)) → is_poisoned found ≡ false
-unpoisoned layout s h frame found inside met = ap (λ (n : ℕ). n == 1) (h.rule.failures.unpoisoned.sound frame.0 found (frame-word layout s h frame found inside met))
-
 -- a bit that a free word shows is that of a frame of the layout
 pub free-within : (layout : Layout) (s : State) → Holds layout s → (number found : ℕ) → number < free_words layout
     → found ≡ slice_index s.words (index layout (places.Free number)) → 0 < found → found < 2 ^ 64
@@ -192,6 +187,16 @@ module _ (layout : Layout) (s : State) (h : Holds layout s) where
     pub lock-knows : (lock : PageLock) → slice_get view.pages 0 ≡ Some lock → KnowsWords layout (words_of layout s.words).trans (words_of layout s.words).caches lock
     lock-knows lock at = h.rule.pages.fits.known seat (view.pages, view.bodies) (at_map (λ (v : View). (v.pages, v.bodies)) s.views seat view me) 0 lock at
 
+    -- the frame that a page's cache word names is the page's
+    cached-owned : (lock : PageLock) (frame : Frame) (found : ℕ) → slice_get (words_of layout s.words).caches lock.page.0 ≡ Some (frame.0 + 1)
+        → slice_get (words_of layout s.words).frames frame.0 ≡ Some found → owner_of found ≡ lock.page.0 + 1
+    cached-owned lock frame found cached there = elim (h.rule.pages.caches.owned lock.page.0 (frame.0 + 1) cached) [
+      | inl none ↦ absurd (omega (arith, none))
+      | inr own ↦
+          let number : own.frame ≡ frame.0 = omega (arith, own.named) in
+          ap owner_of (same_Some found own.owner_word (sym there ∙ ap (slice_get (words_of layout s.words).frames) (sym number) ∙ own.there)) ∙ own.owned
+    ]
+
     -- a frame that the page's lock lists as the page's is referenced, and isn't handled
     pub stays-referenced : (lock : PageLock) (frame : Frame) (found : ℕ) → slice_get view.pages 0 ≡ Some lock → lock.cache ≡ Some (frame.0 + 1) → frame.0 < layout.frames
         → found ≡ slice_index s.words (index layout (places.Frame frame)) → (1 ≤ count_of found) × (is_handled found ≡ false)
@@ -211,7 +216,7 @@ module _ (layout : Layout) (s : State) (h : Holds layout s) where
             omega (arith, balance)
 
         unhandled : is_handled found ≡ false
-        unhandled = ne_eqb (handled_of found) 1 (λ e. let poison : poison_of found ≡ 1 = (h.rule.failures.handled.out frame.0 found there e).poisoned in let none : poison_of found ≡ 0 = h.rule.failures.unpoisoned.sound frame.0 found there in omega arith)
+        unhandled = ne_eqb (handled_of found) 1 (λ e. let none : owner_of found ≡ 0 = (h.rule.failures.handled.out frame.0 found there e).unowned in let some : owner_of found ≡ lock.page.0 + 1 = cached-owned lock frame found cached there in omega arith)
 
     -- the slot of the page's frame, when its lock is free, has the page's body, which fits the cache word
     pub in-slot : (lock : PageLock) (frame : Frame) (found : ℕ) (content : Option Log) → slice_get view.pages 0 ≡ Some lock → lock.page.0 < length layout.pages → lock.cache ≡ Some (frame.0 + 1) → frame.0 < layout.frames
@@ -226,12 +231,7 @@ module _ (layout : Layout) (s : State) (h : Holds layout s) where
         cached = (lock-knows lock at).cache (frame.0 + 1) lists
 
         owner : owner_of found ≡ lock.page.0 + 1
-        owner = elim (h.rule.pages.caches.owned lock.page.0 (frame.0 + 1) cached) [
-          | inl none ↦ absurd (omega (arith, none))
-          | inr own ↦
-              let number : own.frame ≡ frame.0 = omega (arith, own.named) in
-              ap owner_of (same_Some found own.owner_word (sym there ∙ ap (slice_get (words_of layout s.words).frames) (sym number) ∙ own.there)) ∙ own.owned
-        ]
+        owner = cached-owned lock frame found cached there
 
         home : IsAtHome s.homes frame.0 (owner_of found)
         home = h.rule.pages.bodies.frame_home frame.0 found there free

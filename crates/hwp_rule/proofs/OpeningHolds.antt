@@ -38,7 +38,7 @@ use Rattle.hwp_rule.specs.parts.Exhaustion.{usable, is_marked}
 use Rattle.hwp_rule.specs.parts.Stops.{EndingsAndStopsStay}
 use Rattle.hwp_rule.specs.parts.Fits.{PageFits, Fits, KnowsWords, KnowsOwn}
 use Rattle.hwp_rule.specs.parts.Holdings.{IsBounded, ProcessorsApart, AreOwn, IsPast, HoldsNothing}
-use Rattle.hwp_rule.specs.parts.Unpoisoned.{NothingPoisonedYet, is_failure}
+use Rattle.hwp_rule.specs.Unfailed.{HasFailedNothing, is_failure}
 use Rattle.hwp_words.specs.Counters.{hardware_of, biased_poisoned_of}
 use Rattle.hwp_words.specs.Stops.{stopper_of}
 use Rattle.hwp_rule.specs.declared.view.Ref.{Ref}
@@ -397,12 +397,12 @@ module _ (layout : Layout) (sound : IsSound layout) (w : Words) (o : AreOpening 
     stops = each-none (IsPast (opening_view c).parts);
   })
 
-  unpoisoned-opened : NothingPoisonedYet w.frames (map (λ (v : View). v.spoiled) (opening_views layout)) (opening_homes layout) (map (λ (v : View). v.bodies) (opening_views layout))
-  unpoisoned-opened = record {
-    sound = λ f x there. (frame f x there).2.poison;
-    unspoiled = OpeningWords.each-view (λ (v : View). v.spoiled) (λ (l : List Spoiled). length l ≡ 0) layout.cpus (λ c less. refl);
-    no_failure = each-body (λ (log : Log). list_any (λ (e : Entry). is_failure e.what) log.entries ≡ false) (λ q less. refl);
-  }
+  unfailed-opened : EachMember HasFailedNothing (opening_views layout)
+  unfailed-opened = each-map opening_view HasFailedNothing (below layout.cpus) (λ i c e. record {
+    unmarked = refl;
+    unspoiled = refl;
+    no_failure = each-none (λ (m : Made). is_failure m.entry.what ≡ false);
+  })
 
   rule-opened : FrameRule layout w (opening_homes layout) (opening_views layout)
   rule-opened = record {
@@ -489,7 +489,6 @@ module _ (layout : Layout) (sound : IsSound layout) (w : Words) (o : AreOpening 
       damage = damage-opened;
       marks = marks-opened;
       exhaustion = record { explained = unlisted (λ (v : View). v.sights) (λ (s : Sight). s.place ≡ places.Available → s.word ≡ 0 → sum_below (usable layout) layout.frames ≤ sum_below (is_marked layout (map (λ (v : View). v.marks) (opening_views layout))) layout.frames + length layout.pages + 2 * layout.cpus) (λ c. refl) };
-      unpoisoned = unpoisoned-opened;
     };
     processors = record {
       policies = policies-opened;
@@ -507,4 +506,5 @@ opening-holds layout sound = record {
   slots = homes-length layout;
   rule = rule-opened layout sound (words_of layout (opening_words layout)) (are-opening layout sound);
   held = record { nothing = each-map opening_view (λ (v : View). v.parts ≡ [] → HoldsNothing v) (below layout.cpus) (λ i c e none. record { refs = refl; locks = refl; pages = refl; reserved = refl; hands = refl; owed = refl; bodies = refl }) };
+  unfailed = unfailed-opened layout;
 }

@@ -190,7 +190,6 @@ module _ (layout : Layout) (w : Words) (homes : Homes) (views : List View) (seat
               explained = each-sight (λ (s : Sight). s.place ≡ places.Available → s.word ≡ 0
                   → sum_below (usable layout) layout.frames ≤ sum_below (is_marked layout (map (λ (v : View). v.marks) views)) layout.frames + length layout.pages + 2 * layout.cpus) me x.exhaustion h.failures.exhaustion.explained;
             }));
-        unpoisoned = Kept.kept-unpoisoned views seat v u me refl refl h.failures.unpoisoned;
       };
       processors = record {
         policies = keep (λ (v : View). (v.parts, v.settings)) (λ l. PoliciesListed layout.threads w.policies l (map (λ (v : View). v.sights) (set views seat u))) views seat v u me refl

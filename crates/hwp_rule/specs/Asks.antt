@@ -41,7 +41,6 @@ use Rattle.hwp_rule.specs.parts.Holdings.{frames_held}
 use Rattle.hwp_rule.specs.parts.Losses.{IsPoisonLoss}
 use Rattle.hwp_rule.specs.parts.Marks.{revivals_by}
 use Rattle.hwp_rule.specs.parts.Policies.{settings_of}
-use Rattle.hwp_rule.specs.parts.Unpoisoned.{is_failure}
 use Rattle.hwp_rule.specs.Rule.{holdings_of, losing_of}
 
 -- the processor is a part of the view, and has come to no later command
@@ -84,14 +83,13 @@ pub record HasPage (v : View) (page : Page) : Type 0 where
   pub trans_is : lock.lock.trans ≡ Some trans
 
 -- the history is that of a body in hand with more entries: each is allowed after those before it, of this command, and
--- rests on what the command was shown since the body was taken; until memory failure is served, none is a failure
+-- rests on what the command was shown since the body was taken
 pub record Extends (layout : Layout) (who : Who) (sights : List Sight) (body : InHand) (log : Log) : Type 0 where
   pub page_is : log.page ≡ body.log.page
   pub longer : log.entries ≡ body.log.entries ++ more_of body log
   pub leads : Leads layout log.page (state_of layout body.log) (more_of body log) (state_of layout log)
   pub own : EachMember (λ (e : Entry). e.who ≡ who) (more_of body log)
   pub seen : EachMember (λ (e : Entry). HasSeen (drop body.from sights) who body.frame e.what) (more_of body log)
-  pub sound : EachMember (λ (e : Entry). is_failure e.what ≡ false) (more_of body log)
 
 -- residence and translations are the same in both states
 pub record HasSameWords (s t : PageState) : Type 0 where

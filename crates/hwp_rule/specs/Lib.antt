@@ -5,6 +5,7 @@ pub mod Logs
 pub mod Slots
 pub mod Views
 pub mod parts
+pub mod Unfailed
 pub mod Rule
 pub mod Asks
 pub mod Moves

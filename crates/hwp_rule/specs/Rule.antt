@@ -4,7 +4,7 @@ use Rattle.hwp_geom.specs.declared.Layout.{Layout}
 use Rattle.hwp_geom.specs.Layout.{IsSound}
 use Rattle.hwp_rule.specs.declared.record.State.{State}
 use Rattle.hwp_rule.specs.declared.view.View.{View}
-use Rattle.hwp_rule.specs.Lists.{Homes}
+use Rattle.hwp_rule.specs.Lists.{Homes, EachMember}
 use Rattle.hwp_rule.specs.Words.{Words, words_of, size}
 use Rattle.hwp_rule.specs.parts.Counts.{CountsBalance}
 use Rattle.hwp_rule.specs.parts.Places.{HasOnePlace}
@@ -24,7 +24,7 @@ use Rattle.hwp_rule.specs.parts.Policies.{PoliciesListed}
 use Rattle.hwp_rule.specs.parts.Exhaustion.{ExhaustionExplained}
 use Rattle.hwp_rule.specs.parts.Stops.{EndingsAndStopsStay}
 use Rattle.hwp_rule.specs.parts.Fits.{PageFits}
-use Rattle.hwp_rule.specs.parts.Unpoisoned.{NothingPoisonedYet}
+use Rattle.hwp_rule.specs.Unfailed.{HasFailedNothing}
 
 -- what the parts read of a view
 abbrev pub count_debts_of : View → CountDebts
@@ -68,7 +68,6 @@ pub record FailureParts (layout : Layout) (frames : List ℕ) (counter_word : �
   pub damage : DamageListed bads weaks (map (λ (v : View). v.spoiled) views) (map (λ (v : View). v.sights) views)
   pub marks : MarksAlternate frames (map (λ (v : View). v.marks) views) (map (λ (v : View). v.sights) views)
   pub exhaustion : ExhaustionExplained layout (map (λ (v : View). v.marks) views) (map (λ (v : View). v.sights) views)
-  pub unpoisoned : NothingPoisonedYet frames (map (λ (v : View). v.spoiled) views) homes (map (λ (v : View). v.bodies) views)
 
 -- processors: the policies of their threads, the stop, which view is whose, and that a view lists only its own commands
 pub record ProcessorParts (layout : Layout) (processes policy_words : List ℕ) (stop : ℕ) (views : List View) : Type 0 where
@@ -85,11 +84,12 @@ pub record FrameRule (layout : Layout) (w : Words) (homes : Homes) (views : List
   pub failures : FailureParts layout w.frames w.counter w.bads w.weaks homes views
   pub processors : ProcessorParts layout w.processes w.policies w.stop views
 
--- a board of a sound layout, with all its words and slots, that keeps the frame rule, and where processors alone hold
--- something
+-- a board of a sound layout, with all its words and slots, that keeps the frame rule, where processors alone hold
+-- something, and, until memory failure is served, where none has failed
 pub record Holds (layout : Layout) (s : State) : Type 0 where
   pub sound : IsSound layout
   pub words : length s.words ≡ size layout
   pub slots : length s.homes ≡ layout.frames + length layout.pages
   pub rule : FrameRule layout (words_of layout s.words) s.homes s.views
   pub held : HeldByProcessors s.views
+  pub unfailed : EachMember HasFailedNothing s.views

@@ -16,4 +16,3 @@ pub mod Policies
 pub mod Exhaustion
 pub mod Stops
 pub mod Fits
-pub mod Unpoisoned

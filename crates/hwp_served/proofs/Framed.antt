@@ -4,7 +4,7 @@ use Rattle.std.proofs.lemmas.Bool.{eqb-true, ne_eqb}
 use Rattle.std.proofs.lemmas.Option.{none-some, slice_get_within}
 use Rattle.hwp_geom.specs.declared.Layout.{Layout}
 use Rattle.hwp_geom.specs.Pairs.{Pairs}
-use Rattle.hwp_words.specs.Frames.{handled_of, is_handled, is_kernel, owner_of}
+use Rattle.hwp_words.specs.Frames.{handled_of, is_handled, is_kernel, owner_of, poison_of}
 use Rattle.hwp_words.specs.Names.{page_named}
 use Rattle.hwp_rule.specs.declared.Mark.{Mark}
 use Rattle.hwp_rule.specs.declared.State.{State}
@@ -13,6 +13,7 @@ use Rattle.hwp_rule.specs.Lists.{EachMember}
 use Rattle.hwp_rule.specs.Words.{words_of}
 use Rattle.hwp_rule.proofs.Lists.{map-was}
 use Rattle.hwp_rule.proofs.Moving.{shaped}
+use Rattle.hwp_rule.proofs.Unfailed.{nothing-poisoned}
 use Rattle.hwp_report.specs.declared.MarkLine.{MarkLine}
 use Rattle.hwp_report.specs.declared.Place.TheVariants as places
 use Rattle.hwp_report.specs.declared.FrameLine.{FrameLine}
@@ -59,7 +60,7 @@ module _ (layout : Layout) (last : State) (report : Report) (l : IsLast layout l
       by-handled : (b : Bool) → is_handled w ≡ b → IsPlace layout false (cond (is_handled w) places.Handled (place_owned (page_named (owner_of w))))
       by-handled true handled =
           let out = l.holds.rule.failures.handled.out f w there (eqb-true (handled_of w) 1 handled) in
-          let none = l.holds.rule.failures.unpoisoned.sound f w there in
+          let none : poison_of w ≡ 0 = (nothing-poisoned layout last l.holds).sound f w there in
           absurd (omega (arith, out.poisoned, none))
       by-handled false handled = subst (λ (b : Bool). IsPlace layout false (cond b places.Handled (place_owned (page_named (owner_of w))))) (sym handled) (by-name (owner_of w) refl)
 

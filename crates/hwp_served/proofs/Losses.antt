@@ -19,11 +19,12 @@ use Rattle.hwp_rule.specs.Logs.{file_of, losses_of}
 use Rattle.hwp_rule.specs.Rule.{Holds, losing_of}
 use Rattle.hwp_rule.specs.Words.{words_of}
 use Rattle.hwp_rule.specs.parts.Losses.{Losing}
-use Rattle.hwp_rule.specs.parts.Unpoisoned.{is_failure}
+use Rattle.hwp_rule.specs.Unfailed.{is_failure}
 use Rattle.hwp_rule.proofs.Keeps.{IsShaped}
 use Rattle.hwp_rule.proofs.Lists.{sum-zero}
 use Rattle.hwp_rule.proofs.MoreEntries.{losses-in-none}
 use Rattle.hwp_rule.proofs.Moving.{shaped}
+use Rattle.hwp_rule.proofs.Unfailed.{nothing-poisoned}
 
 -- where no member passes a test, each fails it
 pub none-is : {A : Type 0} (test : A → Bool) (l : List A) → list_any test l ≡ false → EachMember (λ (x : A). test x ≡ false) l
@@ -50,13 +51,13 @@ module _ (layout : Layout) (s : State) (h : Holds layout s) where
       let home : sum_by (of_home (losses_of layout file)) s.homes ≡ 0 = sum-zero (of_home (losses_of layout file)) s.homes (λ i content there. at-home i content there) in
       let hand : sum_all (λ (b : InHand). losses_of layout file b.log) (map (λ (v : View). v.bodies) s.views) ≡ 0
       = sum-zero (sum_by (λ (b : InHand). losses_of layout file b.log)) (map (λ (v : View). v.bodies) s.views)
-      (λ i list there. sum-zero (λ (b : InHand). losses_of layout file b.log) list (λ j b listed. lost-none file b.log (h.rule.failures.unpoisoned.no_failure.in_hand i list there j b listed))) in
+      (λ i list there. sum-zero (λ (b : InHand). losses_of layout file b.log) list (λ j b listed. lost-none file b.log ((nothing-poisoned layout s h).no_failure.in_hand i list there j b listed))) in
       omega arith
     where
       at-home : (i : ℕ) (content : Option (Option Log)) → slice_get s.homes i ≡ Some content → of_home (losses_of layout file) content ≡ 0
       at-home i None there = refl
       at-home i (Some None) there = refl
-      at-home i (Some (Some log)) there = lost-none file log (h.rule.failures.unpoisoned.no_failure.at_home i log there)
+      at-home i (Some (Some log)) there = lost-none file log ((nothing-poisoned layout s h).no_failure.at_home i log there)
 
   -- a file has no loss in its word
   pub loss-none : (file : FileNo) (w : ℕ) → slice_get (words_of layout s.words).losses file.0 ≡ Some w → w ≡ 0
@@ -74,4 +75,4 @@ module _ (layout : Layout) (s : State) (h : Holds layout s) where
 
   -- no frame is poisoned
   pub poisoned-none : sum_by poison_of (words_of layout s.words).frames ≡ 0
-  poisoned-none = sum-zero poison_of (words_of layout s.words).frames (λ f w there. h.rule.failures.unpoisoned.sound f w there)
+  poisoned-none = sum-zero poison_of (words_of layout s.words).frames (λ f w there. (nothing-poisoned layout s h).sound f w there)

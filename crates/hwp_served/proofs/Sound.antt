@@ -14,9 +14,10 @@ use Rattle.hwp_page.specs.declared.What.TheVariants as entries
 use Rattle.hwp_page.specs.Endings.{has_ending, is_ending}
 use Rattle.hwp_page.specs.Losses.{losses_in}
 use Rattle.hwp_rule.specs.declared.State.{State}
-use Rattle.hwp_rule.specs.parts.Unpoisoned.{is_failure as fails}
+use Rattle.hwp_rule.specs.Unfailed.{is_failure as fails}
 use Rattle.hwp_rule.proofs.Lists.{sum-zero}
 use Rattle.hwp_rule.proofs.MoreEntries.{losses-in-none}
+use Rattle.hwp_rule.proofs.Unfailed.{nothing-poisoned}
 use Rattle.hwp_script.specs.declared.Command.{Command}
 use Rattle.hwp_script.specs.declared.Command.TheVariants as commands
 use Rattle.hwp_script.specs.declared.Script.{Script}
@@ -117,7 +118,7 @@ module _ (script : Script) (seat : Cpu → ℕ) (last : State) (report : Report)
   pub history-lossless : (page : Page) (entries : List Entry) → slice_get report.pages page.0 ≡ Some entries → losses_in entries ≡ 0
   history-lossless page entries there =
       let home = home-of script.layout last report end.board page entries there in
-      losses-in-none entries (none-is (λ (e : Entry). fails e.what) entries (end.board.holds.rule.failures.unpoisoned.no_failure.at_home home.0 (record { page = page; entries = entries }) home.1))
+      losses-in-none entries (none-is (λ (e : Entry). fails e.what) entries ((nothing-poisoned script.layout last end.board.holds).no_failure.at_home home.0 (record { page = page; entries = entries }) home.1))
 
   -- no entries of a command are such as those never are
   pub entries-none : (who : Who) (test : What → Bool) → ((what : What) → is_sound what ≡ true → test what ≡ false) → entries_of report who test ≡ 0

@@ -20,7 +20,7 @@ use Rattle.hwp_rule.specs.Rule.{Holds}
 use Rattle.hwp_rule.specs.Steps.{place_of, word_after}
 use Rattle.hwp_rule.specs.Views.{noted, stamp_of, view_after, view_by}
 use Rattle.hwp_rule.specs.Words.{Words, put, read, words_of}
-use Rattle.hwp_rule.proofs.Lists.{at_map, each-set, set_here}
+use Rattle.hwp_rule.proofs.Lists.{each-set, set_here}
 use Rattle.hwp_rule.proofs.OpeningWords.{opening-bads, opening-weaks}
 use Rattle.hwp_rule.proofs.WordsByKind.{words-put, words-read}
 use Rattle.hwp_step.specs.Boards.{Played}
@@ -70,7 +70,7 @@ module _ (layout : Layout) where
     spoils-never : (frame : Frame) (line : ℕ) (damage : Damage) → r.step ≡ steps.Spoil frame line damage → ⊥
     spoils-never frame line damage is =
         let own : slice_get b.views seat ≡ Some (view_after layout r m.view) = ap (λ (s : State). slice_get s.views seat) m.next ∙ set_here a.views seat (view_after layout r m.view) m.view m.me in
-        let none : length (view_after layout r m.view).spoiled ≡ 0 = after.rule.failures.unpoisoned.unspoiled seat (view_after layout r m.view).spoiled (at_map (λ (v : View). v.spoiled) b.views seat (view_after layout r m.view) own) in
+        let none : length (view_after layout r m.view).spoiled ≡ 0 = ap (λ (l : List Spoiled). length l) (after.unfailed seat (view_after layout r m.view) own).unspoiled in
         let now : (view_after layout r m.view).spoiled ≡ (noted r.who m.view).spoiled ++ (record { stamp = stamp_of r.who (noted r.who m.view); frame = frame; line = line; damage = damage }) ∷ []
         = ap (λ (s : Step). (view_by layout r.who s r.found r.content (noted r.who m.view)).spoiled) is in
         let more : length (view_after layout r m.view).spoiled ≡ length (noted r.who m.view).spoiled + 1 = ap (λ (l : List Spoiled). length l) now ∙ length-append (noted r.who m.view).spoiled _ in

@@ -24,7 +24,8 @@ use Rattle.hwp_rule.specs.declared.State.{State}
 use Rattle.hwp_rule.specs.Logs.{opening_at, state_of}
 use Rattle.hwp_rule.specs.Rule.{Holds}
 use Rattle.hwp_rule.specs.Words.{words_of}
-use Rattle.hwp_rule.specs.parts.Unpoisoned.{is_failure}
+use Rattle.hwp_rule.specs.Unfailed.{is_failure}
+use Rattle.hwp_rule.proofs.Unfailed.{nothing-poisoned}
 use Rattle.hwp_runs.proofs.Legal.{AreLegal}
 
 -- no translation is barred, and the page isn't lost
@@ -86,7 +87,7 @@ module _ (layout : Layout) (last : State) (h : Holds layout last) (legal : AreLe
   pub home-unended : (process : Proc) (slot : ℕ) (log : Log) → slice_get last.homes slot ≡ Some (Some (Some log)) → has_ending layout process log.entries ≡ false
   home-unended process slot log home =
       none-ended layout log.page process (opening_at (slice_get layout.pages log.page.0)) (state_of layout log) log.entries (opened (slice_get layout.pages log.page.0)) (legal.home slot (Some (Some log)) home log refl)
-      (h.rule.failures.unpoisoned.no_failure.at_home slot log home)
+      ((nothing-poisoned layout last h).no_failure.at_home slot log home)
 
   -- no process word names a page
   pub word-none : (process : Proc) (w slot : ℕ) (log : Log) → slice_get (words_of layout last.words).processes process.0 ≡ Some w → slice_get last.homes slot ≡ Some (Some (Some log)) → w ≡ log.page.0 + 1 → ⊥

@@ -16,6 +16,7 @@ use Rattle.hwp_rule.specs.Logs.{log_of}
 use Rattle.hwp_rule.specs.Moves.{Told}
 use Rattle.hwp_rule.specs.Served.{IsServed}
 use Rattle.hwp_rule.specs.Slots.{takes}
+use Rattle.hwp_rule.specs.Unfailed.{BringsNoFailure}
 
 -- the histories of bodies
 abbrev pub logs : Option BodyValue → Option Log
@@ -45,9 +46,11 @@ GoesHome (steps.UnlockFrame frame) put = Unit {0}
 GoesHome (steps.UnlockPage page) put = Unit {0}
 GoesHome step put = put ≡ None
 
--- the processor can make the step of its command, with this body for the slot whose lock it frees
+-- the processor can make the step of its command, with this body for the slot whose lock it frees; until memory failure is
+-- served, no step of one
 pub record CanMake (layout : Layout) (who : Who) (step : Step) (put : Option BodyValue) (view : View) : Type 0 where
   pub served : IsServed step
+  pub sound : BringsNoFailure step (logs put) view
   pub later : IsLater view who who.seq
   pub asks : Asks layout who step (logs put) view
   pub layout_is : FitsLayout layout put

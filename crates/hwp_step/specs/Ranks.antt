@@ -1,10 +1,11 @@
 -- The law by which tasks come to an end: each turn lowers a task's cost, or waits for what another processor holds.
-use Rattle.std.specs.Prelude.{◌≡◌, ◌≢◌, ℕ, ◌<◌, ◌≤◌, ◌⊎◌, Bool, true, false, cond, [], Option, Some, None, slice_index}
+use Rattle.std.specs.Prelude.{◌≡◌, ◌≢◌, ℕ, ◌+◌, ◌-◌, ◌<◌, ◌≤◌, ◌⊎◌, Bool, true, false, cond, [], Option, Some, None, slice_index}
+use Rattle.std.specs.List.{sum_by}
 use Rattle.hwp_geom.specs.declared.Frame.{Frame}
 use Rattle.hwp_geom.specs.declared.Layout.{Layout}
 use Rattle.hwp_geom.specs.declared.Who.{Who}
 use Rattle.hwp_page.specs.History.{BodyValue}
-use Rattle.hwp_words.specs.Frames.{is_poisoned, is_handled, is_kernel, cycle_of}
+use Rattle.hwp_words.specs.Frames.{is_poisoned, is_handled, is_kernel, poison_of, handled_of, cycle_of}
 use Rattle.hwp_rule.specs.declared.State.{State}
 use Rattle.hwp_rule.specs.declared.Step.{Step}
 use Rattle.hwp_rule.specs.declared.View.{View}
@@ -102,17 +103,30 @@ pub record Made {S : Type 0} (m : Member S) (layout : Layout) (seat : ℕ) (a b 
   pub brings : Brings layout step found got
   pub follows : m.next layout (m.bare before) found got after turn
 
+-- the frames without POISON, and those without HANDLED
+abbrev pub failures_left : Words → ℕ
+failures_left w = sum_by (λ (f : ℕ). (1 - poison_of f) + (1 - handled_of f)) w.frames
+
+-- by what a turn that poisons a frame, or makes one handled, may raise its task's cost
+abbrev pub failure_weight : ℕ
+failure_weight = 32768
+
+-- the turn poisoned a frame or made one handled; its task may have begun again, at a cost that has a bound
+pub record HasFailed {S : Type 0} (m : Member S) (layout : Layout) (a b : State) (before after : S) : Type 0 where
+  pub fewer : failures_left (words_at layout b) < failures_left (words_at layout a)
+  pub bounded : m.cost after (words_at layout b) < m.cost before (words_at layout a) + failure_weight
+
 -- the turn lowers the cost
 abbrev pub CostFalls : {S : Type 0} → Member S → Layout → State → State → S → S → Type 0
 CostFalls m layout a b before after = m.cost after (words_at layout b) < m.cost before (words_at layout a)
 
--- The law of the rank. A class is 1 to 4, and costs are small. A turn that doesn't wait lowers the cost; one that waits does
--- too, where the others hold nothing that it can wait for, or else it gives up what it has begun because another has the frame
+-- The law of the rank. A class is 1 to 4, and costs are small. A turn that doesn't wait lowers the cost, or leaves fewer
+-- frames to fail; one that waits lowers it, where the others hold nothing that it can wait for, or else it gives up what it has begun because another has the frame
 -- in hand. Whoever gives up leaves class 1. A failure that isn't ended stays the claim of a task.
 pub record IsRanked {S : Type 0} (m : Member S) : Type 0 where
   pub classes : (s : S) → (1 ≤ m.class s) × (m.class s ≤ 4)
   pub small : (layout : Layout) (a : State) (seat : ℕ) (s : S) → Holds layout a → m.fits layout (view_of a seat) s → m.cost s (words_at layout a) < top
-  pub falls : (layout : Layout) (seat : ℕ) (a b : State) (s t : S) (turn : Turn) → Made m layout seat a b s t turn → is_waits turn ≡ false → CostFalls m layout a b s t
+  pub falls : (layout : Layout) (seat : ℕ) (a b : State) (s t : S) (turn : Turn) → Made m layout seat a b s t turn → is_waits turn ≡ false → CostFalls m layout a b s t ⊎ HasFailed m layout a b s t
   pub waits : (layout : Layout) (seat : ℕ) (a b : State) (s t : S) (turn : Turn) → Made m layout seat a b s t turn → is_waits turn ≡ true → Quiet (m.class s) layout a seat
       → CostFalls m layout a b s t ⊎ ((m.aborts t ≡ true) × OtherHand a seat)
   pub leaves : (layout : Layout) (seat : ℕ) (a b : State) (s t : S) (turn : Turn) → Made m layout seat a b s t turn → m.aborts s ≡ true → (m.plan t ≡ None) ⊎ (1 < m.class t)

@@ -396,11 +396,6 @@ module _ (layout : Layout) (w : Words) (homes : Homes) (views : List View) (seat
           (change (λ (v : View). v.marks) (λ l. MarksAlternate frames l (map (λ (v : View). v.sights) views)) views seat u marks-revived);
       exhaustion = keep (λ (v : View). v.sights) (λ l. ExhaustionExplained layout (map (λ (v : View). v.marks) (set views seat u)) l) views seat v u me refl
           (change (λ (v : View). v.marks) (λ l. ExhaustionExplained layout l (map (λ (v : View). v.sights) views)) views seat u exhaustion-revived);
-      unpoisoned = Kept.kept-unpoisoned views seat v u me refl refl (record {
-        sound = at-frame (λ g x. poison_of x ≡ 0) are.poison (λ g x differs at. h.failures.unpoisoned.sound g x at);
-        unspoiled = h.failures.unpoisoned.unspoiled;
-        no_failure = h.failures.unpoisoned.no_failure;
-      });
     };
     processors = record {
       policies = Kept.kept-policies views seat v u me refl refl refl h.processors.policies;

@@ -1,6 +1,0 @@
-use Rattle.std.proofs.Common.{◌≡◌, take}
-use Rattle.hwp_law.specs.Records.{ends_poisoned}
-use Rattle.hwp_check.proofs.count.ends_poisoned.Given as goal
-
-abbrev pub invariant-loop-mark : goal.invariant-loop-mark
-invariant-loop-mark l = l.poisoned ≡ ends_poisoned (take l.mark-index l.fn.marks)

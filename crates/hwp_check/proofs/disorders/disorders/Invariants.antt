@@ -1,7 +1,0 @@
-use Rattle.std.proofs.Common.{◌≡◌}
-use Rattle.hwp_check.specs.Standing.{cpu_line}
-use Rattle.hwp_check.proofs.OrderLaws.{OrderlyBelow}
-use Rattle.hwp_check.proofs.disorders.disorders.Given as goal
-
-abbrev pub invariant-loop-cpu : goal.invariant-loop-cpu
-invariant-loop-cpu l = (l.line ≡ cpu_line l.fn.report l.cpu) × OrderlyBelow l.fn.script l.fn.report l.cpu

@@ -1,5 +1,0 @@
-use Rattle.hwp_check.specs.Frames.{AreRight}
-use Rattle.hwp_check.proofs.frames.first_frame.Given as goal
-
-abbrev pub invariant-loop-at : goal.invariant-loop-at
-invariant-loop-at l = AreRight l.fn.script l.fn.report l.fn.done l.fn.cached l.at

@@ -1,5 +1,0 @@
-use Rattle.hwp_check.proofs.Walking.{Walked}
-use Rattle.hwp_check.proofs.histories.walk.Given as goal
-
-abbrev pub invariant-loop-entry : goal.invariant-loop-entry
-invariant-loop-entry l = Walked l.script l.page l.entries l.heading l.entry-index l.state l.lasts l.line

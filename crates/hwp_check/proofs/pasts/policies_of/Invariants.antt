@@ -1,6 +1,0 @@
-use Rattle.std.proofs.Common.{◌≡◌, take}
-use Rattle.hwp_law.specs.Policies.{settings}
-use Rattle.hwp_check.proofs.pasts.policies_of.Given as goal
-
-abbrev pub invariant-loop-command : goal.invariant-loop-command
-invariant-loop-command l = l.list ≡ settings l.fn.thread (take l.command-index l.fn.commands)

@@ -1,7 +1,0 @@
-use Rattle.std.proofs.Common.{◌≡◌, take}
-use Rattle.std.specs.List.{sum_by}
-use Rattle.hwp_check.specs.Standing.{entry_height}
-use Rattle.hwp_check.proofs.standing.entries_height.Given as goal
-
-abbrev pub invariant-loop-entry : goal.invariant-loop-entry
-invariant-loop-entry l = l.lines ≡ sum_by entry_height (take l.entry-index l.fn.entries)

@@ -1,5 +1,0 @@
-use Rattle.hwp_check.specs.Unpaired.{NoneExtra}
-use Rattle.hwp_check.proofs.unpaired.first_extra.Given as goal
-
-abbrev pub invariant-loop-place : goal.invariant-loop-place
-invariant-loop-place l = NoneExtra l.fn.report l.fn.above l.fn.marks l.place

@@ -1,5 +1,0 @@
-use Rattle.hwp_check.proofs.Unpairing.{FewBelow}
-use Rattle.hwp_check.proofs.unpaired.unpaired.Given as goal
-
-abbrev pub invariant-loop-number : goal.invariant-loop-number
-invariant-loop-number l = FewBelow l.fn.report l.number l.heading

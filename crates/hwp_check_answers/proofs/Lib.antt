@@ -1,0 +1,5 @@
+mod InPlace
+mod TellLaws
+mod AskLaws
+mod OrderLaws
+mod PlainLaws

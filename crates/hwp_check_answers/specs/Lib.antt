@@ -1,0 +1,5 @@
+pub mod Placing
+pub mod Telling
+pub mod Plain
+pub mod Asking
+pub mod Disorders

@@ -1,0 +1,8 @@
+//! The rule of answers: each line of a processor in its place, an answer for each command, and each answer right.
+#![tactic(auto)]
+
+mod asking;
+mod disorders;
+mod placing;
+mod plain;
+mod telling;

@@ -1,0 +1,3 @@
+mod Results
+mod Keeping
+mod Unpairing

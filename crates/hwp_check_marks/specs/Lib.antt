@@ -1,0 +1,2 @@
+pub mod MarkScans
+pub mod Unpaired

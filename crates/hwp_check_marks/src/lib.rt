@@ -1,0 +1,6 @@
+//! The rule of marks: the records of poisoning of each frame, and the failures, events and answers that they are of.
+#![tactic(auto)]
+
+mod kept;
+mod records;
+mod unpaired;

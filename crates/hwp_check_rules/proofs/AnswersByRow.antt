@@ -1,0 +1,179 @@
+-- The answers of a processor, told from the first command on, and told line by line: the same.
+use Rattle.std.proofs.Common.{◌≡◌, inl, inr, ℕ, zero, suc, ◌+◌, ◌<◌, Bool, false, cond, true≢false, List, [], ◌∷◌, Some, count_by, get_or, length, slice_get, take, IsSome, refl, sym, ap, ◌∙◌, subst, arith}
+use Rattle.std.proofs.lemmas.Option.{same_Some, none-some}
+use Rattle.std.proofs.lemmas.List.Sums.{sum_by-cons, sum_by_more}
+use Rattle.hwp_geom.specs.declared.Cpu.{Cpu}
+use Rattle.hwp_geom.specs.declared.Who.{Who}
+use Rattle.hwp_script.specs.declared.Command.{Command}
+use Rattle.hwp_script.specs.declared.Script.{Script}
+use Rattle.hwp_report.specs.declared.Answer.{Answer}
+use Rattle.hwp_report.specs.declared.Answer.TheVariants as answers
+use Rattle.hwp_report.specs.declared.CpuLine.{CpuLine}
+use Rattle.hwp_report.specs.declared.CpuLine.TheVariants as lines
+use Rattle.hwp_report.specs.declared.Report.{Report}
+use Rattle.hwp_law.specs.Causes.{AreCaused, IsCaused, IsHeeded}
+use Rattle.hwp_check_rules.specs.Answered.{AreAnswered, HasAnswer, IsRight, IsShown, is_answer, seq_of}
+
+-- the last of the commands that a line is of, and of which command it is, where so many were answered before
+abbrev pub answers_in : ℕ → List CpuLine → ℕ
+answers_in row rows = count_by is_answer (take row rows)
+
+abbrev flag : Bool → ℕ
+flag b = cond b 1 0
+
+-- one line more in front
+in-more : (row : ℕ) (line : CpuLine) (rows : List CpuLine) → answers_in (suc row) (line ∷ rows) ≡ flag (is_answer line) + answers_in row rows
+in-more row line rows = sum_by-cons (λ (l : CpuLine). cond (is_answer l) 1 0) line (take row rows)
+
+-- as many answers with a further line
+pub count-next : (rows : List CpuLine) (i : ℕ) (d : CpuLine) (answered n : ℕ) (b : Bool) → i < length rows → answered ≡ count_by is_answer (take i rows) → b ≡ is_answer (get_or rows i d) → n ≡ flag b → answered + n ≡ count_by is_answer (take (i + 1) rows)
+count-next rows i d answered n b within was is one =
+    let more : count_by is_answer (take (i + 1) rows) ≡ count_by is_answer (take i rows) + flag (is_answer (get_or rows i d)) = sum_by_more (λ (l : CpuLine). cond (is_answer l) 1 0) rows i d within in
+    let same : n ≡ flag (is_answer (get_or rows i d)) = one ∙ ap flag is in
+    omega (arith, more, same, was)
+
+module _ (script : Script) (report : Report) (cpu : Cpu) where
+  abbrev who : ℕ → Who
+  who n = record { cpu = cpu; seq = n }
+
+  place-of : (n : ℕ) (commands : List Command) (rows : List CpuLine) → AreCaused script report cpu n commands rows → (row : ℕ) (line : CpuLine) → slice_get rows row ≡ Some line → (seq_of line ≡ n + answers_in row rows) × (seq_of line < n + length commands)
+  place-of n [] [] h row line is = absurd (none-some _ is)
+  place-of n [] (r ∷ rest) h row line is = absurd h
+  place-of n (c ∷ cs) [] h row line is = absurd h
+  place-of n (c ∷ cs) (lines.Event seq bank status addr misc graded acted ∷ rest) h zero line is =
+      let same : seq ≡ seq_of line = ap seq_of (same_Some _ _ is) in let first : seq ≡ n = h.0 in (omega (arith, same, first), omega (arith, same, first))
+  place-of n (c ∷ cs) (lines.Event seq bank status addr misc graded acted ∷ rest) h (suc row) line is =
+      let later = place-of n (c ∷ cs) rest h.1 row line is in
+      let at : seq_of line ≡ n + answers_in row rest = later.0 in
+      let more : answers_in (suc row) (lines.Event seq bank status addr misc graded acted ∷ rest) ≡ 0 + answers_in row rest = in-more row (lines.Event seq bank status addr misc graded acted) rest in
+      (omega (arith, at, more), later.1)
+  place-of n (c ∷ cs) (lines.Answer seq answer ∷ rest) h zero line is =
+      let same : seq ≡ seq_of line = ap seq_of (same_Some _ _ is) in let first : seq ≡ n = h.0 in (omega (arith, same, first), omega (arith, same, first))
+  place-of n (c ∷ cs) (lines.Answer seq answer ∷ rest) h (suc row) line is =
+      let later = place-of (n + 1) cs rest h.3 row line is in
+      let at : seq_of line ≡ n + 1 + answers_in row rest = later.0 in
+      let below : seq_of line < n + 1 + length cs = later.1 in
+      let more : answers_in (suc row) (lines.Answer seq answer ∷ rest) ≡ 1 + answers_in row rest = in-more row (lines.Answer seq answer) rest in
+      (omega (arith, at, more), omega (arith, below))
+
+  each-of : (n : ℕ) (commands : List Command) (rows : List CpuLine) → AreCaused script report cpu n commands rows → (k seq : ℕ) → k < length commands → seq ≡ n + k → HasAnswer rows seq
+  each-of n [] rows h k seq less is = absurd (omega arith)
+  each-of n (c ∷ cs) [] h k seq less is = absurd h
+  each-of n (c ∷ cs) (lines.Event s bank status addr misc graded acted ∷ rest) h k seq less is =
+      let r = each-of n (c ∷ cs) rest h.1 k seq less is in record { row = suc r.row; answer = r.answer; there = r.there }
+  each-of n (c ∷ cs) (lines.Answer s answer ∷ rest) h zero seq less is =
+      let first : s ≡ n = h.0 in let same : s ≡ seq = omega (arith, first, is) in record { row = 0; answer = answer; there = ap (λ (m : ℕ). Some (lines.Answer m answer)) same }
+  each-of n (c ∷ cs) (lines.Answer s answer ∷ rest) h (suc k) seq less is =
+      let r = each-of (n + 1) cs rest h.3 k seq (omega arith) (omega arith) in record { row = suc r.row; answer = r.answer; there = r.there }
+
+  right-of : (n : ℕ) (commands : List Command) (rows : List CpuLine) → AreCaused script report cpu n commands rows → (row k seq : ℕ) (answer : Answer) (command : Command) → slice_get rows row ≡ Some (lines.Answer seq answer) → seq ≡ n + k → slice_get commands k ≡ Some command → IsCaused script report (who seq) command answer × IsHeeded report (who seq) answer
+  right-of n [] [] h row k seq answer command is same there = absurd (none-some _ is)
+  right-of n [] (r ∷ rest) h row k seq answer command is same there = absurd h
+  right-of n (c ∷ cs) [] h row k seq answer command is same there = absurd h
+  right-of n (c ∷ cs) (lines.Event s bank status addr misc graded acted ∷ rest) h zero k seq answer command is same there = absurd (cc)
+  right-of n (c ∷ cs) (lines.Event s bank status addr misc graded acted ∷ rest) h (suc row) k seq answer command is same there = right-of n (c ∷ cs) rest h.1 row k seq answer command is same there
+  right-of n (c ∷ cs) (lines.Answer s given ∷ rest) h zero zero seq answer command is same there =
+      let of_seq : n ≡ seq = omega (arith, same) in
+      let of_answer : given ≡ answer = ap answer_in_line (same_Some _ _ is) in
+      let of_command : c ≡ command = same_Some _ _ there in
+      subst (λ (m : ℕ). IsCaused script report (who m) command answer × IsHeeded report (who m) answer) of_seq
+      (subst (λ (a : Answer). IsCaused script report (who n) command a × IsHeeded report (who n) a) of_answer
+      (subst (λ (x : Command). IsCaused script report (who n) x given × IsHeeded report (who n) given) of_command (h.1, h.2)))
+    where
+      answer_in_line : CpuLine → Answer
+      answer_in_line (lines.Event s2 bank status addr misc graded acted) = answers.Stopped
+      answer_in_line (lines.Answer s2 a) = a
+  right-of n (c ∷ cs) (lines.Answer s given ∷ rest) h zero (suc k) seq answer command is same there =
+      let of_seq : s ≡ seq = ap seq_of (same_Some _ _ is) in let first : s ≡ n = h.0 in absurd (omega (arith, of_seq, first, same))
+  right-of n (c ∷ cs) (lines.Answer s given ∷ rest) h (suc row) zero seq answer command is same there =
+      let later : seq ≡ n + 1 + answers_in row rest = (place-of (n + 1) cs rest h.3 row (lines.Answer seq answer) is).0 in absurd (omega (arith, later, same))
+  right-of n (c ∷ cs) (lines.Answer s given ∷ rest) h (suc row) (suc k) seq answer command is same there = right-of (n + 1) cs rest h.3 row k seq answer command is (omega (arith, same)) there
+
+  -- told from the first command on, the lines are told one by one
+  pub by-rows : (commands : List Command) (rows : List CpuLine) → AreCaused script report cpu 0 commands rows → AreAnswered script report cpu commands rows
+  by-rows commands rows h = record {
+    in_place = λ row line is.
+        let p = place-of 0 commands rows h row line is in
+        let at : seq_of line ≡ 0 + answers_in row rows = p.0 in let below : seq_of line < 0 + length commands = p.1 in
+        record { of_next = omega (arith, at); of_some = omega (arith, below) };
+    each = λ seq less. each-of 0 commands rows h seq seq less (omega arith);
+    right = λ row seq answer command is there.
+        let r = right-of 0 commands rows h row seq seq answer command is (omega arith) there in record { shown = inr r.0; heeded = r.1 };
+  }
+
+  -- and where an answer is `stopped` there is a stop
+  pub told-of : (n : ℕ) (commands : List Command) (rows : List CpuLine) → AreCaused script report cpu n commands rows → (row seq : ℕ) → slice_get rows row ≡ Some (lines.Answer seq answers.Stopped) → IsSome report.stop
+  told-of n [] [] h row seq is = absurd (none-some _ is)
+  told-of n [] (r ∷ rest) h row seq is = absurd h
+  told-of n (c ∷ cs) [] h row seq is = absurd h
+  told-of n (c ∷ cs) (lines.Event s bank status addr misc graded acted ∷ rest) h zero seq is = absurd (cc)
+  told-of n (c ∷ cs) (lines.Event s bank status addr misc graded acted ∷ rest) h (suc row) seq is = told-of n (c ∷ cs) rest h.1 row seq is
+  told-of n (c ∷ cs) (lines.Answer s given ∷ rest) h zero seq is = subst (λ (a : Answer). IsCaused script report (who n) c a) (ap answer_in_line (same_Some _ _ is)) h.1
+    where
+      answer_in_line : CpuLine → Answer
+      answer_in_line (lines.Event s2 bank status addr misc graded acted) = answers.Stopped
+      answer_in_line (lines.Answer s2 a) = a
+  told-of n (c ∷ cs) (lines.Answer s given ∷ rest) h (suc row) seq is = told-of (n + 1) cs rest h.3 row seq is
+
+  -- the lines from one on, told one by one, where so many commands were answered before
+  record From (n : ℕ) (commands : List Command) (rows : List CpuLine) : Type 0 where
+    at : (row : ℕ) (line : CpuLine) → slice_get rows row ≡ Some line → seq_of line ≡ n + answers_in row rows
+    below : (row : ℕ) (line : CpuLine) → slice_get rows row ≡ Some line → seq_of line < n + length commands
+    each : (k : ℕ) → k < length commands → HasAnswer rows (n + k)
+    right : (row k seq : ℕ) (answer : Answer) (command : Command) → slice_get rows row ≡ Some (lines.Answer seq answer) → seq ≡ n + k → slice_get commands k ≡ Some command → IsRight script report (who seq) command answer
+
+  past-event : (n : ℕ) (commands : List Command) (line : CpuLine) (rows : List CpuLine) → is_answer line ≡ false → From n commands (line ∷ rows) → From n commands rows
+  past-event n commands line rows not_answer f = record {
+    at = λ row l is. let e : seq_of l ≡ n + answers_in (suc row) (line ∷ rows) = f.at (suc row) l is in let m : answers_in (suc row) (line ∷ rows) ≡ flag (is_answer line) + answers_in row rows = in-more row line rows in let z : flag (is_answer line) ≡ 0 = ap flag not_answer in omega (arith, e, m, z);
+    below = λ row l is. f.below (suc row) l is;
+    each = λ k less. still line not_answer (f.each k less);
+    right = λ row k seq answer command is. f.right (suc row) k seq answer command is;
+  }
+    where
+      still : {m : ℕ} (l : CpuLine) → is_answer l ≡ false → HasAnswer (l ∷ rows) m → HasAnswer rows m
+      still {m = m} l plain a = still_at l plain a.row a.answer a.there
+        where
+          still_at : (l : CpuLine) → is_answer l ≡ false → (row : ℕ) (answer : Answer) → slice_get (l ∷ rows) row ≡ Some (lines.Answer m answer) → HasAnswer rows m
+          still_at l plain zero answer is = absurd (true≢false (sym (ap is_answer (same_Some _ _ is)) ∙ plain))
+          still_at l plain (suc row) answer is = record { row = row; answer = answer; there = is }
+
+  past-answer : (n : ℕ) (c : Command) (cs : List Command) (s : ℕ) (a : Answer) (rest : List CpuLine) → s ≡ n → From n (c ∷ cs) (lines.Answer s a ∷ rest) → From (n + 1) cs rest
+  past-answer n c cs s a rest first f = record {
+    at = λ row l is. let e : seq_of l ≡ n + answers_in (suc row) (lines.Answer s a ∷ rest) = f.at (suc row) l is in let m : answers_in (suc row) (lines.Answer s a ∷ rest) ≡ 1 + answers_in row rest = in-more row (lines.Answer s a) rest in omega (arith, e, m);
+    below = λ row l is. let e : seq_of l < n + length (c ∷ cs) = f.below (suc row) l is in omega (arith, e);
+    each = λ k less. later (n + suc k) (n + 1 + k) (omega arith) (omega arith) (f.each (suc k) (omega arith));
+    right = λ row k seq answer command is same there. f.right (suc row) (suc k) seq answer command is (omega (arith, same)) there;
+  }
+    where
+      later_at : (m m2 : ℕ) → m ≡ m2 → n < m → (row : ℕ) (answer : Answer) → slice_get (lines.Answer s a ∷ rest) row ≡ Some (lines.Answer m answer) → HasAnswer rest m2
+      later_at m m2 same more zero answer is = let e : s ≡ m = ap seq_of (same_Some _ _ is) in absurd (omega (arith, e, first, more))
+      later_at m m2 same more (suc row) answer is = record { row = row; answer = answer; there = is ∙ ap (λ (x : ℕ). Some (lines.Answer x answer)) same }
+
+      later : (m m2 : ℕ) → m ≡ m2 → n < m → HasAnswer (lines.Answer s a ∷ rest) m → HasAnswer rest m2
+      later m m2 same more h = later_at m m2 same more h.row h.answer h.there
+
+  caused-of : (n : ℕ) (c : Command) (a : Answer) → (a ≡ answers.Stopped → IsSome report.stop) → IsShown script report (who n) c a → IsCaused script report (who n) c a
+  caused-of n c a told (inl stopped) = subst (λ (x : Answer). IsCaused script report (who n) c x) (sym stopped) (told stopped)
+  caused-of n c a told (inr caused) = caused
+
+  from-rows : (n : ℕ) (commands : List Command) (rows : List CpuLine) → From n commands rows → ((row seq : ℕ) → slice_get rows row ≡ Some (lines.Answer seq answers.Stopped) → IsSome report.stop) → AreCaused script report cpu n commands rows
+  from-rows n [] [] f told = record {}
+  from-rows n [] (r ∷ rest) f told =
+      let below : seq_of r < n + 0 = f.below 0 r refl in let at : seq_of r ≡ n + 0 = f.at 0 r refl in absurd (omega (arith, below, at))
+  from-rows n (c ∷ cs) [] f told = let h = f.each 0 (omega arith) in absurd (none-some _ h.there)
+  from-rows n (c ∷ cs) (lines.Event s bank status addr misc graded acted ∷ rest) f told =
+      let at : s ≡ n + 0 = f.at 0 _ refl in (omega (arith, at), from-rows n (c ∷ cs) rest (past-event n (c ∷ cs) _ rest refl f) (λ row seq is. told (suc row) seq is))
+  from-rows n (c ∷ cs) (lines.Answer s a ∷ rest) f told =
+      let at : s ≡ n + 0 = f.at 0 _ refl in
+      let first : s ≡ n = omega (arith, at) in
+      let r = f.right 0 0 n a c (ap (λ (m : ℕ). Some (lines.Answer m a)) first) (omega arith) refl in
+      (first, caused-of n c a (λ stopped. told 0 s (ap (λ (x : Answer). Some (lines.Answer s x)) stopped)) r.shown, r.heeded, from-rows (n + 1) cs rest (past-answer n c cs s a rest first f) (λ row seq is. told (suc row) seq is))
+
+  -- told one by one, the lines are told from the first command on
+  pub rows-by : (commands : List Command) (rows : List CpuLine) → AreAnswered script report cpu commands rows → ((row seq : ℕ) → slice_get rows row ≡ Some (lines.Answer seq answers.Stopped) → IsSome report.stop) → AreCaused script report cpu 0 commands rows
+  rows-by commands rows h told = from-rows 0 commands rows (record {
+    at = λ row l is. let e : seq_of l ≡ answers_in row rows = (h.in_place row l is).of_next in omega (arith, e);
+    below = λ row l is. let e : seq_of l < length commands = (h.in_place row l is).of_some in omega (arith, e);
+    each = λ k less. let zero_and : k ≡ 0 + k = omega arith in subst (HasAnswer rows) zero_and (h.each k less);
+    right = λ row k seq answer command is same there. h.right row seq answer command is (ap (slice_get commands) (omega (arith, same)) ∙ there);
+  }) told

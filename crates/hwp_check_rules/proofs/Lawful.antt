@@ -1,0 +1,142 @@
+-- The nine rules together are the law of reports.
+use Rattle.std.proofs.Common.{◌≡◌, ℕ, zero, suc, Bool, cond, List, [], ◌∷◌, Some, IsSome, length, slice_get, refl, sym, ap, ◌∙◌, subst, arith}
+use Rattle.std.proofs.lemmas.Option.{same_Some, none-some}
+use Rattle.hwp_geom.specs.declared.Cpu.{Cpu}
+use Rattle.hwp_geom.specs.declared.Frame.{Frame}
+use Rattle.hwp_geom.specs.declared.Layout.{Layout}
+use Rattle.hwp_geom.specs.declared.Page.{Page}
+use Rattle.hwp_geom.specs.declared.PageKind.{PageKind}
+use Rattle.hwp_page.specs.History.{IsReplay, Leads}
+use Rattle.hwp_page.specs.Step.{after, opening_of}
+use Rattle.hwp_page.specs.declared.Entry.{Entry}
+use Rattle.hwp_page.specs.declared.PageState.{PageState}
+use Rattle.hwp_script.specs.declared.Script.{Script}
+use Rattle.hwp_report.specs.declared.Answer.TheVariants as answers
+use Rattle.hwp_report.specs.declared.CpuLine.{CpuLine}
+use Rattle.hwp_report.specs.declared.CpuLine.TheVariants as lines
+use Rattle.hwp_report.specs.declared.FrameLine.{FrameLine}
+use Rattle.hwp_report.specs.declared.Report.{Report}
+use Rattle.hwp_law.specs.Frames.{IsFrameLine}
+use Rattle.hwp_law.specs.Law.{IsLawful}
+use Rattle.hwp_law.specs.Report.{IsHistory}
+use Rattle.hwp_check_rules.specs.Rules.{AnswersFit, FramesFit, HistoriesFit, MarksFit, SeenFit, ShapeFits, StopFits}
+use Rattle.hwp_check_rules.specs.Verdicts.{Holds, Rule, Shape, Histories, Answers, Seen, Marks, Count, Losses, Stop, Frames}
+use Rattle.hwp_check_rules.proofs.AnswersByRow.{by-rows, rows-by, told-of}
+
+leads-same : (layout : Layout) (page : Page) (s : PageState) (entries : List Entry) (t u : PageState) → Leads layout page s entries t → Leads layout page s entries u → t ≡ u
+leads-same layout page s [] t u one other = sym one ∙ other
+leads-same layout page s (e ∷ entries) t u one other = leads-same layout page (after s e.what) entries t u one.1 other.1
+
+-- a history has one state at its end
+pub replay-same : (layout : Layout) (page : Page) (entries : List Entry) (t u : PageState) → IsReplay layout page entries t → IsReplay layout page entries u → t ≡ u
+replay-same layout page entries t u one other =
+    let kind : one.kind ≡ other.kind = same_Some _ _ (sym one.declared ∙ other.declared) in
+    leads-same layout page (opening_of other.kind) entries t u (subst (λ (k : PageKind). Leads layout page (opening_of k) entries t) kind one.leads) other.leads
+
+-- of two lists that are as long as each other, both have an item at a place
+both_there : {X Y : Type 0} (xs : List X) (ys : List Y) (i : ℕ) (x : X) → length xs ≡ length ys → slice_get xs i ≡ Some x → (y : Y) × (slice_get ys i ≡ Some y)
+both_there [] ys i x same is = absurd (none-some _ is)
+both_there (a ∷ xs) [] i x same is = let e : suc (length xs) ≡ 0 = same in absurd (omega (arith, e))
+both_there (a ∷ xs) (b ∷ ys) zero x same is = (b, refl)
+both_there (a ∷ xs) (b ∷ ys) (suc i) x same is = let e : suc (length xs) ≡ suc (length ys) = same in both_there xs ys i x (omega (arith, e)) is
+
+module _ (script : Script) (report : Report) where
+  -- there are as many lists as processors
+  module _ (one_each : length script.lists ≡ script.layout.cpus) (law : IsLawful script report) where
+    shape : ShapeFits script report
+    shape = record { files = law.losses.files_fit; frames = law.shape.frames; pages = law.shape.pages; cpus = law.shape.cpus }
+
+    histories : HistoriesFit script report
+    histories = record {
+      legal = λ page entries is. let h = law.histories.legal page entries is in (h.state, h.replay);
+      made = law.histories.made;
+      ordered = law.histories.ordered;
+    }
+
+    answers_fit : AnswersFit script report
+    answers_fit = record {
+      answered = λ cpu list rows there of_report. by-rows script report cpu list rows (law.answers.caused cpu list rows there of_report);
+      named = law.answers.named;
+      windows = law.answers.windows;
+      endings = law.answers.endings;
+      events = law.answers.events;
+    }
+
+    stop_fits : StopFits script report
+    stop_fits = record {
+      told = λ cpu rows row seq there is. told cpu rows row seq there is;
+      caused = law.answers.stop.caused;
+      stays = law.answers.stop.stays;
+    }
+      where
+        told : (cpu : Cpu) (rows : List CpuLine) (row seq : ℕ) → slice_get report.cpus cpu.0 ≡ Some rows → slice_get rows row ≡ Some (lines.Answer seq answers.Stopped) → IsSome report.stop
+        told cpu rows row seq there is =
+            let both = both_there report.cpus script.lists cpu.0 rows (law.shape.cpus ∙ sym one_each) there in
+            told-of script report cpu 0 both.0 rows (law.answers.caused cpu both.0 rows both.1 there) row seq is
+
+    frames_fit : FramesFit script report
+    frames_fit = record {
+      shown = λ frame kernel line declared there. let l = law.frames.lines frame kernel line declared there in record { place = l.place; bad = l.bad; weak = l.weak };
+      held = λ page entries state there replay.
+          let h = law.histories.legal page entries there in
+          h.held ∙ ap (λ (s : PageState). cond s.cached 1 0) (replay-same script.layout page entries h.state state h.replay replay);
+    }
+
+    -- a lawful report keeps each rule
+    pub lawful-holds : (rule : Rule) → Holds rule script report
+    lawful-holds Shape = shape
+    lawful-holds Histories = histories
+    lawful-holds Answers = answers_fit
+    lawful-holds Seen = record { right = law.histories.seen; falls_never = law.histories.falls_never }
+    lawful-holds Marks = record { kept = λ frame kernel line declared there. (law.frames.lines frame kernel line declared there).kept; recorded = law.frames.recorded }
+    lawful-holds Count = law.frames.count
+    lawful-holds Losses = law.losses.balance
+    lawful-holds Stop = stop_fits
+    lawful-holds Frames = frames_fit
+
+  module _ (holds : (rule : Rule) → Holds rule script report) where
+    -- a report that keeps each rule is lawful
+    pub holds-lawful : IsLawful script report
+    holds-lawful = record {
+      shape = record { frames = shape_fits.frames; pages = shape_fits.pages; cpus = shape_fits.cpus };
+      histories = record { legal = legal; made = of_histories.made; ordered = of_histories.ordered; seen = of_seen.right; falls_never = of_seen.falls_never };
+      answers = record {
+        caused = λ cpu list rows of_script of_report. rows-by script report cpu list rows (of_answers.answered cpu list rows of_script of_report) (λ row seq is. of_stop.told cpu rows row seq of_report is);
+        named = of_answers.named;
+        windows = of_answers.windows;
+        endings = of_answers.endings;
+        events = of_answers.events;
+        stop = record { caused = of_stop.caused; stays = of_stop.stays };
+      };
+      frames = record { lines = frame_lines; recorded = of_marks.recorded; count = holds Count };
+      losses = record { files_fit = shape_fits.files; balance = holds Losses };
+    }
+      where
+        shape_fits : ShapeFits script report
+        shape_fits = holds Shape
+
+        of_histories : HistoriesFit script report
+        of_histories = holds Histories
+
+        of_answers : AnswersFit script report
+        of_answers = holds Answers
+
+        of_seen : SeenFit script report
+        of_seen = holds Seen
+
+        of_marks : MarksFit script report
+        of_marks = holds Marks
+
+        of_stop : StopFits script report
+        of_stop = holds Stop
+
+        of_frames : FramesFit script report
+        of_frames = holds Frames
+
+        legal : (page : Page) (entries : List Entry) → slice_get report.pages page.0 ≡ Some entries → IsHistory script.layout report.frames page entries
+        legal page entries there = let r = of_histories.legal page entries there in record { state = r.0; replay = r.1; held = of_frames.held page entries r.0 there r.1 }
+
+        frame_lines : (frame : Frame) (kernel : Bool) (line : FrameLine) → slice_get script.layout.kernel frame.0 ≡ Some kernel → slice_get report.frames frame.0 ≡ Some line → IsFrameLine script report kernel frame line
+        frame_lines frame kernel line declared there =
+            let s = of_frames.shown frame kernel line declared there in
+            record { place = s.place; bad = s.bad; weak = s.weak; kept = of_marks.kept frame kernel line declared there }

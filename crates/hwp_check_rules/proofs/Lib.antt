@@ -1,0 +1,4 @@
+pub mod AnswersByRow
+pub mod Lawful
+pub mod InText
+pub mod PastLaws

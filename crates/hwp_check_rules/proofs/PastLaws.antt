@@ -1,0 +1,133 @@
+-- What is known of a thread: the policies set, the commands done, and the counts of both.
+use Rattle.std.proofs.Common.{◌≡◌, ◌⊎◌, inl, inr, ℕ, ◌+◌, ◌-◌, ◌<◌, ◌≤◌, ◌==◌, Bool, false, List, [], ◌∷◌, ◌++◌, Option, Some, None, cond, length, take, drop, slice_get, slice_set, slice_index_or, unwrap_or, refl, sym, ap, ◌∙◌, subst, arith}
+use Rattle.std.specs.List.{filter_map, find}
+use Rattle.std.specs.Option.{option_and_then, option_map, option_to_list}
+use Rattle.std.proofs.lemmas.Bool.{cases_eq, cases_lt, eq-eqb, ne_eqb}
+use Rattle.std.proofs.lemmas.List.{drop_more, get_or-set_other, get_or-set_same, get_or_append_left, get_or_push, length-set, length_push, take_more}
+use Rattle.std.proofs.lemmas.Option.{get_or_from_slice_get, slice_get-get_or, slice_get_within}
+use Rattle.std.proofs.lemmas.List.Elements.{filter_map-append}
+use Rattle.hwp_geom.specs.declared.Cpu.{Cpu}
+use Rattle.hwp_geom.specs.declared.Thread.{Thread}
+use Rattle.hwp_kill.specs.declared.Policy.{Policy}
+use Rattle.hwp_script.specs.declared.Command.{Command}
+use Rattle.hwp_script.specs.declared.Script.{Script}
+use Rattle.hwp_report.specs.declared.Answer.{Answer}
+use Rattle.hwp_report.specs.declared.CpuLine.{CpuLine}
+use Rattle.hwp_report.specs.declared.CpuLine.TheVariants as lines
+use Rattle.hwp_report.specs.declared.Report.{Report}
+use Rattle.hwp_law.specs.Lines.{AnswerLine, answer_among, answer_in}
+use Rattle.hwp_law.specs.Policies.{setting_of, settings}
+use Rattle.hwp_law.specs.Seen.{commands_around, cpu_of_thread, is_done}
+use Rattle.hwp_check_rules.specs.declared.pasts.Past.{Past}
+use Rattle.hwp_check_rules.specs.Pasts.{AreDone, IsPast, counts, noted}
+
+-- one command more
+one-set : (o : Option Policy) → filter_map (λ (p : Option Policy). p) (o ∷ []) ≡ option_to_list o
+one-set None = refl
+one-set (Some policy) = refl
+
+pub settings_more : (thread : Thread) (list : List Command) (i : ℕ) (d : Command) → i < length list
+    → settings thread (take (i + 1) list) ≡ settings thread (take i list) ++ option_to_list (setting_of thread (slice_index_or list i d))
+settings_more thread list i d within =
+    ap (λ (l : List Command). settings thread l) (take_more list i d within)
+    ∙ filter_map-append (setting_of thread) (take i list) (slice_index_or list i d ∷ [])
+    ∙ ap (λ (l : List Policy). settings thread (take i list) ++ l) (one-set (setting_of thread (slice_index_or list i d)))
+
+-- the first answer of a command is the one in this line, or in those behind it
+same-answer : (seq : ℕ) (answer : Answer) (rest : List CpuLine) (k : ℕ) → k ≡ seq → answer_among (lines.Answer seq answer ∷ rest) k ≡ Some answer
+same-answer seq answer rest k same =
+    ap (λ (b : Bool). option_map (λ (l : AnswerLine). l.answer) (cond b (Some (record { seq = seq; answer = answer })) (find (λ (l : AnswerLine). k == l.seq) (filter_map answer_in rest))))
+    (eq-eqb k seq same)
+
+other-answer : (seq : ℕ) (answer : Answer) (rest : List CpuLine) (k : ℕ) → (k ≡ seq → ⊥) → answer_among (lines.Answer seq answer ∷ rest) k ≡ answer_among rest k
+other-answer seq answer rest k other =
+    ap (λ (b : Bool). option_map (λ (l : AnswerLine). l.answer) (cond b (Some (record { seq = seq; answer = answer })) (find (λ (l : AnswerLine). k == l.seq) (filter_map answer_in rest))))
+    (ne_eqb k seq other)
+
+-- one line more, from the last one on
+noted-length : (row : CpuLine) (flags : List Bool) → length (noted row flags) ≡ length flags
+noted-length (lines.Event seq bank status addr misc graded acted) flags = refl
+noted-length (lines.Answer seq answer) flags = length-set flags seq (is_done (Some answer))
+
+noted-done : (row : CpuLine) (rest : List CpuLine) (flags : List Bool) → AreDone rest flags → AreDone (row ∷ rest) (noted row flags)
+noted-done (lines.Event seq bank status addr misc graded acted) rest flags are = are
+noted-done (lines.Answer seq answer) rest flags are = λ k d less. which k d (subst (λ (n : ℕ). k < n) (length-set flags seq (is_done (Some answer))) less) (cases_eq k seq)
+  where
+    which : (k : ℕ) (d : Bool) → k < length flags → (k ≡ seq) ⊎ (k ≡ seq → ⊥)
+        → slice_index_or (slice_set flags seq (is_done (Some answer))) k d ≡ is_done (answer_among (lines.Answer seq answer ∷ rest) k)
+    which k d less (inl same) =
+        ap (λ (n : ℕ). slice_index_or (slice_set flags seq (is_done (Some answer))) n d) same
+        ∙ get_or-set_same flags seq (is_done (Some answer)) d (subst (λ (n : ℕ). n < length flags) same less)
+        ∙ ap is_done (sym (same-answer seq answer rest k same))
+    which k d less (inr other) = get_or-set_other flags seq k (is_done (Some answer)) d other ∙ are k d less ∙ ap is_done (sym (other-answer seq answer rest k other))
+
+pub note_more : (rows : List CpuLine) (flags after : List Bool) (back : ℕ) (d : CpuLine) → back < length rows → after ≡ noted (slice_index_or rows (length rows - 1 - back) d) flags
+    → AreDone (drop (length rows - back) rows) flags → (length after ≡ length flags) × AreDone (drop (length rows - (back + 1)) rows) after
+note_more rows flags after back d within done are = (
+  ap length done ∙ noted-length row flags,
+  subst (AreDone (drop at rows)) (sym done) (subst (λ (l : List CpuLine). AreDone l (noted row flags)) (sym split) (noted-done row (drop (length rows - back) rows) flags are)),
+)
+  where
+    at : ℕ
+    at = length rows - (back + 1)
+
+    row : CpuLine
+    row = slice_index_or rows (length rows - 1 - back) d
+
+    here : at < length rows
+    here = omega arith
+
+    place : length rows - 1 - back ≡ at
+    place = omega arith
+
+    next : at + 1 ≡ length rows - back
+    next = omega arith
+
+    split : drop at rows ≡ row ∷ drop (length rows - back) rows
+    split = drop_more rows at d here ∙ (λ i. slice_index_or rows (sym place i) d ∷ drop (next i) rows)
+
+-- with no line read, none is done
+pub none_done : (rows : List CpuLine) (flags : List Bool) → ((k : ℕ) (d : Bool) → k < length flags → slice_index_or flags k d ≡ false) → AreDone (drop (length rows) rows) flags
+none_done rows flags none = λ k d less. none k d less ∙ ap (λ (l : List CpuLine). is_done (answer_among l k)) (sym (nothing rows))
+  where
+    nothing : (l : List CpuLine) → drop (length l) l ≡ []
+    nothing [] = refl
+    nothing (x ∷ xs) = nothing xs
+
+-- what stands in a past
+pub past_is : (script : Script) (report : Report) (thread : Thread) (past : Past) (commands : List Command) (rows : List CpuLine) (flags : List Bool) → cpu_of_thread script thread ≡ Some past.cpu
+    → commands ≡ unwrap_or (slice_get script.lists past.cpu.0) [] → rows ≡ unwrap_or (slice_get report.cpus past.cpu.0) []
+    → length flags ≡ length commands → AreDone rows flags → past.policies ≡ settings thread commands → past.done ≡ counts thread 0 commands flags → IsPast script report thread past
+past_is script report thread past commands rows flags of_cpu commands-are rows-are each done policies counted = record {
+  flags = flags;
+  of_cpu = of_cpu;
+  policies = policies ∙ ap (settings thread) around;
+  each = each ∙ ap length around;
+  are_done = subst (λ (l : List CpuLine). AreDone l flags) rows-are done;
+  done = counted ∙ ap (λ (l : List Command). counts thread 0 l flags) around;
+}
+  where
+    around : commands ≡ commands_around script thread
+    around = commands-are ∙ ap (λ (o : Option Cpu). unwrap_or (option_and_then (λ (cpu : Cpu). slice_get script.lists cpu.0) o) []) (sym of_cpu)
+
+-- one thread more
+pub pasts-more : (script : Script) (report : Report) (pasts : List Past) (past : Past) (thread : Thread) → length pasts ≡ thread.0
+    → ((t : Thread) (p : Past) → slice_get pasts t.0 ≡ Some p → IsPast script report t p) → IsPast script report thread past
+    → (t : Thread) (p : Past) → slice_get (pasts ++ past ∷ []) t.0 ≡ Some p → IsPast script report t p
+pasts-more script report pasts past thread many each is t p there = which (cases_lt t.0 (length pasts))
+  where
+    within : t.0 < length (pasts ++ past ∷ [])
+    within = slice_get_within (pasts ++ past ∷ []) t.0 p there
+
+    which : (t.0 < length pasts) ⊎ (length pasts ≤ t.0) → IsPast script report t p
+    which (inl less) = each t p (slice_get-get_or pasts t.0 p less ∙ ap Some (sym (get_or_append_left pasts (past ∷ []) p t.0 less) ∙ get_or_from_slice_get (pasts ++ past ∷ []) t.0 p p there))
+    which (inr more) = subst (λ (u : Thread). IsPast script report u p) own (subst (IsPast script report thread) same is)
+      where
+        at : t.0 ≡ length pasts
+        at = let l : length (pasts ++ past ∷ []) ≡ length pasts + 1 = length_push pasts past in omega (arith, l, within, more)
+
+        own : thread ≡ t
+        own = λ i. record { 0 = (sym many ∙ sym at) i }
+
+        same : past ≡ p
+        same = sym (get_or_push pasts past p t.0 (sym at)) ∙ get_or_from_slice_get (pasts ++ past ∷ []) t.0 p p there

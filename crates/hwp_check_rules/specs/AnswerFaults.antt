@@ -1,0 +1,108 @@
+-- Which lines of a report break the rule of answers and events.
+use Rattle.std.specs.Prelude.{◌≡◌, ◌≢◌, ◌⊎◌, ℕ, ◌<◌, ◌==◌, ◌&&◌, true, not, List, Some, count_by, length, slice_get, take}
+use Rattle.hwp_geom.specs.declared.Cpu.{Cpu}
+use Rattle.hwp_geom.specs.declared.Proc.{Proc}
+use Rattle.hwp_geom.specs.declared.Who.{Who}
+use Rattle.hwp_page.specs.Orders.{IsEarlier}
+use Rattle.hwp_page.specs.declared.At.{At}
+use Rattle.hwp_page.specs.declared.Entry.{Entry}
+use Rattle.hwp_script.specs.declared.Command.{Command}
+use Rattle.hwp_script.specs.declared.Script.{Script}
+use Rattle.hwp_report.specs.declared.Answer.{Answer}
+use Rattle.hwp_report.specs.declared.CpuLine.{CpuLine}
+use Rattle.hwp_report.specs.declared.CpuLine.TheVariants as lines
+use Rattle.hwp_report.specs.declared.Report.{Report}
+use Rattle.hwp_law.specs.Answers.{is_answering}
+use Rattle.hwp_law.specs.Checks.{Banks}
+use Rattle.hwp_law.specs.Commands.{arrival_of, process_at}
+use Rattle.hwp_law.specs.Endings.{HasEnded, IsOver, WasGone}
+use Rattle.hwp_law.specs.Lines.{events_of}
+use Rattle.hwp_law.specs.Places.{command_at, entry_at}
+use Rattle.hwp_law.specs.States.{IsInWindow, entry_named, state_named}
+use Rattle.hwp_check_rules.specs.Answered.{HasAnswer, IsInPlace, IsRight, is_answer, seq_of}
+use Rattle.hwp_check_rules.specs.Scans.{AreFound, IsWrong, Lacks}
+use Rattle.hwp_check_rules.specs.Standing.{cpu_line, row_line}
+
+-- a command has no answer
+pub record IsUnanswered (script : Script) (report : Report) (line : ℕ) : Type 0 where
+  pub cpu : Cpu
+  pub commands : List Command
+  pub rows : List CpuLine
+  pub seq : ℕ
+  pub of_script : slice_get script.lists cpu.0 ≡ Some commands
+  pub of_report : slice_get report.cpus cpu.0 ≡ Some rows
+  pub within : seq < length commands
+  pub lacks : HasAnswer rows seq → ⊥
+  pub line_is : line ≡ cpu_line report cpu.0
+
+-- a command has fewer event lines than its machine checks ask
+pub record LacksEvents (script : Script) (report : Report) (line : ℕ) : Type 0 where
+  pub who : Who
+  pub command : Command
+  pub banks : Banks
+  pub made : command_at script who ≡ Some command
+  pub found : AreFound script report who banks
+  pub lacks : Lacks script report who (arrival_of command) command banks (events_of report who)
+  pub line_is : line ≡ cpu_line report who.cpu.0
+
+-- an entry that answers the command is not the one that its answer names
+pub record IsUnnamed (report : Report) (who : Who) (answer : Answer) : Type 0 where
+  pub at : At
+  pub entry : Entry
+  pub there : entry_at report.pages at ≡ Some entry
+  pub own : entry.who ≡ who
+  pub answering : is_answering entry.what ≡ true
+  pub other : entry_named answer ≢ Some at
+
+-- the answer says what state a page was in when the command can't have seen it
+pub record IsOutside (report : Report) (rows : List CpuLine) (who : Who) (answer : Answer) : Type 0 where
+  pub at : At
+  pub names : state_named answer ≡ Some at
+  pub outside : IsInWindow report.pages rows who at → ⊥
+
+-- the process whose thread makes the command had ended, and the answer says otherwise
+pub record IsRevived (script : Script) (report : Report) (later : Who) (answer : Answer) : Type 0 where
+  pub who : Who
+  pub process : Proc
+  pub ended : HasEnded script report who process ⊎ WasGone script report who process
+  pub before : IsEarlier who later
+  pub process_is : process_at script later ≡ Some process
+  pub wrong : IsOver answer → ⊥
+
+-- what is wrong about an answer
+abbrev pub IsAnswerWrong : Script → Report → List CpuLine → Who → Command → Answer → Type 0
+IsAnswerWrong script report rows who command answer =
+    (IsRight script report who command answer → ⊥) ⊎ IsUnnamed report who answer ⊎ IsOutside report rows who answer ⊎ IsRevived script report who answer
+
+-- how many event lines of the command stand before a row
+abbrev pub events_before : List CpuLine → ℕ → ℕ → ℕ
+events_before rows row seq = count_by (λ (l : CpuLine). not (is_answer l) && (seq_of l == seq)) (take row rows)
+
+-- an event line is not the one that its command's machine checks ask at its place
+pub record IsEventWrong (script : Script) (report : Report) (rows : List CpuLine) (row : ℕ) (who : Who) (command : Command) : Type 0 where
+  pub banks : Banks
+  pub found : AreFound script report who banks
+  pub wrong : IsWrong script report who (arrival_of command) command banks (events_of report who) (events_before rows row who.seq)
+
+-- what is wrong about a line of a command
+abbrev pub IsLineWrong : Script → Report → Cpu → List CpuLine → ℕ → CpuLine → Command → Type 0
+IsLineWrong script report cpu rows row (lines.Answer seq answer) command = IsAnswerWrong script report rows (record { cpu = cpu; seq = seq }) command answer
+IsLineWrong script report cpu rows row (lines.Event seq bank status addr misc graded acted) command = IsEventWrong script report rows row (record { cpu = cpu; seq = seq }) command
+
+-- a line of a processor that is not in its place, or is wrong
+pub record IsRowFault (script : Script) (report : Report) (line : ℕ) : Type 0 where
+  pub cpu : Cpu
+  pub commands : List Command
+  pub rows : List CpuLine
+  pub row : ℕ
+  pub shown : CpuLine
+  pub of_script : slice_get script.lists cpu.0 ≡ Some commands
+  pub of_report : slice_get report.cpus cpu.0 ≡ Some rows
+  pub there : slice_get rows row ≡ Some shown
+  pub line_is : line ≡ row_line report cpu.0 row
+  pub wrong :
+      (IsInPlace commands rows row shown → ⊥)
+      ⊎ ((command : Command) × (slice_get commands (seq_of shown) ≡ Some command) × IsLineWrong script report cpu rows row shown command)
+
+abbrev pub IsAnswerFault : Script → Report → ℕ → Type 0
+IsAnswerFault script report line = IsUnanswered script report line ⊎ LacksEvents script report line ⊎ IsRowFault script report line

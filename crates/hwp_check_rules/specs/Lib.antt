@@ -1,0 +1,10 @@
+pub mod Standing
+pub mod Firsts
+pub mod Answered
+pub mod Rules
+pub mod Faults
+pub mod MarkFaults
+pub mod Scans
+pub mod AnswerFaults
+pub mod Verdicts
+pub mod Pasts

@@ -1,0 +1,94 @@
+-- The nine rules of a report, in their order, each by itself.
+use Rattle.std.specs.Prelude.{◌≡◌, ◌↔◌, ◌+◌, ℕ, Bool, cond, List, Some, IsBitSet, IsSome, count_by, length, slice_get, sum_by}
+use Rattle.std.specs.List.{zip}
+use Rattle.hwp_geom.specs.declared.Cpu.{Cpu}
+use Rattle.hwp_geom.specs.declared.FileNo.{FileNo}
+use Rattle.hwp_geom.specs.declared.Frame.{Frame}
+use Rattle.hwp_geom.specs.declared.Page.{Page}
+use Rattle.hwp_geom.specs.declared.Who.{Who}
+use Rattle.hwp_page.specs.History.{IsReplay}
+use Rattle.hwp_page.specs.declared.Entry.{Entry}
+use Rattle.hwp_page.specs.declared.PageState.{PageState}
+use Rattle.hwp_script.specs.declared.Command.{Command}
+use Rattle.hwp_script.specs.declared.Command.TheVariants as commands
+use Rattle.hwp_script.specs.declared.Script.{Script}
+use Rattle.hwp_report.specs.declared.Answer.TheVariants as answers
+use Rattle.hwp_report.specs.declared.CpuLine.{CpuLine}
+use Rattle.hwp_report.specs.declared.CpuLine.TheVariants as lines
+use Rattle.hwp_report.specs.declared.FrameLine.{FrameLine}
+use Rattle.hwp_report.specs.declared.Report.{Report}
+use Rattle.hwp_report.specs.declared.Stop.{Stop}
+use Rattle.hwp_law.specs.Answers.{AreInWindows, AreNamed}
+use Rattle.hwp_law.specs.Endings.{EndingsStay}
+use Rattle.hwp_law.specs.Entries.{AreMadeBy}
+use Rattle.hwp_law.specs.Events.{AreEvents}
+use Rattle.hwp_law.specs.Frames.{IsPlaced, WasDone, poisoned_count}
+use Rattle.hwp_law.specs.Halts.{IsStopOf}
+use Rattle.hwp_law.specs.History.{AreOrdered}
+use Rattle.hwp_law.specs.Losses.{answered, lost_in, told}
+use Rattle.hwp_law.specs.Pairings.{AreRecorded}
+use Rattle.hwp_law.specs.Records.{IsFrameRecord, ends_poisoned}
+use Rattle.hwp_law.specs.Report.{is_of}
+use Rattle.hwp_law.specs.Seen.{AreSeen, SeenNeverFalls}
+use Rattle.hwp_law.specs.Stops.{StaysStopped}
+use Rattle.hwp_check_rules.specs.Answered.{AreAnswered}
+
+-- 1: the report has as many files, frames, pages and processors as the script
+pub record ShapeFits (script : Script) (report : Report) : Type 0 where
+  pub files : length report.files ≡ script.layout.files
+  pub frames : length report.frames ≡ script.layout.frames
+  pub pages : length report.pages ≡ length script.layout.pages
+  pub cpus : length report.cpus ≡ script.layout.cpus
+
+-- 2: each history is legal from its opening, rises along each processor, and has entries that their commands make
+pub record HistoriesFit (script : Script) (report : Report) : Type 0 where
+  pub legal : (page : Page) (entries : List Entry) → slice_get report.pages page.0 ≡ Some entries → (state : PageState) × IsReplay script.layout page entries state
+  pub made : AreMadeBy script report.pages
+  pub ordered : AreOrdered report.pages
+
+-- 3: each command has one answer, in order, and answers and events are such as the histories and records show
+pub record AnswersFit (script : Script) (report : Report) : Type 0 where
+  pub answered : (cpu : Cpu) (commands : List Command) (rows : List CpuLine) → slice_get script.lists cpu.0 ≡ Some commands → slice_get report.cpus cpu.0 ≡ Some rows → AreAnswered script report cpu commands rows
+  pub named : AreNamed report.pages report.cpus
+  pub windows : AreInWindows report.pages report.cpus
+  pub endings : EndingsStay script report
+  pub events : AreEvents script report
+
+-- 4: each policy seen is one that the thread had, and along a processor's commands none is older than the one before
+pub record SeenFit (script : Script) (report : Report) : Type 0 where
+  pub right : AreSeen script report
+  pub falls_never : SeenNeverFalls report
+
+-- 5: the records of frames alternate, and have beside them entries, answers and events
+pub record MarksFit (script : Script) (report : Report) : Type 0 where
+  pub kept : (frame : Frame) (kernel : Bool) (line : FrameLine) → slice_get script.layout.kernel frame.0 ≡ Some kernel → slice_get report.frames frame.0 ≡ Some line → IsFrameRecord script report kernel frame
+  pub recorded : (who : Who) → AreRecorded report who
+
+-- 6: the count is the number of frames whose record ends in a poisoning
+abbrev pub CountFits : Report → Type 0
+CountFits report = report.count ≡ poisoned_count report.frames
+
+-- 7: what the answers told of each file and what is left are the losses in the histories of its pages
+abbrev pub IsBalanced : Script → Report → FileNo → ℕ → Type 0
+IsBalanced script report file left = sum_by (told file) (answered script report) + left ≡ sum_by (lost_in file) (zip script.layout.pages report.pages)
+
+abbrev pub LossesFit : Script → Report → Type 0
+LossesFit script report = (file : FileNo) (left : ℕ) → slice_get report.files file.0 ≡ Some left → IsBalanced script report file left
+
+-- 8: the stop is none exactly where no answer is `stopped`, else that of a command which stopped the machine; and a processor
+-- stays stopped
+pub record StopFits (script : Script) (report : Report) : Type 0 where
+  pub told : (cpu : Cpu) (rows : List CpuLine) (row seq : ℕ) → slice_get report.cpus cpu.0 ≡ Some rows → slice_get rows row ≡ Some (lines.Answer seq answers.Stopped) → IsSome report.stop
+  pub caused : (stop : Stop) → report.stop ≡ Some stop → IsStopOf script report stop
+  pub stays : (cpu : Cpu) (rows : List CpuLine) → slice_get report.cpus cpu.0 ≡ Some rows → StaysStopped rows
+
+-- a frame's line has the place that the layout and its record say, and the bad and weak lines that commands marked
+pub record IsFrameShown (script : Script) (report : Report) (kernel : Bool) (frame : Frame) (line : FrameLine) : Type 0 where
+  pub place : IsPlaced script.layout kernel (ends_poisoned line.marks) line.place
+  pub bad : (n : ℕ) → IsBitSet line.bad.0 n ↔ WasDone script report (commands.Bad frame n)
+  pub weak : (n : ℕ) → IsBitSet line.weak.0 n ↔ WasDone script report (commands.Weak frame n)
+
+-- 9: each frame's line is right, and a page is cached exactly where one frame says it
+pub record FramesFit (script : Script) (report : Report) : Type 0 where
+  pub shown : (frame : Frame) (kernel : Bool) (line : FrameLine) → slice_get script.layout.kernel frame.0 ≡ Some kernel → slice_get report.frames frame.0 ≡ Some line → IsFrameShown script report kernel frame line
+  pub held : (page : Page) (entries : List Entry) (state : PageState) → slice_get report.pages page.0 ≡ Some entries → IsReplay script.layout page entries state → count_by (λ (f : FrameLine). is_of page f.place) report.frames ≡ cond state.cached 1 0

@@ -1,0 +1,147 @@
+ghost use Rattle.std.specs.Prelude.{◌≡◌, ◌≤◌, ◌++◌, ◌&&◌, Some, is_some, length, IfOk, OnOk};
+ghost use Rattle.std.specs.Int.{from_bool};
+ghost use Rattle.std.specs.Option.{option_to_list};
+ghost use Rattle.hwp_law.specs.Policies.{setting_of, settings};
+ghost use Rattle.hwp_law.specs.Seen.{cpu_of_thread};
+ghost use Rattle.hwp_check_rules.specs.Pasts.{AreDone, ArePasts, IsPast, counts, noted};
+
+use crate::policies::setting_of;
+use crate::rows::{commands_of, rows_on};
+use hwp_form::Command;
+use hwp_geom::{Cpu, List, OutOfMemory, Thread};
+use hwp_kill::Policy;
+use hwp_report::{Answer, CpuLine, Report};
+use hwp_script::Script;
+use std::alloc::Global;
+
+/// What is known of a thread: its processor, the policies that the processor's commands set, and how many of them were set
+/// by commands that were done, before each command and behind the last.
+#[derive(Drop)]
+pub struct Past {
+    pub cpu: Cpu,
+    pub policies: List<Policy>,
+    pub done: List<u64>,
+}
+
+/// Adds a policy, if there is one.
+fn add_policy(list: &mut List<Policy>, policy: Option<Policy>) -> Result<(), OutOfMemory>
+    ensures { OnOk result (list.new ≡ list.old ++ option_to_list policy) }
+{
+    if let Some(policy) = policy {
+        list.push(policy)?;
+    }
+    Ok(())
+}
+
+/// The policies that the commands set for the thread, in order.
+#[tactic(auto, using(crate::proofs::PastLaws::settings_more))]
+fn policies_of(
+    alloc: Global,
+    thread: Thread,
+    commands: &[Command],
+) -> Result<List<Policy>, OutOfMemory>
+    ensures { IfOk result (λ list. list ≡ settings thread commands.now) }
+{
+    let mut list = List::new(alloc);
+    for command in commands {
+        add_policy(&mut list, setting_of(thread, command))?;
+    }
+    Ok(list)
+}
+
+/// Notes a line of a processor among the commands that were done.
+fn note(flags: &mut Vec<bool>, row: &CpuLine)
+    ensures { flags.new.items ≡ noted row.now flags.old.items }
+{
+    if let CpuLine::Answer { seq, answer } = row {
+        let place = *seq as usize;
+        if place < flags.len() {
+            flags[place] = matches!(answer, Answer::Done);
+        }
+    }
+}
+
+/// Which of so many commands were answered `done`. The lines are read from the last one on, so the first answer counts.
+pub fn done_of(
+    alloc: Global,
+    count: usize,
+    rows: &[CpuLine],
+) -> Result<Vec<bool>, OutOfMemory>
+    ensures count { IfOk result (λ flags. length flags.items ≡ count) }
+    ensures done { IfOk result (λ flags. AreDone rows.now flags.items) }
+{
+    let mut flags = Vec::new(alloc);
+    flags.resize(count, false)?;
+    for back in 0..rows.len() {
+        note(&mut flags, &rows[rows.len() - 1 - back]);
+    }
+    Ok(flags)
+}
+
+/// Whether the command sets the thread's policy and was done, as 1 or 0.
+fn sets(thread: Thread, command: &Command, done: bool) -> u64
+    ensures { result ≡ from_bool (is_some (setting_of thread command.now) && done) }
+{
+    u64::from(setting_of(thread, command).is_some() && done)
+}
+
+/// How many of the commands set the thread's policy and were done, before each of them and behind the last.
+fn counts_of(
+    alloc: Global,
+    thread: Thread,
+    commands: &[Command],
+    done: &[bool],
+) -> Result<List<u64>, OutOfMemory>
+    requires each { length done.now ≡ length commands.now }
+    ensures { IfOk result (λ list. list ≡ counts thread 0 commands.now done.now) }
+{
+    let mut list = List::new(alloc);
+    let mut count = 0;
+    for number in 0..commands.len() {
+        list.push(count)?;
+        count += sets(thread, &commands[number], done[number]);
+    }
+    list.push(count)?;
+    Ok(list)
+}
+
+/// What is known of the thread, which is declared on this processor.
+#[tactic(auto, using(crate::proofs::PastLaws::past_is))]
+fn past_of(
+    alloc: Global,
+    script: &Script,
+    report: &Report,
+    thread: Thread,
+    cpu: Cpu,
+) -> Result<Past, OutOfMemory>
+    requires { cpu_of_thread script.now thread ≡ Some cpu }
+    ensures { IfOk result (λ past. IsPast script.now report.now thread past) }
+{
+    let commands = commands_of(script, cpu);
+    let flags = done_of(alloc, commands.len(), rows_on(report, cpu))?;
+    let policies = policies_of(alloc, thread, commands)?;
+    let done = counts_of(alloc, thread, commands, flags.as_slice())?;
+    Ok(Past {
+        cpu,
+        policies,
+        done,
+    })
+}
+
+/// What is known of each thread of the script.
+pub fn pasts_of(
+    alloc: Global,
+    script: &Script,
+    report: &Report,
+) -> Result<Vec<Past>, OutOfMemory>
+    requires { length script.now.layout.threads ≤ 256 }
+    ensures { IfOk result (λ pasts. ArePasts script.now report.now pasts.items) }
+{
+    let mut pasts = Vec::new(alloc);
+    let threads = script.layout.threads.as_slice();
+    for number in 0..threads.len() {
+        let thread = Thread(number as u8);
+        pasts.push(past_of(alloc, script, report, thread, threads[number].cpu)?)?;
+    }
+    Ok(pasts)
+}

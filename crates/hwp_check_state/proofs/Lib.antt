@@ -1,0 +1,14 @@
+mod Balances
+mod Shapes
+mod FirstLaws
+mod TopLaws
+mod OwnLaws
+mod SightLaws
+mod SeenRule
+mod StopScans
+mod StopLaws
+mod Walking
+mod Wrongs
+mod DoneLaws
+mod FrameLaws
+mod FrameRule

@@ -1,0 +1,26 @@
+use Rattle.std.proofs.Common.{◌≡◌, ◌<◌, ℕ, Bool, false, List, Option, Some, None, MatchOption, cond, length, map, ap, sym, subst, ◌∙◌, arith}
+use Rattle.hwp_script.specs.declared.Command.{Command}
+use Rattle.hwp_check_rules.specs.Faults.{first_free}
+use Rattle.hwp_check_rules.specs.Firsts.{soonest}
+use Rattle.hwp_check_state.specs.Frames.{AreDoneOf, AreRight, cached_after, ends_of, is_right_frame, is_unsaid_from}
+use Rattle.hwp_check_rules.specs.Rules.{FramesFit}
+use Rattle.hwp_check_rules.specs.Standing.{frame_line}
+use Rattle.hwp_check_rules.specs.Verdicts.{Frames, Histories, IsBroken, Shape}
+use Rattle.hwp_check_state.proofs.FrameRule.{frames-is}
+use Rattle.hwp_check_state.proofs.frames.frames_fault.Goals as goal
+
+pub returns : goal.returns
+returns c =
+    let ends : c.in_ok-cached.cached.items ≡ ends_of c.args.report.now = c.in_ok-cached.ensures ∙ ap (map (cached_after false)) c.as_slice.ensures in
+    let told = frames-is c.args.script.now c.args.report.now c.as_slice-2.result.now
+    (subst (λ (l : List Command). AreDoneOf c.args.script.now c.args.report.now l) (sym c.as_slice-2.ensures.value) c.in_ok-done.ensures)
+    (c.requires.valid.sound.kernel ∙ sym (c.requires.below Shape (omega arith)).frames) (c.requires.below Histories (omega arith)).legal c.first_frame-wrong.result
+    (subst (λ (l : List Bool). MatchOption c.first_frame-wrong.result (AreRight c.args.script.now c.args.report.now c.as_slice-2.result.now l (length c.args.report.now.frames))
+    (λ at. AreRight c.args.script.now c.args.report.now c.as_slice-2.result.now l at × (at < length c.args.report.now.frames) × (is_right_frame c.args.script.now c.args.report.now c.as_slice-2.result.now l at ≡ false)))
+    (c.as_slice-3.ensures.value ∙ ends) c.first_frame-wrong.ensures) in
+    let line : c.soonest.result ≡ soonest c.line_of.result c.unsaid_line-unsaid.result = c.soonest.ensures in
+    let unsaid : c.unsaid_line-unsaid.result ≡ cond (is_unsaid_from 0 (ends_of c.args.report.now) c.args.report.now.frames) (Some (frame_line c.args.report.now (first_free 0 c.args.report.now.frames))) None =
+    c.unsaid_line-unsaid.ensures
+    ∙ ap (λ (l : List Bool). cond (is_unsaid_from 0 l c.args.report.now.frames) (Some (frame_line c.args.report.now (first_free 0 c.args.report.now.frames))) None) (c.as_slice-4.ensures.value ∙ ends) in
+    subst (λ (o : Option ℕ). MatchOption o (FramesFit c.args.script.now c.args.report.now) (IsBroken Frames c.args.script.now c.args.report.now))
+    (sym (line ∙ (λ i. soonest (c.line_of.ensures i) (unsaid i)))) told

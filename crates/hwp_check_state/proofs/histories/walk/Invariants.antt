@@ -1,0 +1,5 @@
+use Rattle.hwp_check_state.proofs.Walking.{Walked}
+use Rattle.hwp_check_state.proofs.histories.walk.Given as goal
+
+abbrev pub invariant-loop-entry : goal.invariant-loop-entry
+invariant-loop-entry l = Walked l.script l.page l.entries l.heading l.entry-index l.state l.lasts l.line

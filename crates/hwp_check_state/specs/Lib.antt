@@ -1,0 +1,5 @@
+pub mod Sights
+pub mod Histories
+pub mod Balances
+pub mod Frames
+pub mod Stopping

@@ -1,0 +1,77 @@
+ghost use Rattle.std.specs.Prelude.{◌≡◌, ℕ, ◌+◌, ◌<◌, ◌^◌, length, sum_by, Some, slice_get, MatchBool, MatchOption, MatchResult};
+ghost use Rattle.hwp_geom.specs.Layout.{IsSound};
+ghost use Rattle.hwp_script.specs.Valid.{IsValid};
+ghost use Rattle.hwp_check_state.specs.Histories.{IsRightEntry, IsWrongAt, IsWrongEntry, PageFits};
+ghost use Rattle.hwp_check_rules.specs.Standing.{entry_height as height_of, last_line};
+ghost use Rattle.hwp_check_rules.specs.Verdicts.{Histories, HoldBelow, Holds, IsBroken};
+
+use hwp_check_rules::{entry_height, first_page_line, is_made_by};
+use hwp_geom::{Page, PageKind};
+use hwp_page::{Entry, PageState};
+use hwp_report::Report;
+use hwp_script::Script;
+
+/// The numbers that a processor can have in an entry.
+const CPU_NUMBERS: usize = 256;
+
+/// Whether the state allows the entry, its command makes it, and it is of no earlier command than number `last`.
+fn is_right(script: &Script, page: Page, state: &PageState, last: u32, entry: &Entry) -> bool
+    requires { IsSound script.now.layout }
+    ensures { MatchBool result (IsRightEntry script.now page state.now last entry.now) (IsWrongEntry script.now page state.now last entry.now) }
+{
+    if !state.allows(&script.layout, page, &entry.what) {
+        return false;
+    }
+    if !is_made_by(script, page, entry) {
+        return false;
+    }
+    last <= entry.who.seq
+}
+
+/// The line behind a page whose heading stands at `heading`, or the line of its first wrong entry.
+fn walk(
+    script: &Script,
+    page: Page,
+    kind: PageKind,
+    entries: &[Entry],
+    heading: u64,
+) -> Result<u64, u64>
+    requires sound { IsSound script.now.layout }
+    requires declared { slice_get script.now.layout.pages page.0 ≡ Some kind }
+    requires room { heading + 1 + sum_by height_of entries.now < 2 ^ 64 }
+    ensures { MatchResult result (λ next. PageFits script.now page entries.now × (next ≡ heading + 1 + sum_by height_of entries.now))
+        (λ line. IsWrongAt script.now page entries.now heading line) }
+{
+    let mut state = PageState::opening(kind);
+    let mut lasts = [0; CPU_NUMBERS];
+    let mut line = heading + 1;
+    for entry in entries {
+        let cpu = usize::from(entry.who.cpu.0);
+        if !is_right(script, page, &state, lasts[cpu], entry) {
+            return Err(line);
+        }
+        state.step(&entry.what);
+        lasts[cpu] = entry.who.seq;
+        line += entry_height(entry);
+    }
+    Ok(line)
+}
+
+/// The line of the first entry that is not allowed, that its command does not make, or whose command's number falls.
+pub fn histories_fault(script: &Script, report: &Report) -> Option<u64>
+    requires valid { IsValid script.now }
+    requires room { last_line report.now < 2 ^ 64 }
+    requires below { HoldBelow 2 script.now report.now }
+    ensures { MatchOption result (Holds Histories script.now report.now) (IsBroken Histories script.now report.now) }
+{
+    let kinds = script.layout.pages.as_slice();
+    let mut line = first_page_line(report);
+    for (number, entries) in report.pages.as_slice().iter().enumerate() {
+        let page = Page(number as u16);
+        match walk(script, page, kinds[number], entries.as_slice(), line) {
+            Ok(next) => line = next,
+            Err(at) => return Some(at),
+        }
+    }
+    None
+}

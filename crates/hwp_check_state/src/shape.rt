@@ -1,0 +1,33 @@
+ghost use Rattle.std.specs.Prelude.{◌<◌, ◌^◌, MatchOption};
+ghost use Rattle.hwp_check_rules.specs.Standing.{last_line};
+ghost use Rattle.hwp_check_rules.specs.Verdicts.{Holds, IsBroken, Shape};
+
+use hwp_check_rules::{cpu_at, file_at, frame_at, page_at};
+use hwp_report::Report;
+use hwp_script::Script;
+
+/// Whether the report has the script's numbers of files, frames, pages and processors; else the first line that doesn't fit.
+#[tactic(auto, using(crate::proofs::Shapes::shape_fits, crate::proofs::Shapes::files_first, crate::proofs::Shapes::frames_first, crate::proofs::Shapes::pages_first, crate::proofs::Shapes::cpus_first))]
+pub fn shape_fault(script: &Script, report: &Report) -> Option<u64>
+    requires room { last_line report.now < 2 ^ 64 }
+    ensures { MatchOption result (Holds Shape script.now report.now) (IsBroken Shape script.now report.now) }
+{
+    let (files, frames) = (
+        usize::from(script.layout.files),
+        usize::from(script.layout.frames),
+    );
+    let (pages, cpus) = (script.layout.pages.len(), usize::from(script.layout.cpus));
+    if report.files.len() != files {
+        return Some(file_at(report, files.min(report.files.len())));
+    }
+    if report.frames.len() != frames {
+        return Some(frame_at(report, frames.min(report.frames.len())));
+    }
+    if report.pages.len() != pages {
+        return Some(page_at(report, pages.min(report.pages.len())));
+    }
+    if report.cpus.len() != cpus {
+        return Some(cpu_at(report, cpus.min(report.cpus.len())));
+    }
+    None
+}
