@@ -72,9 +72,9 @@ module _ (who : Who) (p : Bool) where
   abbrev May : Bool → Bool → List MarkLine → Type 0
   May may late list = ((may ≡ true) × NoneEarlier list) ⊎ ((late ≡ false) × ((last : ℕ) × EndsAt list last))
 
-  may-forth : (may late : Bool) (list : List MarkLine) → may_end who p may late list ≡ true → May may late list
-  may-forth may late [] is = inl (is, λ place mark there earlier. none-some mark there)
-  may-forth may late (m ∷ ms) is = elim (may-forth _ _ ms is) [
+  may-forth : (list : List MarkLine) (may late : Bool) → may_end who p may late list ≡ true → May may late list
+  may-forth [] may late is = inl (is, λ place mark there earlier. none-some mark there)
+  may-forth (m ∷ ms) may late is = elim (may-forth ms _ _ is) [
     | inl now ↦ elim (or_cases (may && not (is_earlier (who_in m) who)) (not (late || is_earlier who (who_in m)) && says p m) now.0) [
       | inl old ↦ let parts = and_parts may (not (is_earlier (who_in m) who)) old in inl (parts.0, none-more m ms (not-true (is_earlier (who_in m) who) parts.1) now.1)
       | inr new ↦
@@ -93,20 +93,26 @@ module _ (who : Who) (p : Bool) where
   now-early : (m : MarkLine) (ms : List MarkLine) (last : ℕ) → EndsAt (m ∷ ms) last → is_earlier who (who_in m) ≡ false
   now-early m ms last at = false_from_ne_true (is_earlier who (who_in m)) (λ is. let less : last < 0 = at.later 0 m refl (earlier-is who (who_in m) is) in omega (arith, less))
 
-  may-back : (may late : Bool) (list : List MarkLine) → May may late list → may_end who p may late list ≡ true
-  may-back may late [] (inl now) = now.0
-  may-back may late [] (inr then) = let within : then.1.0 < 0 = then.1.1.within in absurd (omega (arith, within))
-  may-back may late (m ∷ ms) (inl now) =
-      may-back _ _ ms (inl (or_left (may && not (is_earlier (who_in m) who)) (not (late || is_earlier who (who_in m)) && says p m) (and_from may (not (is_earlier (who_in m) who)) now.0 (not_from_false (is_earlier (who_in m) who) (now-not m ms now.1))), λ place mark there. now.1 (suc place) mark there))
-  may-back may late (m ∷ ms) (inr (early, (zero, at))) =
-      may-back _ _ ms (inl (or_right (may && not (is_earlier (who_in m) who)) (not (late || is_earlier who (who_in m)) && says p m) (and_from (not (late || is_earlier who (who_in m))) (says p m) (not_from_false (late || is_earlier who (who_in m)) (or_from late (is_earlier who (who_in m)) early (now-early m ms 0 at))) (is-says p m at.ended)), λ place mark there earlier. let less : suc place ≤ 0 = at.earlier (suc place) mark there earlier in omega (arith, less)))
-  may-back may late (m ∷ ms) (inr (early, (suc last, at))) =
-      may-back _ _ ms (inr (or_from late (is_earlier who (who_in m)) early (now-early m ms (suc last) at), (last, record {
-        within = let w : suc last < suc (length ms) = at.within in omega (arith, w);
-        earlier = λ place mark there earlier. let less : suc place ≤ suc last = at.earlier (suc place) mark there earlier in omega (arith, less);
-        later = λ place mark there later. let less : suc last < suc place = at.later (suc place) mark there later in omega (arith, less);
-        ended = sym (ends-same m ms last (let w : suc last < suc (length ms) = at.within in omega (arith, w))) ∙ at.ended;
-      })))
+  may-back : (list : List MarkLine) (may late : Bool) → May may late list → may_end who p may late list ≡ true
+  may-back [] may late (inl now) = now.0
+  may-back [] may late (inr then) = let within : then.1.0 < 0 = then.1.1.within in absurd (omega (arith, within))
+  may-back (m ∷ ms) may late (inl now) =
+      may-back ms _ _ (inl (or_left (may && not (is_earlier (who_in m) who)) (not (late || is_earlier who (who_in m)) && says p m) (and_from may (not (is_earlier (who_in m) who)) now.0 (not_from_false (is_earlier (who_in m) who) (now-not m ms now.1))), λ place mark there. now.1 (suc place) mark there))
+  may-back (m ∷ ms) may late (inr (early, (zero, at))) =
+      may-back ms _ _ (inl (or_right (may && not (is_earlier (who_in m) who)) (not (late || is_earlier who (who_in m)) && says p m) (and_from (not (late || is_earlier who (who_in m))) (says p m) (not_from_false (late || is_earlier who (who_in m)) (or_from late (is_earlier who (who_in m)) early (now-early m ms 0 at))) (is-says p m at.ended)), λ place mark there earlier. let less : suc place ≤ 0 = at.earlier (suc place) mark there earlier in omega (arith, less)))
+  may-back (m ∷ ms) may late (inr (early, (suc last, at))) =
+      may-back ms _ _ (inr (
+        or_from late (is_earlier who (who_in m)) early (now-early m ms (suc last) at),
+        (
+          last,
+          record {
+            within = let w : suc last < suc (length ms) = at.within in omega (arith, w);
+            earlier = λ place mark there earlier. let less : suc place ≤ suc last = at.earlier (suc place) mark there earlier in omega (arith, less);
+            later = λ place mark there later. let less : suc last < suc place = at.later (suc place) mark there later in omega (arith, less);
+            ended = sym (ends-same m ms last (let w : suc last < suc (length ms) = at.within in omega (arith, w))) ∙ at.ended;
+          },
+        ),
+      ))
 
   not-so : (b : Bool) → not b ≡ true → false ≡ b
   not-so true is = absurd (true≢false (sym is))
@@ -132,12 +138,18 @@ module _ (who : Who) (p : Bool) where
       at : (count : ℕ) → count ≤ length list → ((place : ℕ) (mark : MarkLine) → slice_get list place ≡ Some mark → IsEarlier (who_in mark) who → place < count)
           → ((place : ℕ) (mark : MarkLine) → slice_get list place ≡ Some mark → IsEarlier who (who_in mark) → count ≤ place) → ends_poisoned (take count list) ≡ p → May (not p) false list
       at zero within earlier later ended = inl (so-not p ended, λ place mark there is. let less : place < 0 = earlier place mark there is in omega (arith, less))
-      at (suc last) within earlier later ended = inr (refl, (last, record {
-        within = omega (arith, within);
-        earlier = λ place mark there is. let less : place < suc last = earlier place mark there is in omega (arith, less);
-        later = λ place mark there is. let less : suc last ≤ place = later place mark there is in omega (arith, less);
-        ended = ended;
-      }))
+      at (suc last) within earlier later ended = inr (
+        refl,
+        (
+          last,
+          record {
+            within = omega (arith, within);
+            earlier = λ place mark there is. let less : place < suc last = earlier place mark there is in omega (arith, less);
+            later = λ place mark there is. let less : suc last ≤ place = later place mark there is in omega (arith, less);
+            ended = ended;
+          },
+        ),
+      )
 
 pub may_end_is : (who : Who) (p : Bool) (list : List MarkLine) → IsTrue (may_end who p (not p) false list) ↔ WasPoisoned list who p
-may_end_is who p list = (λ is. was-forth who p list (may-forth who p (not p) false list is), λ was. may-back who p (not p) false list (was-back who p list was))
+may_end_is who p list = (λ is. was-forth who p list (may-forth who p list (not p) false is), λ was. may-back who p list (not p) false (was-back who p list was))

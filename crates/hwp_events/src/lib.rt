@@ -2,6 +2,9 @@
 //! first that isn't, and whether some lack.
 #![tactic(auto)]
 
+mod acts;
+mod reach;
 mod records;
+mod shown;
 
 pub use records::was_poisoned;

@@ -33,7 +33,11 @@ fn is_poisoning(mark: &MarkLine) -> bool
 fn says(poisoned: bool, mark: &MarkLine) -> bool
     ensures { result ≡ says poisoned mark.now }
 {
-    if poisoned { is_poisoning(mark) } else { !is_poisoning(mark) }
+    if poisoned {
+        is_poisoning(mark)
+    } else {
+        !is_poisoning(mark)
+    }
 }
 
 /// Whether the record may have ended so behind some of the marks while the command ran.
