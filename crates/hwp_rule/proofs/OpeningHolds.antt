@@ -506,5 +506,5 @@ opening-holds layout sound = record {
   slots = homes-length layout;
   rule = rule-opened layout sound (words_of layout (opening_words layout)) (are-opening layout sound);
   held = record { nothing = each-map opening_view (λ (v : View). v.parts ≡ [] → HoldsNothing v) (below layout.cpus) (λ i c e none. record { refs = refl; locks = refl; pages = refl; reserved = refl; hands = refl; owed = refl; bodies = refl }) };
-  unfailed = unfailed-opened layout;
+  unfailed = unfailed-opened layout sound (words_of layout (opening_words layout)) (are-opening layout sound);
 }

@@ -44,13 +44,13 @@ failure page place e = from_bool (is_failure e.what)
 -- a history in which none is has no failure
 weigh-none : (page : Page) (place : ℕ) (es : List Entry) → weigh_from failure page place es ≡ 0 → list_any (λ (e : Entry). is_failure e.what) es ≡ false
 weigh-none page place [] none = refl
-weigh-none page place (e ∷ es) none = which (is_failure e.what) refl
+weigh-none page place (e ∷ es) none = which (is_failure e.what) refl (weigh-none page (suc place) es)
   where
-    which : (b : Bool) → is_failure e.what ≡ b → list_any (λ (e : Entry). is_failure e.what) (e ∷ es) ≡ false
-    which true is = let one : from_bool (is_failure e.what) ≡ 1 = ap from_bool is in absurd (omega (arith, none, one))
-    which false is =
+    which : (b : Bool) → is_failure e.what ≡ b → (weigh_from failure page (suc place) es ≡ 0 → list_any (λ (e : Entry). is_failure e.what) es ≡ false) → list_any (λ (e : Entry). is_failure e.what) (e ∷ es) ≡ false
+    which true is on = let one : from_bool (is_failure e.what) ≡ 1 = ap from_bool is in absurd (omega (arith, none, one))
+    which false is on =
         let rest : weigh_from failure page (suc place) es ≡ 0 = omega (arith, none) in
-        ap (λ (b : Bool). b || list_any (λ (e : Entry). is_failure e.what) es) is ∙ weigh-none page (suc place) es rest
+        ap (λ (b : Bool). b || list_any (λ (e : Entry). is_failure e.what) es) is ∙ on rest
 
 -- 1 for a mark that poisoned the frame in the cycle
 abbrev poisons : ℕ → ℕ → Mark → ℕ
