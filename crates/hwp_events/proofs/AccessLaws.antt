@@ -16,8 +16,8 @@ use Rattle.hwp_law.specs.Events.{AreAccessChecks, IsDamaged}
 use Rattle.hwp_law.specs.Lines.{EventLine}
 use Rattle.hwp_events.specs.Accesses.{Access, IsAccessLine, IsOwnLine, IsRawLine, asked_by_access, asked_first, begins_in_panic}
 use Rattle.hwp_events.specs.Firsts.{AreRight}
-use Rattle.hwp_events.specs.Found.{beside, has_stopper, own_found, resting}
-use Rattle.hwp_events.proofs.FoundLaws.{banks_at, found-is, held_raw, of_access, one-line, stop-is, two-lines}
+use Rattle.hwp_events.specs.Found.{beside, has_stopper, of_access, own_found, resting}
+use Rattle.hwp_events.proofs.FoundLaws.{banks_at, found-is, held_raw, one-line, stop-is, two-lines}
 
 beside-none : (origin : Origin) → beside origin None ≡ None
 beside-none origins.Access = refl

@@ -14,7 +14,7 @@ use Rattle.hwp_report.specs.declared.Report.{Report}
 use Rattle.hwp_law.specs.Checks.{AreLinesOf, Banks, IsLineOf, has_stop, held_from, is_panic, is_stop, log_in, severity_of}
 use Rattle.hwp_law.specs.Commands.{Arrival}
 use Rattle.hwp_law.specs.Lines.{EventLine}
-use Rattle.hwp_events.specs.Found.{beside, has_stopper, may_stop, own_found, resting, stops}
+use Rattle.hwp_events.specs.Found.{beside, has_stopper, may_stop, of_access, own_found, resting, stops}
 
 -- the banks in a machine check of an own event
 abbrev pub banks_at : Origin → Option Event → Frame → ℕ → Banks
@@ -24,11 +24,6 @@ banks_at origin raw frame at = log_in (bank_of origin) (own_event origin frame a
 abbrev pub held_raw : Option Event → List (ℕ × Event)
 held_raw None = []
 held_raw (Some event) = (1, event) ∷ []
-
-abbrev pub of_access : Origin → Bool
-of_access origins.Access = true
-of_access origins.Fetch = true
-of_access _ = false
 
 pub found-is : (origin : Origin) → of_access origin ≡ true → (raw : Option Event) (frame : Frame) (at : ℕ) → held_from 0 (banks_at origin raw frame at) ≡ (bank_of origin, own_found origin raw frame at) ∷ held_raw (beside origin raw)
 found-is origins.Access is None frame at = refl

@@ -3,3 +3,5 @@ mod ActLaws
 mod FoundLaws
 mod AccessLaws
 mod RaiseLaws
+mod LineLaws
+mod OwnLaws

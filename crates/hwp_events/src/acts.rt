@@ -1,6 +1,5 @@
 ghost use Rattle.std.specs.Prelude.{◌≡◌, ◌↔◌, IsTrue};
-ghost use Rattle.hwp_banks.specs.Addresses.{frame_at};
-ghost use Rattle.hwp_law.specs.Checks.{IsAct, IsFailureAct, IsLineOf, IsResult, severity_of};
+ghost use Rattle.hwp_law.specs.Checks.{IsAct, IsFailureAct, IsLineOf, IsResult, is_panic};
 ghost use Rattle.hwp_law.specs.Lines.{is_same_command, marks_of};
 ghost use Rattle.hwp_events.specs.Found.{stops};
 ghost use Rattle.hwp_events.specs.Told.{coming, has_result, tells, tells_mark, told};
@@ -127,6 +126,13 @@ fn is_act(
             is_failure_act(script, report, who, held, frame, acted)
         }
     }
+}
+
+/// Whether what was done about an event was a panic.
+pub(crate) fn is_panic(acted: Acted) -> bool
+    ensures { result ≡ is_panic acted }
+{
+    matches!(acted, Acted::Panic)
 }
 
 /// Whether an event would stop the machine in a machine check that arrives so.

@@ -2,7 +2,9 @@
 //! first that isn't, and whether some lack.
 #![tactic(auto)]
 
+mod accesses;
 mod acts;
+mod lines;
 mod reach;
 mod records;
 mod shown;

@@ -1,4 +1,5 @@
-use hwp_geom::Mode;
+use hwp_banks::Origin;
+use hwp_geom::{Line, Mode};
 use hwp_report::Acted;
 use hwp_severity::McgBits;
 
@@ -20,4 +21,12 @@ pub struct Shown {
 pub struct Arrival {
     pub mcg: McgBits,
     pub mode: Mode,
+}
+
+/// The machine checks of an access: what makes their own event, at which line, and how many there are.
+#[derive(Clone, Copy)]
+pub struct Checks {
+    pub origin: Origin,
+    pub at: Line,
+    pub count: u64,
 }
