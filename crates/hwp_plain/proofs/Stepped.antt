@@ -25,7 +25,7 @@ use Rattle.hwp_rule.specs.Unfailed.{BringsNoFailure}
 use Rattle.hwp_rule.specs.Views.{view_after}
 use Rattle.hwp_rule.specs.Words.{index, size, IsPlace}
 use Rattle.hwp_rule.proofs.Moving.{holds-moved}
-use Rattle.hwp_rule.proofs.Served.{keeps-served}
+use Rattle.hwp_rule.proofs.Served.{keeps}
 use Rattle.hwp_geom.specs.declared.Kind.{Kind}
 use Rattle.hwp_step.specs.declared.Turn.{Turn}
 use Rattle.hwp_step.specs.declared.Turn.TheVariants as turns
@@ -114,7 +114,7 @@ module _ (layout : Layout) (words : List ℕ) (slots : List Slot) (trail : Trail
       unfolding move
       reached turn = record {
         run = (a, kept.reached.run, move);
-        holds = holds-moved layout seat r a b (keeps-served step can.served) can.served kept.reached.holds move
+        holds = holds-moved layout seat r a b (keeps step) can.served kept.reached.holds move
             (brings-content layout step found (logs got) (logs put) view can.sound);
       }
 

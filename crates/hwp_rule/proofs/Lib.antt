@@ -30,6 +30,8 @@ pub mod FrameLockSteps
 pub mod PageLockSteps
 pub mod PageLockLists
 pub mod OwnerSteps
+pub mod Marking
+pub mod PoisonedLocks
 pub mod NameSteps
 pub mod kinds
 pub mod Unfailed

@@ -3,9 +3,8 @@ use Rattle.std.proofs.Common.{◌≡◌, ℕ, zero, suc, ◌+◌, ◌||◌, Bool
 use Rattle.std.proofs.lemmas.List.Sums.{sum_by-cons}
 use Rattle.std.proofs.lemmas.Option.{none-some, same_Some}
 use Rattle.std.specs.Int.{from_bool}
-use Rattle.std.specs.List.{sum_by, list_any}
+use Rattle.std.specs.List.{sum_by}
 use Rattle.std.specs.Ordering.{nat_cmp}
-use Rattle.hwp_geom.specs.declared.FileNo.{FileNo}
 use Rattle.hwp_geom.specs.declared.Frame.{Frame}
 use Rattle.hwp_geom.specs.declared.Layout.{Layout}
 use Rattle.hwp_geom.specs.declared.Page.{Page}
@@ -19,9 +18,9 @@ use Rattle.hwp_rule.specs.declared.view.Sight.{Sight}
 use Rattle.hwp_rule.specs.declared.view.Stamp.{Stamp}
 use Rattle.hwp_rule.specs.Asks.{HasSameWords}
 use Rattle.hwp_rule.specs.Lists.{EachMember, SomeMember}
-use Rattle.hwp_rule.specs.Logs.{state_of, file_of, fitting_word}
+use Rattle.hwp_rule.specs.Logs.{state_of, fitting_word}
 use Rattle.hwp_rule.specs.Steps.{policy_at}
-use Rattle.hwp_rule.specs.Views.{made_from, loss_made, losses_made}
+use Rattle.hwp_rule.specs.Views.{made_from}
 use Rattle.hwp_rule.specs.parts.Entries.{weigh_from, HasMask, HasPolicy, HasSeen, Shows, AreInOrder}
 use Rattle.hwp_rule.specs.parts.Fits.{Fits, FitsWords}
 use Rattle.hwp_rule.specs.Unfailed.{is_failure}

@@ -28,7 +28,7 @@ use Rattle.hwp_rule.specs.parts.Holdings.{IsPast}
 use Rattle.hwp_rule.specs.parts.Stops.{EndingsAndStopsStay}
 use Rattle.hwp_rule.proofs.Carrying.{all_bodies}
 use Rattle.hwp_rule.proofs.Keeps.{Keeps}
-use Rattle.hwp_rule.proofs.Lists.{at_map, at_set, each-changed, each-push, each-set, each-weaken, from_bool-same, same-number, set_here, set-set}
+use Rattle.hwp_rule.proofs.Lists.{at_map, at_set, each-changed, each-push, each-set, from_bool-same, same-number, set_here, set-set}
 use Rattle.hwp_rule.proofs.ShownWords.{explained-process}
 use Rattle.hwp_rule.proofs.Sights.{keeps-shown}
 use Rattle.hwp_rule.proofs.WordsByKind.{word-there}

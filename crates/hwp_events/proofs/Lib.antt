@@ -1,0 +1,5 @@
+mod EndLaws
+mod ActLaws
+mod FoundLaws
+mod AccessLaws
+mod RaiseLaws
