@@ -1,5 +1,5 @@
 -- A loss that is counted keeps the frame rule.
-use Rattle.std.proofs.Common.{◌≡◌, ℕ, ◌+◌, ◌*◌, ◌%◌, ◌^◌, ◌<◌, ◌≤◌, ◌==◌, eqb-true, eq-eqb, ne_eqb, true, cond, List, Some, map, set, length, slice_get, slice_index, inl, inr, refl, sym, ap, ◌∙◌, subst, arith}
+use Rattle.std.proofs.Common.{◌≡◌, ℕ, ◌+◌, ◌*◌, ◌%◌, ◌^◌, ◌<◌, ◌≤◌, ◌==◌, eqb-true, eq-eqb, ne_eqb, true, List, Some, map, set, length, slice_get, slice_index, inl, inr, refl, sym, ap, ◌∙◌, subst, arith}
 use Rattle.std.specs.Int.{from_bool}
 use Rattle.std.specs.List.{sum_by}
 use Rattle.std.specs.declared.snapshot.Snapshot.{Snapshot}
@@ -12,7 +12,6 @@ use Rattle.hwp_page.specs.History.{BodyValue}
 use Rattle.hwp_rule.specs.declared.log.Log.{Log}
 use Rattle.hwp_rule.specs.declared.view.InHand.{InHand}
 use Rattle.hwp_rule.specs.declared.view.Mark.{Mark}
-use Rattle.hwp_rule.specs.declared.view.Reported.{Reported}
 use Rattle.hwp_rule.specs.declared.view.View.{View}
 use Rattle.hwp_rule.specs.Asks.{CanLose, IsTurnOf}
 use Rattle.hwp_rule.specs.Lists.{Homes, EachMember, SomeMember, sum_all, sum_bodies}
@@ -26,6 +25,7 @@ use Rattle.hwp_rule.specs.parts.Losses.{Losing, IsPoisonLoss, LossesBalance}
 use Rattle.hwp_rule.proofs.Counting.{below-term}
 use Rattle.hwp_rule.proofs.Keeps.{Keeps, IsShaped}
 use Rattle.hwp_rule.proofs.Lists.{at_map, at_set, change, each-set, keep, set_here, set-set, sum-map, sum-set}
+use Rattle.hwp_rule.proofs.Marking.{reported_of, owed_of}
 use Rattle.hwp_rule.proofs.OwedLosses.{behind-within}
 use Rattle.hwp_rule.proofs.Without.{each-without, sum-without}
 use Rattle.hwp_rule.proofs.WordsByKind.{word-there}
@@ -34,13 +34,6 @@ use Rattle.hwp_rule.proofs.bounds.MarkBounds.{poisonings-few}
 use Rattle.hwp_rule.specs.declared.step.Step.TheVariants as steps
 use Rattle.hwp_rule.proofs.Kept
 use Rattle.hwp_rule.proofs.ListingHeld
-
--- what the view reported of the file, and what it owes
-abbrev reported_of : FileNo → Losing → ℕ
-reported_of file v = sum_by (λ (r : Reported). cond (r.file.0 == file.0) r.count 0) v.reported
-
-abbrev owed_of : FileNo → Losing → ℕ
-owed_of file v = sum_by (λ (n : FileNo). from_bool (n.0 == file.0)) v.owed
 
 -- the view owes a loss of the file less
 abbrev losing_less : FileNo → View → View
