@@ -1,5 +1,5 @@
 -- Counting below a number: sums of terms, and how often the members of lists fall on each number.
-use Rattle.std.proofs.Common.{◌≡◌, ◌≢◌, ℕ, suc, zero, ◌+◌, ◌*◌, ◌<◌, ◌≤◌, ◌==◌, eq-eqb, ne_eqb, List, [], ◌∷◌, Some, length, slice_get, inl, inr, refl, sym, ap, ◌∙◌, arith}
+use Rattle.std.proofs.Common.{◌≡◌, ◌≢◌, ℕ, suc, zero, ◌+◌, ◌*◌, ◌<◌, ◌≤◌, ◌==◌, ◌&&◌, eq-eqb, ne_eqb, Bool, true, false, List, [], ◌∷◌, Some, length, slice_get, inl, inr, refl, sym, ap, ◌∙◌, arith}
 use Rattle.std.specs.Int.{from_bool}
 use Rattle.std.specs.List.{sum_by}
 use Rattle.std.proofs.lemmas.List.Sums.{sum_by-cons}
@@ -24,6 +24,11 @@ below-zero f (suc n) none =
     let last : f n ≡ 0 = none n (omega arith) in
     let rest : sum_below f n ≡ 0 = below-zero f n (λ i before. none i (omega arith)) in
     omega arith
+
+pub never : (a b : Bool) → from_bool (a && (b && false)) ≡ 0
+never true true = refl
+never true false = refl
+never false b = refl
 
 -- each term is at most the sum, and the sum at most so many times what no term passes
 pub below-term : (f : ℕ → ℕ) (n i : ℕ) → i < n → f i ≤ sum_below f n

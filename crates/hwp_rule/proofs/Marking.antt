@@ -30,11 +30,14 @@ use Rattle.hwp_rule.specs.declared.place.Place.TheVariants as places
 abbrev pub due : ℕ → ℕ → ℕ → ℕ
 due c cycle poison = cond (nat_lt c cycle) 1 (cond (c == cycle) poison 0)
 
+abbrev pub by_hardware : Mark → ℕ
+by_hardware m = from_bool (is_by_hardware m.kind)
+
 -- what the view reported of the file, and what it owes
-abbrev reported_of : FileNo → Losing → ℕ
+abbrev pub reported_of : FileNo → Losing → ℕ
 reported_of file v = sum_by (λ (r : Reported). cond (r.file.0 == file.0) r.count 0) v.reported
 
-abbrev owed_of : FileNo → Losing → ℕ
+abbrev pub owed_of : FileNo → Losing → ℕ
 owed_of file v = sum_by (λ (n : FileNo). from_bool (n.0 == file.0)) v.owed
 
 module _ (layout : Layout) (w : Words) (homes : Homes) (views : List View) (seat : ℕ) (v : View) (mark : Mark) (me : slice_get views seat ≡ Some v) (h : FrameRule layout w homes views) where

@@ -22,4 +22,5 @@ pub mod Stop
 pub mod GiveUp
 pub mod SetPolicy
 pub mod Kill
+pub mod Lose
 pub mod ReportLost

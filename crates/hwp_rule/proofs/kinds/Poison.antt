@@ -28,7 +28,7 @@ use Rattle.hwp_rule.specs.Lists.{Homes, EachMember, EachListed}
 use Rattle.hwp_rule.specs.Rule.{FrameRule, count_debts_of, losing_of}
 use Rattle.hwp_rule.specs.Views.{refs_on, locks_on, sighted, stamp_of, marked, owing_count, poison_listed}
 use Rattle.hwp_rule.specs.Words.{Words, free_bit}
-use Rattle.hwp_rule.specs.parts.Counter.{CounterAgrees, CountDebts, IsCovered, is_by_hardware, is_poisoning, is_revival}
+use Rattle.hwp_rule.specs.parts.Counter.{CounterAgrees, CountDebts, IsCovered, is_poisoning, is_revival}
 use Rattle.hwp_rule.specs.parts.Counts.{CountsBalance, named}
 use Rattle.hwp_rule.specs.parts.Exhaustion.{ExhaustionExplained}
 use Rattle.hwp_rule.specs.parts.Handled.{HandledIsPoisoned, IsOutOfUse}
@@ -37,13 +37,14 @@ use Rattle.hwp_rule.specs.parts.Locks.{FrameLocksHeld, IsLocked}
 use Rattle.hwp_rule.specs.parts.Losses.{LossesBalance}
 use Rattle.hwp_rule.specs.parts.Marks.{MarksAlternate, IsBefore, poisonings, revivals, revivals_by}
 use Rattle.hwp_rule.specs.parts.Places.{HasOnePlace, IsApart, IsBare, IsHanded, in_hand}
+use Rattle.hwp_rule.proofs.Counting.{never}
 use Rattle.hwp_rule.proofs.FittingWords.{or-odd}
 use Rattle.hwp_rule.proofs.FrameFields.{pages-kept}
 use Rattle.hwp_rule.proofs.Keeps.{Keeps}
 use Rattle.hwp_rule.proofs.Kept
 use Rattle.hwp_rule.proofs.Lists.{change, keep, at_map, at_set, at_changed, set_here, set_else, set-set, same-or, same-number, sum-set, each-set, each-push}
 use Rattle.hwp_rule.proofs.Marking
-use Rattle.hwp_rule.proofs.Marking.{due}
+use Rattle.hwp_rule.proofs.Marking.{due, by_hardware}
 use Rattle.hwp_rule.proofs.PoisonedLocks.{keeps-poison-listed}
 use Rattle.hwp_rule.proofs.Sights.{keeps-shown, explained-frame}
 use Rattle.hwp_rule.proofs.WordsByKind.{word-there}
@@ -54,9 +55,6 @@ or-two w odd =
     let high : bit_or w 2 / 2 ^ 1 ≡ w / 2 = or_shr w 2 1 ∙ or-odd (w / 2) odd in
     let low : bit_or w 2 % 2 ^ 1 ≡ w % 2 = or_mod w 2 1 ∙ or_zero_r (w % 2) in
     omega arith
-
-abbrev by_hardware : Mark → ℕ
-by_hardware m = from_bool (is_by_hardware m.kind)
 
 abbrev by_poison : Mark → ℕ
 by_poison m = from_bool (is_poisoning m.kind)
@@ -173,11 +171,6 @@ module _ (layout : Layout) (w : Words) (homes : Homes) (views : List View) (seat
 
   more : (f : Mark → ℕ) → sum_by (sum_by f) (set marks seat u.marks) ≡ sum_by (sum_by f) marks + f mark
   more f = Marking.marked-more layout w homes views seat v mark me h f
-
-  never : (a b : Bool) → from_bool (a && (b && false)) ≡ 0
-  never true true = refl
-  never true false = refl
-  never false b = refl
 
   -- in the frame's own cycle there is a poisoning now
   once : (c n p q : ℕ) → p ≡ 0 → q ≡ 1 → due c n p + from_bool ((n == c) && true) ≡ due c n q

@@ -29,7 +29,7 @@ use Rattle.hwp_rule.specs.Rule.{FrameRule, holdings_of, count_debts_of, losing_o
 use Rattle.hwp_rule.specs.Steps.{revived}
 use Rattle.hwp_rule.specs.Views.{sighted, revived_by, stamp_of, unpoisoned, refs_on}
 use Rattle.hwp_rule.specs.Words.{Words}
-use Rattle.hwp_rule.specs.parts.Counter.{CounterAgrees, CountDebts, IsCovered, is_by_hardware, is_poisoning, is_revival}
+use Rattle.hwp_rule.specs.parts.Counter.{CounterAgrees, CountDebts, IsCovered, is_poisoning, is_revival}
 use Rattle.hwp_rule.specs.parts.Counts.{CountsBalance, named}
 use Rattle.hwp_rule.specs.parts.Exhaustion.{ExhaustionExplained, usable}
 use Rattle.hwp_rule.specs.parts.Handled.{HandledIsPoisoned, IsOutOfUse}
@@ -38,20 +38,16 @@ use Rattle.hwp_rule.specs.parts.Locks.{FrameLocksHeld}
 use Rattle.hwp_rule.specs.parts.Losses.{LossesBalance}
 use Rattle.hwp_rule.specs.parts.Marks.{MarksAlternate, IsBefore, poisonings, revivals, revivals_by}
 use Rattle.hwp_rule.specs.parts.Places.{HasOnePlace, IsHanded, in_hand}
-use Rattle.hwp_rule.proofs.bounds.CycleBounds.{cycles-few}
+use Rattle.hwp_rule.proofs.Counting.{never}
+use Rattle.hwp_rule.proofs.bounds.CycleBounds.{is_clearing, cycles-few}
 use Rattle.hwp_rule.proofs.FrameFields.{pages-kept, unlocked-kept, placed-kept}
 use Rattle.hwp_rule.proofs.Keeps.{Keeps}
 use Rattle.hwp_rule.proofs.Kept
 use Rattle.hwp_rule.proofs.Lists.{change, keep, at_map, at_set, at_changed, set_here, set_else, set_again, same-or, same-number, sum-set, term-le, each-set, each-push}
 use Rattle.hwp_rule.proofs.Marking
+use Rattle.hwp_rule.proofs.Marking.{by_hardware}
 use Rattle.hwp_rule.proofs.Sights.{keeps-shown, explained-frame}
 use Rattle.hwp_rule.proofs.WordsByKind.{word-there}
-
-abbrev by_hardware : Mark → ℕ
-by_hardware m = from_bool (is_by_hardware m.kind)
-
-abbrev is_clearing : Mark → ℕ
-is_clearing m = from_bool (is_revival m.kind)
 
 -- a handled frame that nobody refers to comes into the hand, in its next cycle
 module _ (layout : Layout) (w : Words) (homes : Homes) (views : List View) (seat : ℕ) (v : View) (who : Who) (frame : Frame) (word now : ℕ)
@@ -156,11 +152,6 @@ module _ (layout : Layout) (w : Words) (homes : Homes) (views : List View) (seat
 
   marked-more : (f : Mark → ℕ) → sum_all f (set marks seat u.marks) ≡ sum_all f marks + f mark
   marked-more f = Marking.marked-more layout w homes views seat v mark me h f
-
-  never : (a b : Bool) → from_bool (a && (b && false)) ≡ 0
-  never true true = refl
-  never true false = refl
-  never false b = refl
 
   poisonings-same : (g c : ℕ) → poisonings g c (set marks seat u.marks) ≡ poisonings g c marks
   poisonings-same g c =

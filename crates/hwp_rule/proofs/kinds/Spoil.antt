@@ -22,6 +22,7 @@ use Rattle.hwp_rule.specs.Steps.{damage_place}
 use Rattle.hwp_rule.specs.Views.{stamp_of}
 use Rattle.hwp_rule.specs.Words.{IsPlace, read, put}
 use Rattle.hwp_rule.specs.parts.Damage.{DamageListed, HasSpoiled, BitsStay, is_spoil}
+use Rattle.hwp_rule.proofs.Counting.{never}
 use Rattle.hwp_rule.proofs.Keeps.{Keeps}
 use Rattle.hwp_rule.proofs.Kept
 use Rattle.hwp_rule.proofs.Lists.{change, keep, at_map, at_changed, same-or, same-number, sum-set}
@@ -103,11 +104,6 @@ module _ (spoiled : List (List Spoiled)) (seat : ℕ) (mine : List Spoiled) (new
   spoiled-same bad word f none was line less =
       let same : listed f line bad spoiled ≡ listed f line bad (set spoiled seat (mine ++ new ∷ [])) = omega (arith, spoiled-more f line bad, none line) in
       was line less ∙ ap (λ (n : ℕ). min n 1) same
-
-never : (a b : Bool) → from_bool (a && (b && false)) ≡ 0
-never true true = refl
-never true false = refl
-never false b = refl
 
 pub keeps-spoil : (frame : Frame) (line : ℕ) (damage : Damage) → Keeps (steps.Spoil frame line damage)
 keeps-spoil frame line damage layout w homes views seat v who content given = which damage given.place
