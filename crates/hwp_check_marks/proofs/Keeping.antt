@@ -24,19 +24,8 @@ use Rattle.hwp_check_marks.specs.MarkScans.{AreRightMarks, FindsRight, FrameFits
 use Rattle.hwp_check_rules.specs.Rules.{ShapeFits}
 use Rattle.hwp_check_rules.specs.Standing.{frame_height, frame_line, last_line}
 use Rattle.hwp_check_rules.specs.Verdicts.{HoldBelow, Shape}
-use Rattle.hwp_check_marks.proofs.Results.{act-at, acts-many, agree, and-both, and-left, and-right, none-beyond, own, results-are, results-many, same-self, some-beyond}
-
--- the record of a frame that the report shows
-pub marks-are : (report : Report) (frame : ℕ) (line : FrameLine) → slice_get report.frames frame ≡ Some line → marks_of report frame ≡ line.marks
-marks-are report frame line there = ap (λ (o : Option FrameLine). unwrap_or (option_map (λ (l : FrameLine). l.marks) o) []) there
-
--- a mark that is there is in the record of a frame that the report shows
-pub shown-in : (report : Report) (frame place : ℕ) (mark : MarkLine) → slice_get (marks_of report frame) place ≡ Some mark → (line : FrameLine) × (slice_get report.frames frame ≡ Some line)
-shown-in report frame place mark there = by (slice_get report.frames frame) refl there
-  where
-    by : (o : Option FrameLine) → slice_get report.frames frame ≡ o → slice_get (unwrap_or (option_map (λ (l : FrameLine). l.marks) o) []) place ≡ Some mark → (line : FrameLine) × (slice_get report.frames frame ≡ Some line)
-    by None is in_none = absurd (none-some mark in_none)
-    by (Some line) is in_line = (line, is)
+use Rattle.hwp_check_marks.proofs.Results.{act-at, acts-many, agree, none-beyond, own, results-are, results-many, some-beyond}
+use Rattle.hwp_check_marks.proofs.Shown.{and-both, and-left, and-right, frame-next, frame-rises, marks-are, same-self, same-who, shown-in}
 
 finds-from : (kernel : Bool) (mark : MarkLine) → FindsRight kernel mark → (how : How) → how_in mark ≡ Some how → IsFound kernel how
 finds-from kernel (marks.Poisoned cycle who h) found how is = subst (λ (x : How). IsFound kernel x) (same_Some _ _ is) found
@@ -94,15 +83,6 @@ few-says report list frame none who = by (slice_get report.cpus who.cpu.0) refl
     by : (o : Option (List CpuLine)) → slice_get report.cpus who.cpu.0 ≡ o → length (results_in who.seq frame (unwrap_or o [])) ≤ length (hardware_marks who list)
     by None is = omega arith
     by (Some rows) is = none-beyond list rows frame who.cpu.0 who.seq (none who.cpu.0 rows (slice_get_within report.cpus who.cpu.0 rows is) is)
-
-abbrev who-at : ℕ → ℕ → Who
-who-at cpu seq = record { cpu = record { 0 = cpu }; seq = seq }
-
-pub same-who : (one other : Who) → is_same_command one other ≡ true → other ≡ one
-same-who one other is =
-    let cpu_is : one.cpu.0 ≡ other.cpu.0 = eqb-true one.cpu.0 other.cpu.0 (and-left _ _ is) in
-    let seq_is : one.seq ≡ other.seq = eqb-true one.seq other.seq (and-right _ _ is) in
-    sym (ap (λ (k : ℕ). who-at k one.seq) cpu_is ∙ ap (λ (k : ℕ). who-at other.cpu.0 k) seq_is)
 
 whose : (who : Who) (m : MarkLine) → own who m ≡ true → who_in m ≡ who
 whose who m mine = same-who who (who_in m) (and-left _ _ mine)
@@ -172,20 +152,6 @@ wrong-of script report kernel frame place mark wrong = elim wrong [
   | inr (inr (inl not)) ↦ inr (inr (inl not))
   | inr (inr (inr not)) ↦ inr (inr (inr (no-event report frame place mark not)))
 ]
-
--- lines further down are higher
-pub frame-next : (report : Report) (n : ℕ) (line : FrameLine) → slice_get report.frames n ≡ Some line → frame_line report (n + 1) ≡ frame_line report n + 1 + length line.marks
-frame-next report n line there =
-    let more : sum_by frame_height (take (n + 1) report.frames) ≡ sum_by frame_height (take n report.frames) + frame_height line =
-    sum_by_more frame_height report.frames n line (slice_get_within report.frames n line there)
-    ∙ ap (λ (l : FrameLine). sum_by frame_height (take n report.frames) + frame_height l) (get_or_from_slice_get report.frames n line line there) in
-    omega (arith, more)
-
-pub frame-rises : (report : Report) (a b : ℕ) → a ≤ b → frame_line report a ≤ frame_line report b
-frame-rises report a b low =
-    let rises : sum_by frame_height (take a report.frames) ≤ sum_by frame_height (take b report.frames) =
-    subst (λ t. sum_by frame_height t ≤ sum_by frame_height (take b report.frames)) (take-take a b report.frames low) (sum_by-take-le frame_height (take b report.frames) a) in
-    omega (arith, rises)
 
 -- a faulty frame's line is above the next frame's heading
 line-within : (script : Script) (report : Report) (kernel : Bool) (n heading line : ℕ) (shown : FrameLine) → heading ≡ frame_line report n → slice_get report.frames n ≡ Some shown

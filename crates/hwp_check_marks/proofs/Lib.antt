@@ -1,3 +1,6 @@
+mod Shown
 mod Results
 mod Keeping
+mod Tallying
 mod Unpairing
+mod Counting

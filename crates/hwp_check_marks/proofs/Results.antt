@@ -22,6 +22,7 @@ use Rattle.hwp_report.specs.declared.Report.{Report}
 use Rattle.hwp_law.specs.Lines.{EventLine, events_among, is_same_command, rows_of}
 use Rattle.hwp_law.specs.Records.{hardware_act, hardware_marks, is_by_hardware, line_results, mark_results, outcome_act, result_lines, result_of, who_in}
 use Rattle.hwp_check_marks.specs.MarkScans.{HasEvent, IsNextResult, is_beyond, result_in, results_in, row_beyond, rows_beyond}
+use Rattle.hwp_check_marks.proofs.Shown.{and-both, and-left, and-right, same-self}
 
 -- a list from a place on begins with the item there
 drop-suc : {X : Type 0} (xs : List X) (i : ℕ) (d : X) → i < length xs → drop i xs ≡ get_or xs i d ∷ drop (suc i) xs
@@ -136,21 +137,6 @@ results-many report who frame = (both-say who.seq frame (rows_of report who)).1
 -- the marks of a command that its events caused
 abbrev pub own : Who → MarkLine → Bool
 own who m = is_same_command who (who_in m) && is_by_hardware m
-
-pub and-left : (a b : Bool) → (a && b) ≡ true → a ≡ true
-and-left true b is = refl
-and-left false b is = absurd (true≢false (sym is))
-
-pub and-right : (a b : Bool) → (a && b) ≡ true → b ≡ true
-and-right true b is = is
-and-right false b is = absurd (true≢false (sym is))
-
-pub and-both : (a b : Bool) → a ≡ true → b ≡ true → (a && b) ≡ true
-and-both true b one other = other
-and-both false b one other = absurd (true≢false (sym one))
-
-pub same-self : (who : Who) → is_same_command who who ≡ true
-same-self who = and-both _ _ (eq-eqb who.cpu.0 who.cpu.0 refl) (eq-eqb who.seq who.seq refl)
 
 filter-in : {X : Type 0} (p : X → Bool) (x : X) (xs : List X) → p x ≡ true → filter p (x ∷ xs) ≡ x ∷ filter p xs
 filter-in p x xs is = ap (λ (b : Bool). cond b (x ∷ filter p xs) (filter p xs)) is

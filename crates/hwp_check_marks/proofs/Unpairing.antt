@@ -19,14 +19,13 @@ use Rattle.hwp_report.specs.declared.Report.{Report}
 use Rattle.hwp_law.specs.Lines.{is_same_command, marks_of}
 use Rattle.hwp_law.specs.Pairings.{entries_of, finds, has_page, is_commands, is_failure, is_failure_mark, is_move, is_move_mark, is_soft, marks_in, situation_number}
 use Rattle.hwp_law.specs.Records.{how_in, is_by_hardware, who_in}
-use Rattle.hwp_check_marks.specs.declared.unpaired.Kind.{Kind}
-use Rattle.hwp_check_marks.specs.declared.unpaired.Kind.TheVariants as kinds
+use Rattle.hwp_check_marks.specs.declared.kinds.Kind.{Kind}
+use Rattle.hwp_check_marks.specs.declared.kinds.Kind.TheVariants as kinds
 use Rattle.hwp_check_rules.specs.MarkFaults.{IsMovedOnly, IsSecond, IsUnpaired, marks_before}
 use Rattle.hwp_check_marks.specs.MarkScans.{IsClear, IsFirstFault}
 use Rattle.hwp_check_rules.specs.Standing.{entry_height, frame_height, frame_line, last_line, what_height}
 use Rattle.hwp_check_marks.specs.Unpaired.{AllFew, AreFew, IsExtra, IsFirstExtra, IsTooMany, NoneExtra, allowed, before_in, exceeds, in_frames, is_extra, is_kind}
-use Rattle.hwp_check_marks.proofs.Keeping.{frame-next, frame-rises, marks-are, same-who, shown-in}
-use Rattle.hwp_check_marks.proofs.Results.{and-both, and-left, and-right, same-self}
+use Rattle.hwp_check_marks.proofs.Shown.{and-both, and-left, and-right, frame-next, frame-rises, marks-are, same-self, same-who, shown-in}
 
 abbrev flag : Bool → ℕ
 flag b = cond b 1 0
@@ -130,6 +129,7 @@ situation-of n =
     cond (n == 0) situations.Free (cond (n == 1) situations.Kernel (cond (n == 2) situations.FileClean (cond (n == 3) situations.FileDirty (cond (n == 4) situations.AnonOnly (cond (n == 5) situations.SwapClean situations.SwapDirty)))))
 
 situation-back : (s : Situation) → situation-of (situation_number s) ≡ s
+unfolding situation-of
 situation-back situations.Free = refl
 situation-back situations.Kernel = refl
 situation-back situations.FileClean = refl
@@ -154,15 +154,21 @@ or-right true b is = absurd (true≢false is)
 or-right false b is = is
 
 module _ (report : Report) (frame : Frame) (place : ℕ) where
+  abbrev above : List FrameLine
+  above = take frame.0 report.frames
+
+  abbrev before : List MarkLine
+  before = take place (marks_of report frame.0)
+
   too-many : (mark : MarkLine) → is_extra report (take frame.0 report.frames) (take place (marks_of report frame.0)) mark ≡ true → IsTooMany report frame place mark
-  too-many (marks.Poisoned cycle who (hows.Failure hardware situation outcome)) is = elim (or-cases _ _ is) [
+  too-many (marks.Poisoned cycle who (hows.Failure hardware situation outcome)) is = elim (or-cases (has_page situation && exceeds report who (kinds.Failure situation) above before) (not hardware && exceeds report who kinds.Commanded above before) is) [
     | inl fails ↦ inl (record {
       situation = situation;
-      of_page = and-left _ _ fails;
+      of_page = and-left (has_page situation) (exceeds report who (kinds.Failure situation) above before) fails;
       finds_it = and-both _ _ (same-self who) (eq-eqb (situation_number situation) (situation_number situation) refl);
-      beyond = leb-true _ _ (and-right _ _ fails);
+      beyond = leb-true _ _ (and-right (has_page situation) (exceeds report who (kinds.Failure situation) above before) fails);
     })
-    | inr alone ↦ inr (inr (record { commanded = and-both _ _ (same-self who) (and-left _ _ alone); beyond = leb-true _ _ (and-right _ _ alone) }))
+    | inr alone ↦ inr (inr (record { commanded = and-both _ _ (same-self who) (and-left (not hardware) (exceeds report who kinds.Commanded above before) alone); beyond = leb-true _ _ (and-right (not hardware) (exceeds report who kinds.Commanded above before) alone) }))
   ]
   too-many (marks.Poisoned cycle who hows.Moved) is = elim (or-cases _ _ is) [
     | inl moved ↦ inr (inl (record { moved = and-both _ _ (same-self who) refl; beyond = leb-true _ _ moved }))
@@ -392,19 +398,3 @@ extra-next report above list n mark none there not_here place m low found = elim
       let mark_is : mark ≡ m = same_Some _ _ (sym there ∙ sym (ap (slice_get list) same) ∙ found) in
       subst (λ (k : ℕ). is_extra report above (take k list) m ≡ false) (sym same) (subst (λ (x : MarkLine). is_extra report above (take n list) x ≡ false) mark_is not_here)
 ]
-
--- entries have a line each, or more
-entry-one : (e : Entry) → 1 ≤ entry_height e
-entry-one e = at e.what
-  where
-    at : (w : What) → 1 ≤ what_height w
-    at (entries.Fail situation required seen signals) = omega arith
-    at _ = omega arith
-
-pub entries-low : (list : List Entry) → length list ≤ sum_by entry_height list
-entries-low [] = omega arith
-entries-low (e ∷ es) =
-    let all : sum_by entry_height (e ∷ es) ≡ entry_height e + sum_by entry_height es = sum_by-cons entry_height e es in
-    let one : 1 ≤ entry_height e = entry-one e in
-    let rest : length es ≤ sum_by entry_height es = entries-low es in
-    omega (arith, all, one, rest)

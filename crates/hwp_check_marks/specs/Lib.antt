@@ -1,2 +1,4 @@
 pub mod MarkScans
 pub mod Unpaired
+pub mod Counts
+pub mod Tallies

@@ -13,8 +13,8 @@ use Rattle.hwp_report.specs.declared.MarkLine.TheVariants as marks
 use Rattle.hwp_report.specs.declared.Report.{Report}
 use Rattle.hwp_law.specs.Lines.{is_same_command, marks_of}
 use Rattle.hwp_law.specs.Pairings.{entries_of, has_page, is_commands, is_failure, is_failure_mark, is_move_mark, is_soft, marks_in}
-use Rattle.hwp_check_marks.specs.declared.unpaired.Kind.{Kind}
-use Rattle.hwp_check_marks.specs.declared.unpaired.Kind.TheVariants as kinds
+use Rattle.hwp_check_marks.specs.declared.kinds.Kind.{Kind}
+use Rattle.hwp_check_marks.specs.declared.kinds.Kind.TheVariants as kinds
 use Rattle.hwp_check_rules.specs.MarkFaults.{IsMovedOnly, IsSecond, IsUnpaired}
 use Rattle.hwp_check_rules.specs.Standing.{mark_line}
 

@@ -1,6 +1,10 @@
 //! The rule of marks: the records of poisoning of each frame, and the failures, events and answers that they are of.
 #![tactic(auto)]
 
+mod counts;
 mod kept;
+mod keys;
+mod kinds;
 mod records;
+mod tallies;
 mod unpaired;

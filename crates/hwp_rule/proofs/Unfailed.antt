@@ -1,5 +1,5 @@
 -- Until memory failure is served: nothing is poisoned on a board, and a served step that brings no failure leaves it so.
-use Rattle.std.proofs.Common.{◌≡◌, ℕ, suc, ◌+◌, ◌<◌, ◌≤◌, ◌==◌, ◌&&◌, ◌||◌, nat_lt, le-ltb, Bool, true, false, cond, List, [], ◌∷◌, ◌++◌, Option, Some, None, map, length, slice_get, refl, sym, ap, ◌∙◌, subst, arith}
+use Rattle.std.proofs.Common.{◌≡◌, ℕ, suc, ◌+◌, ◌≤◌, ◌==◌, ◌&&◌, ◌||◌, nat_lt, le-ltb, Bool, true, false, cond, List, [], ◌∷◌, ◌++◌, Option, Some, None, map, length, refl, sym, ap, ◌∙◌, subst, arith}
 use Rattle.std.proofs.lemmas.Option.{none-some, same_Some}
 use Rattle.std.specs.List.{find, list_any, sum_by}
 use Rattle.std.specs.Int.{from_bool}
@@ -22,7 +22,7 @@ use Rattle.hwp_rule.specs.declared.view.Mark.{Mark}
 use Rattle.hwp_rule.specs.declared.view.Sight.{Sight}
 use Rattle.hwp_rule.specs.declared.view.Spoiled.{Spoiled}
 use Rattle.hwp_rule.specs.declared.view.View.{View}
-use Rattle.hwp_rule.specs.Lists.{EachMember, of_home, sum_all, sum_bodies}
+use Rattle.hwp_rule.specs.Lists.{EachMember, of_home, sum_all}
 use Rattle.hwp_rule.specs.Rule.{Holds}
 use Rattle.hwp_rule.specs.Served.{IsServed}
 use Rattle.hwp_rule.specs.Steps.{goes}
@@ -44,13 +44,13 @@ failure page place e = from_bool (is_failure e.what)
 -- a history in which none is has no failure
 weigh-none : (page : Page) (place : ℕ) (es : List Entry) → weigh_from failure page place es ≡ 0 → list_any (λ (e : Entry). is_failure e.what) es ≡ false
 weigh-none page place [] none = refl
-weigh-none page place (e ∷ es) none = which (is_failure e.what) refl
+weigh-none page place (e ∷ es) none = which (is_failure e.what) refl (weigh-none page (suc place) es)
   where
-    which : (b : Bool) → is_failure e.what ≡ b → list_any (λ (e : Entry). is_failure e.what) (e ∷ es) ≡ false
-    which true is = let one : from_bool (is_failure e.what) ≡ 1 = ap from_bool is in absurd (omega (arith, none, one))
-    which false is =
+    which : (b : Bool) → is_failure e.what ≡ b → (weigh_from failure page (suc place) es ≡ 0 → list_any (λ (e : Entry). is_failure e.what) es ≡ false) → list_any (λ (e : Entry). is_failure e.what) (e ∷ es) ≡ false
+    which true is on = let one : from_bool (is_failure e.what) ≡ 1 = ap from_bool is in absurd (omega (arith, none, one))
+    which false is on =
         let rest : weigh_from failure page (suc place) es ≡ 0 = omega (arith, none) in
-        ap (λ (b : Bool). b || list_any (λ (e : Entry). is_failure e.what) es) is ∙ weigh-none page (suc place) es rest
+        ap (λ (b : Bool). b || list_any (λ (e : Entry). is_failure e.what) es) is ∙ on rest
 
 -- 1 for a mark that poisoned the frame in the cycle
 abbrev poisons : ℕ → ℕ → Mark → ℕ

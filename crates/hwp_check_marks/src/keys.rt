@@ -1,0 +1,48 @@
+ghost use Rattle.std.specs.Prelude.{◌≡◌};
+ghost use Rattle.hwp_law.specs.Pairings.{has_page, situation_number};
+ghost use Rattle.hwp_check_marks.specs.Tallies.{key_of, kind_number};
+
+use crate::counts::Key;
+use crate::kinds::Kind;
+use hwp_geom::Who;
+use hwp_page::Situation;
+
+/// The number of a situation.
+fn situation_number(situation: Situation) -> u8
+    ensures { result ≡ situation_number situation }
+{
+    match situation {
+        Situation::Free => 0,
+        Situation::Kernel => 1,
+        Situation::FileClean => 2,
+        Situation::FileDirty => 3,
+        Situation::AnonOnly => 4,
+        Situation::SwapClean => 5,
+        Situation::SwapDirty => 6,
+    }
+}
+
+/// Whether a page is in the frame.
+pub(crate) fn has_page(situation: Situation) -> bool
+    ensures { result ≡ has_page situation }
+{
+    !matches!(situation, Situation::Free | Situation::Kernel)
+}
+
+/// The number of a kind.
+fn kind_number(kind: Kind) -> u8
+    ensures { result ≡ kind_number kind }
+{
+    match kind {
+        Kind::Failure(situation) => situation_number(situation),
+        Kind::Moved => 7,
+        Kind::Commanded => 8,
+    }
+}
+
+/// What counts a command's marks of the kind.
+pub(crate) fn key_of(who: Who, kind: Kind) -> Key
+    ensures { result ≡ key_of who kind }
+{
+    ((who.cpu.0, who.seq), kind_number(kind))
+}

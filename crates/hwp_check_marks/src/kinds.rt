@@ -1,0 +1,9 @@
+use hwp_page::Situation;
+
+/// What of a command's marks is counted: its failures in a situation, its moves, and those that no event caused.
+#[derive(Clone, Copy)]
+pub(crate) enum Kind {
+    Failure(Situation),
+    Moved,
+    Commanded,
+}

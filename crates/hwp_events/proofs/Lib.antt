@@ -1,0 +1,7 @@
+mod EndLaws
+mod ActLaws
+mod FoundLaws
+mod AccessLaws
+mod RaiseLaws
+mod LineLaws
+mod OwnLaws
