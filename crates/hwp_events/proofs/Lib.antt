@@ -5,3 +5,4 @@ mod AccessLaws
 mod RaiseLaws
 mod LineLaws
 mod OwnLaws
+mod Scanning
