@@ -273,6 +273,7 @@ pub ranked : IsRanked the-member
 ranked = rank-of the-member (λ s. refl) (λ s. (omega arith, omega arith)) (λ layout a seat s rule fits. let few : cost s ≤ 4 = small s in omega arith)
     (λ layout seat a b s t turn made goes. subst (λ (x : Prctl). cost x < cost s) (sym made.follows.0) (falls s made.step made.found made.planned))
     (λ layout seat a b s t turn made is quiet. absurd (both_ways true (sym is ∙ ap is_waits made.follows.1) refl))
+    (λ s. refl) (λ layout view s step fits is. (can layout view s step fits is).served)
 
 pub tells : TellsClass the-member
 tells = record {

@@ -247,3 +247,4 @@ pub clear-ranked : IsRanked clear-member
 clear-ranked = rank-of clear-member (λ s. refl) (λ s. (omega arith, omega arith)) (λ layout a seat s rule fits. let few : _ = clear-small (words_at layout a) s in omega (arith, few))
     (λ layout seat a b s t turn made goes. clears-fall s t (words_at layout a) (words_at layout b) made.planned made.follows.0 (both layout (view_of a seat) _ s made.step made.found made.got made.fits made.planned (steps-on made)).0)
     (λ layout seat a b s t turn made is quiet. absurd (both_ways true (sym is ∙ ap is_waits made.follows.1) refl))
+    (λ s. refl) (λ layout view s step fits is. (can layout view s step fits is).served)

@@ -55,6 +55,7 @@ use Rattle.hwp_evict.specs.Evicts.{AfterBad, AfterHeld, AfterHold, AfterHoldAt, 
 use Rattle.hwp_evict.specs.Clears as clears
 use Rattle.hwp_evict.specs.Vacates as vacates
 use Rattle.hwp_evict.proofs.Clearing.{clear-small, clears-fall}
+use Rattle.hwp_evict.proofs.Evicting as evicting
 use Rattle.hwp_evict.proofs.Evicting.{both}
 use Rattle.hwp_evict.proofs.VacateCosts.{vacate-falls, vacate-small, vacate-class, vacate-tells}
 
@@ -266,6 +267,7 @@ module _ {layout : Layout} {seat : ℕ} {a b : State} {s t : Evict} {turn : Turn
 pub evict-ranked : IsRanked evict-member
 evict-ranked = rank-of evict-member (λ s. refl) evict-class (λ layout a seat s rule fits. let few : _ = evict-below (words_at layout a) s in omega (arith, few))
     (λ layout seat a b s t turn made goes. cost-falls made goes) (λ layout seat a b s t turn made is quiet. waits-falls made is quiet)
+    (λ s. refl) (λ layout view s step fits is. (evicting.can layout view s step fits is).served)
 
 -- ---- the class
 

@@ -110,6 +110,7 @@ pub fsync-ranked : IsRanked fsync-member
 fsync-ranked = rank-of fsync-member (λ s. refl) (λ s. (omega arith, omega arith)) (λ layout a seat s rule fits. let few : cost s (words_at layout a) ≤ 5 = fsync-below s (words_at layout a) in omega (arith, few))
     (λ layout seat a b s t turn made goes. subst (λ (x : Fsync). cost x (words_at layout b) < cost s (words_at layout a)) (sym made.follows.0) (falls s made.step made.found (words_at layout a) (words_at layout b) made.planned))
     (λ layout seat a b s t turn made is quiet. absurd (both_ways true (sym is ∙ ap is_waits made.follows.1 ∙ goes-on s made.found) refl))
+    (λ s. refl) (λ layout view s step fits is. (can layout view s step fits is).served)
 
 -- ---- the class
 

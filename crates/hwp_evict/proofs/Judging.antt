@@ -21,6 +21,7 @@ use Rattle.hwp_page.specs.History.{BodyValue, IsReplay, Leads}
 use Rattle.hwp_page.specs.Refusals.{IsUnsaved}
 use Rattle.hwp_page.specs.Step.{Allowed, after, opening_of, is_file}
 use Rattle.hwp_rule.specs.Logs.{log_of, state_of}
+use Rattle.hwp_rule.proofs.OwedLosses.{after-kind}
 use Rattle.hwp_hold.specs.Holds.{IsBodyOf}
 use Rattle.hwp_hold.proofs.Bringing.{replay-state, replay-unused}
 use Rattle.hwp_evict.specs.declared.evict.Eviction.{Eviction}
@@ -31,29 +32,6 @@ use Rattle.hwp_evict.specs.Evictions.{entry_of, copies, absence, IsOfKind, Passe
 use Rattle.hwp_evict.specs.Evicts.{CanMakeEntry}
 
 -- ---- what entries leave
-
-acted-kind : (s : PageState) (situation : Situation) → (acted s situation).kind ≡ s.kind
-acted-kind s situations.Free = refl
-acted-kind s situations.Kernel = refl
-acted-kind s situations.FileClean = refl
-acted-kind s situations.FileDirty = refl
-acted-kind s situations.AnonOnly = refl
-acted-kind s situations.SwapClean = refl
-acted-kind s situations.SwapDirty = refl
-
-after-kind : (s : PageState) (what : What) → (after s what).kind ≡ s.kind
-after-kind s (entries.Load slot line met) = refl
-after-kind s (entries.Store slot line (Word mask word)) = refl
-after-kind s (entries.Store slot line (Sigbus thread)) = refl
-after-kind s entries.FaultIn = refl
-after-kind s (entries.Map slot) = refl
-after-kind s (entries.Free slot) = refl
-after-kind s entries.Drop = refl
-after-kind s entries.Sync = refl
-after-kind s entries.Out = refl
-after-kind s (entries.Mce slot line mask) = refl
-after-kind s (entries.Fail situation required seen signals) = acted-kind s situation
-after-kind s entries.Soft = refl
 
 led-kind : (layout : Layout) (page : Page) (s t : PageState) (list : List Entry) → Leads layout page s list t → t.kind ≡ s.kind
 led-kind layout page s t [] leads = ap (λ (x : PageState). x.kind) (sym leads)

@@ -17,6 +17,7 @@ use Rattle.hwp_hold.specs.declared.release.ReleaseAt.TheVariants as release_at
 use Rattle.hwp_hold.specs.Releases as releases
 use Rattle.hwp_hold.proofs.Ranking.{release-falls, release-small}
 use Rattle.hwp_hold.proofs.Telling.{Tells, frame-tells, page-tells}
+use Rattle.hwp_evict.proofs.Vacating as vacating
 use Rattle.hwp_evict.specs.declared.vacate.Vacate.{Vacate}
 use Rattle.hwp_evict.specs.declared.vacate.VacateAt.{VacateAt}
 use Rattle.hwp_evict.specs.declared.vacate.VacateAt.TheVariants as at
@@ -86,6 +87,7 @@ vacate-ranked = rank-of vacate-member (λ s. refl) vacate-class (λ layout a sea
     (λ layout seat a b s t turn made goes. subst (λ (x : Vacate). cost x (words_at layout b) < cost s (words_at layout a)) (sym made.follows.0)
     (vacate-falls (words_at layout a) (words_at layout b) s made.step made.found made.planned))
     (λ layout seat a b s t turn made is quiet. absurd (both_ways true (sym is ∙ ap is_waits made.follows.1) refl))
+    (λ s. refl) (λ layout view s step fits is. (vacating.can layout view s step fits is).served)
 
 -- ---- the class
 

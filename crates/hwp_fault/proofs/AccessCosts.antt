@@ -32,8 +32,8 @@ use Rattle.hwp_step.specs.Boards.{view_of}
 use Rattle.hwp_step.specs.Calls.{logs, rec_of}
 use Rattle.hwp_step.specs.Classes.{TellsClass}
 use Rattle.hwp_step.specs.Hands.{Hand, hand_of}
-use Rattle.hwp_step.specs.Ranks.{Member, member, Made, CostFalls, IsRanked, Quiet, OtherHand, HasFrame, HasPage, is_waits, stale, words_at}
-use Rattle.hwp_step.proofs.Ranking.{met, words-after, words-kept, no-lock, rank-of}
+use Rattle.hwp_step.specs.Ranks.{Member, member, Made, CostFalls, HasFailed, IsRanked, Quiet, OtherHand, HasFrame, HasPage, failures_left, is_waits, stale, words_at}
+use Rattle.hwp_step.proofs.Ranking.{met, words-after, words-kept, no-lock, failed, rank-failing}
 use Rattle.hwp_hold.specs.declared.GiveUp.{GiveUp}
 use Rattle.hwp_hold.specs.declared.give_up.GiveUpAt.{GiveUpAt}
 use Rattle.hwp_hold.specs.declared.give_up.GiveUpAt.TheVariants as give_up_at
@@ -68,6 +68,7 @@ use Rattle.hwp_fault.specs.declared.fault.FaultAt.TheVariants as fault_at
 use Rattle.hwp_fault.specs.declared.fault.FaultAnswer.TheVariants as fault_answers
 use Rattle.hwp_fault.specs.Accesses.{plan, plan_at, put, put_at, bare, bare_at, at_start, after_process, at_process, leading, at_translation, pinned, ended, unlocked, after_fault, is_frame, leads_to, Prepares, LooksOf, LooksAgain, Next, NextAt, FaultStepped, IsPinned, IsFaulting, IsOfFrame, Fits, FitsAt, class, class_at, moved_away, then_cost, cost, cost_at}
 use Rattle.hwp_fault.specs.Faults as faults
+use Rattle.hwp_fault.proofs.Accessing as accessing
 use Rattle.hwp_fault.proofs.Accessing.{slot-within}
 use Rattle.hwp_fault.proofs.FaultCosts.{fault-ranked, fault-below, fault-class}
 use Rattle.hwp_fault.proofs.Faulting as faulting
@@ -391,25 +392,31 @@ module _ {layout : Layout} {seat : ℕ} {a b : State} {s t : Access} {turn : Tur
       omega (arith, less, most)
 
   falls-at : (x y : AccessAt) → plan_at r x ≡ Some made.step → FitsAt layout (view_of a seat) r x → Move layout seat (rec_of layout r.who made.step (logs (put_at x)) made.found made.got) a b
-      → NextAt layout r (bare_at x) made.found made.got y turn → is_waits turn ≡ false → cost_at r.slot y now < cost_at r.slot x w
-  falls-at at.LoadStop y e has move next goes = subst (λ (z : AccessAt). cost_at r.slot z now < faults.again r.slot w + 2) (sym next.0) (subst (λ (n : Words). cost_at r.slot (at_start made.found) n < faults.again r.slot w + 2) (sym (load-kept e)) after-stop)
-  falls-at at.LoadProcess y e has move next goes = subst (λ (z : AccessAt). cost_at r.slot z now < faults.again r.slot w + 1) (sym next.0) (subst (λ (n : Words). cost_at r.slot (at_process made.found) n < faults.again r.slot w + 1) (sym (load-kept e)) after-proc)
-  falls-at at.LoadTranslation y e has move next goes = subst (λ (z : AccessAt). cost_at r.slot z now < faults.again r.slot w) (sym next.0)
-      (subst (λ (n : Words). cost_at r.slot (at_translation r made.found) n < faults.again r.slot w) (sym (load-kept e)) (after-pte (met-own w made.found e (met made))))
-  falls-at (at.Pin p) y e has move next goes = subst (λ (z : AccessAt). cost_at r.slot z now < pins.cost p w + (12 + moved_away r.slot p.frame w)) (sym next.0) (after-pin p made.step has.pin.frame e refl)
-  falls-at (at.LockFrame frame) y e has move next goes = after-lock frame y e next goes
-  falls-at (at.LoadAgain frame body) y e has move next goes = subst (λ (n : Words). cost_at r.slot y n < 11 + moved_away r.slot frame w) (sym (load-kept e)) (after-look frame body y (met-own w made.found e (met made)) next.0)
-  falls-at (at.LoadBad frame body) y e has move next goes = subst (λ (z : AccessAt). cost_at r.slot z now < 10) (sym next.0) (omega arith)
-  falls-at (at.Unlock u then) y e has move next goes = subst (λ (z : AccessAt). cost_at r.slot z now < unlocks.cost u w + then_cost r.slot then w) (sym next.0) (after-unlock u then e)
-  falls-at (at.Fault f) y e has move next goes = after-step f y has next (fault-ranked.falls layout seat a b f next.after turn (fault-made f next.after has e move next.follows) goes)
-  falls-at (at.GiveUp g) y e has move next goes = subst (λ (z : AccessAt). cost_at r.slot z now < give_ups.cost g w) (sym next.0) (give-up-falls w now g made.step made.found e)
+      → NextAt layout r (bare_at x) made.found made.got y turn → is_waits turn ≡ false → (cost_at r.slot y now < cost_at r.slot x w) ⊎ (failures_left now < failures_left w)
+  falls-at at.LoadStop y e has move next goes = inl (subst (λ (z : AccessAt). cost_at r.slot z now < faults.again r.slot w + 2) (sym next.0) (subst (λ (n : Words). cost_at r.slot (at_start made.found) n < faults.again r.slot w + 2) (sym (load-kept e)) after-stop))
+  falls-at at.LoadProcess y e has move next goes = inl (subst (λ (z : AccessAt). cost_at r.slot z now < faults.again r.slot w + 1) (sym next.0) (subst (λ (n : Words). cost_at r.slot (at_process made.found) n < faults.again r.slot w + 1) (sym (load-kept e)) after-proc))
+  falls-at at.LoadTranslation y e has move next goes = inl (subst (λ (z : AccessAt). cost_at r.slot z now < faults.again r.slot w) (sym next.0)
+      (subst (λ (n : Words). cost_at r.slot (at_translation r made.found) n < faults.again r.slot w) (sym (load-kept e)) (after-pte (met-own w made.found e (met made)))))
+  falls-at (at.Pin p) y e has move next goes = inl (subst (λ (z : AccessAt). cost_at r.slot z now < pins.cost p w + (12 + moved_away r.slot p.frame w)) (sym next.0) (after-pin p made.step has.pin.frame e refl))
+  falls-at (at.LockFrame frame) y e has move next goes = inl (after-lock frame y e next goes)
+  falls-at (at.LoadAgain frame body) y e has move next goes = inl (subst (λ (n : Words). cost_at r.slot y n < 11 + moved_away r.slot frame w) (sym (load-kept e)) (after-look frame body y (met-own w made.found e (met made)) next.0))
+  falls-at (at.LoadBad frame body) y e has move next goes = inl (subst (λ (z : AccessAt). cost_at r.slot z now < 10) (sym next.0) (omega arith))
+  falls-at (at.Unlock u then) y e has move next goes = inl (subst (λ (z : AccessAt). cost_at r.slot z now < unlocks.cost u w + then_cost r.slot then w) (sym next.0) (after-unlock u then e))
+  falls-at (at.Fault f) y e has move next goes = elim (fault-ranked.falls layout seat a b f next.after turn (fault-made f next.after has e move next.follows) goes) [
+    | inl less ↦ inl (after-step f y has next less)
+    | inr fails ↦ inr fails.fewer
+  ]
+  falls-at (at.GiveUp g) y e has move next goes = inl (subst (λ (z : AccessAt). cost_at r.slot z now < give_ups.cost g w) (sym next.0) (give-up-falls w now g made.step made.found e))
   falls-at (at.Over answer) y e has move next goes = absurd (none-some made.step e)
 
   request-is : t.request ≡ r
   request-is = ap (λ (x : Access). x.request) made.follows.rest
 
-  pub cost-falls : is_waits turn ≡ false → CostFalls access-member layout a b s t
-  cost-falls goes = subst (λ (q : Request). cost_at q.slot t.at now < cost s w) (sym request-is) (falls-at s.at t.at made.planned made.fits.at made.move made.follows.at goes)
+  pub cost-falls : is_waits turn ≡ false → CostFalls access-member layout a b s t ⊎ HasFailed access-member layout a b s t
+  cost-falls goes = elim (falls-at s.at t.at made.planned made.fits.at made.move made.follows.at goes) [
+    | inl less ↦ inl (subst (λ (q : Request). cost_at q.slot t.at now < cost s w) (sym request-is) less)
+    | inr fewer ↦ inr (failed fewer (access-below now t (few-frees layout b made.kept)))
+  ]
 
   -- ---- waiting
 
@@ -449,9 +456,10 @@ module _ {layout : Layout} {seat : ℕ} {a b : State} {s t : Access} {turn : Tur
   cost-waits waits quiet = subst (λ (q : Request). cost_at q.slot t.at now < cost s w) (sym request-is) (waits-at s.at t.at made.planned made.fits.at made.move made.follows.at waits quiet)
 
 pub access-ranked : IsRanked access-member
-access-ranked = rank-of access-member (λ s. refl) access-class (λ layout a seat s rule fits. let few : cost s (words_at layout a) < 32768 = access-below (words_at layout a) s (few-frees layout a rule) in omega arith)
+access-ranked = rank-failing access-member (λ s. refl) access-class (λ layout a seat s rule fits. let few : cost s (words_at layout a) < 32768 = access-below (words_at layout a) s (few-frees layout a rule) in omega arith)
     (λ layout seat a b s t turn made goes. cost-falls made goes)
     (λ layout seat a b s t turn made waits quiet. cost-waits made waits quiet)
+    (λ s. refl) (λ layout view s step fits is. (accessing.can layout view s step fits is).served)
 
 -- ---- the class
 

@@ -28,8 +28,8 @@ use Rattle.hwp_rule.proofs.Moving.{shaped}
 use Rattle.hwp_step.specs.declared.Turn.{Turn}
 use Rattle.hwp_step.specs.Boards.{view_of}
 use Rattle.hwp_step.specs.Calls.{logs, rec_of}
-use Rattle.hwp_step.specs.Ranks.{Member, member, Made, CostFalls, IsRanked, Quiet, is_waits, stale, words_at}
-use Rattle.hwp_step.proofs.Ranking.{me, met, words-after, words-kept, rank-of}
+use Rattle.hwp_step.specs.Ranks.{Member, member, Made, CostFalls, HasFailed, IsRanked, Quiet, failures_left, is_waits, stale, words_at}
+use Rattle.hwp_step.proofs.Ranking.{me, met, words-after, words-kept, failed, rank-failing}
 use Rattle.hwp_hold.specs.declared.Fill.{Fill}
 use Rattle.hwp_hold.specs.declared.fill.FillAt.{FillAt}
 use Rattle.hwp_hold.specs.declared.fill.FillAt.TheVariants as fill_at
@@ -71,6 +71,7 @@ use Rattle.hwp_fault.specs.declared.map_in.MapInAt.{MapInAt}
 use Rattle.hwp_fault.specs.declared.map_in.MapInAt.TheVariants as map_in_at
 use Rattle.hwp_fault.specs.MapIns as map_ins
 use Rattle.hwp_fault.specs.Faults.{plan, plan_at, put, put_at, bare, bare_at, with_room, after_hold, after_pte, after_fill, after_map_in, after_unhold, after_give_up, next_at, turn_at, Follows, Fits, FitsAt, class, class_at, again, owed, rest, cost, cost_at}
+use Rattle.hwp_fault.proofs.Faulting as faulting
 use Rattle.hwp_fault.proofs.Loading.{pte-met, reads-frame}
 use Rattle.hwp_fault.proofs.MapInCosts.{map-in-ranked, map-in-small}
 use Rattle.hwp_fault.proofs.MappingIn.{declared}
@@ -81,12 +82,25 @@ use Rattle.hwp_fault.proofs.MappingIn.{declared}
 abbrev Lowers : Turn → ℕ → Layout → State → ℕ → Type 0
 Lowers turn class layout a seat = (is_waits turn ≡ false) ⊎ ((is_waits turn ≡ true) × Quiet class layout a seat)
 
-part-falls : {S : Type 0} {m : Member S} {layout : Layout} {seat : ℕ} {a b : State} {s t : S} {turn : Turn} → IsRanked m → m.aborts t ≡ false → Made m layout seat a b s t turn → Lowers turn (m.class s) layout a seat → CostFalls m layout a b s t
-part-falls {m} {layout} {seat} {a} {b} {s} {t} {turn} ranked none made (inl goes) = ranked.falls layout seat a b s t turn made goes
+-- the turn lowered the cost, or it didn't wait and left fewer frames to fail
+abbrev Lowered : Turn → Layout → State → State → ℕ → ℕ → Type 0
+Lowered turn layout a b after before = (after < before) ⊎ ((is_waits turn ≡ false) × (failures_left (words_at layout b) < failures_left (words_at layout a)))
+
+part-falls : {S : Type 0} {m : Member S} {layout : Layout} {seat : ℕ} {a b : State} {s t : S} {turn : Turn} → IsRanked m → m.aborts t ≡ false → Made m layout seat a b s t turn → Lowers turn (m.class s) layout a seat
+    → Lowered turn layout a b (m.cost t (words_at layout b)) (m.cost s (words_at layout a))
+part-falls {m} {layout} {seat} {a} {b} {s} {t} {turn} ranked none made (inl goes) = elim (ranked.falls layout seat a b s t turn made goes) [
+  | inl less ↦ inl less
+  | inr fails ↦ inr (goes, fails.fewer)
+]
 part-falls {m} {layout} {seat} {a} {b} {s} {t} {turn} ranked none made (inr waits) = elim (ranked.waits layout seat a b s t turn made waits.0 waits.1) [
-  | inl less ↦ less
+  | inl less ↦ inl less
   | inr gives ↦ absurd (both_ways (m.aborts t) none gives.0)
 ]
+
+-- what a part's fall is for the whole; a failure more is one for both
+whole : {P Q R : Type 0} → P ⊎ R → (P → Q) → Q ⊎ R
+whole (inl part) so = inl (so part)
+whole (inr other) so = inr other
 
 -- ---- the words
 
@@ -277,9 +291,10 @@ module _ {layout : Layout} {seat : ℕ} {a b : State} {f t : Fault} {turned : Tu
 
   -- a turn lowers the cost
   which-falls : (x : FaultAt) (spare : Option ℕ) → FitsAt layout (view_of a seat) f.who f.page f.slot x → plan_at f.slot x ≡ Some made.step → Move layout seat (rec_of layout f.who made.step (logs (put_at x)) made.found made.got) a b
-      → Lowers (turn_at (bare_at x) made.found) (class_at x) layout a seat → cost_at f.slot (next_at layout f.who f.page f.slot (bare_at x) made.found made.got spare) now < cost_at f.slot x w
+      → Lowers (turn_at (bare_at x) made.found) (class_at x) layout a seat
+      → Lowered (turn_at (bare_at x) made.found) layout a b (cost_at f.slot (next_at layout f.who f.page f.slot (bare_at x) made.found made.got spare) now) (cost_at f.slot x w)
   which-falls (at.Hold h) spare has e move lowers =
-      let less : holds.cost (holds.next h made.found made.got) now < holds.cost h w = part-falls hold-ranked refl (record {
+      let part : Lowered (turn_at (bare_at (at.Hold h)) made.found) layout a b (holds.cost (holds.next h made.found made.got) now) (holds.cost h w) = part-falls hold-ranked refl (record {
         step = made.step;
         found = made.found;
         got = made.got;
@@ -292,10 +307,10 @@ module _ {layout : Layout} {seat : ℕ} {a b : State} {f t : Fault} {turned : Tu
         follows = (refl, refl);
       }) lowers in
       let more : cost_at f.slot (after_hold (holds.next h made.found made.got)) now ≡ holds.cost (holds.next h made.found made.got) now + length now.frees + 14 + owed = hold-cost f.slot (holds.next h made.found made.got) now in
-      omega (arith, less, more, same-number-of)
-  which-falls (at.LoadPte frame body) spare has e move lowers = pte-falls frame body spare has e
+      whole part (λ (less : holds.cost (holds.next h made.found made.got) now < holds.cost h w). omega (arith, less, more, same-number-of))
+  which-falls (at.LoadPte frame body) spare has e move lowers = inl (pte-falls frame body spare has e)
   which-falls (at.Fill g) spare has e move lowers =
-      let less : fills.cost (fills.next layout g made.found) now < fills.cost g w = part-falls fill-ranked refl (record {
+      let part : Lowered (turn_at (bare_at (at.Fill g)) made.found) layout a b (fills.cost (fills.next layout g made.found) now) (fills.cost g w) = part-falls fill-ranked refl (record {
         step = made.step;
         found = made.found;
         got = made.got;
@@ -308,21 +323,23 @@ module _ {layout : Layout} {seat : ℕ} {a b : State} {f t : Fault} {turned : Tu
         follows = (refl, refl);
       }) lowers in
       let more : cost_at f.slot (after_fill f.who f.page f.slot (fills.next layout g made.found) spare) now ≤ fills.cost (fills.next layout g made.found) now + 3 + 4096 = fill-cost f.who f.page f.slot (fills.next layout g made.found) spare now in
-      omega (arith, less, more)
-  which-falls (at.MapIn m) spare has e move lowers = map-cost m has m.at e has.map_in.at (part-falls map-in-ranked refl (record {
-    step = made.step;
-    found = made.found;
-    got = made.got;
-    rule = made.rule;
-    kept = made.kept;
-    fits = has.map_in;
-    planned = e;
-    move = move-by None m.who has.own move;
-    brings = made.brings;
-    follows = (refl, refl);
-  }) lowers)
+      whole part (λ (less : fills.cost (fills.next layout g made.found) now < fills.cost g w). omega (arith, less, more))
+  which-falls (at.MapIn m) spare has e move lowers =
+      let part : Lowered (turn_at (bare_at (at.MapIn m)) made.found) layout a b (map_ins.cost (map_ins.next m made.found) now) (map_ins.cost m w) = part-falls map-in-ranked refl (record {
+        step = made.step;
+        found = made.found;
+        got = made.got;
+        rule = made.rule;
+        kept = made.kept;
+        fits = has.map_in;
+        planned = e;
+        move = move-by None m.who has.own move;
+        brings = made.brings;
+        follows = (refl, refl);
+      }) lowers in
+      whole part (λ (less : map_ins.cost (map_ins.next m made.found) now < map_ins.cost m w). map-cost m has m.at e has.map_in.at less)
   which-falls (at.Unhold u answer) spare has e move lowers =
-      let less : unholds.cost (unholds.next (unholds.bare u) made.found) now < unholds.cost u w = part-falls unhold-ranked refl (record {
+      let part : Lowered (turn_at (bare_at (at.Unhold u answer)) made.found) layout a b (unholds.cost (unholds.next (unholds.bare u) made.found) now) (unholds.cost u w) = part-falls unhold-ranked refl (record {
         step = made.step;
         found = made.found;
         got = made.got;
@@ -336,9 +353,9 @@ module _ {layout : Layout} {seat : ℕ} {a b : State} {f t : Fault} {turned : Tu
       }) lowers in
       let more : cost_at f.slot (after_unhold (unholds.next (unholds.bare u) made.found) answer) now ≤ unholds.cost (unholds.next (unholds.bare u) made.found) now + rest f.slot answer now = unhold-cost f.slot (unholds.next (unholds.bare u) made.found) answer now in
       let same : rest f.slot answer now ≡ rest f.slot answer w = rest-stays u answer e in
-      omega (arith, less, more, same)
+      whole part (λ (less : unholds.cost (unholds.next (unholds.bare u) made.found) now < unholds.cost u w). omega (arith, less, more, same))
   which-falls (at.GiveUp g) spare has e move lowers =
-      let less : give_ups.cost (give_ups.next (give_ups.bare g) made.found) now < give_ups.cost g w = part-falls give-up-ranked refl (record {
+      let part : Lowered (turn_at (bare_at (at.GiveUp g)) made.found) layout a b (give_ups.cost (give_ups.next (give_ups.bare g) made.found) now) (give_ups.cost g w) = part-falls give-up-ranked refl (record {
         step = made.step;
         found = made.found;
         got = made.got;
@@ -351,12 +368,13 @@ module _ {layout : Layout} {seat : ℕ} {a b : State} {f t : Fault} {turned : Tu
         follows = (refl, refl);
       }) lowers in
       let more : cost_at f.slot (after_give_up (give_ups.next (give_ups.bare g) made.found)) now ≤ give_ups.cost (give_ups.next (give_ups.bare g) made.found) now = give-up-cost f.slot (give_ups.next (give_ups.bare g) made.found) now in
-      omega (arith, less, more)
+      whole part (λ (less : give_ups.cost (give_ups.next (give_ups.bare g) made.found) now < give_ups.cost g w). omega (arith, less, more))
   which-falls (at.Over answer) spare has e move lowers = absurd (none-some made.step e)
 
-  pub fault-falls : Lowers turned (class f) layout a seat → CostFalls fault-member layout a b f t
-  fault-falls lowers = subst (λ (x : Fault). cost x now < cost f w) (sym made.follows.after_is)
-      (which-falls f.at made.follows.spare made.fits.at made.planned made.move (subst (λ (x : Turn). Lowers x (class f) layout a seat) made.follows.turn_is lowers))
+  fault-falls : Lowers turned (class f) layout a seat → Lowered turned layout a b (cost t now) (cost f w)
+  fault-falls lowers = subst (λ (x : Turn). Lowered x layout a b (cost t now) (cost f w)) (sym made.follows.turn_is)
+      (subst (λ (x : Fault). Lowered (turn_at (bare_at f.at) made.found) layout a b (cost x now) (cost f w)) (sym made.follows.after_is)
+      (which-falls f.at made.follows.spare made.fits.at made.planned made.move (subst (λ (x : Turn). Lowers x (class f) layout a seat) made.follows.turn_is lowers)))
 
 -- ---- costs are small
 
@@ -372,6 +390,7 @@ take-few t w few = which t.at
         let two : stale (not (takes.are_empty (frame.0 / 64) w)) ≤ 4096 = stale-most (not (takes.are_empty (frame.0 / 64) w)) in
         omega (arith, one, two)
     which (take_at.Adopt frame) = omega arith
+    which (take_at.Retire frame) = omega arith
     which (take_at.Over frame) = omega arith
 
 refer-few : (r : Refer) (w : Words) → refers.cost r w ≤ 4097
@@ -434,6 +453,20 @@ fault-class f = which f.at
     which (at.GiveUp g) = give-up-ranked.classes g
     which (at.Over answer) = (omega arith, omega arith)
 
+module _ {layout : Layout} {seat : ℕ} {a b : State} {f t : Fault} {turned : Turn} (made : Made fault-member layout seat a b f t turned) where
+  fault-goes : is_waits turned ≡ false → CostFalls fault-member layout a b f t ⊎ HasFailed fault-member layout a b f t
+  fault-goes goes = elim (fault-falls made (inl goes)) [
+    | inl less ↦ inl less
+    | inr fails ↦ inr (failed fails.1 (let some : cost t (words_at layout b) ≤ 12307 = fault-small (words_at layout b) t (few-words layout b made.kept).1 in omega (arith, some)))
+  ]
+
+  fault-waits : is_waits turned ≡ true → Quiet (class f) layout a seat → CostFalls fault-member layout a b f t
+  fault-waits is quiet = elim (fault-falls made (inr (is, quiet))) [
+    | inl less ↦ less
+    | inr fails ↦ absurd (both_ways true (sym is ∙ fails.0) refl)
+  ]
+
 pub fault-ranked : IsRanked fault-member
-fault-ranked = rank-of fault-member (λ s. refl) fault-class (λ layout a seat s rule fits. let some : cost s (words_at layout a) ≤ 12307 = fault-small (words_at layout a) s (few-words layout a rule).1 in omega (arith, some))
-    (λ layout seat a b s t turned made goes. fault-falls made (inl goes)) (λ layout seat a b s t turned made is quiet. fault-falls made (inr (is, quiet)))
+fault-ranked = rank-failing fault-member (λ s. refl) fault-class (λ layout a seat s rule fits. let some : cost s (words_at layout a) ≤ 12307 = fault-small (words_at layout a) s (few-words layout a rule).1 in omega (arith, some))
+    (λ layout seat a b s t turned made goes. fault-goes made goes) (λ layout seat a b s t turned made is quiet. fault-waits made is quiet)
+    (λ s. refl) (λ layout view s step fits is. (faulting.can layout view s step fits is).served)

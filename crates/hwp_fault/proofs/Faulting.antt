@@ -301,6 +301,7 @@ take-unfilled t (take_at.Reserve seen) = refl
 take-unfilled t (take_at.LoadFree number) = refl
 take-unfilled t (take_at.TakeBit frame) = refl
 take-unfilled t (take_at.Adopt frame) = refl
+take-unfilled t (take_at.Retire frame) = refl
 take-unfilled t (take_at.Over None) = refl
 take-unfilled t (take_at.Over (Some frame)) = refl
 
@@ -543,6 +544,7 @@ take-tells layout view page log seen (take_at.Reserve word) is on = page-tells v
 take-tells layout view page log seen (take_at.LoadFree number) is on = frame-tells view
 take-tells layout view page log seen (take_at.TakeBit frame) is on = frame-tells view
 take-tells layout view page log seen (take_at.Adopt frame) is on = frame-tells view
+take-tells layout view page log seen (take_at.Retire frame) is on = frame-tells view
 take-tells layout view page log seen (take_at.Over frame) is on = absurd (both_ways true on refl)
 
 fill-tells : (layout : Layout) (view : View) (f : Fill) → fills.Fits layout view f → is_none (fills.plan f) ≡ false → Tells view (fills.class f)

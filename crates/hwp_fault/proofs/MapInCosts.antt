@@ -14,6 +14,7 @@ use Rattle.hwp_hold.specs.declared.refer.ReferAt.TheVariants as refer_at
 use Rattle.hwp_hold.specs.Refers as refers
 use Rattle.hwp_hold.proofs.FillCosts.{refer-falls}
 use Rattle.hwp_hold.proofs.Ranking.{stale-most}
+use Rattle.hwp_fault.proofs.MappingIn as mapping_in
 use Rattle.hwp_fault.specs.declared.map_in.MapIn.{MapIn}
 use Rattle.hwp_fault.specs.declared.map_in.MapInAt.{MapInAt}
 use Rattle.hwp_fault.specs.declared.map_in.MapInAt.TheVariants as at
@@ -81,3 +82,4 @@ map-in-ranked = rank-of map-in-member (λ s. refl) (λ s. (omega arith, omega ar
     (λ layout seat a b s t turned made goes. subst (λ (x : MapIn). cost x (words_at layout b) < cost s (words_at layout a)) (sym made.follows.0)
     (map-in-falls (words_at layout a) (words_at layout b) s made.step made.found made.planned (met made) (words-kept made)))
     (λ layout seat a b s t turned made is quiet. absurd (both_ways true (sym is ∙ ap is_waits made.follows.1 ∙ map-in-goes s made.found) refl))
+    (λ s. refl) (λ layout view s step fits is. (mapping_in.can layout view s step fits is).served)

@@ -1,5 +1,5 @@
 -- The costs of more references, of a fill and of a command given up fall.
-use Rattle.std.proofs.Common.{◌≡◌, ℕ, ◌+◌, ◌*◌, ◌%◌, ◌^◌, ◌<◌, ◌≤◌, ◌==◌, Bool, true, false, cond, Some, None, is_none, slice_index, refl, sym, ap, ◌∙◌, subst, arith}
+use Rattle.std.proofs.Common.{◌≡◌, ℕ, ◌+◌, ◌*◌, ◌%◌, ◌^◌, ◌<◌, ◌≤◌, ◌==◌, ◌⊎◌, inl, inr, Bool, true, false, cond, Some, None, is_none, slice_index, refl, sym, ap, ◌∙◌, subst, arith}
 use Rattle.std.proofs.lemmas.Bool.{both_ways}
 use Rattle.std.proofs.lemmas.Option.{none-some}
 use Rattle.hwp_geom.specs.declared.Frame.{Frame}
@@ -11,10 +11,11 @@ use Rattle.hwp_rule.specs.Rule.{Holds}
 use Rattle.hwp_rule.specs.Steps.{place_of, word_after}
 use Rattle.hwp_rule.specs.Words.{Words, read}
 use Rattle.hwp_rule.proofs.Lists.{same-number}
+use Rattle.hwp_step.specs.declared.Turn.{Turn}
 use Rattle.hwp_step.specs.declared.Turn.TheVariants.{Moved, Changed}
 use Rattle.hwp_step.specs.Boards.{view_of}
-use Rattle.hwp_step.specs.Ranks.{Member, member, IsRanked, is_waits, stale, words_at}
-use Rattle.hwp_step.proofs.Ranking.{met, words-after, words-kept, rank-of}
+use Rattle.hwp_step.specs.Ranks.{Member, member, Made, CostFalls, HasFailed, IsRanked, is_waits, stale, words_at}
+use Rattle.hwp_step.proofs.Ranking.{met, words-after, words-kept, retire-fails, failed, rank-failing, rank-of}
 use Rattle.hwp_hold.specs.declared.fill.Fill.{Fill}
 use Rattle.hwp_hold.specs.declared.fill.FillAt.{FillAt}
 use Rattle.hwp_hold.specs.declared.fill.FillAt.TheVariants as fill_at
@@ -39,6 +40,9 @@ use Rattle.hwp_hold.proofs.Making.{IsMet, words_then, is-met}
 use Rattle.hwp_hold.proofs.Ranking.{met-own, left-own, stale-most, unhold-falls, unhold-small, unhold-class}
 use Rattle.hwp_hold.proofs.Unlocking.{unlock-falls, unlock-small, unlock-class}
 use Rattle.hwp_hold.proofs.TakeCosts as taking
+use Rattle.hwp_hold.proofs.Filling as filling
+use Rattle.hwp_hold.proofs.GivingUp as giving_up
+use Rattle.hwp_hold.proofs.Referring as referring
 
 -- ---- more references
 
@@ -93,6 +97,7 @@ refer-ranked = rank-of refer-member (λ s. refl) (λ s. (omega arith, omega arit
     (λ layout seat a b s t turn made goes. subst (λ (x : Refer). refers.cost x (words_at layout b) < refers.cost s (words_at layout a)) (sym made.follows.0)
     (refer-falls (words_at layout a) (words_at layout b) s made.step made.found made.planned (met made) (words-kept made)))
     (λ layout seat a b s t turn made is quiet. absurd (both_ways true (sym is ∙ ap is_waits made.follows.1 ∙ refer-goes s made.found) refl))
+    (λ s. refl) (λ layout view s step fits is. (referring.can layout view s step fits is).served)
 
 -- ---- a page put into a frame
 
@@ -106,6 +111,7 @@ take-cost t w = which t.at
     which (take_at.LoadFree number) = omega arith
     which (take_at.TakeBit frame) = omega arith
     which (take_at.Adopt frame) = omega arith
+    which (take_at.Retire frame) = omega arith
     which (take_at.Over None) = omega arith
     which (take_at.Over (Some frame)) = omega arith
 
@@ -117,23 +123,28 @@ refer-cost r w = which r.at
     which (refer_at.Get seen) = refl
     which refer_at.Over = refl
 
+-- a turn lowers the cost, but for that in which a poisoned frame is retired
 pub fill-falls : (layout : Layout) (a : State) (seat : ℕ) (view : View) (now : Words) (f : Fill) (step : Step) (found : ℕ) → IsMet layout a seat view step found → now ≡ words_then layout a step found
     → read (place_of step) (words_at layout a) ≡ found → (word_after step found ≡ found → now ≡ words_at layout a) → fills.Fits layout view f → fills.plan f ≡ Some step
-    → fills.cost (fills.next layout f found) now < fills.cost f (words_at layout a)
+    → (fills.cost (fills.next layout f found) now < fills.cost f (words_at layout a)) ⊎ taking.Retires step
 fill-falls layout a seat view now f step found on words met kept fits is = which f.at is fits.at
   where
-    which : (x : FillAt) → fills.plan_at f.page x ≡ Some step → fills.FitsAt layout view f.who f.page f.body x → fills.cost_at (fills.next_at layout f.who x found) now < fills.cost_at x (words_at layout a)
-    which (fill_at.Take t) e has =
-        let less : takes.cost (takes.next layout t found) now < takes.cost t (words_at layout a) =
-        subst (λ (w : Words). takes.cost (takes.next layout t found) w < takes.cost t (words_at layout a)) (sym words) (taking.falls layout a seat view found t step on has.take e) in
-        let more : fills.cost_at (fills.after_take (takes.next layout t found)) now ≤ takes.cost (takes.next layout t found) now + 4 = take-cost (takes.next layout t found) now in
-        omega (arith, less, more)
-    which (fill_at.SetOwner frame) e has = omega arith
+    which : (x : FillAt) → fills.plan_at f.page x ≡ Some step → fills.FitsAt layout view f.who f.page f.body x → (fills.cost_at (fills.next_at layout f.who x found) now < fills.cost_at x (words_at layout a)) ⊎ taking.Retires step
+    which (fill_at.Take t) e has = taken (taking.falls layout a seat view found t step on has.take e)
+      where
+        taken : (takes.cost (takes.next layout t found) (words_then layout a step found) < takes.cost t (words_at layout a)) ⊎ taking.Retires step
+            → (fills.cost_at (fills.after_take (takes.next layout t found)) now < takes.cost t (words_at layout a) + 4) ⊎ taking.Retires step
+        taken (inl falls) =
+            let less : takes.cost (takes.next layout t found) now < takes.cost t (words_at layout a) = subst (λ (w : Words). takes.cost (takes.next layout t found) w < takes.cost t (words_at layout a)) (sym words) falls in
+            let more : fills.cost_at (fills.after_take (takes.next layout t found)) now ≤ takes.cost (takes.next layout t found) now + 4 = take-cost (takes.next layout t found) now in
+            inl (omega (arith, less, more))
+        taken (inr retires) = inr retires
+    which (fill_at.SetOwner frame) e has = inl (omega arith)
     which (fill_at.Refer r) e has =
         let less : refers.cost (refers.next r found) now < refers.cost r (words_at layout a) = refer-falls (words_at layout a) now r step found e met kept in
         let more : fills.cost_at (fills.after_refer (refers.next r found)) now ≡ refers.cost (refers.next r found) now + 1 = refer-cost (refers.next r found) now in
-        omega (arith, less, more)
-    which (fill_at.SetCache frame) e has = omega arith
+        inl (omega (arith, less, more))
+    which (fill_at.SetCache frame) e has = inl (omega arith)
     which (fill_at.Over frame) e has = absurd (none-some step e)
 
 fill-small : (layout : Layout) (a : State) (f : Fill) → Holds layout a → fills.cost f (words_at layout a) ≤ 8208
@@ -174,11 +185,16 @@ fill-goes f found = which f.at
 abbrev fill-member : Member Fill
 fill-member = member (λ f. f.who) fills.plan (λ f. None) (λ f. f) (λ layout f found got after result. (after ≡ fills.next layout f found) × (result ≡ fills.turn f found)) fills.Fits fills.class fills.cost (λ f. false) (λ f. None)
 
+module _ {layout : Layout} {seat : ℕ} {a b : State} {s t : Fill} {turn : Turn} (made : Made fill-member layout seat a b s t turn) where
+  fill-lowers : (fills.cost (fills.next layout s made.found) (words_at layout b) < fills.cost s (words_at layout a)) ⊎ taking.Retires made.step → CostFalls fill-member layout a b s t ⊎ HasFailed fill-member layout a b s t
+  fill-lowers (inl less) = inl (subst (λ (x : Fill). fills.cost x (words_at layout b) < fills.cost s (words_at layout a)) (sym made.follows.0) less)
+  fill-lowers (inr retires) = inr (failed (retire-fails made retires.0 retires.1) (let few : fills.cost t (words_at layout b) ≤ 8208 = fill-small layout b t made.kept in omega (arith, few)))
+
 pub fill-ranked : IsRanked fill-member
-fill-ranked = rank-of fill-member (λ s. refl) fill-class (λ layout a seat s rule fits. let few : fills.cost s (words_at layout a) ≤ 8208 = fill-small layout a s rule in omega arith)
-    (λ layout seat a b s t turn made goes. subst (λ (x : Fill). fills.cost x (words_at layout b) < fills.cost s (words_at layout a)) (sym made.follows.0)
-    (fill-falls layout a seat (view_of a seat) (words_at layout b) s made.step made.found (is-met made) (words-after made) (met made) (words-kept made) made.fits made.planned))
+fill-ranked = rank-failing fill-member (λ s. refl) fill-class (λ layout a seat s rule fits. let few : fills.cost s (words_at layout a) ≤ 8208 = fill-small layout a s rule in omega arith)
+    (λ layout seat a b s t turn made goes. fill-lowers made (fill-falls layout a seat (view_of a seat) (words_at layout b) s made.step made.found (is-met made) (words-after made) (met made) (words-kept made) made.fits made.planned))
     (λ layout seat a b s t turn made is quiet. absurd (both_ways true (sym is ∙ ap is_waits made.follows.1 ∙ fill-goes s made.found) refl))
+    (λ s. refl) (λ layout view s step fits is. (filling.can layout view s step fits is).served)
 
 -- ---- a command given up
 
@@ -246,3 +262,4 @@ give-up-ranked = rank-of give-up-member (λ s. refl) give-up-class (λ layout a 
     (λ layout seat a b s t turn made goes. subst (λ (x : GiveUp). give_ups.cost x (words_at layout b) < give_ups.cost s (words_at layout a)) (sym made.follows.0)
     (give-up-falls (words_at layout a) (words_at layout b) s made.step made.found made.planned))
     (λ layout seat a b s t turn made is quiet. absurd (both_ways true (sym is ∙ ap is_waits made.follows.1 ∙ give-up-goes s) refl))
+    (λ s. refl) (λ layout view s step fits is. (giving_up.can layout view s step fits is).served)

@@ -8,6 +8,7 @@ use Rattle.hwp_geom.specs.declared.Layout.{Layout}
 use Rattle.hwp_geom.specs.declared.Page.{Page}
 use Rattle.hwp_geom.specs.declared.Who.{Who}
 use Rattle.hwp_page.specs.History.{BodyValue}
+use Rattle.hwp_words.specs.Frames.{is_poisoned}
 use Rattle.hwp_rule.specs.declared.Ref.{Ref}
 use Rattle.hwp_rule.specs.declared.Place.TheVariants as places
 use Rattle.hwp_rule.specs.declared.Step.{Step}
@@ -38,7 +39,7 @@ use Rattle.hwp_hold.specs.Fills.{answer, answer_at, begin, plan, plan_at, after_
 use Rattle.hwp_hold.specs.Holds.{locked, page_lock, one_ref, HoldsPage}
 use Rattle.hwp_hold.specs.Refers as refers
 use Rattle.hwp_hold.specs.Takes as takes
-use Rattle.hwp_hold.specs.Takes.{new_lock}
+use Rattle.hwp_hold.specs.Takes.{adopted_lock, new_lock}
 use Rattle.hwp_hold.specs.Unholds as unholds
 use Rattle.hwp_hold.specs.Unholds.{holding, HoldsAhead}
 use Rattle.hwp_hold.proofs.Bringing.{trans, goes-home, none-fails}
@@ -83,7 +84,14 @@ take-on layout page body seen (take_at.TakeBit frame) found on = by (takes.has_b
     by true = refl
     by false = refl
 take-on layout page body seen (take_at.Adopt frame) found on =
-    ap (λ (b : Bool). record (base layout page body seen) { hands = cond b [] (unpoisoned frame ∷ []); refs = one_ref frame; locks = new_lock frame ∷ [] }) (same-number frame.0 frame.0 refl)
+    ap (λ (b : Bool). record (base layout page body seen) { hands = cond b [] (unpoisoned frame ∷ []); refs = one_ref frame; locks = adopted_lock frame (is_poisoned found) ∷ [] }) (same-number frame.0 frame.0 refl)
+    ∙ by (is_poisoned found)
+  where
+    by : (b : Bool) → record (base layout page body seen) { refs = one_ref frame; locks = adopted_lock frame b ∷ [] } ≡ with_take (cond b (take_at.Retire frame) (take_at.Over (Some frame))) (base layout page body seen)
+    by true = refl
+    by false = refl
+take-on layout page body seen (take_at.Retire frame) found on =
+    ap (λ (b : Bool). record (base layout page body seen) { locks = cond b [] (adopted_lock frame true ∷ []); refs = cond b [] (one_ref frame) }) (same-number frame.0 frame.0 refl)
 take-on layout page body seen (take_at.Over frame) found on = absurd (both_ways true on refl)
 
 -- the references, before and after the second one was taken
@@ -153,6 +161,7 @@ module _ {layout : Layout} {new : View} {who : Who} {page : Page} {body : BodyVa
   take-moved t (take_at.LoadFree number) seen own hand fits = record { seen = seen; hand_is = hand; entry = entry; take = fits; own = own; under_way = refl }
   take-moved t (take_at.TakeBit frame) seen own hand fits = record { seen = seen; hand_is = hand; entry = entry; take = fits; own = own; under_way = refl }
   take-moved t (take_at.Adopt frame) seen own hand fits = record { seen = seen; hand_is = hand; entry = entry; take = fits; own = own; under_way = refl }
+  take-moved t (take_at.Retire frame) seen own hand fits = record { seen = seen; hand_is = hand; entry = entry; take = fits; own = own; under_way = refl }
   take-moved t (take_at.Over None) seen own hand fits = (
     record { seen = seen; handled = false; poisoned = false; hand_is = hand; within = λ f none. absurd (none-some f none); body_is = entry.body_is },
     subst (λ (w : Who). Saw new w places.Available 0) own fits.at,

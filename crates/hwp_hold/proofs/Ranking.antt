@@ -40,6 +40,9 @@ use Rattle.hwp_hold.specs.Pins as pins
 use Rattle.hwp_hold.specs.Releases as releases
 use Rattle.hwp_hold.specs.Unholds as unholds
 use Rattle.hwp_hold.proofs.Holding as holding
+use Rattle.hwp_hold.proofs.Pinning as pinning
+use Rattle.hwp_hold.proofs.Releasing as releasing
+use Rattle.hwp_hold.proofs.Unholding as unholding
 
 -- ---- a reference
 
@@ -111,6 +114,7 @@ pin-ranked = rank-of pin-member (λ s. refl) (λ s. (omega arith, omega arith)) 
     (λ layout seat a b s t turn made goes. subst (λ (x : Pin). pins.cost x (words_at layout b) < pins.cost s (words_at layout a)) (sym made.follows.0)
     (pin-falls (words_at layout a) (words_at layout b) s made.step made.found made.planned (met made) (words-kept made)))
     (λ layout seat a b s t turn made is quiet. absurd (both_ways true (sym is ∙ ap is_waits made.follows.1 ∙ pin-goes s made.found) refl))
+    (λ s. refl) (λ layout view s step fits is. (pinning.can layout view s step fits is).served)
 
 -- ---- references given back
 
@@ -160,6 +164,7 @@ release-ranked = rank-of release-member (λ s. refl) release-class (λ layout a 
     (λ layout seat a b s t turn made goes. subst (λ (x : Release). releases.cost x (words_at layout b) < releases.cost s (words_at layout a)) (sym made.follows.0)
     (release-falls (words_at layout a) (words_at layout b) s made.step made.found made.planned))
     (λ layout seat a b s t turn made is quiet. absurd (both_ways true (sym is ∙ ap is_waits made.follows.1) refl))
+    (λ s. refl) (λ layout view s step fits is. (releasing.can layout view s step fits is).served)
 
 -- ---- a page held
 
@@ -263,6 +268,7 @@ module _ {layout : Layout} {seat : ℕ} {a b : State} {s t : Hold} {turn : Turn}
 pub hold-ranked : IsRanked hold-member
 hold-ranked = rank-of hold-member (λ s. refl) hold-class (λ layout a seat s rule fits. let few : holds.cost s (words_at layout a) ≤ 4098 = hold-small (words_at layout a) s in omega arith)
     (λ layout seat a b s t turn made goes. held-cost-falls made goes) (λ layout seat a b s t turn made waits quiet. absurd (never-waits made waits quiet))
+    (λ s. refl) (λ layout view s step fits is. (holding.can layout view s step fits is).served)
 
 -- ---- a page let go
 
@@ -315,3 +321,4 @@ unhold-ranked = rank-of unhold-member (λ s. refl) unhold-class (λ layout a sea
     (λ layout seat a b s t turn made goes. subst (λ (x : Unhold). unholds.cost x (words_at layout b) < unholds.cost s (words_at layout a)) (sym made.follows.0)
     (unhold-falls (words_at layout a) (words_at layout b) s made.step made.found made.planned))
     (λ layout seat a b s t turn made is quiet. absurd (both_ways true (sym is ∙ ap is_waits made.follows.1) refl))
+    (λ s. refl) (λ layout view s step fits is. (unholding.can layout view s step fits is).served)

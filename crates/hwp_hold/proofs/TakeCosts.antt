@@ -1,9 +1,10 @@
 -- The cost of a take falls.
-use Rattle.std.proofs.Common.{◌≡◌, ℕ, ◌+◌, ◌-◌, ◌/◌, ◌<◌, ◌≤◌, ◌==◌, nat_lt, Bool, true, false, not, cond, Some, None, length, slice_index, refl, sym, ap, ◌∙◌, subst, arith}
+use Rattle.std.proofs.Common.{◌≡◌, ℕ, ◌+◌, ◌-◌, ◌/◌, ◌<◌, ◌≤◌, ◌==◌, ◌⊎◌, inl, inr, nat_lt, Bool, true, false, not, cond, Some, None, length, slice_index, refl, sym, ap, ◌∙◌, subst, arith}
 use Rattle.std.proofs.lemmas.Bool.{both_ways, eqb-true, eqb-false, ne_eqb, ltb-false}
 use Rattle.std.proofs.lemmas.Option.{none-some, same_Some}
 use Rattle.hwp_geom.specs.declared.Frame.{Frame}
 use Rattle.hwp_geom.specs.declared.Layout.{Layout}
+use Rattle.hwp_words.specs.Frames.{is_poisoned}
 use Rattle.hwp_rule.specs.declared.Place.TheVariants as places
 use Rattle.hwp_rule.specs.declared.State.{State}
 use Rattle.hwp_rule.specs.declared.Step.{Step}
@@ -12,10 +13,11 @@ use Rattle.hwp_rule.specs.declared.View.{View}
 use Rattle.hwp_rule.specs.Rule.{Holds}
 use Rattle.hwp_rule.specs.Words.{Words, free_words, free_bit}
 use Rattle.hwp_rule.proofs.Lists.{same-number}
+use Rattle.hwp_step.specs.declared.Turn.{Turn}
 use Rattle.hwp_step.specs.declared.Turn.TheVariants.{Moved, Changed}
 use Rattle.hwp_step.specs.Boards.{view_of}
-use Rattle.hwp_step.specs.Ranks.{Member, member, IsRanked, is_waits, stale, words_at}
-use Rattle.hwp_step.proofs.Ranking.{words-after, rank-of}
+use Rattle.hwp_step.specs.Ranks.{Member, member, Made, CostFalls, HasFailed, IsRanked, is_waits, stale, words_at}
+use Rattle.hwp_step.proofs.Ranking.{words-after, retire-fails, failed, rank-failing}
 use Rattle.hwp_hold.specs.declared.take.Take.{Take}
 use Rattle.hwp_hold.specs.declared.take.TakeAt.{TakeAt}
 use Rattle.hwp_hold.specs.declared.take.TakeAt.TheVariants as take_at
@@ -23,6 +25,11 @@ use Rattle.hwp_hold.specs.Takes.{at_available, after_word, lowest_free, has_bit,
 use Rattle.hwp_hold.proofs.Freeing.{all_zero, frees-length, some-free, some-reserved, shown, lowest-shown, none-cleared, zero-on, not-zero, zero-past}
 use Rattle.hwp_hold.proofs.Making.{IsMet, words_then, is-met, read-met, words-stay}
 use Rattle.hwp_hold.proofs.Ranking.{stale-most}
+use Rattle.hwp_hold.proofs.Taking.{can}
+
+-- the step retires a frame
+abbrev pub Retires : Step → Type 0
+Retires step = (frame : Frame) × (Some (steps.Retire frame) ≡ Some step)
 
 -- the cost after a number of available frames that is still so
 number-cost : (w : Words) (found : ℕ) (none : Bool) → w.available ≡ found → cost_at (length w.frees) (cond none (take_at.Over None) (take_at.Reserve found)) w ≤ length w.frees + 5
@@ -119,7 +126,12 @@ module _ (layout : Layout) (a : State) (seat : ℕ) (view : View) (found : ℕ) 
           let small : n ≤ 4 = (few-words on.rule).1 in
           kept _ w (take_at.LoadFree (frame.0 / 64)) (3 + stale (free_bit w.frees frame.0 == 1) + stale (not (are_empty (frame.0 / 64) w))) none.1 (omega (arith, costly, small))
 
-  pub falls : (t : Take) (step : Step) → IsMet layout a seat view step found → Fits layout view t → plan t ≡ Some step → cost (next layout t found) (words_then layout a step found) < cost t (words_at layout a)
+  adopted-falls : (frame : Frame) (poisoned : Bool) (now : Words) → cost_at (length now.frees) (cond poisoned (take_at.Retire frame) (take_at.Over (Some frame))) now < 2
+  adopted-falls frame true now = omega arith
+  adopted-falls frame false now = omega arith
+
+  -- a turn lowers the cost, but for that in which a poisoned frame is retired
+  pub falls : (t : Take) (step : Step) → IsMet layout a seat view step found → Fits layout view t → plan t ≡ Some step → (cost (next layout t found) (words_then layout a step found) < cost t (words_at layout a)) ⊎ Retires step
   falls t step on fits is = which t.at fits.at is
     where
       at-step : (other : Step) → Some other ≡ Some step → (bound : ℕ) (x : TakeAt) → (IsMet layout a seat view other found → cost_at (length (words_then layout a other found).frees) x (words_then layout a other found) < bound)
@@ -127,12 +139,13 @@ module _ (layout : Layout) (a : State) (seat : ℕ) (view : View) (found : ℕ) 
       at-step other e bound x less = subst (λ (s : Step). cost_at (length (words_then layout a s found).frees) x (words_then layout a s found) < bound) (same_Some other step e)
           (less (subst (λ (s : Step). IsMet layout a seat view s found) (sym (same_Some other step e)) on))
 
-      which : (x : TakeAt) → FitsAt layout view t.who x → plan_at x ≡ Some step → cost_at (length (words_then layout a step found).frees) (next_at layout x found) (words_then layout a step found) < cost_at n x w
-      which take_at.LoadAvailable fit e = at-step (steps.Load places.Available) e _ _ available-falls
-      which (take_at.Reserve seen) fit e = at-step (steps.Reserve seen) e _ _ (reserve-falls seen fit.0)
-      which (take_at.LoadFree number) fit e = at-step (steps.Load (places.Free number)) e _ _ (scan-falls number fit.0 fit.1.0)
-      which (take_at.TakeBit frame) fit e = at-step (steps.TakeBit frame) e _ _ (bit-falls frame fit.0)
-      which (take_at.Adopt frame) fit e = omega arith
+      which : (x : TakeAt) → FitsAt layout view t.who x → plan_at x ≡ Some step → (cost_at (length (words_then layout a step found).frees) (next_at layout x found) (words_then layout a step found) < cost_at n x w) ⊎ Retires step
+      which take_at.LoadAvailable fit e = inl (at-step (steps.Load places.Available) e _ _ available-falls)
+      which (take_at.Reserve seen) fit e = inl (at-step (steps.Reserve seen) e _ _ (reserve-falls seen fit.0))
+      which (take_at.LoadFree number) fit e = inl (at-step (steps.Load (places.Free number)) e _ _ (scan-falls number fit.0 fit.1.0))
+      which (take_at.TakeBit frame) fit e = inl (at-step (steps.TakeBit frame) e _ _ (bit-falls frame fit.0))
+      which (take_at.Adopt frame) fit e = inl (adopted-falls frame (is_poisoned found) (words_then layout a step found))
+      which (take_at.Retire frame) fit e = inr (frame, e)
       which (take_at.Over frame) fit e = absurd (none-some step e)
 
 -- costs are small
@@ -151,6 +164,7 @@ small layout a t rule = which t.at
         let two : stale (not (are_empty (frame.0 / 64) (words_at layout a))) ≤ 4096 = stale-most (not (are_empty (frame.0 / 64) (words_at layout a))) in
         omega (arith, one, two)
     which (take_at.Adopt frame) = omega arith
+    which (take_at.Retire frame) = omega arith
     which (take_at.Over frame) = omega arith
 
 class-within : (t : Take) → (1 ≤ class t) × (class t ≤ 4)
@@ -162,6 +176,7 @@ class-within t = which t.at
     which (take_at.LoadFree number) = (omega arith, omega arith)
     which (take_at.TakeBit frame) = (omega arith, omega arith)
     which (take_at.Adopt frame) = (omega arith, omega arith)
+    which (take_at.Retire frame) = (omega arith, omega arith)
     which (take_at.Over None) = (omega arith, omega arith)
     which (take_at.Over (Some frame)) = (omega arith, omega arith)
 
@@ -179,13 +194,20 @@ goes-on t found = which t.at
     which (take_at.LoadFree number) = refl
     which (take_at.TakeBit frame) = by (has_bit frame found)
     which (take_at.Adopt frame) = refl
+    which (take_at.Retire frame) = refl
     which (take_at.Over frame) = refl
 
 abbrev take-member : Member Take
 take-member = member (λ t. t.who) plan (λ t. None) (λ t. t) (λ layout t found got after result. (after ≡ next layout t found) × (result ≡ turn t found)) Fits class cost (λ t. false) (λ t. None)
 
+module _ {layout : Layout} {seat : ℕ} {a b : State} {s t : Take} {turned : Turn} (made : Made take-member layout seat a b s t turned) where
+  lowers : (cost (next layout s made.found) (words_then layout a made.step made.found) < cost s (words_at layout a)) ⊎ Retires made.step → CostFalls take-member layout a b s t ⊎ HasFailed take-member layout a b s t
+  lowers (inl less) = inl (subst (λ (x : Take). cost x (words_at layout b) < cost s (words_at layout a)) (sym made.follows.0)
+      (subst (λ (w : Words). cost (next layout s made.found) w < cost s (words_at layout a)) (sym (words-after made)) less))
+  lowers (inr retires) = inr (failed (retire-fails made retires.0 retires.1) (let few : cost t (words_at layout b) ≤ 8204 = small layout b t made.kept in omega (arith, few)))
+
 pub ranked : IsRanked take-member
-ranked = rank-of take-member (λ s. refl) class-within (λ layout a seat s rule fits. let few : cost s (words_at layout a) ≤ 8204 = small layout a s rule in omega arith)
-    (λ layout seat a b s t turned made goes. subst (λ (x : Take). cost x (words_at layout b) < cost s (words_at layout a)) (sym made.follows.0)
-    (subst (λ (w : Words). cost (next layout s made.found) w < cost s (words_at layout a)) (sym (words-after made)) (falls layout a seat (view_of a seat) made.found s made.step (is-met made) made.fits made.planned)))
+ranked = rank-failing take-member (λ s. refl) class-within (λ layout a seat s rule fits. let few : cost s (words_at layout a) ≤ 8204 = small layout a s rule in omega arith)
+    (λ layout seat a b s t turned made goes. lowers made (falls layout a seat (view_of a seat) made.found s made.step (is-met made) made.fits made.planned))
     (λ layout seat a b s t turned made is quiet. absurd (both_ways true (sym is ∙ ap is_waits made.follows.1 ∙ goes-on s made.found) refl))
+    (λ s. refl) (λ layout view s step fits is. (can layout view s step fits is).served)

@@ -15,18 +15,22 @@ use Rattle.hwp_rule.specs.declared.State.{State}
 use Rattle.hwp_rule.specs.declared.Step.{Step}
 use Rattle.hwp_rule.specs.declared.Step.TheVariants as steps
 use Rattle.hwp_rule.specs.declared.View.{View}
-use Rattle.hwp_rule.specs.Asks.{HasInHand, HasRoom}
+use Rattle.hwp_rule.specs.Asks.{CanRetire, HasInHand, HasLock, HasRoom}
 use Rattle.hwp_rule.specs.Logs.{log_of}
-use Rattle.hwp_rule.specs.Rule.{Holds}
+use Rattle.hwp_rule.specs.Rule.{Holds, holdings_of}
 use Rattle.hwp_rule.specs.Slots.{IsIn, frame_slot}
 use Rattle.hwp_rule.specs.Lists.{SomeMember}
-use Rattle.hwp_rule.specs.Views.{lock_found, with_refs, without, is_hand_of}
+use Rattle.hwp_rule.specs.Views.{lock_found, refs_on, with_refs, less_refs, without, is_hand_of, is_lock_of}
 use Rattle.hwp_rule.specs.Views as views
-use Rattle.hwp_rule.specs.Words.{free_words, index}
+use Rattle.hwp_rule.specs.Words.{free_words, index, words_of}
 use Rattle.hwp_rule.specs.parts.Bodies.{IsAtHome, content_name}
 use Rattle.hwp_rule.specs.parts.Places.{IsBare}
-use Rattle.hwp_rule.proofs.Lists.{some-last}
-use Rattle.hwp_rule.proofs.Meeting.{unpoisoned, frame-word, hand-bare}
+use Rattle.hwp_rule.proofs.Lists.{at_map, same-number, some-last}
+use Rattle.hwp_rule.proofs.Meeting.{frame-word, hand-bare}
+use Rattle.hwp_rule.proofs.Moving.{shaped}
+use Rattle.hwp_rule.proofs.Refs.{length-less-all, refs-with}
+use Rattle.hwp_rule.proofs.Without.{length-without}
+use Rattle.hwp_rule.proofs.kinds.Adopt.{unreferenced}
 use Rattle.hwp_step.specs.declared.Turn.{Turn}
 use Rattle.hwp_step.specs.Calls.{CanMake, Steps, logs}
 use Rattle.hwp_step.specs.Hands.{Hand, hand_of}
@@ -36,7 +40,7 @@ use Rattle.hwp_known.proofs.Seeing.{saw-load, saw-reserve}
 use Rattle.hwp_hold.specs.declared.take.Take.{Take}
 use Rattle.hwp_hold.specs.declared.take.TakeAt.{TakeAt}
 use Rattle.hwp_hold.specs.declared.take.TakeAt.TheVariants as at
-use Rattle.hwp_hold.specs.Takes.{at_available, after_word, lowest_free, has_bit, plan, plan_at, next, next_at, turn, ShowsAt, Shows, HasLockRoom, Fits, FitsAt, new_lock, hand_next, hand_next_at}
+use Rattle.hwp_hold.specs.Takes.{at_adopted, at_available, after_word, lowest_free, has_bit, plan, plan_at, next, next_at, turn, ShowsAt, Shows, HasLockRoom, Fits, FitsAt, adopted_lock, hand_next, hand_next_at}
 use Rattle.hwp_hold.proofs.Freeing.{lowest-shown}
 
 pub can : (layout : Layout) (view : View) (t : Take) (step : Step) → Fits layout view t → plan t ≡ Some step → CanMake layout t.who step None view
@@ -48,6 +52,7 @@ can layout view t step fits is = which t.at fits.at is
     which (at.LoadFree number) at e = can-make fits.on_turn e tt at.0 tt
     which (at.TakeBit frame) at e = can-make fits.on_turn e tt (let inside : frame.0 < layout.frames = at.0 in omega arith) (at.0, at.1.0)
     which (at.Adopt frame) at e = can-make fits.on_turn e tt at.0 (at.1.0, at.1.1)
+    which (at.Retire frame) at e = can-make fits.on_turn e tt at.0 at.1.0
     which (at.Over frame) at e = absurd (none-some step e)
 
 -- room is read of what is held
@@ -88,8 +93,8 @@ hand-empty layout s h seat view frame found content me has inside met there = no
 
 module _ {layout : Layout} {old new : View} {step : Step} {found : ℕ} {got : Option BodyValue} (t : Take) (is : plan t ≡ Some step) (made : Steps layout t.who step None old new found got) where
   -- the lock of a frame that was in hand
-  lock-bare : (frame : Frame) → Some (steps.Adopt frame) ≡ Some step → FitsAt layout old t.who (at.Adopt frame) → (is_poisoned found ≡ false) × (lock_found frame found ≡ new_lock frame)
-  lock-bare frame e at = (clean, λ i. record { frame = frame; owner = bare.unowned i; handled = unhandled i; poisoned = clean i })
+  lock-bare : (frame : Frame) → Some (steps.Adopt frame) ≡ Some step → FitsAt layout old t.who (at.Adopt frame) → lock_found frame found ≡ adopted_lock frame (is_poisoned found)
+  lock-bare frame e at i = record { frame = frame; owner = bare.unowned i; handled = unhandled i; poisoned = is_poisoned found }
     where
       own : Steps layout t.who (steps.Adopt frame) None old new found got
       own = steps-planned e made
@@ -99,9 +104,6 @@ module _ {layout : Layout} {old new : View} {step : Step} {found : ℕ} {got : O
 
       unhandled : is_handled found ≡ false
       unhandled = ap (λ (n : ℕ). n == 1) bare.unhandled
-
-      clean : is_poisoned found ≡ false
-      clean = unpoisoned layout own.told.board own.told.rule frame found at.0 own.told.met
 
   -- no step brings a body: the slot of a frame that was in hand is empty
   brings-none : (x : TakeAt) → plan_at x ≡ Some step → FitsAt layout old t.who x → got ≡ None
@@ -113,6 +115,7 @@ module _ {layout : Layout} {old new : View} {step : Step} {found : ℕ} {got : O
     where
       own : Steps layout t.who (steps.Adopt frame) None old new found got
       own = steps-planned e made
+  brings-none (at.Retire frame) e at = (steps-planned e made).brings.none refl
   brings-none (at.Over frame) e at = absurd (none-some step e)
 
   -- what a step leaves of what is held
@@ -125,8 +128,62 @@ module _ {layout : Layout} {old new : View} {step : Step} {found : ℕ} {got : O
       which (at.LoadFree number) e at = hand-planned made e has
       which (at.TakeBit frame) e at = hand-planned made e has
       which (at.Adopt frame) e at = hand-planned made e has
-          ∙ ap (λ (l : FrameLock). record h { hands = without (is_hand_of frame) h.hands; refs = with_refs frame 1 h.refs; locks = h.locks ++ l ∷ [] }) (lock-bare frame e at).1
+          ∙ ap (λ (l : FrameLock). record h { hands = without (is_hand_of frame) h.hands; refs = with_refs frame 1 h.refs; locks = h.locks ++ l ∷ [] }) (lock-bare frame e at)
+      which (at.Retire frame) e at = hand-planned made e has
       which (at.Over frame) e at = absurd (none-some step e)
+
+  -- a frame that was in hand has one reference once it is adopted
+  one-reference : (frame : Frame) → Some (steps.Adopt frame) ≡ Some step → FitsAt layout old t.who (at.Adopt frame) → refs_on frame.0 (with_refs frame 1 old.refs) ≡ 1
+  one-reference frame e at = refs-with frame 1 old.refs ∙ ap (λ (n : ℕ). n + 1)
+      (unreferenced layout (words_of layout own.told.board.words) own.told.board.homes own.told.board.views own.told.seat old own.told.me own.told.rule.rule frame at.0 (shaped layout own.told.board own.told.rule) at.1.0)
+    where
+      own : Steps layout t.who (steps.Adopt frame) None old new found got
+      own = steps-planned e made
+
+  -- and where it is poisoned it can be retired
+  adopted : (frame : Frame) → Some (steps.Adopt frame) ≡ Some step → FitsAt layout old t.who (at.Adopt frame) → hand_of new ≡ hand_next_at (at.Adopt frame) found (hand_of old) → FitsAt layout new t.who (at_adopted frame found)
+  adopted frame e fit hand = by (is_poisoned found) refl
+    where
+      by : (b : Bool) → is_poisoned found ≡ b → FitsAt layout new t.who (cond b (at.Retire frame) (at.Over (Some frame)))
+      by true poisoned = (fit.0, (retires, ap (λ (h : Hand). refs_on frame.0 h.refs) hand ∙ one-reference frame e fit))
+        where
+          retires : CanRetire new frame None
+          retires = record {
+            has = record {
+              lock = adopted_lock frame true;
+              listed = subst (λ (h : Hand). SomeMember (λ (l : FrameLock). l ≡ adopted_lock frame true) h.locks) (sym hand)
+                  (some-last (λ (l : FrameLock). l ≡ adopted_lock frame true) old.locks (adopted_lock frame (is_poisoned found)) (ap (adopted_lock frame) poisoned));
+              frame_is = refl;
+            };
+            unowned = refl;
+            unhandled = refl;
+            poisoned = refl;
+            empty = refl;
+          }
+      by false clean = fit.0
+
+  -- once it is, there is room for another one
+  retired : (frame : Frame) → FitsAt layout old t.who (at.Retire frame) → hand_of new ≡ hand_next_at (at.Retire frame) found (hand_of old) → HasRoom new × HasLockRoom new
+  retired frame fit hand = (subst RoomIn (sym hand) room, subst LockRoomIn (sym hand) lock-room)
+    where
+      has : HasLock old frame
+      has = fit.1.0.has
+
+      room : RoomIn (hand_next_at (at.Retire frame) found (hand_of old))
+      room =
+          let few : old.reserved + length old.hands + length old.refs ≤ 2 =
+          (made.told.rule.rule.frames.holdings.bounded made.told.seat (holdings_of old) (at_map holdings_of made.told.board.views made.told.seat old made.told.me)).few in
+          let one : length (less_refs frame 1 old.refs) + 1 ≤ length old.refs = length-less-all frame 1 old.refs (omega arith) fit.1.1 in
+          omega (arith, few, one)
+
+      of-frame : is_lock_of frame has.listed.1 ≡ true
+      of-frame = ap (λ (l : FrameLock). is_lock_of frame l) has.listed.3 ∙ same-number has.lock.frame.0 frame.0 (ap (λ (f : Frame). f.0) has.frame_is)
+
+      lock-room : LockRoomIn (hand_next_at (at.Retire frame) found (hand_of old))
+      lock-room =
+          let few : length old.locks ≤ 2 = made.told.rule.rule.pages.page_locks.frames_twice made.told.seat old.locks (at_map (λ (v : View). v.locks) made.told.board.views made.told.seat old made.told.me) in
+          let one : length (without (is_lock_of frame) old.locks) + 1 ≡ length old.locks = length-without (is_lock_of frame) old.locks has.listed.0 has.listed.1 has.listed.2 of-frame in
+          omega (arith, few, one)
 
   moved : (x : TakeAt) → plan_at x ≡ Some step → FitsAt layout old t.who x → hand_of new ≡ hand_next_at x found (hand_of old) → ShowsAt x found × FitsAt layout new t.who (next_at layout x found)
   moved at.LoadAvailable e fit hand = (tt, number-shown layout new t.who found (found == 0) refl (saw-load (steps-planned e made)) (same-room old new hand fit))
@@ -165,7 +222,8 @@ module _ {layout : Layout} {old new : View} {step : Step} {found : ℕ} {got : O
           let inside : frame.0 < layout.frames = fit.0 in
           let within : frame.0 / 64 < free_words layout = omega arith in
           (within, (subst (λ (h : Hand). 0 < h.reserved) (sym hand) fit.1.0, subst LockRoomIn (sym hand) fit.1.1))
-  moved (at.Adopt frame) e fit hand = ((lock-bare frame e fit).0, fit.0)
+  moved (at.Adopt frame) e fit hand = (tt, adopted frame e fit hand)
+  moved (at.Retire frame) e fit hand = (tt, retired frame fit hand)
   moved (at.Over frame) e fit hand = absurd (none-some step e)
 
 -- a step shows what is needed, and what follows fits again

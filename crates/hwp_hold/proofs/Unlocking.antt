@@ -217,3 +217,4 @@ unlock-ranked = rank-of unlock-member (λ s. refl) unlock-class (λ layout a sea
     (λ layout seat a b s t turn made goes. subst (λ (x : Unlock). cost x (words_at layout b) < cost s (words_at layout a)) (sym made.follows.0)
     (unlock-falls (words_at layout a) (words_at layout b) s made.step made.found made.planned))
     (λ layout seat a b s t turn made is quiet. absurd (both_ways true (sym is ∙ ap is_waits made.follows.1) refl))
+    (λ s. refl) (λ layout view s step fits is. (can layout view s step fits is).served)

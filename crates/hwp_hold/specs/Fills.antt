@@ -33,7 +33,7 @@ use Rattle.hwp_hold.specs.declared.take.TakeAt.TheVariants as take_at
 use Rattle.hwp_hold.specs.Holds.{locked, one_ref, IsBodyOf, HoldsPage}
 use Rattle.hwp_hold.specs.Refers as refers
 use Rattle.hwp_hold.specs.Takes as takes
-use Rattle.hwp_hold.specs.Takes.{new_lock}
+use Rattle.hwp_hold.specs.Takes.{adopted_lock, new_lock}
 use Rattle.hwp_hold.specs.Unholds.{HoldsAhead}
 
 abbrev pub begin : Who → Page → BodyValue → Fill
@@ -121,6 +121,7 @@ abbrev pub with_take : TakeAt → Hand → Hand
 with_take (take_at.LoadFree number) h = record h { reserved = 1 }
 with_take (take_at.TakeBit frame) h = record h { reserved = 1 }
 with_take (take_at.Adopt frame) h = record h { hands = unpoisoned frame ∷ [] }
+with_take (take_at.Retire frame) h = record h { locks = adopted_lock frame true ∷ []; refs = one_ref frame }
 with_take (take_at.Over (Some frame)) h = record h { locks = new_lock frame ∷ []; refs = one_ref frame }
 with_take _ h = h
 

@@ -12,9 +12,9 @@ use Rattle.hwp_rule.specs.declared.Place.TheVariants as places
 use Rattle.hwp_rule.specs.declared.Step.{Step}
 use Rattle.hwp_rule.specs.declared.Step.TheVariants as steps
 use Rattle.hwp_rule.specs.declared.View.{View}
-use Rattle.hwp_rule.specs.Asks.{HasInHand, HasRoom}
+use Rattle.hwp_rule.specs.Asks.{CanRetire, HasInHand, HasRoom}
 use Rattle.hwp_rule.specs.Steps.{goes}
-use Rattle.hwp_rule.specs.Views.{with_refs, without, is_hand_of, unpoisoned}
+use Rattle.hwp_rule.specs.Views.{with_refs, less_refs, refs_on, without, is_hand_of, is_lock_of, unpoisoned}
 use Rattle.hwp_rule.specs.Words.{Words, free_words, free_bit}
 use Rattle.hwp_step.specs.declared.Turn.{Turn}
 use Rattle.hwp_step.specs.declared.Turn.TheVariants.{Moved, Changed}
@@ -44,6 +44,10 @@ lowest_free number word = record { 0 = number * 64 + trailing_zeros w64 word }
 abbrev pub at_free : Layout → ℕ → ℕ → TakeAt
 at_free layout number word = cond (word == 0) (at.LoadFree (after_word layout number)) (at.TakeBit (lowest_free number word))
 
+-- what is to be done about an adopted frame whose word was this: a poisoned one goes out of use, and another one is looked for
+abbrev pub at_adopted : Frame → ℕ → TakeAt
+at_adopted frame word = cond (is_poisoned word) (at.Retire frame) (at.Over (Some frame))
+
 -- the free word has the frame's bit
 abbrev pub has_bit : Frame → ℕ → Bool
 has_bit frame word = goes (steps.TakeBit frame) word
@@ -57,6 +61,7 @@ plan_at (at.Reserve seen) = Some (steps.Reserve seen)
 plan_at (at.LoadFree number) = Some (steps.Load (places.Free number))
 plan_at (at.TakeBit frame) = Some (steps.TakeBit frame)
 plan_at (at.Adopt frame) = Some (steps.Adopt frame)
+plan_at (at.Retire frame) = Some (steps.Retire frame)
 plan_at (at.Over frame) = None
 
 abbrev pub plan : Take → Option Step
@@ -67,7 +72,8 @@ next_at layout at.LoadAvailable found = at_available found
 next_at layout (at.Reserve seen) found = cond (found == seen) (at.LoadFree 0) (at_available found)
 next_at layout (at.LoadFree number) found = at_free layout number found
 next_at layout (at.TakeBit frame) found = cond (has_bit frame found) (at.Adopt frame) (at.LoadFree (frame.0 / 64))
-next_at layout (at.Adopt frame) found = at.Over (Some frame)
+next_at layout (at.Adopt frame) found = at_adopted frame found
+next_at layout (at.Retire frame) found = at.LoadAvailable
 next_at layout (at.Over frame) found = at.Over frame
 
 abbrev pub next : Layout → Take → ℕ → Take
@@ -81,10 +87,9 @@ turn_at _ found = Moved
 abbrev pub turn : Take → ℕ → Turn
 turn t found = turn_at t.at found
 
--- a free word is one of the 2^10 that any layout has at most, and a frame in hand has no poison; no step brings a body
+-- a free word is one of the 2^10 that any layout has at most; no step brings a body
 abbrev pub ShowsAt : TakeAt → ℕ → Type 0
 ShowsAt (at.LoadFree number) found = number < 2 ^ 10
-ShowsAt (at.Adopt frame) found = is_poisoned found ≡ false
 ShowsAt _ found = Unit {0}
 
 abbrev pub Shows : Take → ℕ → Option BodyValue → Type 0
@@ -111,25 +116,31 @@ FitsAt layout view who (at.Reserve seen) = (0 < seen) × (HasRoom view × HasLoc
 FitsAt layout view who (at.LoadFree number) = (number < free_words layout) × ((0 < view.reserved) × HasLockRoom view)
 FitsAt layout view who (at.TakeBit frame) = (frame.0 < layout.frames) × ((0 < view.reserved) × HasLockRoom view)
 FitsAt layout view who (at.Adopt frame) = (frame.0 < layout.frames) × (HasInHand view frame × HasLockRoom view)
+FitsAt layout view who (at.Retire frame) = (frame.0 < layout.frames) × (CanRetire view frame None × (refs_on frame.0 view.refs ≡ 1))
 FitsAt layout view who (at.Over None) = Saw view who places.Available 0
 FitsAt layout view who (at.Over (Some frame)) = frame.0 < layout.frames
 
--- there is room for the frame until it is reserved, and for its lock until it is locked; where none is taken, the command saw
--- that none was available
+-- there is room for the frame until it is reserved, and for its lock until it is locked; a poisoned frame has one reference, which
+-- goes as it is retired; where none is taken, the command saw that none was available
 pub record Fits (layout : Layout) (view : View) (t : Take) : Type 0 where
   pub on_turn : IsOnTurn view t.who
   pub at : FitsAt layout view t.who t.at
 
--- the lock of a frame just taken: it has no owner, and is neither handled nor poisoned
-abbrev pub new_lock : Frame → FrameLock
-new_lock frame = record { frame = frame; owner = 0; handled = false; poisoned = false }
+-- the lock of a frame just adopted: it has no owner, and isn't handled
+abbrev pub adopted_lock : Frame → Bool → FrameLock
+adopted_lock frame poisoned = record { frame = frame; owner = 0; handled = false; poisoned = poisoned }
 
--- what is held after a step: a reservation, then the frame in hand, then its lock and one reference
+-- that of a frame just taken isn't poisoned
+abbrev pub new_lock : Frame → FrameLock
+new_lock frame = adopted_lock frame false
+
+-- what is held after a step: a reservation, then the frame in hand, then its lock and one reference, which a poisoned frame loses
 abbrev pub hand_next_at : TakeAt → ℕ → Hand → Hand
 hand_next_at (at.Reserve seen) found h = cond (found == seen) (record h { reserved = h.reserved + 1 }) h
 hand_next_at (at.TakeBit frame) found h = cond (has_bit frame found) (record h { reserved = h.reserved - 1; hands = h.hands ++ unpoisoned frame ∷ [] }) h
 hand_next_at (at.Adopt frame) found h =
-    record h { hands = without (is_hand_of frame) h.hands; refs = with_refs frame 1 h.refs; locks = h.locks ++ new_lock frame ∷ [] }
+    record h { hands = without (is_hand_of frame) h.hands; refs = with_refs frame 1 h.refs; locks = h.locks ++ adopted_lock frame (is_poisoned found) ∷ [] }
+hand_next_at (at.Retire frame) found h = record h { locks = without (is_lock_of frame) h.locks; refs = less_refs frame 1 h.refs }
 hand_next_at _ found h = h
 
 abbrev pub hand_next : Take → ℕ → Hand → Hand
@@ -155,6 +166,7 @@ cost_at n (at.Reserve seen) words = n + 5 + stale (words.available == seen)
 cost_at n (at.LoadFree number) words = n - number + 3 + stale (not (are_empty number words))
 cost_at n (at.TakeBit frame) words = 3 + stale (free_bit words.frees frame.0 == 1) + stale (not (are_empty (frame.0 / 64) words))
 cost_at n (at.Adopt frame) words = 2
+cost_at n (at.Retire frame) words = 1
 cost_at n (at.Over frame) words = 0
 
 abbrev pub cost : Take → Words → ℕ

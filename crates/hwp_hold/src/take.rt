@@ -6,8 +6,8 @@ use hwp_rule::{Place, Step};
 use hwp_step::{Machine, Ranked, Turn};
 use hwp_words::{FrameWord, FreeWord};
 
-/// Takes a free frame, the lowest that it is shown: it then has one reference, and the processor has its lock (Linux
-/// alloc_page).
+/// Takes a free frame, the lowest that it is shown: it then has one reference, and the processor has its lock. A poisoned one
+/// is retired, and another one looked for (Linux alloc_page).
 #[derive(Clone, Copy, Debug, PartialEq, Eq)]
 pub struct Take {
     who: Who,
@@ -21,6 +21,7 @@ enum TakeAt {
     LoadFree { number: u32 },
     TakeBit { frame: Frame },
     Adopt { frame: Frame },
+    Retire { frame: Frame },
     Over { frame: Option<Frame> },
 }
 
@@ -36,7 +37,7 @@ pub enum TakeAnswer {
 impl Take {
     ghost use Rattle.hwp_rule.specs.Steps.{goes};
     ghost use Rattle.hwp_rule.specs.declared.Step.TheVariants.{TakeBit};
-    ghost use Rattle.hwp_hold.specs.Takes.{begin, plan, answer, at_available, at_free, after_word, has_bit};
+    ghost use Rattle.hwp_hold.specs.Takes.{begin, plan, answer, at_available, at_adopted, at_free, after_word, has_bit};
 
     /// The command takes a free frame.
     pub fn new(who: Who) -> Take
@@ -60,7 +61,8 @@ impl Take {
             | TakeAt::Reserve { .. }
             | TakeAt::LoadFree { .. }
             | TakeAt::TakeBit { .. }
-            | TakeAt::Adopt { .. } => None,
+            | TakeAt::Adopt { .. }
+            | TakeAt::Retire { .. } => None,
         }
     }
 
@@ -93,6 +95,16 @@ impl Take {
             None => TakeAt::LoadFree {
                 number: Take::after_word(layout, number),
             },
+        }
+    }
+
+    fn at_adopted(frame: Frame, word: u64) -> TakeAt
+        ensures { result ≡ at_adopted frame word }
+    {
+        if FrameWord::unpack(word).poisoned {
+            TakeAt::Retire { frame }
+        } else {
+            TakeAt::Over { frame: Some(frame) }
         }
     }
 }
@@ -139,6 +151,7 @@ impl Machine for Take {
             }),
             TakeAt::TakeBit { frame } => Some(Step::TakeBit { frame }),
             TakeAt::Adopt { frame } => Some(Step::Adopt { frame }),
+            TakeAt::Retire { frame } => Some(Step::Retire { frame }),
             TakeAt::Over { .. } => None,
         }
     }
@@ -178,10 +191,11 @@ impl Machine for Take {
                 }
             }
             TakeAt::Adopt { frame } => {
-                if FrameWord::unpack(found).poisoned {
-                    unreachable!()
-                }
-                self.at = TakeAt::Over { frame: Some(frame) };
+                self.at = Take::at_adopted(frame, found);
+                Turn::Moved
+            }
+            TakeAt::Retire { .. } => {
+                self.at = TakeAt::LoadAvailable;
                 Turn::Moved
             }
             TakeAt::Over { .. } => Turn::Moved,
@@ -207,6 +221,7 @@ impl Ranked for Take {
             TakeAt::LoadFree { .. }
             | TakeAt::TakeBit { .. }
             | TakeAt::Adopt { .. }
+            | TakeAt::Retire { .. }
             | TakeAt::Over { frame: Some(_) } => 1,
         }
     }

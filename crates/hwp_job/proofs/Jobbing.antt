@@ -1,5 +1,5 @@
 -- A command as one task keeps the laws that the task of its kind keeps.
-use Rattle.std.proofs.Common.{◌≡◌, ◌≢◌, ℕ, ◌<◌, ◌≤◌, ◌⊎◌, inl, inr, true, false, Option, Some, None, refl, sym, ap, ◌∙◌, subst, arith}
+use Rattle.std.proofs.Common.{◌≡◌, ◌≢◌, ℕ, ◌+◌, ◌<◌, ◌≤◌, ◌⊎◌, inl, inr, true, false, Option, Some, None, refl, sym, ap, ◌∙◌, subst, arith}
 use Rattle.std.proofs.lemmas.Bool.{both_ways}
 use Rattle.std.proofs.lemmas.Option.{none-some}
 use Rattle.hwp_geom.specs.declared.Layout.{Layout}
@@ -13,8 +13,8 @@ use Rattle.hwp_step.specs.declared.Turn.{Turn}
 use Rattle.hwp_step.specs.Boards.{view_of}
 use Rattle.hwp_step.specs.Calls.{CanMake, Steps, logs}
 use Rattle.hwp_step.specs.Classes.{TellsClass}
-use Rattle.hwp_step.specs.Ranks.{Member, member, Made, CostFalls, HasFrame, HasPage, IsRanked, OtherHand, Quiet, is_waits, top, words_at}
-use Rattle.hwp_step.proofs.Ranking.{rank-of}
+use Rattle.hwp_step.specs.Ranks.{Member, member, Made, CostFalls, HasFailed, HasFrame, HasPage, IsRanked, OtherHand, Quiet, failure_weight, is_waits, top, words_at}
+use Rattle.hwp_step.proofs.Ranking.{rank-failing}
 use Rattle.hwp_control.specs.declared.Nested.{Nested}
 use Rattle.hwp_control.specs.declared.Prctl.{Prctl}
 use Rattle.hwp_control.specs.declared.ReadStop.{ReadStop}
@@ -145,17 +145,27 @@ module _ {S : Type 0} (m : Member S) (of : S → Job) (same : (s : S) (w : Words
       subst (λ (u : Job). cost u (words_at layout b) < cost (of s) (words_at layout a)) (sym made.after_is)
       (subst (λ (n : ℕ). n < cost (of s) (words_at layout a)) (sym (same made.after (words_at layout b))) (subst (λ (n : ℕ). m.cost made.after (words_at layout b) < n) (sym (same s (words_at layout a))) less))
 
+  lowers-so : (made : IsTurnOf m of layout seat a b s t turn) → CostFalls m layout a b s made.after ⊎ HasFailed m layout a b s made.after → CostFalls job-member layout a b (of s) t ⊎ HasFailed job-member layout a b (of s) t
+  lowers-so made (inl less) = inl (falls-so made less)
+  lowers-so made (inr fails) = inr (record { fewer = fails.fewer; bounded = bounded })
+    where
+      bounded : cost t (words_at layout b) < cost (of s) (words_at layout a) + failure_weight
+      bounded = subst (λ (u : Job). cost u (words_at layout b) < cost (of s) (words_at layout a) + failure_weight) (sym made.after_is)
+          (let now : cost (of made.after) (words_at layout b) ≡ m.cost made.after (words_at layout b) = same made.after (words_at layout b) in
+          let was : cost (of s) (words_at layout a) ≡ m.cost s (words_at layout a) = same s (words_at layout a) in
+          omega (arith, fails.bounded, now, was))
+
   waits-so : (made : IsTurnOf m of layout seat a b s t turn) → CostFalls m layout a b s made.after ⊎ ((false ≡ true) × OtherHand a seat) → cost t (words_at layout b) < cost (of s) (words_at layout a)
   waits-so made (inl less) = falls-so made less
   waits-so made (inr never) = absurd (both_ways true (sym never.0) refl)
 
-falls : (layout : Layout) (seat : ℕ) (a b : State) (s t : Job) (turn : Turn) → Made job-member layout seat a b s t turn → is_waits turn ≡ false → CostFalls job-member layout a b s t
-falls layout seat a b (jobs.Access x) t turn made goes = let m = of-access made in falls-so access-member jobs.Access (λ s w. refl) m (access-ranked.falls layout seat a b x m.after turn m.made goes)
-falls layout seat a b (jobs.Evict x) t turn made goes = let m = of-evict made in falls-so evict-member jobs.Evict (λ s w. refl) m (evict-ranked.falls layout seat a b x m.after turn m.made goes)
-falls layout seat a b (jobs.Fsync x) t turn made goes = let m = of-fsync made in falls-so fsync-member jobs.Fsync (λ s w. refl) m (fsync-ranked.falls layout seat a b x m.after turn m.made goes)
-falls layout seat a b (jobs.Prctl x) t turn made goes = let m = of-prctl made in falls-so calling.the-member jobs.Prctl (λ s w. refl) m (calling.ranked.falls layout seat a b x m.after turn m.made goes)
-falls layout seat a b (jobs.ReadStop x) t turn made goes = let m = of-read-stop made in falls-so reading.the-member jobs.ReadStop (λ s w. refl) m (reading.ranked.falls layout seat a b x m.after turn m.made goes)
-falls layout seat a b (jobs.Nested x) t turn made goes = let m = of-nested made in falls-so nesting.the-member jobs.Nested (λ s w. refl) m (nesting.ranked.falls layout seat a b x m.after turn m.made goes)
+falls : (layout : Layout) (seat : ℕ) (a b : State) (s t : Job) (turn : Turn) → Made job-member layout seat a b s t turn → is_waits turn ≡ false → CostFalls job-member layout a b s t ⊎ HasFailed job-member layout a b s t
+falls layout seat a b (jobs.Access x) t turn made goes = let m = of-access made in lowers-so access-member jobs.Access (λ s w. refl) m (access-ranked.falls layout seat a b x m.after turn m.made goes)
+falls layout seat a b (jobs.Evict x) t turn made goes = let m = of-evict made in lowers-so evict-member jobs.Evict (λ s w. refl) m (evict-ranked.falls layout seat a b x m.after turn m.made goes)
+falls layout seat a b (jobs.Fsync x) t turn made goes = let m = of-fsync made in lowers-so fsync-member jobs.Fsync (λ s w. refl) m (fsync-ranked.falls layout seat a b x m.after turn m.made goes)
+falls layout seat a b (jobs.Prctl x) t turn made goes = let m = of-prctl made in lowers-so calling.the-member jobs.Prctl (λ s w. refl) m (calling.ranked.falls layout seat a b x m.after turn m.made goes)
+falls layout seat a b (jobs.ReadStop x) t turn made goes = let m = of-read-stop made in lowers-so reading.the-member jobs.ReadStop (λ s w. refl) m (reading.ranked.falls layout seat a b x m.after turn m.made goes)
+falls layout seat a b (jobs.Nested x) t turn made goes = let m = of-nested made in lowers-so nesting.the-member jobs.Nested (λ s w. refl) m (nesting.ranked.falls layout seat a b x m.after turn m.made goes)
 
 waits : (layout : Layout) (seat : ℕ) (a b : State) (s t : Job) (turn : Turn) → Made job-member layout seat a b s t turn → is_waits turn ≡ true → Quiet (class s) layout a seat → CostFalls job-member layout a b s t
 waits layout seat a b (jobs.Access x) t turn made is quiet = let m = of-access made in waits-so access-member jobs.Access (λ s w. refl) m (access-ranked.waits layout seat a b x m.after turn m.made is quiet)
@@ -182,7 +192,7 @@ small layout a seat (jobs.ReadStop x) rule fits = reading.ranked.small layout a 
 small layout a seat (jobs.Nested x) rule fits = nesting.ranked.small layout a seat x rule fits
 
 pub ranked : IsRanked job-member
-ranked = rank-of job-member (λ j. refl) classes small falls waits
+ranked = rank-failing job-member (λ j. refl) classes small falls waits (λ j. refl) (λ layout view j step fits is. (can layout view j step fits is).served)
 
 -- ---- what the class tells
 

@@ -162,6 +162,7 @@ take (take_at.Reserve seen) = tt
 take (take_at.LoadFree number) = tt
 take (take_at.TakeBit frame) = tt
 take (take_at.Adopt frame) = tt
+take (take_at.Retire frame) = tt
 take (take_at.Over frame) = tt
 
 unlock : (x : UnlockAt) → PlansQuiet (unlocks.plan_at x)

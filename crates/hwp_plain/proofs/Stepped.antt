@@ -13,7 +13,7 @@ use Rattle.hwp_rule.specs.declared.Rec.{Rec}
 use Rattle.hwp_rule.specs.declared.SlotMove.{SlotMove}
 use Rattle.hwp_rule.specs.declared.State.{State}
 use Rattle.hwp_rule.specs.declared.Step.{Step}
-use Rattle.hwp_rule.specs.declared.Step.TheVariants as steps
+use Rattle.hwp_rule.specs.declared.Step.TheVariants as variants
 use Rattle.hwp_rule.specs.declared.View.{View}
 use Rattle.hwp_rule.specs.Asks.{AsksOf}
 use Rattle.hwp_rule.specs.Logs.{log_of}
@@ -25,7 +25,7 @@ use Rattle.hwp_rule.specs.Unfailed.{BringsNoFailure}
 use Rattle.hwp_rule.specs.Views.{view_after}
 use Rattle.hwp_rule.specs.Words.{index, size, IsPlace}
 use Rattle.hwp_rule.proofs.Moving.{holds-moved}
-use Rattle.hwp_rule.proofs.Served.{keeps-served}
+use Rattle.hwp_rule.proofs.Served.{keeps}
 use Rattle.hwp_geom.specs.declared.Kind.{Kind}
 use Rattle.hwp_step.specs.declared.Turn.{Turn}
 use Rattle.hwp_step.specs.declared.Turn.TheVariants as turns
@@ -50,8 +50,8 @@ asks-content layout who step found got put v true is asks = asks-taken layout wh
 asks-content layout who step found got put v false is asks = asks
 
 brings-content : (layout : Layout) (step : Step) (found : ℕ) (got put : Option Log) (v : View) → BringsNoFailure step put v → BringsNoFailure step (cond (takes layout step found) got put) v
-brings-content layout (steps.UnlockFrame frame) found got put v sound = sound
-brings-content layout (steps.UnlockPage page) found got put v sound = sound
+brings-content layout (variants.UnlockFrame frame) found got put v sound = sound
+brings-content layout (variants.UnlockPage page) found got put v sound = sound
 brings-content layout step found got put v sound = tt
 
 module _ (layout : Layout) (words : List ℕ) (slots : List Slot) (trail : Trail) (seat : ℕ) (kept : IsBoard layout words slots trail seat)
@@ -111,9 +111,10 @@ module _ (layout : Layout) (words : List ℕ) (slots : List Slot) (trail : Trail
       }
 
       pub reached : (turn : Turn) → IsReached layout (logged seat r turn (played trail)) b
+      unfolding move
       reached turn = record {
         run = (a, kept.reached.run, move);
-        holds = holds-moved layout seat r a b (keeps-served step can.served) can.served kept.reached.holds move
+        holds = holds-moved layout seat r a b (keeps step) can.served kept.reached.holds move
             (brings-content layout step found (logs got) (logs put) view can.sound);
       }
 

@@ -16,8 +16,8 @@ use Rattle.hwp_rule.proofs.Moving.{shaped}
 use Rattle.hwp_step.specs.declared.Turn.{Turn}
 use Rattle.hwp_step.specs.Boards.{view_of}
 use Rattle.hwp_step.specs.Calls.{logs, rec_of}
-use Rattle.hwp_step.specs.Ranks.{Member, member, Made, CostFalls, IsRanked, OtherHand, Quiet, is_waits, top, words_at}
-use Rattle.hwp_step.proofs.Ranking.{rank-of}
+use Rattle.hwp_step.specs.Ranks.{Member, member, Made, CostFalls, HasFailed, IsRanked, OtherHand, Quiet, failure_weight, failures_left, is_waits, top, words_at}
+use Rattle.hwp_step.proofs.Ranking.{rank-failing}
 use Rattle.hwp_control.proofs.Calling as calling
 use Rattle.hwp_control.proofs.Nesting as nesting
 use Rattle.hwp_control.proofs.Reading as reading
@@ -31,6 +31,7 @@ use Rattle.hwp_job.proofs.Jobbing as jobbing
 use Rattle.hwp_processor.specs.declared.processor.Processor.{Processor}
 use Rattle.hwp_processor.specs.Processors.{Follows, IsAnswered, Next, NextOf, bare, class, class_of, cost, cost_of, plan, plan_of, put, put_of, who, who_of}
 use Rattle.hwp_processor.specs.Serving.{Fits, FitsAt, IsRunning}
+use Rattle.hwp_processor.proofs.Settling as settling
 
 abbrev pub the-member : Member Processor
 the-member = member who plan put bare Next Fits class cost (λ p. false) (λ p. None)
@@ -62,6 +63,10 @@ module _ {layout : Layout} {seat : ℕ} {a b : State} {p q : Processor} {turn : 
   abbrev rows : List CpuLine
   rows = p.lines.items
 
+  -- the cost falls below this one, or exceeds it by less than a failure weighs, of which one fewer is left
+  abbrev Lowers : ℕ → Type 0
+  Lowers before = (cost q (words_at layout b) < before) ⊎ ((failures_left (words_at layout b) < failures_left (words_at layout a)) × (cost q (words_at layout b) < before + failure_weight))
+
   -- what is left where the command that ran was answered
   answered-falls : (j : Job) (answer : Answer) → IsRunning layout (view_of a seat) p.cpu p.commands rows j → IsAnswered (bare p) answer q → cost q (words_at layout b) < 32768 * (length p.commands - length rows)
   answered-falls j answer at answered =
@@ -78,11 +83,12 @@ module _ {layout : Layout} {seat : ℕ} {a b : State} {p q : Processor} {turn : 
     of-job k t next = record { step = made.step; found = made.found; got = made.got; rule = made.rule; kept = made.kept; fits = at.fits; planned = planned; move = move; brings = made.brings; follows = next }
 
     falls-on : (k : Job) (t : Turn) → jobs.Next layout (jobs.bare j) made.found made.got k t → (o : Option Answer) → Follows (bare p) k o t q turn → is_waits turn ≡ false
-        → cost q (words_at layout b) < 32768 * (length p.commands - length rows) + jobs.cost j (words_at layout a)
-    falls-on k t next None (after_is, turn_is) goes =
-        let less : jobs.cost k (words_at layout b) < jobs.cost j (words_at layout a) = jobbing.ranked.falls layout seat a b j k t (of-job k t next) (sym (ap is_waits turn_is) ∙ goes) in
-        subst (λ (x : Processor). cost x (words_at layout b) < 32768 * (length p.commands - length rows) + jobs.cost j (words_at layout a)) (sym after_is) (omega (arith, less))
-    falls-on k t next (Some answer) (answered, turn_is) goes = let less : cost q (words_at layout b) < 32768 * (length p.commands - length rows) = answered-falls j answer at answered in omega (arith, less)
+        → Lowers (32768 * (length p.commands - length rows) + jobs.cost j (words_at layout a))
+    falls-on k t next None (after_is, turn_is) goes = elim (jobbing.ranked.falls layout seat a b j k t (of-job k t next) (sym (ap is_waits turn_is) ∙ goes)) [
+      | inl less ↦ inl (subst (λ (x : Processor). cost x (words_at layout b) < 32768 * (length p.commands - length rows) + jobs.cost j (words_at layout a)) (sym after_is) (omega (arith, less)))
+      | inr fails ↦ inr (fails.fewer, subst (λ (x : Processor). cost x (words_at layout b) < 32768 * (length p.commands - length rows) + jobs.cost j (words_at layout a) + failure_weight) (sym after_is) (omega (arith, fails.bounded)))
+    ]
+    falls-on k t next (Some answer) (answered, turn_is) goes = inl (let less : cost q (words_at layout b) < 32768 * (length p.commands - length rows) = answered-falls j answer at answered in omega (arith, less))
 
     waits-on : (k : Job) (t : Turn) → jobs.Next layout (jobs.bare j) made.found made.got k t → (o : Option Answer) → Follows (bare p) k o t q turn → is_waits turn ≡ true → Quiet (jobs.class j) layout a seat
         → cost q (words_at layout b) < 32768 * (length p.commands - length rows) + jobs.cost j (words_at layout a)
@@ -94,12 +100,15 @@ module _ {layout : Layout} {seat : ℕ} {a b : State} {p q : Processor} {turn : 
         which (inr never) = absurd (both_ways true (sym never.0) refl)
     waits-on k t next (Some answer) (answered, turn_is) is quiet = absurd (both_ways true (sym is ∙ ap is_waits turn_is) refl)
 
-falls : (layout : Layout) (seat : ℕ) (a b : State) (p q : Processor) (turn : Turn) → Made the-member layout seat a b p q turn → is_waits turn ≡ false → CostFalls the-member layout a b p q
-falls layout seat a b p q turn made goes = which p.job made.fits.at made.planned made.move made.follows
+falls : (layout : Layout) (seat : ℕ) (a b : State) (p q : Processor) (turn : Turn) → Made the-member layout seat a b p q turn → is_waits turn ≡ false → CostFalls the-member layout a b p q ⊎ HasFailed the-member layout a b p q
+falls layout seat a b p q turn made goes = elim (which p.job made.fits.at made.planned made.move made.follows) [
+  | inl less ↦ inl less
+  | inr fails ↦ inr (record { fewer = fails.0; bounded = fails.1 })
+]
   where
     which : (x : Option Job) → FitsAt layout (view_of a seat) p.cpu p.commands p.lines.items x → plan_of x ≡ Some made.step
         → Move layout seat (rec_of layout (who_of p.cpu x) made.step (logs (put_of x)) made.found made.got) a b → NextOf layout (bare p) (option_map jobs.bare x) made.found made.got q turn
-        → cost q (words_at layout b) < 32768 * (length p.commands - length p.lines.items) + cost_of x (words_at layout a)
+        → Lowers made (32768 * (length p.commands - length p.lines.items) + cost_of x (words_at layout a))
     which (Some j) at planned move next = falls-on made j at planned move next.0 next.1 next.2 (jobs.answer next.0) next.3 goes
     which None at planned move next = absurd (none-some made.step planned)
 
@@ -126,4 +135,4 @@ small layout a seat p rule fits =
     omega (arith, few, below)
 
 pub ranked : IsRanked the-member
-ranked = rank-of the-member (λ p. refl) classes small falls waits
+ranked = rank-failing the-member (λ p. refl) classes small falls waits (λ p. refl) (λ layout view p step fits is. (settling.can layout view p step fits is).served)

@@ -4,7 +4,7 @@ use Rattle.std.proofs.Math.Seq.{take-length}
 use Rattle.std.proofs.lemmas.List.{map-set}
 use Rattle.std.proofs.lemmas.Option.{none-some, same_Some}
 use Rattle.std.specs.Int.{from_bool}
-use Rattle.std.specs.List.{sum_by, list_any}
+use Rattle.std.specs.List.{sum_by}
 use Rattle.hwp_geom.specs.declared.Frame.{Frame}
 use Rattle.hwp_geom.specs.declared.Layout.{Layout}
 use Rattle.hwp_geom.specs.declared.Page.{Page}
@@ -75,6 +75,37 @@ only-at-home g homes bodies f log there one counts = record {
       let outer : sum_by (λ (b : InHand). g b.log) list ≤ sum_all (λ (b : InHand). g b.log) bodies = term-le (sum_by (λ (b : InHand). g b.log)) bodies i list at in
       absurd (omega (arith, one, counts, is));
 }
+
+-- the same of one in hand
+pub only-in-hand : (g : Log → ℕ) (homes : Homes) (bodies : List (List InHand)) (seat place : ℕ) (mine : List InHand) (body : InHand) → slice_get bodies seat ≡ Some mine → slice_get mine place ≡ Some body
+    → sum_bodies g homes bodies ≡ 1 → g body.log ≡ 1 → EachBody (λ (x : Log). g x ≡ 1 → x ≡ body.log) homes bodies
+only-in-hand g homes bodies seat place mine body me there one counts = record {
+  at_home = λ i x e is.
+      let home : g x ≤ sum_by (of_home g) homes = term-le (of_home g) homes i (Some (Some x)) e in
+      absurd (omega (arith, one, counts, is, within, all));
+  in_hand = λ i list at j b e is.
+      let inner : g b.log ≤ sum_by (λ (b : InHand). g b.log) list = term-le (λ (b : InHand). g b.log) list j b e in
+      elim (same-or i seat) [
+        | inl same ↦
+            let list_is : list ≡ mine = same_Some list mine (sym at ∙ ap (slice_get bodies) same ∙ me) in
+            let mine_at : slice_get mine j ≡ Some b = ap (λ (l : List InHand). slice_get l j) (sym list_is) ∙ e in
+            elim (same-or j place) [
+              | inl equal ↦ ap (λ (b : InHand). b.log) (same_Some b body (sym mine_at ∙ ap (slice_get mine) equal ∙ there))
+              | inr differs ↦
+                  let two : g b.log + g body.log ≤ sum_by (λ (b : InHand). g b.log) mine = terms-le (λ (b : InHand). g b.log) mine j place b body differs mine_at there in
+                  absurd (omega (arith, one, counts, is, all))
+            ]
+        | inr differs ↦
+            let two : sum_by (λ (b : InHand). g b.log) list + sum_by (λ (b : InHand). g b.log) mine ≤ sum_all (λ (b : InHand). g b.log) bodies = terms-le (sum_by (λ (b : InHand). g b.log)) bodies i seat list mine differs at me in
+            absurd (omega (arith, one, counts, is, within))
+      ];
+}
+  where
+    within : g body.log ≤ sum_by (λ (b : InHand). g b.log) mine
+    within = term-le (λ (b : InHand). g b.log) mine place body there
+
+    all : sum_by (λ (b : InHand). g b.log) mine ≤ sum_all (λ (b : InHand). g b.log) bodies
+    all = term-le (sum_by (λ (b : InHand). g b.log)) bodies seat mine me
 
 abbrev pub all_bodies : List View → List (List InHand)
 all_bodies views = map (λ (v : View). v.bodies) views

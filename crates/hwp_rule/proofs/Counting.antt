@@ -1,11 +1,11 @@
 -- Counting below a number: sums of terms, and how often the members of lists fall on each number.
-use Rattle.std.proofs.Common.{◌≡◌, ◌≢◌, ℕ, suc, zero, ◌+◌, ◌<◌, ◌≤◌, ◌==◌, eq-eqb, ne_eqb, List, [], ◌∷◌, length, inl, inr, refl, sym, ap, ◌∙◌, arith}
+use Rattle.std.proofs.Common.{◌≡◌, ◌≢◌, ℕ, suc, zero, ◌+◌, ◌*◌, ◌<◌, ◌≤◌, ◌==◌, ◌&&◌, eq-eqb, ne_eqb, Bool, true, false, List, [], ◌∷◌, Some, length, slice_get, inl, inr, refl, sym, ap, ◌∙◌, arith}
 use Rattle.std.specs.Int.{from_bool}
 use Rattle.std.specs.List.{sum_by}
 use Rattle.std.proofs.lemmas.List.Sums.{sum_by-cons}
-use Rattle.hwp_rule.specs.Lists.{EachMember, SomeMember, sum_all}
+use Rattle.hwp_rule.specs.Lists.{EachMember, EachListed, SomeMember, sum_all}
 use Rattle.hwp_rule.specs.Words.{sum_below}
-use Rattle.hwp_rule.proofs.Lists.{same-or}
+use Rattle.hwp_rule.proofs.Lists.{same-or, term-le}
 
 pub below-le : (f g : ℕ → ℕ) (n : ℕ) → ((i : ℕ) → i < n → f i ≤ g i) → sum_below f n ≤ sum_below g n
 below-le f g zero less = omega arith
@@ -23,6 +23,27 @@ below-zero f zero none = refl
 below-zero f (suc n) none =
     let last : f n ≡ 0 = none n (omega arith) in
     let rest : sum_below f n ≡ 0 = below-zero f n (λ i before. none i (omega arith)) in
+    omega arith
+
+pub never : (a b : Bool) → from_bool (a && (b && false)) ≡ 0
+never true true = refl
+never true false = refl
+never false b = refl
+
+-- each term is at most the sum, and the sum at most so many times what no term passes
+pub below-term : (f : ℕ → ℕ) (n i : ℕ) → i < n → f i ≤ sum_below f n
+below-term f zero i less = absurd (omega arith)
+below-term f (suc n) i less = elim (same-or i n) [
+  | inl same ↦ let last : f i ≡ f n = ap f same in omega arith
+  | inr other ↦ let rest : f i ≤ sum_below f n = below-term f n i (omega (arith, less, other)) in omega arith
+]
+
+pub below-most : (f : ℕ → ℕ) (n k : ℕ) → ((i : ℕ) → i < n → f i ≤ k) → sum_below f n ≤ n * k
+below-most f zero k most = omega arith
+below-most f (suc n) k most =
+    let last : f n ≤ k = most n (omega arith) in
+    let rest : sum_below f n ≤ n * k = below-most f n k (λ i before. most i (omega arith)) in
+    let product : suc n * k ≡ k + n * k = omega arith in
     omega arith
 
 -- a sum over a list of sums below a number
@@ -105,4 +126,18 @@ module _ {A : Type 0} where
       below-swap (λ i (l : List A). sum_by (λ (x : A). from_bool (at x == i)) l) ls n in
       let few : sum_by (λ (l : List A). sum_below (λ i. sum_by (λ (x : A). from_bool (at x == i)) l) n) ls ≤ sum_by (λ (l : List A). length l) ls =
       sum-le (λ (l : List A). sum_below (λ i. sum_by (λ (x : A). from_bool (at x == i)) l) n) (λ (l : List A). length l) ls (λ j l e. hits-le at l n) in
+      omega arith
+
+module _ {A : Type 0} where
+  -- sums over all lists of a list
+  pub all-le : (f g : A → ℕ) (ls : List (List A)) → EachListed (λ (x : A). f x ≤ g x) ls → sum_all f ls ≤ sum_all g ls
+  all-le f g ls each = sum-le (sum_by f) (sum_by g) ls (λ i l e. sum-le f g l (each i l e))
+
+  pub all-swap : (g : ℕ → A → ℕ) (ls : List (List A)) (n : ℕ) → sum_below (λ i. sum_all (g i) ls) n ≡ sum_all (λ (x : A). sum_below (λ i. g i x) n) ls
+  all-swap g ls n = below-swap (λ i (l : List A). sum_by (g i) l) ls n ∙ ap (λ (s : List A → ℕ). sum_by s ls) (λ k l. below-swap g l n k)
+
+  pub all-term : (f : A → ℕ) (ls : List (List A)) (i j : ℕ) (l : List A) (x : A) → slice_get ls i ≡ Some l → slice_get l j ≡ Some x → f x ≤ sum_all f ls
+  all-term f ls i j l x at listed =
+      let mine : f x ≤ sum_by f l = term-le f l j x listed in
+      let all : sum_by f l ≤ sum_all f ls = term-le (sum_by f) ls i l at in
       omega arith

@@ -1,6 +1,6 @@
 -- A slot that has no body leaves its home or comes home empty: no body is elsewhere than before.
 use Rattle.std.proofs.Common.{◌≡◌, ℕ, ◌+◌, Bool, true, false, List, Option, Some, None, set, slice_get, inl, inr, refl, sym, ap, ◌∙◌, arith, map}
-use Rattle.std.specs.List.{sum_by, list_any}
+use Rattle.std.specs.List.{sum_by}
 use Rattle.hwp_geom.specs.declared.Layout.{Layout}
 use Rattle.hwp_page.specs.declared.Entry.{Entry}
 use Rattle.hwp_page.specs.Endings.{has_ending, is_ending}
@@ -11,7 +11,6 @@ use Rattle.hwp_rule.specs.declared.view.Length.{Length}
 use Rattle.hwp_rule.specs.declared.view.Made.{Made}
 use Rattle.hwp_rule.specs.declared.view.PageLock.{PageLock}
 use Rattle.hwp_rule.specs.declared.view.Sight.{Sight}
-use Rattle.hwp_rule.specs.declared.view.Spoiled.{Spoiled}
 use Rattle.hwp_rule.specs.Lists.{Homes, EachBody, SomeMember, of_home, sum_all, sum_bodies}
 use Rattle.hwp_rule.specs.Logs.{losses_of}
 use Rattle.hwp_rule.specs.parts.Bodies.{content_name}

@@ -9,11 +9,9 @@ use Rattle.hwp_geom.specs.declared.TransDecl.{TransDecl}
 use Rattle.hwp_words.specs.Frames.{lock_of, poison_of, kernel_of, count_of, owner_of, cycle_of, is_kernel}
 use Rattle.hwp_words.specs.Counters.{biased_poisoned_of}
 use Rattle.hwp_rule.specs.declared.view.FrameLock.{FrameLock}
-use Rattle.hwp_rule.specs.declared.view.InHand.{InHand}
 use Rattle.hwp_rule.specs.declared.view.Mark.{Mark}
 use Rattle.hwp_rule.specs.declared.view.PageLock.{PageLock}
 use Rattle.hwp_rule.specs.declared.view.Sight.{Sight}
-use Rattle.hwp_rule.specs.declared.view.Spoiled.{Spoiled}
 use Rattle.hwp_rule.specs.Lists.{Homes, EachListed, EachMember}
 use Rattle.hwp_rule.specs.Words.{free_bit}
 use Rattle.hwp_rule.specs.parts.Bodies.{BodiesAtHome, Holder, IsAtHome}

@@ -6,6 +6,7 @@ use Rattle.std.proofs.lemmas.Option.{same_Some}
 use Rattle.hwp_geom.specs.declared.Layout.{Layout}
 use Rattle.hwp_geom.specs.declared.Proc.{Proc}
 use Rattle.hwp_geom.specs.declared.Who.{Who}
+use Rattle.hwp_geom.specs.Layout.{IsSound}
 use Rattle.hwp_page.specs.declared.Entry.{Entry}
 use Rattle.hwp_page.specs.Endings.{has_ending, is_ending}
 use Rattle.hwp_rule.specs.declared.log.Log.{Log}
@@ -15,7 +16,7 @@ use Rattle.hwp_rule.specs.declared.view.View.{View}
 use Rattle.hwp_rule.specs.Asks.{CanGoHome, IsTurnOf}
 use Rattle.hwp_rule.specs.Lists.{Homes, SomeMember}
 use Rattle.hwp_rule.specs.Rule.{FrameRule}
-use Rattle.hwp_rule.specs.Views.{made_from, stamp_of, more_of, page_locks_on, changed, listed, is_body_of}
+use Rattle.hwp_rule.specs.Views.{made_from, losses_made, stamp_of, more_of, page_locks_on, changed, listed, is_body_of}
 use Rattle.hwp_rule.specs.Words.{Words}
 use Rattle.hwp_rule.specs.parts.Endings.{AreEnded}
 use Rattle.hwp_rule.specs.parts.Fits.{Fits, FitsWords, KnowsWords, KnowsOwn}
@@ -30,18 +31,19 @@ or-parts true b e = inl refl
 or-parts false b e = inr e
 
 module _ (layout : Layout) (w : Words) (homes : Homes) (views : List View) (seat : ℕ) (v : View) (who : Who) (log : Log)
-    (me : slice_get views seat ≡ Some v) (past : IsPast v.parts who) (turn : IsTurnOf v who) (h : FrameRule layout w homes views) (can : CanGoHome layout who v log) (within : log.page.0 < length layout.pages) where
+    (me : slice_get views seat ≡ Some v) (past : IsPast v.parts who) (turn : IsTurnOf v who) (h : FrameRule layout w homes views) (can : CanGoHome layout who v log) (within : log.page.0 < length layout.pages) (sound : IsSound layout) where
   pub found-body : (i : ℕ) × (slice_get v.bodies i ≡ Some can.body) × (is_body_of log.page can.body ≡ true)
   found-body = find-is (is_body_of log.page) v.bodies can.body can.body_is
 
   abbrev pub renewed : View
   renewed = record v {
     made = v.made ++ made_from (stamp_of who v) log.page can.body.frame (length can.body.log.entries) (more_of can.body log);
+    owed = record v.owed { losses = v.owed.losses ++ losses_made layout log.page (more_of can.body log) };
     bodies = changed (is_body_of log.page) (λ (b : InHand). record b { log = log }) v.bodies;
   }
 
   pub rule : FrameRule layout w homes (set views seat renewed)
-  rule = ListingEntries.keeps-renewed layout w homes views seat v who log found-body.0 can.body me past turn found-body.1 found-body.2 can.extends within can.fits.unlocked h
+  rule = ListingEntries.keeps-renewed layout w homes views seat v who log (λ (l : List Proc). l) found-body.0 can.body me past turn found-body.1 found-body.2 can.extends within sound can.fits.unlocked h (λ l met. met)
 
   pub me-renewed : slice_get (set views seat renewed) seat ≡ Some renewed
   me-renewed = set_here views seat renewed v me
@@ -100,4 +102,4 @@ module _ (layout : Layout) (w : Words) (homes : Homes) (views : List View) (seat
           fits = subst (λ (c : ℕ). FitsWords layout log c own.trans) same-cache (can.fits.locked own.lock own.cache own.trans own.there lock-page own.cache_is own.trans_is)
 
   pub listed-renewed : listed layout who log v ≡ renewed
-  listed-renewed = ListingEntries.listed-is layout w homes views seat v who log found-body.0 can.body me past turn found-body.1 found-body.2 can.extends within can.fits.unlocked h can.body_is
+  listed-renewed = ListingEntries.listed-is layout w homes views seat v who log (λ (l : List Proc). l) found-body.0 can.body me past turn found-body.1 found-body.2 can.extends within sound can.fits.unlocked h can.body_is

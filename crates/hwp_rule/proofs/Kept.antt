@@ -44,10 +44,10 @@ histories_read v = (v.bodies, v.sights, v.lengths, losing_of v)
 abbrev failures_read : View → CountDebts × List Spoiled × List Sight × List InHand
 failures_read v = (count_debts_of v, v.spoiled, v.sights, v.bodies)
 
-abbrev Lists : Type 0
+abbrev pub Lists : Type 0
 Lists = List Part × List Made × List Mark × List Sight × List Length × List Setting × List Who
 
-abbrev lists_read : View → Lists
+abbrev pub lists_read : View → Lists
 lists_read v = (v.parts, v.made, v.marks, v.sights, v.lengths, v.settings, v.stops)
 
 abbrev processors_read : View → List InHand × List Part × List Made × List Mark × List Sight × List Length × List Setting × List Who

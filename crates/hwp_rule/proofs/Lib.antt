@@ -22,12 +22,16 @@ pub mod FrameWord
 pub mod CountSteps
 pub mod Carrying
 pub mod MoreEntries
+pub mod OwedLosses
 pub mod ListingEntries
+pub mod ListingHeld
 pub mod GoingHome
 pub mod FrameLockSteps
 pub mod PageLockSteps
 pub mod PageLockLists
 pub mod OwnerSteps
+pub mod Marking
+pub mod PoisonedLocks
 pub mod NameSteps
 pub mod kinds
 pub mod Unfailed

@@ -1,16 +1,17 @@
 -- Entries of a body in hand that are listed keep the frame rule.
-use Rattle.std.proofs.Common.{◌≡◌, ◌≢◌, ℕ, suc, ◌+◌, ◌<◌, ◌≤◌, ◌==◌, ◌||◌, true, false, cond, List, [], ◌∷◌, ◌++◌, Option, Some, map, set, take, length, slice_get, length-append, append-nil, append_assoc, inl, inr, refl, sym, ap, ◌∙◌, subst, arith}
+use Rattle.std.proofs.Common.{◌≡◌, ◌≢◌, ℕ, suc, ◌+◌, ◌<◌, ◌≤◌, ◌==◌, Bool, true, false, cond, List, [], ◌∷◌, ◌++◌, Option, Some, map, set, take, length, slice_get, length-append, append_assoc, inl, inr, refl, sym, ap, ◌∙◌, subst, arith}
 use Rattle.std.proofs.lemmas.List.{map-set, take-append-le}
 use Rattle.std.proofs.lemmas.List.Folds.{list_any-append}
 use Rattle.std.proofs.lemmas.List.Sums.{sum_by-cons, sum_by-append}
 use Rattle.std.specs.Int.{from_bool}
-use Rattle.std.specs.List.{sum_by, list_any}
+use Rattle.std.specs.List.{sum_by}
 use Rattle.hwp_geom.specs.declared.FileNo.{FileNo}
 use Rattle.hwp_geom.specs.declared.Frame.{Frame}
 use Rattle.hwp_geom.specs.declared.Layout.{Layout}
 use Rattle.hwp_geom.specs.declared.Page.{Page}
 use Rattle.hwp_geom.specs.declared.Proc.{Proc}
 use Rattle.hwp_geom.specs.declared.Who.{Who}
+use Rattle.hwp_geom.specs.Layout.{IsSound}
 use Rattle.hwp_page.specs.declared.Entry.{Entry}
 use Rattle.hwp_page.specs.Endings.{has_ending, is_ending}
 use Rattle.hwp_page.specs.Losses.{is_loss, is_same_file, losses_in}
@@ -29,7 +30,7 @@ use Rattle.hwp_rule.specs.Asks.{Extends, HasSameWords, IsTurnOf}
 use Rattle.hwp_rule.specs.Lists.{Homes, EachBody, EachMember, SomeMember, StartsWith, sum_all, sum_bodies}
 use Rattle.hwp_rule.specs.Logs.{state_of, losses_of, file_of}
 use Rattle.hwp_rule.specs.Rule.{FrameRule, holder_of, losing_of}
-use Rattle.hwp_rule.specs.Views.{stamp_of, more_of, made_from, changed, is_body_of, body_of, listed, listed_of, page_locks_on}
+use Rattle.hwp_rule.specs.Views.{stamp_of, more_of, made_from, losses_made, changed, is_body_of, body_of, listed, listed_of, page_locks_on}
 use Rattle.hwp_rule.specs.Words.{Words}
 use Rattle.hwp_rule.specs.parts.Bodies.{BodiesAtHome, Holder, IsHolding}
 use Rattle.hwp_rule.specs.parts.Counter.{is_poisoning}
@@ -42,7 +43,8 @@ use Rattle.hwp_rule.specs.parts.Stops.{EndingsAndStopsStay}
 use Rattle.hwp_rule.proofs.Lists.{change, keep, at_map, at_longer, sum-set, each-set, each-weaken, each-changed}
 use Rattle.hwp_rule.proofs.Carrying.{all_bodies, held-bodies}
 use Rattle.hwp_rule.proofs.Without.{sum-changed-one, each-changed-one}
-use Rattle.hwp_rule.proofs.MoreEntries.{each-append, seen-drop, weigh-append, made-weigh, made-each, losses-none, losses-in-none, failures-none, or-left, fits-same, order-append}
+use Rattle.hwp_rule.proofs.MoreEntries.{each-append, seen-drop, weigh-append, made-weigh, made-each, or-left, fits-same, order-append}
+use Rattle.hwp_rule.proofs.OwedLosses.{made-of-file, owed-length, made-declared}
 use Rattle.hwp_rule.proofs.Carrying
 use Rattle.hwp_rule.proofs.NotLater.{entries-not-later}
 use Rattle.hwp_rule.proofs.Kept
@@ -56,16 +58,16 @@ losses-of-made stamp page frame place (e ∷ es) =
     let one : losses_in (e ∷ es) ≡ from_bool (is_loss e.what) + losses_in es = sum_by-cons (λ (e : Entry). from_bool (is_loss e.what)) e es in
     omega arith
 
--- a history becomes longer in the view that has the body in hand
-module _ (layout : Layout) (w : Words) (homes : Homes) (views : List View) (seat : ℕ) (v : View) (who : Who) (log : Log) (place : ℕ) (body : InHand)
+-- a history becomes longer in the view that has the body in hand, and the processes of which a `kill` met it may be more
+module _ (layout : Layout) (w : Words) (homes : Homes) (views : List View) (seat : ℕ) (v : View) (who : Who) (log : Log) (killing : List Proc → List Proc) (place : ℕ) (body : InHand)
     (me : slice_get views seat ≡ Some v) (past : IsPast v.parts who) (turn : IsTurnOf v who) (there : slice_get v.bodies place ≡ Some body) (test : is_body_of log.page body ≡ true)
-    (extends : Extends layout who v.sights body log) (within : log.page.0 < length layout.pages)
+    (extends : Extends layout who v.sights body log) (within : log.page.0 < length layout.pages) (sound : IsSound layout)
     (same_words : page_locks_on log.page.0 v.pages ≡ 0 → HasSameWords (state_of layout log) (state_of layout body.log)) (h : FrameRule layout w homes views) where
   abbrev more : List Entry
   more = more_of body log
 
   abbrev renewed : InHand → InHand
-  renewed b = record b { log = log }
+  renewed b = record b { log = log; killed = killing b.killed }
 
   abbrev bodies : List InHand
   bodies = changed (is_body_of log.page) renewed v.bodies
@@ -73,8 +75,15 @@ module _ (layout : Layout) (w : Words) (homes : Homes) (views : List View) (seat
   abbrev made : List Made
   made = v.made ++ made_from (stamp_of who v) log.page body.frame (length body.log.entries) more
 
+  abbrev owed : List FileNo
+  owed = v.owed.losses ++ losses_made layout log.page more
+
+  -- the process has a word that is not 0
+  abbrev IsMet : Proc → Type 0
+  IsMet p = (x : ℕ) → slice_get w.processes p.0 ≡ Some x → x ≢ 0
+
   abbrev u : View
-  u = record v { made = made; bodies = bodies }
+  u = record v { made = made; bodies = bodies; owed = record v.owed { losses = owed } }
 
   my_bodies : slice_get (all_bodies views) seat ≡ Some v.bodies
   my_bodies = at_map (λ (v : View). v.bodies) views seat v me
@@ -105,6 +114,13 @@ module _ (layout : Layout) (w : Words) (homes : Homes) (views : List View) (seat
   reaches : length body.log.entries ≤ length log.entries
   reaches = omega (arith, ap (λ (l : List Entry). length l) extends.longer, length-append body.log.entries more)
 
+  -- each page has one body still
+  pub one-listed : (q : ℕ) → q < length layout.pages → sum_bodies (λ (x : Log). from_bool (x.page.0 == q)) homes (set (all_bodies views) seat bodies) ≡ 1
+  one-listed q inside =
+      let was : sum_bodies (λ (x : Log). from_bool (x.page.0 == q)) homes (all_bodies views) ≡ 1 = Carrying.one-body layout w homes views seat v me h q inside in
+      let page : from_bool (log.page.0 == q) ≡ from_bool (body.log.page.0 == q) = ap (λ (p : Page). from_bool (p.0 == q)) extends.page_is in
+      omega (arith, sums (λ (x : Log). from_bool (x.page.0 == q)), was, page)
+
   bodies-listed : BodiesAtHome layout w.frames w.caches w.pages homes (set (map holder_of views) seat (holder_of u))
   bodies-listed = record {
     frame_home = h.pages.bodies.frame_home;
@@ -114,9 +130,7 @@ module _ (layout : Layout) (w : Words) (homes : Homes) (views : List View) (seat
     one = λ q inside.
         let lists : map (λ (o : Holder). o.bodies) (set (map holder_of views) seat (holder_of u)) ≡ set (all_bodies views) seat bodies =
         map-set (λ (o : Holder). o.bodies) (map holder_of views) seat (holder_of u) ∙ ap (λ (l : List (List InHand)). set l seat bodies) (held-bodies views) in
-        let was : sum_bodies (λ (x : Log). from_bool (x.page.0 == q)) homes (all_bodies views) ≡ 1 = Carrying.one-body layout w homes views seat v me h q inside in
-        let page : from_bool (log.page.0 == q) ≡ from_bool (body.log.page.0 == q) = ap (λ (p : Page). from_bool (p.0 == q)) extends.page_is in
-        subst (λ (l : List (List InHand)). sum_bodies (λ (x : Log). from_bool (x.page.0 == q)) homes l ≡ 1) (sym lists) (omega (arith, sums (λ (x : Log). from_bool (x.page.0 == q)), was, page));
+        subst (λ (l : List (List InHand)). sum_bodies (λ (x : Log). from_bool (x.page.0 == q)) homes l ≡ 1) (sym lists) (one-listed q inside);
     in_hand = each-set (λ (o : Holder). EachMember (λ (b : InHand). IsHolding b o) o.bodies) (map holder_of views) seat (holder_of u)
         (each-changed-one (is_body_of log.page) (λ (b : InHand). IsHolding b (holder_of u)) renewed v.bodies place body once there test
         (subst (λ (p : Page). IsHolding (record body { log = record log { page = p } }) (holder_of u)) (sym extends.page_is) (mine place body there)) mine)
@@ -170,7 +184,7 @@ module _ (layout : Layout) (w : Words) (homes : Homes) (views : List View) (seat
   since : body.since ≤ length body.log.entries
   since = h.histories.endings.taken seat v.bodies my_bodies place body there
 
-  endings-listed : EndingsAgree layout w.processes homes (set (all_bodies views) seat bodies) (map (λ (v : View). v.sights) views)
+  pub endings-listed : EndingsAgree layout w.processes homes (set (all_bodies views) seat bodies) (map (λ (v : View). v.sights) views)
   endings-listed = record {
     named = h.histories.endings.named;
     caused = λ process x at. eachs (λ (y : Log). x ≡ y.page.0 + 1 → has_ending layout process y.entries ≡ true) (λ old is. has-more process (old (is ∙ ap (λ (p : Page). p.0 + 1) extends.page_is))) (h.histories.endings.caused process x at);
@@ -191,42 +205,58 @@ module _ (layout : Layout) (w : Words) (homes : Homes) (views : List View) (seat
         (h.histories.endings.shown i list at j s is process place');
   }
 
-  no-loss : losses_in more ≡ 0
-  no-loss = losses-in-none more extends.sound
+  -- each loss that the entries make is owed
+  owed-more : length (losses_made layout log.page more) ≡ losses_in more
+  owed-more = owed-length layout log.page body.log (state_of layout log) more extends.page_is extends.leads
 
   losses-listed : LossesBalance layout w.losses homes (set (all_bodies views) seat bodies) (set (map losing_of views) seat (losing_of u))
   losses-listed = record {
     balance = λ file x at.
         let reported : Losing → ℕ = λ (v : Losing). sum_by (λ (r : Reported). cond (r.file.0 == file.0) r.count 0) v.reported in
-        let owed : Losing → ℕ = λ (v : Losing). sum_by (λ (n : FileNo). from_bool (n.0 == file.0)) v.owed in
-        let was : x + sum_by reported (map losing_of views) + sum_by owed (map losing_of views) ≡ sum_bodies (losses_of layout file) homes (all_bodies views) = h.histories.losses.balance file x at in
+        let owed_of : Losing → ℕ = λ (v : Losing). sum_by (λ (n : FileNo). from_bool (n.0 == file.0)) v.owed in
+        let was : x + sum_by reported (map losing_of views) + sum_by owed_of (map losing_of views) ≡ sum_bodies (losses_of layout file) homes (all_bodies views) = h.histories.losses.balance file x at in
         let reports : sum_by reported (set (map losing_of views) seat (losing_of u)) + reported (losing_of v) ≡ sum_by reported (map losing_of views) + reported (losing_of u) = sum-set reported (map losing_of views) seat (losing_of v) (losing_of u) my_losing in
-        let owes : sum_by owed (set (map losing_of views) seat (losing_of u)) + owed (losing_of v) ≡ sum_by owed (map losing_of views) + owed (losing_of u) = sum-set owed (map losing_of views) seat (losing_of v) (losing_of u) my_losing in
+        let owes : sum_by owed_of (set (map losing_of views) seat (losing_of u)) + owed_of (losing_of v) ≡ sum_by owed_of (map losing_of views) + owed_of (losing_of u) = sum-set owed_of (map losing_of views) seat (losing_of v) (losing_of u) my_losing in
         let same_reports : reported (losing_of u) ≡ reported (losing_of v) = refl in
-        let same_owes : owed (losing_of u) ≡ owed (losing_of v) = refl in
-        let all : losses_in log.entries ≡ losses_in body.log.entries + losses_in more = ap losses_in extends.longer ∙ sum_by-append (λ (e : Entry). from_bool (is_loss e.what)) body.log.entries more in
-        let same : losses_in log.entries ≡ losses_in body.log.entries = omega (arith, no-loss) in
-        let of_log : losses_of layout file log ≡ losses_of layout file body.log = λ i. cond (is_same_file file (file_of layout (extends.page_is i))) (same i) 0 in
+        let pushed : owed_of (losing_of u) ≡ owed_of (losing_of v) + sum_by (λ (n : FileNo). from_bool (n.0 == file.0)) (losses_made layout log.page more) = sum_by-append (λ (n : FileNo). from_bool (n.0 == file.0)) v.owed.losses (losses_made layout log.page more) in
+        let made_of : sum_by (λ (n : FileNo). from_bool (n.0 == file.0)) (losses_made layout log.page more) ≡ cond (is_same_file file (file_of layout log.page)) (losses_in more) 0 = made-of-file layout log.page file more in
+        let of_log : losses_of layout file log ≡ losses_of layout file body.log + cond (is_same_file file (file_of layout log.page)) (losses_in more) 0 = more-lost file in
         omega (arith, sums (losses_of layout file));
-    declared = each-set (λ (o : Losing). EachMember (λ (n : FileNo). n.0 < layout.files) o.owed) (map losing_of views) seat (losing_of u) (h.histories.losses.declared seat (losing_of v) my_losing) h.histories.losses.declared;
+    declared = each-set (λ (o : Losing). EachMember (λ (n : FileNo). n.0 < layout.files) o.owed) (map losing_of views) seat (losing_of u)
+        (each-append (λ (n : FileNo). n.0 < layout.files) v.owed.losses (losses_made layout log.page more) (h.histories.losses.declared seat (losing_of v) my_losing) (made-declared layout log.page more sound))
+        h.histories.losses.declared;
     poisoned = each-set IsPoisonLoss (map losing_of views) seat (losing_of u) poison-loss h.histories.losses.poisoned;
   }
     where
       my_losing : slice_get (map losing_of views) seat ≡ Some (losing_of v)
       my_losing = at_map losing_of views seat v me
 
+      all-lost : losses_in log.entries ≡ losses_in body.log.entries + losses_in more
+      all-lost = ap losses_in extends.longer ∙ sum_by-append (λ (e : Entry). from_bool (is_loss e.what)) body.log.entries more
+
+      more-lost : (file : FileNo) → losses_of layout file log ≡ losses_of layout file body.log + cond (is_same_file file (file_of layout log.page)) (losses_in more) 0
+      more-lost file =
+          by (is_same_file file (file_of layout log.page))
+          ∙ ap (λ (p : Page). cond (is_same_file file (file_of layout p)) (losses_in body.log.entries) 0 + cond (is_same_file file (file_of layout log.page)) (losses_in more) 0) extends.page_is
+        where
+          by : (b : Bool) → cond b (losses_in log.entries) 0 ≡ cond b (losses_in body.log.entries) 0 + cond b (losses_in more) 0
+          by true = all-lost
+          by false = refl
+
       poison-loss : IsPoisonLoss (losing_of u)
       poison-loss =
           let was : sum_by (λ (m : Made). from_bool (is_loss m.entry.what)) v.made ≤ length v.owed.losses + sum_by (λ (m : Mark). from_bool (is_poisoning m.kind)) v.marks = h.histories.losses.poisoned seat (losing_of v) my_losing in
           let all : sum_by (λ (m : Made). from_bool (is_loss m.entry.what)) made ≡ sum_by (λ (m : Made). from_bool (is_loss m.entry.what)) v.made + sum_by (λ (m : Made). from_bool (is_loss m.entry.what)) (made_from (stamp_of who v) log.page body.frame (length body.log.entries) more) =
           sum_by-append (λ (m : Made). from_bool (is_loss m.entry.what)) v.made (made_from (stamp_of who v) log.page body.frame (length body.log.entries) more) in
-          let none : sum_by (λ (m : Made). from_bool (is_loss m.entry.what)) (made_from (stamp_of who v) log.page body.frame (length body.log.entries) more) ≡ losses_in more = losses-of-made (stamp_of who v) log.page body.frame (length body.log.entries) more in
-          omega (arith, no-loss)
+          let of_more : sum_by (λ (m : Made). from_bool (is_loss m.entry.what)) (made_from (stamp_of who v) log.page body.frame (length body.log.entries) more) ≡ losses_in more = losses-of-made (stamp_of who v) log.page body.frame (length body.log.entries) more in
+          let longer : length owed ≡ length v.owed.losses + length (losses_made layout log.page more) = length-append v.owed.losses (losses_made layout log.page more) in
+          omega (arith, owed-more)
 
-  stops-listed : EndingsAndStopsStay w.processes w.stop (set (all_bodies views) seat bodies) (map (λ (v : View). v.sights) views) (map (λ (v : View). v.stops) views)
-  stops-listed = record {
-    killed = each-set (EachMember (λ (b : InHand). EachMember (λ (p : Proc). (x : ℕ) → slice_get w.processes p.0 ≡ Some x → x ≢ 0) b.killed)) (all_bodies views) seat bodies
-        (each-changed (λ (b : InHand). EachMember (λ (p : Proc). (x : ℕ) → slice_get w.processes p.0 ≡ Some x → x ≢ 0) b.killed) (is_body_of log.page) renewed v.bodies (λ b is killed. killed) (h.processors.stops.killed seat v.bodies my_bodies)) h.processors.stops.killed;
+  stops-listed : ((l : List Proc) → EachMember IsMet l → EachMember IsMet (killing l))
+      → EndingsAndStopsStay w.processes w.stop (set (all_bodies views) seat bodies) (map (λ (v : View). v.sights) views) (map (λ (v : View). v.stops) views)
+  stops-listed met = record {
+    killed = each-set (EachMember (λ (b : InHand). EachMember IsMet b.killed)) (all_bodies views) seat bodies
+        (each-changed (λ (b : InHand). EachMember IsMet b.killed) (is_body_of log.page) renewed v.bodies (λ b is killed. met b.killed killed) (h.processors.stops.killed seat v.bodies my_bodies)) h.processors.stops.killed;
     ended_stays = h.processors.stops.ended_stays;
     stop_stays = h.processors.stops.stop_stays;
     one = h.processors.stops.one;
@@ -269,8 +299,11 @@ module _ (layout : Layout) (w : Words) (homes : Homes) (views : List View) (seat
       own : AreOwn v
       own = h.processors.commands.own seat v me
 
-  pub keeps-renewed : FrameRule layout w homes (set views seat u)
-  keeps-renewed = record {
+  -- with the words of processes that agree with the longer history
+  pub keeps-listing : (processes : List ℕ) → EndingsAgree layout processes homes (set (all_bodies views) seat bodies) (map (λ (v : View). v.sights) views)
+      → EndingsAndStopsStay processes w.stop (set (all_bodies views) seat bodies) (map (λ (v : View). v.sights) views) (map (λ (v : View). v.stops) views)
+      → FrameRule layout (record w { processes = processes }) homes (set views seat u)
+  keeps-listing processes endings stops = record {
     frames = Kept.same-frames views seat v u me refl h.frames;
     pages = record {
       page_locks = Kept.kept-page-locks views seat v u me refl refl h.pages.page_locks;
@@ -283,8 +316,8 @@ module _ (layout : Layout) (w : Words) (homes : Homes) (views : List View) (seat
       entries = keep (λ (v : View). v.lengths) (λ l. EntriesListed homes (map (λ (v : View). v.bodies) (set views seat u)) (map (λ (v : View). (v.made, v.sights)) (set views seat u)) l) views seat v u me refl
           (change (λ (v : View). (v.made, v.sights)) (λ l. EntriesListed homes (map (λ (v : View). v.bodies) (set views seat u)) l (map (λ (v : View). v.lengths) views)) views seat u
           (change (λ (v : View). v.bodies) (λ l. EntriesListed homes l (set (map (λ (v : View). (v.made, v.sights)) views) seat (made, v.sights)) (map (λ (v : View). v.lengths) views)) views seat u entries-listed));
-      endings = keep (λ (v : View). v.sights) (λ l. EndingsAgree layout w.processes homes (map (λ (v : View). v.bodies) (set views seat u)) l) views seat v u me refl
-          (change (λ (v : View). v.bodies) (λ l. EndingsAgree layout w.processes homes l (map (λ (v : View). v.sights) views)) views seat u endings-listed);
+      endings = keep (λ (v : View). v.sights) (λ l. EndingsAgree layout processes homes (map (λ (v : View). v.bodies) (set views seat u)) l) views seat v u me refl
+          (change (λ (v : View). v.bodies) (λ l. EndingsAgree layout processes homes l (map (λ (v : View). v.sights) views)) views seat u endings);
       losses = change losing_of (λ l. LossesBalance layout w.losses homes (map (λ (v : View). v.bodies) (set views seat u)) l) views seat u
           (change (λ (v : View). v.bodies) (λ l. LossesBalance layout w.losses homes l (set (map losing_of views) seat (losing_of u))) views seat u losses-listed);
     };
@@ -297,16 +330,17 @@ module _ (layout : Layout) (w : Words) (homes : Homes) (views : List View) (seat
     };
     processors = record {
       policies = Kept.kept-policies views seat v u me refl refl refl h.processors.policies;
-      stops = keep (λ (v : View). v.stops) (λ l. EndingsAndStopsStay w.processes w.stop (map (λ (v : View). v.bodies) (set views seat u)) (map (λ (v : View). v.sights) (set views seat u)) l) views seat v u me refl
-          (keep (λ (v : View). v.sights) (λ l. EndingsAndStopsStay w.processes w.stop (map (λ (v : View). v.bodies) (set views seat u)) l (map (λ (v : View). v.stops) views)) views seat v u me refl
-          (change (λ (v : View). v.bodies) (λ l. EndingsAndStopsStay w.processes w.stop l (map (λ (v : View). v.sights) views) (map (λ (v : View). v.stops) views)) views seat u stops-listed));
+      stops = keep (λ (v : View). v.stops) (λ l. EndingsAndStopsStay processes w.stop (map (λ (v : View). v.bodies) (set views seat u)) (map (λ (v : View). v.sights) (set views seat u)) l) views seat v u me refl
+          (keep (λ (v : View). v.sights) (λ l. EndingsAndStopsStay processes w.stop (map (λ (v : View). v.bodies) (set views seat u)) l (map (λ (v : View). v.stops) views)) views seat v u me refl
+          (change (λ (v : View). v.bodies) (λ l. EndingsAndStopsStay processes w.stop l (map (λ (v : View). v.sights) views) (map (λ (v : View). v.stops) views)) views seat u stops));
       processors = Kept.kept-processors views seat v u me refl h.processors.processors;
       commands = Kept.kept-commands views seat v u me own-listed h.processors.commands;
     };
   }
 
-  -- without losses nothing more is owed
-  pub listed-is : body_of log.page v ≡ Some body → listed layout who log v ≡ u
+  pub keeps-renewed : ((l : List Proc) → EachMember IsMet l → EachMember IsMet (killing l)) → FrameRule layout w homes (set views seat u)
+  keeps-renewed met = keeps-listing w.processes endings-listed (stops-listed met)
+
+  -- before a `kill` is noted
+  pub listed-is : body_of log.page v ≡ Some body → listed layout who log v ≡ record u { bodies = changed (is_body_of log.page) (λ (b : InHand). record b { log = log }) v.bodies }
   listed-is is = ap (λ (o : Option InHand). listed_of layout who log o v) is
-      ∙ ap (λ (l : List FileNo). record v { made = made; bodies = bodies; owed = record v.owed { losses = v.owed.losses ++ l } }) (losses-none layout log.page more extends.sound)
-      ∙ ap (λ (l : List FileNo). record v { made = made; bodies = bodies; owed = record v.owed { losses = l } }) (append-nil v.owed.losses)

@@ -50,6 +50,13 @@ module _ {A : Type 0} where
   set_here (x ∷ xs) zero a b e = refl
   set_here (x ∷ xs) (suc i) a b e = set_here xs i a b e
 
+  -- a member of the changed list is the new one or was there
+  pub at_changed : (P : ℕ → A → Type 0) (l : List A) (i : ℕ) (a : A) → P i a → ((j : ℕ) (b : A) → j ≢ i → slice_get l j ≡ Some b → P j b) → (j : ℕ) (b : A) → slice_get (set l i a) j ≡ Some b → P j b
+  at_changed P l i a here else j b e = elim (at_set l i j a b e) [
+    | inl t ↦ subst (λ (n : ℕ). P n b) (sym t.0) (subst (P i) t.1 here)
+    | inr t ↦ else j b t.0 t.1
+  ]
+
   pub set_else : (l : List A) (i j : ℕ) (a : A) → j ≢ i → slice_get (set l i a) j ≡ slice_get l j
   set_else [] i j a n = refl
   set_else (x ∷ xs) zero zero a n = absurd (n refl)

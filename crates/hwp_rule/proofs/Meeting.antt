@@ -9,7 +9,7 @@ use Rattle.std.proofs.lemmas.Option.{slice_get-get_or, same_Some, slice_get_with
 use Rattle.hwp_geom.specs.declared.Frame.{Frame}
 use Rattle.hwp_geom.specs.declared.Layout.{Layout}
 use Rattle.hwp_geom.specs.declared.Page.{Page}
-use Rattle.hwp_words.specs.Frames.{lock_of, count_of, owner_of, handled_of, poison_of, is_locked, is_handled, is_poisoned}
+use Rattle.hwp_words.specs.Frames.{lock_of, count_of, owner_of, handled_of, is_locked, is_handled}
 use Rattle.hwp_rule.specs.declared.log.Log.{Log}
 use Rattle.hwp_rule.specs.declared.place.Place.TheVariants as places
 use Rattle.hwp_rule.specs.declared.record.State.{State}

@@ -3,9 +3,8 @@ use Rattle.std.proofs.Common.{◌≡◌, ℕ, zero, suc, ◌+◌, ◌||◌, Bool
 use Rattle.std.proofs.lemmas.List.Sums.{sum_by-cons}
 use Rattle.std.proofs.lemmas.Option.{none-some, same_Some}
 use Rattle.std.specs.Int.{from_bool}
-use Rattle.std.specs.List.{sum_by, list_any}
+use Rattle.std.specs.List.{sum_by}
 use Rattle.std.specs.Ordering.{nat_cmp}
-use Rattle.hwp_geom.specs.declared.FileNo.{FileNo}
 use Rattle.hwp_geom.specs.declared.Frame.{Frame}
 use Rattle.hwp_geom.specs.declared.Layout.{Layout}
 use Rattle.hwp_geom.specs.declared.Page.{Page}
@@ -19,9 +18,9 @@ use Rattle.hwp_rule.specs.declared.view.Sight.{Sight}
 use Rattle.hwp_rule.specs.declared.view.Stamp.{Stamp}
 use Rattle.hwp_rule.specs.Asks.{HasSameWords}
 use Rattle.hwp_rule.specs.Lists.{EachMember, SomeMember}
-use Rattle.hwp_rule.specs.Logs.{state_of, file_of, fitting_word}
+use Rattle.hwp_rule.specs.Logs.{state_of, fitting_word}
 use Rattle.hwp_rule.specs.Steps.{policy_at}
-use Rattle.hwp_rule.specs.Views.{made_from, loss_made, losses_made}
+use Rattle.hwp_rule.specs.Views.{made_from}
 use Rattle.hwp_rule.specs.parts.Entries.{weigh_from, HasMask, HasPolicy, HasSeen, Shows, AreInOrder}
 use Rattle.hwp_rule.specs.parts.Fits.{Fits, FitsWords}
 use Rattle.hwp_rule.specs.Unfailed.{is_failure}
@@ -119,16 +118,6 @@ sound-loss (entries.Mce slot line mask) sound = refl
 sound-loss (entries.Fail situation required seen signals) sound = absurd (true≢false sound)
 sound-loss entries.Soft sound = refl
 
-loss-none : (file : Option FileNo) → loss_made file false ≡ []
-loss-none None = refl
-loss-none (Some file) = refl
-
-pub losses-none : (layout : Layout) (page : Page) (es : List Entry) → EachMember (λ (e : Entry). is_failure e.what ≡ false) es → losses_made layout page es ≡ []
-losses-none layout page [] sound = refl
-losses-none layout page (e ∷ es) sound =
-    ap (λ (b : Bool). loss_made (file_of layout page) b ++ losses_made layout page es) (sound-loss e.what (sound 0 e refl))
-    ∙ ap (λ (l : List FileNo). l ++ losses_made layout page es) (loss-none (file_of layout page)) ∙ losses-none layout page es (λ j z b. sound (suc j) z b)
-
 pub losses-in-none : (es : List Entry) → EachMember (λ (e : Entry). is_failure e.what ≡ false) es → losses_in es ≡ 0
 losses-in-none [] sound = refl
 losses-in-none (e ∷ es) sound =
@@ -136,10 +125,6 @@ losses-in-none (e ∷ es) sound =
     let rest : losses_in es ≡ 0 = losses-in-none es (λ j z b. sound (suc j) z b) in
     let all : losses_in (e ∷ es) ≡ from_bool (is_loss e.what) + losses_in es = sum_by-cons (λ (e : Entry). from_bool (is_loss e.what)) e es in
     omega arith
-
-pub failures-none : (es : List Entry) → EachMember (λ (e : Entry). is_failure e.what ≡ false) es → list_any (λ (e : Entry). is_failure e.what) es ≡ false
-failures-none [] sound = refl
-failures-none (e ∷ es) sound = ap (λ (b : Bool). b || list_any (λ (e : Entry). is_failure e.what) es) (sound 0 e refl) ∙ failures-none es (λ j z b. sound (suc j) z b)
 
 pub or-left : (a b : Bool) → a ≡ true → (a || b) ≡ true
 or-left true b e = refl

@@ -1,6 +1,6 @@
 -- A board of a sound layout at opening keeps the frame rule.
 use Rattle.std.proofs.Common.{◌≡◌, ◌≢◌, inl, inr, ℕ, zero, suc, ◌+◌, ◌-◌, ◌*◌, ◌%◌, ◌^◌, ◌<◌, ◌≤◌, ◌==◌, ◌&&◌, nat_lt, Bool, true, false, true≢false, not, cond, List, [], ◌∷◌, Option, Some, None, map, length, replicate, take, slice_get, refl, sym, ap, ◌∙◌, subst, arith, ne_eqb}
-use Rattle.std.specs.List.{sum_by, list_any}
+use Rattle.std.specs.List.{sum_by}
 use Rattle.std.specs.Int.{from_bool, bit_at}
 use Rattle.std.proofs.Math.Nat.{zero-div}
 use Rattle.std.proofs.lemmas.Bool.{le-ltb}
@@ -57,7 +57,6 @@ use Rattle.hwp_geom.specs.declared.Cpu.{Cpu}
 use Rattle.hwp_geom.specs.declared.FileNo.{FileNo}
 use Rattle.hwp_geom.specs.declared.Proc.{Proc}
 use Rattle.hwp_geom.specs.declared.Who.{Who}
-use Rattle.hwp_page.specs.declared.Entry.{Entry}
 use Rattle.hwp_page.specs.Endings.{has_ending}
 use Rattle.hwp_page.specs.Losses.{is_same_file}
 use Rattle.std.specs.FinSet as set

@@ -23,7 +23,7 @@ use Rattle.hwp_rule.specs.parts.Handled.{HandledIsPoisoned, IsOutOfUse}
 use Rattle.hwp_rule.specs.parts.Locks.{FrameLocksHeld, PageLocksHeld, IsLocked}
 use Rattle.hwp_rule.specs.parts.Owners.{TranslationsOwned, CacheWordsOwned}
 use Rattle.hwp_rule.specs.parts.Places.{HasOnePlace, IsApart, IsBare, in_hand}
-use Rattle.hwp_rule.proofs.Lists.{change, keep, at_map, at_set, map-was, same-number, set_here, set_else, each-set, length-changed, sum-changed, sum-set, term-le, terms-le}
+use Rattle.hwp_rule.proofs.Lists.{change, keep, at_map, at_set, at_changed, map-was, same-number, set_here, set_else, each-set, length-changed, sum-changed, sum-set, term-le, terms-le}
 use Rattle.hwp_rule.proofs.Kept
 use Rattle.hwp_rule.proofs.FrameFields.{failures-kept, handed-kept}
 
@@ -52,16 +52,9 @@ module _ (layout : Layout) (w : Words) (homes : Homes) (views : List View) (seat
         let bit : lock_of word < 2 = omega arith in
         omega (arith, mine, one, more, bit)
 
-    -- a member of the changed words is the new word or was there
-    at-frame : (P : ℕ → ℕ → Type 0) → P frame.0 now → ((g x : ℕ) → g ≢ frame.0 → slice_get w.frames g ≡ Some x → P g x) → (g x : ℕ) → slice_get frames g ≡ Some x → P g x
-    at-frame P here else g x at = elim (at_set w.frames frame.0 g now x at) [
-      | inl t ↦ subst (λ (p : ℕ × ℕ). P p.0 p.1) (λ i. (sym t.0 i, t.1 i)) here
-      | inr t ↦ else g x t.0 t.1
-    ]
-
     counts-owning : CountsBalance frames w.trans w.caches (map (λ (v : View). v.refs) views)
     counts-owning = record {
-      balance = at-frame (λ g x. count_of x ≡ named g w.trans + named g w.caches + sum_by (refs_on g) (map (λ (v : View). v.refs) views) + handled_of x)
+      balance = at_changed (λ g x. count_of x ≡ named g w.trans + named g w.caches + sum_by (refs_on g) (map (λ (v : View). v.refs) views) + handled_of x) w.frames frame.0 now
           (are.count ∙ h.frames.counts.balance frame.0 word there ∙ ap (λ (n : ℕ). named frame.0 w.trans + named frame.0 w.caches + sum_by (refs_on frame.0) (map (λ (v : View). v.refs) views) + n) (sym are.handled))
           (λ g x differs at. h.frames.counts.balance g x at);
     }
@@ -71,15 +64,15 @@ module _ (layout : Layout) (w : Words) (homes : Homes) (views : List View) (seat
 
     places-owning : HasOnePlace layout.kernel frames w.frees (map (λ (v : View). v.hands) views)
     places-owning = record {
-      declared = λ g x k at is. at-frame (λ g x. slice_get layout.kernel g ≡ Some k → is_kernel x ≡ k) (λ is. kernel-same ∙ h.frames.places.declared frame.0 word k there is) (λ g x differs at is. h.frames.places.declared g x k at is) g x at is;
-      placed = at-frame (λ g x. is_kernel x ≡ false → free_bit w.frees g + in_hand g (map (λ (v : View). v.hands) views) + min (count_of x) 1 ≡ 1)
+      declared = λ g x k at is. at_changed (λ g x. slice_get layout.kernel g ≡ Some k → is_kernel x ≡ k) w.frames frame.0 now (λ is. kernel-same ∙ h.frames.places.declared frame.0 word k there is) (λ g x differs at is. h.frames.places.declared g x k at is) g x at is;
+      placed = at_changed (λ g x. is_kernel x ≡ false → free_bit w.frees g + in_hand g (map (λ (v : View). v.hands) views) + min (count_of x) 1 ≡ 1) w.frames frame.0 now
           (λ usable. ap (λ (n : ℕ). free_bit w.frees frame.0 + in_hand frame.0 (map (λ (v : View). v.hands) views) + min n 1) are.count ∙ h.frames.places.placed frame.0 word there (sym kernel-same ∙ usable))
           (λ g x differs at usable. h.frames.places.placed g x at usable);
-      idle = at-frame (λ g x. 0 < free_bit w.frees g + in_hand g (map (λ (v : View). v.hands) views) → IsBare x)
+      idle = at_changed (λ g x. 0 < free_bit w.frees g + in_hand g (map (λ (v : View). v.hands) views) → IsBare x) w.frames frame.0 now
           (λ idle. let free : lock_of word ≡ 0 = (h.frames.places.idle frame.0 word there idle).unlocked in absurd (omega (arith, free, locked)))
           (λ g x differs at idle. h.frames.places.idle g x at idle);
       handed = handed-kept w.frames frame.0 word now there are.poison (map (λ (v : View). v.hands) views) h.frames.places.handed;
-      kernels = at-frame (λ g x. is_kernel x ≡ true → IsApart w.frees (map (λ (v : View). v.hands) views) g x)
+      kernels = at_changed (λ g x. is_kernel x ≡ true → IsApart w.frees (map (λ (v : View). v.hands) views) g x) w.frames frame.0 now
           (λ kernel. let free : lock_of word ≡ 0 = (h.frames.places.kernels frame.0 word there (sym kernel-same ∙ kernel)).bare.unlocked in absurd (omega (arith, free, locked)))
           (λ g x differs at kernel. h.frames.places.kernels g x at kernel);
     }
@@ -110,7 +103,7 @@ module _ (layout : Layout) (w : Words) (homes : Homes) (views : List View) (seat
 
     locks-owning : FrameLocksHeld frames (set held seat (v.refs, owning.locks))
     locks-owning = record {
-      one = at-frame (λ g x. sum_by (λ (x : List Ref × List FrameLock). locks_on g x.1) (set held seat (v.refs, owning.locks)) ≡ lock_of x)
+      one = at_changed (λ g x. sum_by (λ (x : List Ref × List FrameLock). locks_on g x.1) (set held seat (v.refs, owning.locks)) ≡ lock_of x) w.frames frame.0 now
           (total frame.0 ∙ h.frames.frame_locks.one frame.0 word there ∙ sym are.lock) (λ g x differs at. total g ∙ h.frames.frame_locks.one g x at);
       known = λ i x is j l at. elim (at_set held seat i (v.refs, owning.locks) x is) [
         | inl t ↦ subst (λ (x : List Ref × List FrameLock). IsLocked frames x.0 l) t.1 (own j l (subst (λ (x : List Ref × List FrameLock). slice_get x.1 j ≡ Some l) (sym t.1) at))
@@ -150,8 +143,8 @@ module _ (layout : Layout) (w : Words) (homes : Homes) (views : List View) (seat
 
     bodies-owning : EachMember (λ (b : InHand). IsHolding b (holder_of owning)) v.bodies → BodiesAtHome layout frames w.caches w.pages homes (set (map holder_of views) seat (holder_of owning))
     bodies-owning holding = record {
-      frame_home = at-frame (λ g x. lock_of x ≡ 0 → IsAtHome homes g (owner_of x)) (λ free. absurd (omega (arith, free, locked, are.lock))) (λ g x differs at free. h.pages.bodies.frame_home g x at free);
-      frame_out = at-frame (λ g x. lock_of x ≡ 1 → slice_get homes g ≡ Some None) (λ is. h.pages.bodies.frame_out frame.0 word there locked) (λ g x differs at is. h.pages.bodies.frame_out g x at is);
+      frame_home = at_changed (λ g x. lock_of x ≡ 0 → IsAtHome homes g (owner_of x)) w.frames frame.0 now (λ free. absurd (omega (arith, free, locked, are.lock))) (λ g x differs at free. h.pages.bodies.frame_home g x at free);
+      frame_out = at_changed (λ g x. lock_of x ≡ 1 → slice_get homes g ≡ Some None) w.frames frame.0 now (λ is. h.pages.bodies.frame_out frame.0 word there locked) (λ g x differs at is. h.pages.bodies.frame_out g x at is);
       shelf_home = h.pages.bodies.shelf_home;
       shelf_out = h.pages.bodies.shelf_out;
       one = λ q declared. keep (λ (x : Holder). x.bodies) (OneBody q) (map holder_of views) seat (holder_of v) (holder_of owning) (at_map holder_of views seat v me) refl (h.pages.bodies.one q declared);
@@ -163,7 +156,7 @@ module _ (layout : Layout) (w : Words) (homes : Homes) (views : List View) (seat
 
     handled-owning : HandledIsPoisoned frames
     handled-owning = record {
-      out = at-frame (λ g x. handled_of x ≡ 1 → IsOutOfUse x) (λ is. absurd (omega (arith, is, unhandled, are.handled))) (λ g x differs at is. h.failures.handled.out g x at is);
+      out = at_changed (λ g x. handled_of x ≡ 1 → IsOutOfUse x) w.frames frame.0 now (λ is. absurd (omega (arith, is, unhandled, are.handled))) (λ g x differs at is. h.failures.handled.out g x at is);
     }
 
     page-locks-owning : PageLocksHeld w.pages (map (λ (v : View). v.pages) views) (set (map (λ (v : View). v.locks) views) seat owning.locks)

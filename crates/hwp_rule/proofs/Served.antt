@@ -1,7 +1,6 @@
--- Each served step keeps the frame rule.
+-- Each kind of step keeps the frame rule.
 use Rattle.hwp_rule.specs.declared.step.Step.{Step}
 use Rattle.hwp_rule.specs.declared.step.Step.TheVariants as steps
-use Rattle.hwp_rule.specs.Served.{IsServed}
 use Rattle.hwp_rule.proofs.Keeps.{Keeps}
 use Rattle.hwp_rule.proofs.kinds.Load.{keeps-load}
 use Rattle.hwp_rule.proofs.kinds.Reserve.{keeps-reserve}
@@ -20,36 +19,41 @@ use Rattle.hwp_rule.proofs.kinds.LockPage.{keeps-lock_page}
 use Rattle.hwp_rule.proofs.kinds.UnlockPage.{keeps-unlock_page}
 use Rattle.hwp_rule.proofs.kinds.SetPte.{keeps-set_pte}
 use Rattle.hwp_rule.proofs.kinds.SetCache.{keeps-set_cache}
+use Rattle.hwp_rule.proofs.kinds.Poison.{keeps-poison}
+use Rattle.hwp_rule.proofs.kinds.CountPoison.{keeps-count_poison, keeps-uncount}
+use Rattle.hwp_rule.proofs.kinds.Spoil.{keeps-spoil}
 use Rattle.hwp_rule.proofs.kinds.Stop.{keeps-stop}
 use Rattle.hwp_rule.proofs.kinds.GiveUp.{keeps-give_up}
+use Rattle.hwp_rule.proofs.kinds.Kill.{keeps-kill}
 use Rattle.hwp_rule.proofs.kinds.SetPolicy.{keeps-set_policy}
+use Rattle.hwp_rule.proofs.kinds.Lose.{keeps-lose}
 use Rattle.hwp_rule.proofs.kinds.ReportLost.{keeps-report_lost}
 
-pub keeps-served : (step : Step) → IsServed step → Keeps step
-keeps-served (steps.Load place) served = keeps-load place
-keeps-served (steps.Reserve seen) served = keeps-reserve seen
-keeps-served (steps.TakeBit frame) served = keeps-take_bit frame
-keeps-served (steps.GiveBit frame) served = keeps-give_bit frame
-keeps-served steps.Unreserve served = keeps-unreserve
-keeps-served (steps.Adopt frame) served = keeps-adopt frame
-keeps-served (steps.GetRef frame seen count) served = keeps-get_ref frame seen count
-keeps-served (steps.PutRef frame count) served = keeps-put_ref frame count
-keeps-served (steps.LockFrame frame) served = keeps-lock_frame frame
-keeps-served (steps.UnlockFrame frame) served = keeps-unlock_frame frame
-keeps-served (steps.Retire frame) served = keeps-retire frame
-keeps-served (steps.Revive frame seen) served = keeps-revive frame seen
-keeps-served (steps.SetOwner frame page owned) served = keeps-set_owner frame page owned
-keeps-served (steps.LockPage page) served = keeps-lock_page page
-keeps-served (steps.UnlockPage page) served = keeps-unlock_page page
-keeps-served (steps.SetPte slot pte) served = keeps-set_pte slot pte
-keeps-served (steps.SetCache page frame) served = keeps-set_cache page frame
-keeps-served (steps.Poison frame hardware) served = absurd served
-keeps-served (steps.CountPoison hardware) served = absurd served
-keeps-served steps.Uncount served = absurd served
-keeps-served (steps.Spoil frame line damage) served = absurd served
-keeps-served (steps.Stop cpu) served = keeps-stop cpu
-keeps-served steps.GiveUp served = keeps-give_up
-keeps-served (steps.Kill process page body) served = absurd served
-keeps-served (steps.SetPolicy thread policy settings) served = keeps-set_policy thread policy settings
-keeps-served (steps.Lose file body) served = absurd served
-keeps-served (steps.ReportLost file) served = keeps-report_lost file
+pub keeps : (step : Step) → Keeps step
+keeps (steps.Load place) = keeps-load place
+keeps (steps.Reserve seen) = keeps-reserve seen
+keeps (steps.TakeBit frame) = keeps-take_bit frame
+keeps (steps.GiveBit frame) = keeps-give_bit frame
+keeps steps.Unreserve = keeps-unreserve
+keeps (steps.Adopt frame) = keeps-adopt frame
+keeps (steps.GetRef frame seen count) = keeps-get_ref frame seen count
+keeps (steps.PutRef frame count) = keeps-put_ref frame count
+keeps (steps.LockFrame frame) = keeps-lock_frame frame
+keeps (steps.UnlockFrame frame) = keeps-unlock_frame frame
+keeps (steps.Retire frame) = keeps-retire frame
+keeps (steps.Revive frame seen) = keeps-revive frame seen
+keeps (steps.SetOwner frame page owned) = keeps-set_owner frame page owned
+keeps (steps.LockPage page) = keeps-lock_page page
+keeps (steps.UnlockPage page) = keeps-unlock_page page
+keeps (steps.SetPte slot pte) = keeps-set_pte slot pte
+keeps (steps.SetCache page frame) = keeps-set_cache page frame
+keeps (steps.Poison frame hardware) = keeps-poison frame hardware
+keeps (steps.CountPoison hardware) = keeps-count_poison hardware
+keeps steps.Uncount = keeps-uncount
+keeps (steps.Spoil frame line damage) = keeps-spoil frame line damage
+keeps (steps.Stop cpu) = keeps-stop cpu
+keeps steps.GiveUp = keeps-give_up
+keeps (steps.Kill process page body) = keeps-kill process page body
+keeps (steps.SetPolicy thread policy settings) = keeps-set_policy thread policy settings
+keeps (steps.Lose file body) = keeps-lose file body
+keeps (steps.ReportLost file) = keeps-report_lost file

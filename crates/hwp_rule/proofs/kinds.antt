@@ -15,7 +15,12 @@ pub mod LockPage
 pub mod UnlockPage
 pub mod SetPte
 pub mod SetCache
+pub mod Poison
+pub mod CountPoison
+pub mod Spoil
 pub mod Stop
 pub mod GiveUp
 pub mod SetPolicy
+pub mod Kill
+pub mod Lose
 pub mod ReportLost

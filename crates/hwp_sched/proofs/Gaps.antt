@@ -2,9 +2,8 @@
 use Rattle.std.proofs.Common.{◌≡◌, ◌≢◌, ℕ, zero, suc, ◌+◌, ◌<◌, ◌≤◌, ◌==◌, ◌⊎◌, inl, inr, Bool, true, false, cond, List, [], ◌∷◌, length, get_or, set, refl, ap, ◌∙◌, arith}
 use Rattle.std.proofs.lemmas.Bool.{eqb-true, eq-eqb}
 use Rattle.std.proofs.lemmas.List.{get_or-set_same, length-set}
-use Rattle.hwp_step.specs.Ranks.{top}
 use Rattle.hwp_sched.specs.Order.{IsChosen}
-use Rattle.hwp_sched.specs.Rank.{gap, gaps, phi, has_one, yields, number_of}
+use Rattle.hwp_sched.specs.Rank.{gap, gaps, phi, has_one, yields, ceiling, number_of}
 
 pub gaps-set : (from : ℕ) (ls : List ℕ) (i y : ℕ) → i < length ls → gaps from (set ls i y) + gap (from + i) (get_or ls i 5) ≡ gaps from ls + gap (from + i) y
 gaps-set from [] i y h = absurd (omega arith)
@@ -83,10 +82,10 @@ pub yields-none : (aborts : Bool) (ls : List ℕ) (p : ℕ) → aborts ≡ true 
 yields-none aborts ls p a h = ap (λ (b : Bool). cond b (cond (has_one (set ls p 5)) 0 1) 1) a ∙ ap (λ (b : Bool). cond {A = ℕ} b 0 1) h
 
 -- the three ways in which the number falls
-pub number-by-phi : (f f2 y y2 c c2 : ℕ) → f2 < f → y2 ≤ 1 → c2 < top → number_of f2 y2 c2 < number_of f y c
+pub number-by-phi : (f f2 y y2 c c2 : ℕ) → f2 < f → y2 ≤ 1 → c2 < ceiling → number_of f2 y2 c2 < number_of f y c
 number-by-phi f f2 y y2 c c2 h hy hc = omega arith
 
-pub number-by-yield : (f f2 y y2 c c2 : ℕ) → f2 ≡ f → y2 < y → c2 < top → number_of f2 y2 c2 < number_of f y c
+pub number-by-yield : (f f2 y y2 c c2 : ℕ) → f2 ≡ f → y2 < y → c2 < ceiling → number_of f2 y2 c2 < number_of f y c
 number-by-yield f f2 y y2 c c2 h hy hc = omega arith
 
 pub number-by-cost : (f f2 y y2 c c2 : ℕ) → f2 ≡ f → y2 ≤ y → c2 < c → number_of f2 y2 c2 < number_of f y c

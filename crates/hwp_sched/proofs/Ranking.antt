@@ -7,11 +7,14 @@ use Rattle.hwp_geom.specs.declared.Frame.{Frame}
 use Rattle.hwp_geom.specs.declared.Layout.{Layout}
 use Rattle.hwp_rule.specs.declared.View.{View}
 use Rattle.hwp_rule.specs.Rule.{Holds}
+use Rattle.hwp_rule.specs.Served.{IsServed}
 use Rattle.hwp_step.specs.Boards.{Played, view_of, AreSeated}
-use Rattle.hwp_step.specs.Ranks.{Member, CostFalls, OtherHand, Pending, is_waits, top, words_at}
+use Rattle.hwp_step.specs.Ranks.{Member, CostFalls, HasFailed, OtherHand, Pending, failures_left, is_waits, top, words_at}
 use Rattle.hwp_step.specs.Classes.{IsScheduled}
+use Rattle.hwp_step.proofs.Failures.{failures-few}
+use Rattle.hwp_step.proofs.Ranking.{failures-kept}
 use Rattle.hwp_sched.specs.Order.{Running, IsAt, TurnOf, level, levels, IsChosen, cpu_of, seat_of}
-use Rattle.hwp_sched.specs.Rank.{words_in, phi, has_one, yields, aborts_at, cost_at, number_of, rank}
+use Rattle.hwp_sched.specs.Rank.{words_in, phi, has_one, yields, aborts_at, cost_at, need_at, ceiling, number_of, rank}
 use Rattle.hwp_sched.specs.Ready.{Claimed, Ready, IsNext}
 use Rattle.hwp_sched.proofs.Seats.{few-tasks}
 use Rattle.hwp_sched.proofs.Gaps.{phi-stays, phi-falls, has_one-at, yields-most, yields-one, yields-none, number-by-phi, number-by-yield, number-by-cost}
@@ -86,14 +89,34 @@ module _ {S : Type 0} (m : Member S) (a b : Running S) (p : ℕ) (played : Playe
   cost-now : cost_at m b.tasks (words_in b) p ≡ m.cost turn.after (words_at a.layout b.state)
   cost-now = value-at (λ (x : S). m.cost x (words_in b)) b.tasks p turn.after 0 at-after ∙ ap (λ (l : Layout). m.cost turn.after (words_at l b.state)) layout_is
 
-  -- in any turn that doesn't wait, the cost of its task falls
-  pub cost-falls : is_waits played.turn ≡ false → cost_at m b.tasks (words_in b) p < cost_at m a.tasks (words_in a) p
-  cost-falls going = let fall : CostFalls m a.layout a.state b.state turn.before turn.after = law-of.ranked.falls a.layout (seat_of a p) a.state b.state turn.before turn.after played.turn turn.made going in
-      omega (arith, cost-now, cost-was, fall)
+  served : IsServed turn.made.step
+  served = law-of.served a.layout (view_of a.state (seat_of a p)) turn.before turn.made.step turn.made.fits turn.made.planned
 
--- costs are below the top
-cost-small : {S : Type 0} (m : Member S) (a : Running S) (p : ℕ) → IsScheduled m → Ready m a → p < length a.tasks → cost_at m a.tasks (words_in a) p < top
-cost-small {S} m a p law ready h = omega (arith, value-at (λ (x : S). m.cost x (words_in a)) a.tasks p u.0 0 u.1, law.ranked.small a.layout a.state (seat_of a p) u.0 ready.rule (ready.crew.fits p u.0 u.1))
+  words-now : failures_left (words_in b) ≡ failures_left (words_at a.layout b.state)
+  words-now = ap (λ (l : Layout). failures_left (words_at l b.state)) layout_is
+
+  -- what it may need falls with the cost of its task, and where one failure fewer is left
+  by-less : CostFalls m a.layout a.state b.state turn.before turn.after → need_at m b.tasks (words_in b) p < need_at m a.tasks (words_in a) p
+  by-less fall =
+      let stay : failures_left (words_at a.layout b.state) ≤ failures_left (words_at a.layout a.state) = failures-kept turn.made served in
+      omega (arith, cost-now, cost-was, words-now, fall, stay)
+
+  by-failure : HasFailed m a.layout a.state b.state turn.before turn.after → need_at m b.tasks (words_in b) p < need_at m a.tasks (words_in a) p
+  by-failure fails = omega (arith, cost-now, cost-was, words-now, fails.fewer, fails.bounded)
+
+  -- in any turn that doesn't wait, it falls
+  pub need-falls : is_waits played.turn ≡ false → need_at m b.tasks (words_in b) p < need_at m a.tasks (words_in a) p
+  need-falls going = elim (law-of.ranked.falls a.layout (seat_of a p) a.state b.state turn.before turn.after played.turn turn.made going) [
+    | inl fall ↦ by-less fall
+    | inr fails ↦ by-failure fails
+  ]
+
+-- needs are below the ceiling
+need-small : {S : Type 0} (m : Member S) (a : Running S) (p : ℕ) → IsScheduled m → Ready m a → p < length a.tasks → need_at m a.tasks (words_in a) p < ceiling
+need-small {S} m a p law ready h =
+    let few : failures_left (words_at a.layout a.state) ≤ 512 = failures-few a.layout a.state ready.rule in
+    let below : m.cost u.0 (words_at a.layout a.state) < top = law.ranked.small a.layout a.state (seat_of a p) u.0 ready.rule (ready.crew.fits p u.0 u.1) in
+    omega (arith, value-at (λ (x : S). m.cost x (words_in a)) a.tasks p u.0 0 u.1, few, below)
   where
     u : (s : S) × IsAt a.tasks p s
     u = task-at a.tasks p h
@@ -122,8 +145,8 @@ turn-lowers {S} m a b p played q ready ready-b chosen turn next = by q (subst (�
     few : length ls ≤ 8
     few = rw length-map (few-tasks a.layout (length a.tasks) ready.rule.sound ready.crew.count)
 
-    small : (i : ℕ) → i < length a.tasks → cost_at m b.tasks (words_in b) i < top
-    small i g = cost-small m b i law ready-b (omega (arith, g, same_length m a b p played ready turn))
+    small : (i : ℕ) → i < length a.tasks → need_at m b.tasks (words_in b) i < ceiling
+    small i g = need-small m b i law ready-b (omega (arith, g, same_length m a b p played ready turn))
 
     aborting : aborts_at m a.tasks p ≡ m.aborts turn.before
     aborting = value-at m.aborts a.tasks p turn.before false turn.at
@@ -131,11 +154,11 @@ turn-lowers {S} m a b p played q ready ready-b chosen turn next = by q (subst (�
     yield-a : ℕ
     yield-a = yields (aborts_at m a.tasks p) ls p
 
-    cost-a : ℕ
-    cost-a = cost_at m a.tasks (words_in a) p
+    need-a : ℕ
+    need-a = need_at m a.tasks (words_in a) p
 
     rank-b : ℕ → ℕ
-    rank-b i = number_of (phi (set ls p y) i) (yields (aborts_at m b.tasks i) (set ls p y) i) (cost_at m b.tasks (words_in b) i)
+    rank-b i = number_of (phi (set ls p y) i) (yields (aborts_at m b.tasks i) (set ls p y) i) (need_at m b.tasks (words_in b) i)
 
     left : m.aborts turn.before ≡ true → 1 < y
     left aborts = level-left (m.plan turn.after) (m.class turn.after) (law.ranked.leaves a.layout (seat_of a p) a.state b.state turn.before turn.after played.turn turn.made aborts)
@@ -161,29 +184,29 @@ turn-lowers {S} m a b p played q ready ready-b chosen turn next = by q (subst (�
     aborts-b : aborts_at m b.tasks p ≡ m.aborts turn.after
     aborts-b = value-at m.aborts b.tasks p turn.after false (at-after m a b p played ready turn)
 
-    by-cost : IsChosen (set ls p y) p → CostFalls m a.layout a.state b.state turn.before turn.after → rank-b p < number_of (phi ls p) yield-a cost-a
-    by-cost again fall = number-by-cost (phi ls p) (phi (set ls p y) p) yield-a (yields (aborts_at m b.tasks p) (set ls p y) p) cost-a (cost_at m b.tasks (words_in b) p)
-        (phi-stays ls p y h) (omega (arith, one again, yields-most (aborts_at m b.tasks p) (set ls p y) p)) (omega (arith, cost-was m a b p played ready turn, cost-now m a b p played ready turn, fall))
+    by-need : IsChosen (set ls p y) p → need_at m b.tasks (words_in b) p < need_at m a.tasks (words_in a) p → rank-b p < number_of (phi ls p) yield-a need-a
+    by-need again fall = number-by-cost (phi ls p) (phi (set ls p y) p) yield-a (yields (aborts_at m b.tasks p) (set ls p y) p) need-a (need_at m b.tasks (words_in b) p)
+        (phi-stays ls p y h) (omega (arith, one again, yields-most (aborts_at m b.tasks p) (set ls p y) p)) fall
 
-    by-waits : IsChosen (set ls p y) p → CostFalls m a.layout a.state b.state turn.before turn.after ⊎ ((m.aborts turn.after ≡ true) × OtherHand a.state (seat_of a p)) → rank-b p < number_of (phi ls p) yield-a cost-a
-    by-waits again (inl fall) = by-cost again fall
-    by-waits again (inr hand) = number-by-yield (phi ls p) (phi (set ls p y) p) yield-a (yields (aborts_at m b.tasks p) (set ls p y) p) cost-a (cost_at m b.tasks (words_in b) p)
+    by-waits : IsChosen (set ls p y) p → CostFalls m a.layout a.state b.state turn.before turn.after ⊎ ((m.aborts turn.after ≡ true) × OtherHand a.state (seat_of a p)) → rank-b p < number_of (phi ls p) yield-a need-a
+    by-waits again (inl fall) = by-need again (by-less m a b p played ready turn fall)
+    by-waits again (inr hand) = number-by-yield (phi ls p) (phi (set ls p y) p) yield-a (yields (aborts_at m b.tasks p) (set ls p y) p) need-a (need_at m b.tasks (words_in b) p)
         (phi-stays ls p y h) (omega (arith, one again, yields-none (aborts_at m b.tasks p) (set ls p y) p (aborts-b ∙ hand.0) (met hand.1)))
         (small p turn.at.within)
 
-    by-turn : IsChosen (set ls p y) p → (w : Bool) → is_waits played.turn ≡ w → rank-b p < number_of (phi ls p) yield-a cost-a
-    by-turn again false is = by-cost again (law.ranked.falls a.layout (seat_of a p) a.state b.state turn.before turn.after played.turn turn.made is)
+    by-turn : IsChosen (set ls p y) p → (w : Bool) → is_waits played.turn ≡ w → rank-b p < number_of (phi ls p) yield-a need-a
+    by-turn again false is = by-need again (need-falls m a b p played ready turn is)
     by-turn again true is = by-waits again (law.ranked.waits a.layout (seat_of a p) a.state b.state turn.before turn.after played.turn turn.made is
         (quiet m a p turn.before turn.made.step law ready chosen turn.at turn.made.planned))
 
-    by-next : (i : ℕ) → IsChosen (set ls p y) i → (i ≡ p) ⊎ (i ≢ p) → rank-b i < number_of (phi ls p) yield-a cost-a
-    by-next i again (inl same) = subst (λ (k : ℕ). rank-b k < number_of (phi ls p) yield-a cost-a) (sym same)
+    by-next : (i : ℕ) → IsChosen (set ls p y) i → (i ≡ p) ⊎ (i ≢ p) → rank-b i < number_of (phi ls p) yield-a need-a
+    by-next i again (inl same) = subst (λ (k : ℕ). rank-b k < number_of (phi ls p) yield-a need-a) (sym same)
         (by-turn (subst (λ (k : ℕ). IsChosen (set ls p y) k) same again) (is_waits played.turn) refl)
-    by-next i again (inr ne) = number-by-phi (phi ls p) (phi (set ls p y) i) yield-a (yields (aborts_at m b.tasks i) (set ls p y) i) cost-a (cost_at m b.tasks (words_in b) i)
+    by-next i again (inr ne) = number-by-phi (phi ls p) (phi (set ls p y) i) yield-a (yields (aborts_at m b.tasks i) (set ls p y) i) need-a (need_at m b.tasks (words_in b) i)
         (phi-falls ls p y i h few ne again) (yields-most (aborts_at m b.tasks i) (set ls p y) i)
         (small i (omega (arith, again.within, length-set ls p y, length-map a.tasks (level m))))
 
-    by : (r : Option ℕ) → IsNext (set ls p y) r → rank m b r < number_of (phi ls p) yield-a cost-a
+    by : (r : Option ℕ) → IsNext (set ls p y) r → rank m b r < number_of (phi ls p) yield-a need-a
     by None over = omega (arith, yields-one (aborts_at m a.tasks p) ls p (λ aborts first. abort-none ls p y h first over))
-    by (Some i) again = subst (λ (l : List ℕ). number_of (phi l i) (yields (aborts_at m b.tasks i) l i) (cost_at m b.tasks (words_in b) i) < number_of (phi ls p) yield-a cost-a)
+    by (Some i) again = subst (λ (l : List ℕ). number_of (phi l i) (yields (aborts_at m b.tasks i) l i) (need_at m b.tasks (words_in b) i) < number_of (phi ls p) yield-a need-a)
         (sym changed) (by-next i again (cases_eq i p))

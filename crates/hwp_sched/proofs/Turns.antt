@@ -16,11 +16,11 @@ use Rattle.hwp_step.specs.Boards.{Played, TakesTurn, view_of, AreSeated}
 use Rattle.hwp_step.specs.Calls.{logs, rec_of}
 use Rattle.hwp_step.specs.Ranks.{Member, is_waits}
 use Rattle.hwp_sched.specs.Order.{Running, running, IsAt, IsNoMemory, IsOver, IsRefused, EndsCommand, EndsWord, told_of, level_by, level, levels, IsChosen, cpu_of, seat_of}
-use Rattle.hwp_sched.specs.Rank.{words_in, rank, cost_at}
+use Rattle.hwp_sched.specs.Rank.{words_in, rank, need_at}
 use Rattle.hwp_sched.specs.Ready.{InPlay, IsNext, Ready, TurnTold}
 use Rattle.hwp_sched.proofs.Seats.{few-tasks}
 use Rattle.hwp_sched.proofs.Chosen.{value-at, IsAt-set, IsAt-same, task-over}
-use Rattle.hwp_sched.proofs.Ranking.{ready-after, turn-lowers, cost-falls}
+use Rattle.hwp_sched.proofs.Ranking.{ready-after, turn-lowers, need-falls}
 
 -- the array has the task's level
 array-level : {S : Type 0} (m : Member S) (ls : List ℕ) (a : Running S) (p : ℕ) (s : S) → InPlay m ls a → IsAt a.tasks p s → get_or ls p 5 ≡ level m s
@@ -140,7 +140,7 @@ ends-told m a b p was now told until made ends = subst (EndsWord until) made.tol
 pub goes-told : {S : Type 0} (m : Member S) (a b : Running S) (p : ℕ) (was now : List Played) (told : Turn × Option Kind) (until : Until) → (made : TurnTold m a p was now told b) → (EndsWord until told → ⊥) → EndsWord until (told_of made.played) → ⊥
 goes-told m a b p was now told until made on ends = on (subst (EndsWord until) (sym made.told_is) ends)
 
--- a turn that doesn't end a word lowers the cost
+-- a turn that doesn't end a word lowers what its processor may need
 pub told-cheaper : {S : Type 0} (m : Member S) (a b : Running S) (p : ℕ) (was now : List Played) (told : Turn × Option Kind) (until : Until)
-    → Ready m a → TurnTold m a p was now told b → (EndsWord until told → ⊥) → cost_at m b.tasks (words_in b) p < cost_at m a.tasks (words_in a) p
-told-cheaper m a b p was now told until ready made on = cost-falls m a b p made.played ready made.turn (not-waits until (told_of made.played) (goes-told m a b p was now told until made on))
+    → Ready m a → TurnTold m a p was now told b → (EndsWord until told → ⊥) → need_at m b.tasks (words_in b) p < need_at m a.tasks (words_in a) p
+told-cheaper m a b p was now told until ready made on = need-falls m a b p made.played ready made.turn (not-waits until (told_of made.played) (goes-told m a b p was now told until made on))

@@ -1,7 +1,7 @@
 -- The rank of running tasks: what each turn of the finishing order lowers.
 use Rattle.std.specs.Prelude.{ℕ, ◌+◌, ◌-◌, ◌*◌, ◌==◌, Bool, true, false, cond, List, [], ◌∷◌, map, get_or, set, Option, Some, None}
 use Rattle.hwp_rule.specs.Words.{Words}
-use Rattle.hwp_step.specs.Ranks.{Member, top, words_at}
+use Rattle.hwp_step.specs.Ranks.{Member, failure_weight, failures_left, words_at}
 use Rattle.hwp_sched.specs.Order.{Running, levels}
 
 abbrev pub words_in : {S : Type 0} → Running S → Words
@@ -35,10 +35,18 @@ aborts_at m tasks cpu = get_or (map m.aborts tasks) cpu false
 abbrev pub cost_at : {S : Type 0} → Member S → List S → Words → ℕ → ℕ
 cost_at m tasks words cpu = get_or (map (λ s. m.cost s words) tasks) cpu 0
 
-abbrev pub number_of : ℕ → ℕ → ℕ → ℕ
-number_of phi yield cost = (2 * phi + yield) * top + cost
+-- what a processor may need: its cost, and what the failures that are left may add to it
+abbrev pub need_at : {S : Type 0} → Member S → List S → Words → ℕ → ℕ
+need_at m tasks words cpu = cost_at m tasks words cpu + failure_weight * failures_left words
 
--- first what the others have left, then whether the chosen one yields, then its own cost; 0 where none is left
+-- more than all needs
+abbrev pub ceiling : ℕ
+ceiling = 4294967296
+
+abbrev pub number_of : ℕ → ℕ → ℕ → ℕ
+number_of phi yield need = (2 * phi + yield) * ceiling + need
+
+-- first what the others have left, then whether the chosen one yields, then what it may need; 0 where none is left
 abbrev pub rank : {S : Type 0} → Member S → Running S → Option ℕ → ℕ
 rank m a None = 0
-rank m a (Some cpu) = number_of (phi (levels m a.tasks) cpu) (yields (aborts_at m a.tasks cpu) (levels m a.tasks) cpu) (cost_at m a.tasks (words_in a) cpu)
+rank m a (Some cpu) = number_of (phi (levels m a.tasks) cpu) (yields (aborts_at m a.tasks cpu) (levels m a.tasks) cpu) (need_at m a.tasks (words_in a) cpu)

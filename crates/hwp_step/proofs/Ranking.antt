@@ -1,34 +1,28 @@
 -- What a step of a task on a board says of the words before it and after it.
-use Rattle.std.proofs.Common.{◌≡◌, ◌≢◌, ℕ, ◌<◌, ◌≤◌, ◌==◌, ◌⊎◌, inl, inr, true, false, List, [], ◌∷◌, Some, length, slice_get, refl, sym, ap, ◌∙◌, arith}
-use Rattle.std.proofs.lemmas.Bool.{both_ways, cases_lt}
-use Rattle.std.proofs.lemmas.Option.{slice_get-get_or, get_or_from_slice_get}
-use Rattle.std.proofs.lemmas.List.{get_or_past}
+use Rattle.std.proofs.Common.{◌≡◌, ◌≢◌, ℕ, ◌<◌, ◌≤◌, ◌⊎◌, inl, inr, true, false, List, [], ◌∷◌, Some, None, slice_get, refl, sym, ap, ◌∙◌, arith}
+use Rattle.std.proofs.lemmas.Bool.{both_ways}
+use Rattle.std.proofs.lemmas.Option.{get_or_from_slice_get, none-some, same_Some}
 use Rattle.hwp_geom.specs.declared.Frame.{Frame}
 use Rattle.hwp_geom.specs.declared.Layout.{Layout}
 use Rattle.hwp_geom.proofs.WordLaws.{not_nil}
-use Rattle.hwp_words.specs.Frames.{is_poisoned}
 use Rattle.hwp_rule.specs.declared.State.{State}
+use Rattle.hwp_rule.specs.declared.Step.{Step}
+use Rattle.hwp_rule.specs.declared.Step.TheVariants as steps
 use Rattle.hwp_rule.specs.declared.View.{View}
 use Rattle.hwp_rule.specs.Lists.{EachMember}
 use Rattle.hwp_rule.specs.Opening.{opening_view}
 use Rattle.hwp_rule.specs.Rule.{Holds}
+use Rattle.hwp_rule.specs.Served.{IsServed}
 use Rattle.hwp_rule.specs.Steps.{place_of, word_after}
 use Rattle.hwp_rule.specs.Views.{view_after}
 use Rattle.hwp_rule.specs.Words.{read, put}
 use Rattle.hwp_rule.proofs.Lists.{same-or}
-use Rattle.hwp_rule.proofs.WordsByKind.{words-read, words-put, same-put}
+use Rattle.hwp_rule.proofs.WordsByKind.{same-put}
 use Rattle.hwp_step.specs.declared.turn.Turn.{Turn}
 use Rattle.hwp_step.specs.Boards.{view_of}
 use Rattle.hwp_step.specs.Calls.{Steps, logs, rec_of}
-use Rattle.hwp_step.specs.Ranks.{Member, Made, CostFalls, IsRanked, Pending, Quiet, is_waits, top, words_at}
-
--- no failure is open where nothing is poisoned
-nothing-pending : (layout : Layout) (s : State) → Holds layout s → (frame : Frame) (cycle : ℕ) → Pending (words_at layout s) frame cycle → ⊥
-nothing-pending layout s h frame cycle pending = which (cases_lt frame.0 (length (words_at layout s).frames))
-  where
-    which : (frame.0 < length (words_at layout s).frames) ⊎ (length (words_at layout s).frames ≤ frame.0) → ⊥
-    which (inl within) = both_ways true (sym pending.poisoned ∙ ap (λ (n : ℕ). n == 1) (h.rule.failures.unpoisoned.sound frame.0 _ (slice_get-get_or (words_at layout s).frames frame.0 0 within))) refl
-    which (inr past) = both_ways true (sym pending.poisoned ∙ ap is_poisoned (get_or_past (words_at layout s).frames frame.0 0 past)) refl
+use Rattle.hwp_step.specs.Ranks.{Member, Made, CostFalls, HasFailed, IsRanked, Pending, PlansServed, Quiet, failure_weight, failures_left, is_waits, top, words_at}
+use Rattle.hwp_step.proofs.Failures.{read-moved, words-moved, pending-moved, failures-moved, retire-lowers}
 
 module _ {S : Type 0} {m : Member S} {layout : Layout} {seat : ℕ} {a b : State} {s t : S} {turn : Turn} (made : Made m layout seat a b s t turn) where
   -- what the seat knows
@@ -44,19 +38,26 @@ module _ {S : Type 0} {m : Member S} {layout : Layout} {seat : ℕ} {a b : State
 
   -- its word is the one that it met
   pub met : read (place_of made.step) (words_at layout a) ≡ made.found
-  met = words-read layout a.words (place_of made.step) made.move.asks.place ∙ sym made.move.met
+  met = read-moved made.rule made.move
 
   -- after it that word is the step's, and the others are as before
   pub words-after : words_at layout b ≡ put (place_of made.step) (word_after made.step made.found) (words_at layout a)
-  words-after = ap (λ (x : State). words_at layout x) made.move.next ∙ words-put layout a.words (place_of made.step) (word_after made.step made.found) made.rule.words made.move.asks.place
+  words-after = words-moved made.rule made.move
 
   -- a step that leaves its word leaves all words
   pub words-kept : word_after made.step made.found ≡ made.found → words_at layout b ≡ words_at layout a
   words-kept left = words-after ∙ ap (λ (x : ℕ). put (place_of made.step) x (words_at layout a)) (left ∙ sym met) ∙ same-put (place_of made.step) (words_at layout a)
 
-  -- a task that claims nothing leaves no failure without a claim
-  pub owns-nothing : (frame : Frame) (cycle : ℕ) → Pending (words_at layout b) frame cycle → ⊥
-  owns-nothing frame cycle pending = nothing-pending layout b made.kept frame cycle pending
+  -- a failure that isn't ended after a served step wasn't before it
+  pub pending-kept : IsServed made.step → (frame : Frame) (cycle : ℕ) → Pending (words_at layout b) frame cycle → Pending (words_at layout a) frame cycle
+  pending-kept served = pending-moved made.rule made.move made.kept served
+
+  pub failures-kept : IsServed made.step → failures_left (words_at layout b) ≤ failures_left (words_at layout a)
+  failures-kept served = failures-moved made.rule made.move made.kept served
+
+  -- a retire leaves one failure fewer
+  pub retire-fails : (frame : Frame) → Some (steps.Retire frame) ≡ Some made.step → failures_left (words_at layout b) < failures_left (words_at layout a)
+  retire-fails frame is = retire-lowers made.rule made.move made.kept frame (sym (same_Some (steps.Retire frame) made.step is))
 
 -- a list that isn't other than empty is empty
 empty-list : {A : Type 0} (l : List A) → (l ≢ [] → ⊥) → l ≡ []
@@ -83,17 +84,33 @@ module _ {class : ℕ} {layout : Layout} {a : State} {seat : ℕ} (quiet : Quiet
       which (inl same) = ap (λ (k : ℕ). (view_of a k).locks) same ∙ own
       which (inr other) = empty-list (view_of a i).locks (λ some. quiet.frames second i other (inl some))
 
+-- a turn that leaves fewer frames to fail may raise the cost as long as it stays below the weight of one
+pub failed : {S : Type 0} {m : Member S} {layout : Layout} {a b : State} {s t : S} → failures_left (words_at layout b) < failures_left (words_at layout a) → m.cost t (words_at layout b) < failure_weight → HasFailed m layout a b s t
+failed {m} {layout} {a} {b} {s} {t} fewer few = record { fewer = fewer; bounded = omega (arith, few) }
+
 -- the rank of a task that gives nothing up and claims nothing
-pub rank-of : {S : Type 0} (m : Member S) → ((s : S) → m.aborts s ≡ false) → ((s : S) → (1 ≤ m.class s) × (m.class s ≤ 4))
+pub rank-failing : {S : Type 0} (m : Member S) → ((s : S) → m.aborts s ≡ false) → ((s : S) → (1 ≤ m.class s) × (m.class s ≤ 4))
     → ((layout : Layout) (a : State) (seat : ℕ) (s : S) → Holds layout a → m.fits layout (view_of a seat) s → m.cost s (words_at layout a) < top)
-    → ((layout : Layout) (seat : ℕ) (a b : State) (s t : S) (turn : Turn) → Made m layout seat a b s t turn → is_waits turn ≡ false → CostFalls m layout a b s t)
+    → ((layout : Layout) (seat : ℕ) (a b : State) (s t : S) (turn : Turn) → Made m layout seat a b s t turn → is_waits turn ≡ false → CostFalls m layout a b s t ⊎ HasFailed m layout a b s t)
     → ((layout : Layout) (seat : ℕ) (a b : State) (s t : S) (turn : Turn) → Made m layout seat a b s t turn → is_waits turn ≡ true → Quiet (m.class s) layout a seat → CostFalls m layout a b s t)
-    → IsRanked m
-rank-of m none classes small falls waits = record {
+    → ((s : S) → m.claims s ≡ None) → PlansServed m → IsRanked m
+rank-failing m none classes small falls waits unclaimed served = record {
   classes = classes;
   small = small;
   falls = falls;
   waits = λ layout seat a b s t turn made is quiet. inl (waits layout seat a b s t turn made is quiet);
   leaves = λ layout seat a b s t turn made aborts. absurd (both_ways true (sym aborts ∙ none s) refl);
-  owns = λ layout seat a b s t turn frame cycle made pending. absurd (owns-nothing made frame cycle pending);
+  owns = λ layout seat a b s t turn frame cycle made pending. inr (
+    pending-kept made (served layout (view_of a seat) s made.step made.fits made.planned) frame cycle pending,
+    λ claimed. none-some (frame, cycle) (sym (unclaimed s) ∙ claimed),
+  );
 }
+
+-- and whose turns all lower its cost
+pub rank-of : {S : Type 0} (m : Member S) → ((s : S) → m.aborts s ≡ false) → ((s : S) → (1 ≤ m.class s) × (m.class s ≤ 4))
+    → ((layout : Layout) (a : State) (seat : ℕ) (s : S) → Holds layout a → m.fits layout (view_of a seat) s → m.cost s (words_at layout a) < top)
+    → ((layout : Layout) (seat : ℕ) (a b : State) (s t : S) (turn : Turn) → Made m layout seat a b s t turn → is_waits turn ≡ false → CostFalls m layout a b s t)
+    → ((layout : Layout) (seat : ℕ) (a b : State) (s t : S) (turn : Turn) → Made m layout seat a b s t turn → is_waits turn ≡ true → Quiet (m.class s) layout a seat → CostFalls m layout a b s t)
+    → ((s : S) → m.claims s ≡ None) → PlansServed m → IsRanked m
+rank-of m none classes small falls waits unclaimed served =
+    rank-failing m none classes small (λ layout seat a b s t turn made goes. inl (falls layout seat a b s t turn made goes)) waits unclaimed served

@@ -11,6 +11,7 @@ use Rattle.hwp_rule.specs.declared.Step.{Step}
 use Rattle.hwp_rule.specs.declared.View.{View}
 use Rattle.hwp_rule.specs.Moves.{Move}
 use Rattle.hwp_rule.specs.Rule.{Holds}
+use Rattle.hwp_rule.specs.Served.{IsServed}
 use Rattle.hwp_rule.specs.Words.{Words, words_of}
 use Rattle.hwp_step.specs.declared.turn.Turn.{Turn}
 use Rattle.hwp_step.specs.declared.turn.Turn.TheVariants as turns
@@ -119,6 +120,10 @@ pub record HasFailed {S : Type 0} (m : Member S) (layout : Layout) (a b : State)
 -- the turn lowers the cost
 abbrev pub CostFalls : {S : Type 0} → Member S → Layout → State → State → S → S → Type 0
 CostFalls m layout a b before after = m.cost after (words_at layout b) < m.cost before (words_at layout a)
+
+-- what a task plans is served
+abbrev pub PlansServed : {S : Type 0} → Member S → Type 0
+PlansServed {S} m = (layout : Layout) (view : View) (s : S) (step : Step) → m.fits layout view s → m.plan s ≡ Some step → IsServed step
 
 -- The law of the rank. A class is 1 to 4, and costs are small. A turn that doesn't wait lowers the cost, or leaves fewer
 -- frames to fail; one that waits lowers it, where the others hold nothing that it can wait for, or else it gives up what it has begun because another has the frame

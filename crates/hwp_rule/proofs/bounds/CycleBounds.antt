@@ -54,7 +54,7 @@ below-ones f (suc n) each =
     let rest : sum_below f n ≡ n = below-ones f n (λ i less. each i (omega arith)) in
     omega arith
 
-abbrev is_clearing : Mark → ℕ
+abbrev pub is_clearing : Mark → ℕ
 is_clearing m = from_bool (is_revival m.kind)
 
 module _ (layout : Layout) (w : Words) (homes : Homes) (views : List View) (h : FrameRule layout w homes views) where

@@ -107,7 +107,7 @@ module _ (layout : Layout) (w : Words) (homes : Homes) (views : List View) (seat
   uncounted : count_of word ≡ 0
   uncounted = omega (arith, some, placed)
 
-  unreferenced : refs_on frame.0 v.refs ≡ 0
+  pub unreferenced : refs_on frame.0 v.refs ≡ 0
   unreferenced =
       let balance : count_of word ≡ named frame.0 w.trans + named frame.0 w.caches + sum_by (refs_on frame.0) refs + handled_of word = h.frames.counts.balance frame.0 word there in
       let part : refs_on frame.0 v.refs ≤ sum_by (refs_on frame.0) refs = term-le (refs_on frame.0) refs seat v.refs my-refs in

@@ -1,6 +1,5 @@
 -- Losses that are reported and set to 0 keep the frame rule.
 use Rattle.std.proofs.Common.{◌≡◌, ℕ, ◌+◌, ◌<◌, ◌==◌, eq-eqb, ne_eqb, Bool, cond, List, [], ◌∷◌, ◌++◌, Some, map, set, slice_get, slice_index, inl, inr, refl, sym, ap, subst, arith}
-use Rattle.std.specs.Int.{from_bool}
 use Rattle.std.specs.List.{sum_by}
 use Rattle.std.proofs.lemmas.List.Sums.{sum_by_push}
 use Rattle.hwp_geom.specs.declared.FileNo.{FileNo}
@@ -15,18 +14,12 @@ use Rattle.hwp_rule.specs.parts.Holdings.{AreOwn}
 use Rattle.hwp_rule.specs.parts.Losses.{Losing, IsPoisonLoss, LossesBalance}
 use Rattle.hwp_rule.proofs.Keeps.{Keeps}
 use Rattle.hwp_rule.proofs.Lists.{change, keep, at_map, at_set, set_here, set-set, each-set, sum-set}
+use Rattle.hwp_rule.proofs.Marking.{reported_of, owed_of}
 use Rattle.hwp_rule.proofs.WordsByKind.{word-there}
 use Rattle.hwp_rule.proofs.Sights.{keeps-sight, explained-quiet}
 use Rattle.hwp_rule.specs.declared.place.Place.TheVariants as places
 use Rattle.hwp_rule.specs.declared.step.Step.TheVariants as steps
 use Rattle.hwp_rule.proofs.Kept
-
--- what the view reported of the file, and what it owes
-abbrev reported_of : FileNo → Losing → ℕ
-reported_of file v = sum_by (λ (r : Reported). cond (r.file.0 == file.0) r.count 0) v.reported
-
-abbrev owed_of : FileNo → Losing → ℕ
-owed_of file v = sum_by (λ (n : FileNo). from_bool (n.0 == file.0)) v.owed
 
 pub keeps-report_lost : (file : FileNo) → Keeps (steps.ReportLost file)
 keeps-report_lost file layout w homes views seat v who content given =

@@ -8,13 +8,10 @@ use Rattle.std.proofs.lemmas.List.Sums.{sum_by_push}
 use Rattle.std.specs.Int.{from_bool}
 use Rattle.std.specs.List.{sum_by}
 use Rattle.hwp_geom.specs.declared.Cpu.{Cpu}
-use Rattle.hwp_geom.specs.declared.FileNo.{FileNo}
 use Rattle.hwp_geom.specs.declared.Frame.{Frame}
 use Rattle.hwp_geom.specs.declared.Layout.{Layout}
 use Rattle.hwp_geom.specs.declared.Who.{Who}
 use Rattle.hwp_geom.specs.Limits.{command_limit}
-use Rattle.hwp_page.specs.Losses.{is_loss}
-use Rattle.hwp_page.specs.Orders.{IsNotLater}
 use Rattle.hwp_words.specs.Counters.{biased_poisoned_of, hardware_of}
 use Rattle.hwp_words.specs.Frames.{lock_of, poison_of, handled_of, kernel_of, count_of, owner_of, cycle_of, is_kernel}
 use Rattle.hwp_words.proofs.FrameSteps.{FieldsAre, fields-revived}
@@ -22,48 +19,35 @@ use Rattle.hwp_rule.specs.declared.place.Place.TheVariants as places
 use Rattle.hwp_rule.specs.declared.step.Step.TheVariants as steps
 use Rattle.hwp_rule.specs.declared.view.FrameInHand.{FrameInHand}
 use Rattle.hwp_rule.specs.declared.view.FrameLock.{FrameLock}
-use Rattle.hwp_rule.specs.declared.view.Made.{Made}
 use Rattle.hwp_rule.specs.declared.view.Mark.{Mark}
 use Rattle.hwp_rule.specs.declared.view.MarkKind.TheVariants as mark_kinds
 use Rattle.hwp_rule.specs.declared.view.Ref.{Ref}
-use Rattle.hwp_rule.specs.declared.view.Reported.{Reported}
 use Rattle.hwp_rule.specs.declared.view.View.{View}
 use Rattle.hwp_rule.specs.Asks.{CanRevive}
-use Rattle.hwp_rule.specs.Lists.{Homes, EachMember, EachListed, SomeMember, sum_all, sum_bodies}
-use Rattle.hwp_rule.specs.Logs.{losses_of}
+use Rattle.hwp_rule.specs.Lists.{Homes, EachMember, EachListed, sum_all}
 use Rattle.hwp_rule.specs.Rule.{FrameRule, holdings_of, count_debts_of, losing_of}
 use Rattle.hwp_rule.specs.Steps.{revived}
 use Rattle.hwp_rule.specs.Views.{sighted, revived_by, stamp_of, unpoisoned, refs_on}
-use Rattle.hwp_rule.specs.Words.{Words, sum_below}
-use Rattle.hwp_rule.specs.parts.Counter.{CounterAgrees, CountDebts, IsCovered, is_by_hardware, is_poisoning, is_revival}
+use Rattle.hwp_rule.specs.Words.{Words}
+use Rattle.hwp_rule.specs.parts.Counter.{CounterAgrees, CountDebts, IsCovered, is_poisoning, is_revival}
 use Rattle.hwp_rule.specs.parts.Counts.{CountsBalance, named}
-use Rattle.hwp_rule.specs.parts.Exhaustion.{ExhaustionExplained, usable, is_marked}
+use Rattle.hwp_rule.specs.parts.Exhaustion.{ExhaustionExplained, usable}
 use Rattle.hwp_rule.specs.parts.Handled.{HandledIsPoisoned, IsOutOfUse}
-use Rattle.hwp_rule.specs.parts.Holdings.{AreOwn, IsBounded, HoldingsBounded, IsPast, frames_held}
+use Rattle.hwp_rule.specs.parts.Holdings.{IsBounded, HoldingsBounded, IsPast, frames_held}
 use Rattle.hwp_rule.specs.parts.Locks.{FrameLocksHeld}
-use Rattle.hwp_rule.specs.parts.Losses.{Losing, LossesBalance, IsPoisonLoss}
+use Rattle.hwp_rule.specs.parts.Losses.{LossesBalance}
 use Rattle.hwp_rule.specs.parts.Marks.{MarksAlternate, IsBefore, poisonings, revivals, revivals_by}
 use Rattle.hwp_rule.specs.parts.Places.{HasOnePlace, IsHanded, in_hand}
-use Rattle.hwp_rule.proofs.Counting.{below-le}
-use Rattle.hwp_rule.proofs.bounds.CycleBounds.{cycles-few}
+use Rattle.hwp_rule.proofs.Counting.{never}
+use Rattle.hwp_rule.proofs.bounds.CycleBounds.{is_clearing, cycles-few}
 use Rattle.hwp_rule.proofs.FrameFields.{pages-kept, unlocked-kept, placed-kept}
 use Rattle.hwp_rule.proofs.Keeps.{Keeps}
 use Rattle.hwp_rule.proofs.Kept
-use Rattle.hwp_rule.proofs.Lists.{change, keep, at_map, at_set, set_here, set_else, set_again, same-or, same-number, sum-set, term-le, each-set, each-push, some-set, some-push}
+use Rattle.hwp_rule.proofs.Lists.{change, keep, at_map, at_set, at_changed, set_here, set_else, set_again, same-or, same-number, sum-set, term-le, each-set, each-push}
+use Rattle.hwp_rule.proofs.Marking
+use Rattle.hwp_rule.proofs.Marking.{by_hardware}
 use Rattle.hwp_rule.proofs.Sights.{keeps-shown, explained-frame}
 use Rattle.hwp_rule.proofs.WordsByKind.{word-there}
-
-abbrev by_hardware : Mark → ℕ
-by_hardware m = from_bool (is_by_hardware m.kind)
-
-abbrev is_clearing : Mark → ℕ
-is_clearing m = from_bool (is_revival m.kind)
-
-abbrev reported_of : FileNo → Losing → ℕ
-reported_of file v = sum_by (λ (r : Reported). cond (r.file.0 == file.0) r.count 0) v.reported
-
-abbrev owed_of : FileNo → Losing → ℕ
-owed_of file v = sum_by (λ (n : FileNo). from_bool (n.0 == file.0)) v.owed
 
 -- a handled frame that nobody refers to comes into the hand, in its next cycle
 module _ (layout : Layout) (w : Words) (homes : Homes) (views : List View) (seat : ℕ) (v : View) (who : Who) (frame : Frame) (word now : ℕ)
@@ -88,19 +72,12 @@ module _ (layout : Layout) (w : Words) (homes : Homes) (views : List View) (seat
   abbrev debts : List CountDebts
   debts = map count_debts_of views
 
-  -- a member of the changed words is the new word or was there
-  at-frame : (P : ℕ → ℕ → Type 0) → P frame.0 now → ((g x : ℕ) → g ≢ frame.0 → slice_get w.frames g ≡ Some x → P g x) → (g x : ℕ) → slice_get frames g ≡ Some x → P g x
-  at-frame P here else g x at = elim (at_set w.frames frame.0 g now x at) [
-    | inl t ↦ subst (λ (p : ℕ × ℕ). P p.0 p.1) (λ i. (sym t.0 i, t.1 i)) here
-    | inr t ↦ else g x t.0 t.1
-  ]
-
   balance : count_of word ≡ named frame.0 w.trans + named frame.0 w.caches + sum_by (refs_on frame.0) (map (λ (v : View). v.refs) views) + handled_of word
   balance = h.frames.counts.balance frame.0 word there
 
   counts : CountsBalance frames w.trans w.caches (map (λ (v : View). v.refs) views)
   counts = record {
-    balance = at-frame (λ g x. count_of x ≡ named g w.trans + named g w.caches + sum_by (refs_on g) (map (λ (v : View). v.refs) views) + handled_of x)
+    balance = at_changed (λ g x. count_of x ≡ named g w.trans + named g w.caches + sum_by (refs_on g) (map (λ (v : View). v.refs) views) + handled_of x) w.frames frame.0 now
         (omega (arith, balance, can.alone, can.handled, are.count, are.handled)) (λ g x differs at. h.frames.counts.balance g x at);
   }
 
@@ -166,24 +143,15 @@ module _ (layout : Layout) (w : Words) (homes : Homes) (views : List View) (seat
   }
 
   handled : HandledIsPoisoned frames
-  handled = record { out = at-frame (λ g x. handled_of x ≡ 1 → IsOutOfUse x) (λ is. absurd (omega (arith, is, are.handled))) (λ g x differs at. h.failures.handled.out g x at) }
+  handled = record { out = at_changed (λ g x. handled_of x ≡ 1 → IsOutOfUse x) w.frames frame.0 now (λ is. absurd (omega (arith, is, are.handled))) (λ g x differs at. h.failures.handled.out g x at) }
 
   -- ---- the marks
 
   my-marks : slice_get (map (λ (v : View). v.marks) views) seat ≡ Some v.marks
   my-marks = at_map (λ (v : View). v.marks) views seat v me
 
-  -- what is counted of the marks, with the new one
-  marked-more : (f : Mark → ℕ) → sum_all f (set (map (λ (v : View). v.marks) views) seat u.marks) ≡ sum_all f (map (λ (v : View). v.marks) views) + f mark
-  marked-more f =
-      let moved : sum_all f (set (map (λ (v : View). v.marks) views) seat u.marks) + sum_by f v.marks ≡ sum_all f (map (λ (v : View). v.marks) views) + sum_by f u.marks = sum-set (sum_by f) (map (λ (v : View). v.marks) views) seat v.marks u.marks my-marks in
-      let more : sum_by f u.marks ≡ sum_by f v.marks + f mark = sum_by_push f v.marks mark in
-      omega arith
-
-  never : (a b : Bool) → from_bool (a && (b && false)) ≡ 0
-  never true true = refl
-  never true false = refl
-  never false b = refl
+  marked-more : (f : Mark → ℕ) → sum_all f (set marks seat u.marks) ≡ sum_all f marks + f mark
+  marked-more f = Marking.marked-more layout w homes views seat v mark me h f
 
   poisonings-same : (g c : ℕ) → poisonings g c (set marks seat u.marks) ≡ poisonings g c marks
   poisonings-same g c =
@@ -254,11 +222,11 @@ module _ (layout : Layout) (w : Words) (homes : Homes) (views : List View) (seat
 
   marks-revived : MarksAlternate frames (set marks seat u.marks) (map (λ (v : View). v.sights) views)
   marks-revived = record {
-    poisoned = λ g x c at. poisonings-same g c ∙ at-frame (λ g x. poisonings g c marks ≡ cond (nat_lt c (cycle_of x)) 1 (cond (c == cycle_of x) (poison_of x) 0))
+    poisoned = λ g x c at. poisonings-same g c ∙ at_changed (λ g x. poisonings g c marks ≡ cond (nat_lt c (cycle_of x)) 1 (cond (c == cycle_of x) (poison_of x) 0)) w.frames frame.0 now
         (h.failures.marks.poisoned frame.0 word c there ∙ cycle-over c (cycle_of word) (poison_of word) poison
         ∙ λ i. cond (nat_lt c (sym are.cycle i)) 1 (cond (c == sym are.cycle i) (sym are.poison i) 0))
         (λ g x differs at. h.failures.marks.poisoned g x c at) g x at;
-    revived = λ g x c at. revivals-more g c ∙ at-frame (λ g x. revivals g c marks + from_bool ((frame.0 == g) && ((cycle_of word == c) && true)) ≡ from_bool (nat_lt c (cycle_of x)))
+    revived = λ g x c at. revivals-more g c ∙ at_changed (λ g x. revivals g c marks + from_bool ((frame.0 == g) && ((cycle_of word == c) && true)) ≡ from_bool (nat_lt c (cycle_of x))) w.frames frame.0 now
         (let old : revivals frame.0 c marks ≡ from_bool (nat_lt c (cycle_of word)) = h.failures.marks.revived frame.0 word c there in
         let this : from_bool ((frame.0 == frame.0) && ((cycle_of word == c) && true)) ≡ from_bool ((cycle_of word == c) && true) = ap (λ (b : Bool). from_bool (b && ((cycle_of word == c) && true))) (same-number frame.0 frame.0 refl) in
         let over : from_bool (nat_lt c (cycle_of word)) + from_bool ((cycle_of word == c) && true) ≡ from_bool (nat_lt c (cycle_of word + 1)) = cleared c (cycle_of word) in
@@ -308,9 +276,7 @@ module _ (layout : Layout) (w : Words) (homes : Homes) (views : List View) (seat
         let same : sum_by by_hardware u.marks ≡ sum_by by_hardware v.marks + 0 = sum_by_push by_hardware v.marks mark in
         omega (arith, was, owed, marked, same);
     covered = each-set IsCovered debts seat owing mine h.failures.counter.covered;
-    shown = λ i list at j s is place above.
-        some-set (λ (d : CountDebts). SomeMember (λ (m : Mark). (is_by_hardware m.kind ≡ true) × IsNotLater m.stamp.who s.stamp.who) d.marks) debts seat (count_debts_of v) owing my-debts
-        (λ has. some-push (λ (m : Mark). (is_by_hardware m.kind ≡ true) × IsNotLater m.stamp.who s.stamp.who) v.marks mark has) (h.failures.counter.shown i list at j s is place above);
+    shown = Marking.hardware-marked layout w homes views seat v mark me h owing refl;
   }
     where
       mine : IsCovered owing
@@ -321,55 +287,6 @@ module _ (layout : Layout) (w : Words) (homes : Homes) (views : List View) (seat
           let poisoned : sum_by (λ (m : Mark). from_bool (is_poisoning m.kind)) u.marks ≡ sum_by (λ (m : Mark). from_bool (is_poisoning m.kind)) v.marks + 0 = sum_by_push (λ (m : Mark). from_bool (is_poisoning m.kind)) v.marks mark in
           let cleared_now : sum_by is_clearing u.marks ≡ sum_by is_clearing v.marks + 1 = sum_by_push is_clearing v.marks mark in
           record { counts = omega (arith, counts, poisoned); uncounts = omega (arith, uncounts, cleared_now) }
-
-  -- ---- other parts that read marks
-
-  exhaustion-revived : ExhaustionExplained layout (set marks seat u.marks) (map (λ (v : View). v.sights) views)
-  exhaustion-revived = record {
-    explained = λ i list at j s is place zero.
-        let old : sum_below (usable layout) layout.frames ≤ sum_below (is_marked layout marks) layout.frames + length layout.pages + 2 * layout.cpus = h.failures.exhaustion.explained i list at j s is place zero in
-        let more : sum_below (is_marked layout marks) layout.frames ≤ sum_below (is_marked layout (set marks seat u.marks)) layout.frames = below-le (is_marked layout marks) (is_marked layout (set marks seat u.marks)) layout.frames
-        (λ f less.
-        let added : sum_all (λ (m : Mark). from_bool (m.frame.0 == f)) (set marks seat u.marks) ≡ sum_all (λ (m : Mark). from_bool (m.frame.0 == f)) marks + from_bool (frame.0 == f) = marked-more (λ (m : Mark). from_bool (m.frame.0 == f)) in
-        omega (arith, added)) in
-        omega (arith, old, more);
-  }
-
-  abbrev losings : List Losing
-  losings = map losing_of views
-
-  losses-revived : LossesBalance layout w.losses homes (map (λ (v : View). v.bodies) views) (set losings seat (losing_of u))
-  losses-revived = record {
-    balance = λ file x at.
-        let reported : sum_by (reported_of file) (set (map losing_of views) seat (losing_of u)) + reported_of file (losing_of v) ≡ sum_by (reported_of file) (map losing_of views) + reported_of file (losing_of v) = sum-set (reported_of file) (map losing_of views) seat (losing_of v) (losing_of u) my-losing in
-        let owed : sum_by (owed_of file) (set (map losing_of views) seat (losing_of u)) + owed_of file (losing_of v) ≡ sum_by (owed_of file) (map losing_of views) + owed_of file (losing_of v) = sum-set (owed_of file) (map losing_of views) seat (losing_of v) (losing_of u) my-losing in
-        let was : x + sum_by (reported_of file) (map losing_of views) + sum_by (owed_of file) (map losing_of views) ≡ sum_bodies (losses_of layout file) homes (map (λ (v : View). v.bodies) views) = h.histories.losses.balance file x at in
-        omega (arith, reported, owed, was);
-    declared = each-set (λ (o : Losing). EachMember (λ (n : FileNo). n.0 < layout.files) o.owed) losings seat (losing_of u) (h.histories.losses.declared seat (losing_of v) my-losing) h.histories.losses.declared;
-    poisoned = each-set IsPoisonLoss losings seat (losing_of u) mine h.histories.losses.poisoned;
-  }
-    where
-      my-losing : slice_get (map losing_of views) seat ≡ Some (losing_of v)
-      my-losing = at_map losing_of views seat v me
-
-      mine : IsPoisonLoss (losing_of u)
-      mine =
-          let was : sum_by (λ (m : Made). from_bool (is_loss m.entry.what)) v.made ≤ length v.owed.losses + sum_by (λ (m : Mark). from_bool (is_poisoning m.kind)) v.marks = h.histories.losses.poisoned seat (losing_of v) my-losing in
-          let same : sum_by (λ (m : Mark). from_bool (is_poisoning m.kind)) u.marks ≡ sum_by (λ (m : Mark). from_bool (is_poisoning m.kind)) v.marks + 0 = sum_by_push (λ (m : Mark). from_bool (is_poisoning m.kind)) v.marks mark in
-          omega (arith, was, same)
-
-  own-revived : AreOwn u
-  own-revived = record {
-    made = own.made;
-    marks = each-push (λ (m : Mark). IsPast v.parts m.stamp.who) v.marks mark past own.marks;
-    sights = own.sights;
-    lengths = own.lengths;
-    settings = own.settings;
-    stops = own.stops;
-  }
-    where
-      own : AreOwn v
-      own = h.processors.commands.own seat v me
 
   pub keeps-reviving : FrameRule layout (record w { frames = frames }) homes (set views seat u)
   keeps-reviving = record {
@@ -385,7 +302,7 @@ module _ (layout : Layout) (w : Words) (homes : Homes) (views : List View) (seat
       entries = Kept.kept-entries views seat v u me refl refl refl refl h.histories.entries;
       endings = Kept.kept-endings views seat v u me refl refl h.histories.endings;
       losses = keep (λ (v : View). v.bodies) (λ l. LossesBalance layout w.losses homes l (map losing_of (set views seat u))) views seat v u me refl
-          (change losing_of (LossesBalance layout w.losses homes (map (λ (v : View). v.bodies) views)) views seat u losses-revived);
+          (change losing_of (LossesBalance layout w.losses homes (map (λ (v : View). v.bodies) views)) views seat u (Marking.losses-marked layout w homes views seat v mark me h));
     };
     failures = record {
       handled = handled;
@@ -395,13 +312,13 @@ module _ (layout : Layout) (w : Words) (homes : Homes) (views : List View) (seat
       marks = keep (λ (v : View). v.sights) (λ l. MarksAlternate frames (map (λ (v : View). v.marks) (set views seat u)) l) views seat v u me refl
           (change (λ (v : View). v.marks) (λ l. MarksAlternate frames l (map (λ (v : View). v.sights) views)) views seat u marks-revived);
       exhaustion = keep (λ (v : View). v.sights) (λ l. ExhaustionExplained layout (map (λ (v : View). v.marks) (set views seat u)) l) views seat v u me refl
-          (change (λ (v : View). v.marks) (λ l. ExhaustionExplained layout l (map (λ (v : View). v.sights) views)) views seat u exhaustion-revived);
+          (change (λ (v : View). v.marks) (λ l. ExhaustionExplained layout l (map (λ (v : View). v.sights) views)) views seat u (Marking.exhaustion-marked layout w homes views seat v mark me h));
     };
     processors = record {
       policies = Kept.kept-policies views seat v u me refl refl refl h.processors.policies;
       stops = Kept.kept-stops views seat v u me refl refl refl h.processors.stops;
       processors = Kept.kept-processors views seat v u me refl h.processors.processors;
-      commands = Kept.kept-commands views seat v u me own-revived h.processors.commands;
+      commands = Kept.kept-commands views seat v u me (Marking.own-marked layout w homes views seat v mark me h u refl past) h.processors.commands;
     };
   }
 

@@ -288,7 +288,7 @@ module _ (layout : Layout) (w : Words) (homes : Homes) (views : List View) (seat
   within = subst (λ (n : ℕ). log.page.0 < n) given.shaped.caches (slice_get_within w.caches log.page.0 (frame.0 + 1) cached)
 
   abbrev renewed : View
-  renewed = GoingHome.renewed layout w homes views seat v who log given.me given.past given.turn h can within
+  renewed = GoingHome.renewed layout w homes views seat v who log given.me given.past given.turn h can within given.sound
 
   home : FrameRule layout (record w { frames = set w.frames frame.0 (bit_and (slice_index w.frames frame.0) 18446744073709551614) }) (set homes frame.0 (Some (Some log)))
       (set (set views seat renewed) seat (record renewed {
@@ -296,10 +296,10 @@ module _ (layout : Layout) (w : Words) (homes : Homes) (views : List View) (seat
         pages = changed (is_page_lock_of log.page) (λ (l : PageLock). record l { trans = None }) renewed.pages;
         bodies = without (is_body_of log.page) renewed.bodies;
       }))
-  home = keeps-unlock-body layout w homes (set views seat renewed) seat renewed frame (slice_index w.frames frame.0) asks.has.listed.0 asks.has.lock (GoingHome.me-renewed layout w homes views seat v who log given.me given.past given.turn h can within) given.place there listed-lock asks.has.frame_is
-      (GoingHome.rule layout w homes views seat v who log given.me given.past given.turn h can within)
-      log (GoingHome.found-body layout w homes views seat v who log given.me given.past given.turn h can within).0 (record can.body { log = log }) (GoingHome.body-renewed layout w homes views seat v who log given.me given.past given.turn h can within)
-      (same-number log.page.0 log.page.0 refl) refl asks.named within asks.cached (GoingHome.ended layout w homes views seat v who log given.me given.past given.turn h can within) (GoingHome.fit layout w homes views seat v who log given.me given.past given.turn h can within)
+  home = keeps-unlock-body layout w homes (set views seat renewed) seat renewed frame (slice_index w.frames frame.0) asks.has.listed.0 asks.has.lock (GoingHome.me-renewed layout w homes views seat v who log given.me given.past given.turn h can within given.sound) given.place there listed-lock asks.has.frame_is
+      (GoingHome.rule layout w homes views seat v who log given.me given.past given.turn h can within given.sound)
+      log (GoingHome.found-body layout w homes views seat v who log given.me given.past given.turn h can within given.sound).0 (record can.body { log = log }) (GoingHome.body-renewed layout w homes views seat v who log given.me given.past given.turn h can within given.sound)
+      (same-number log.page.0 log.page.0 refl) refl asks.named within asks.cached (GoingHome.ended layout w homes views seat v who log given.me given.past given.turn h can within given.sound) (GoingHome.fit layout w homes views seat v who log given.me given.past given.turn h can within given.sound)
 
   keeps-home : FrameRule layout (record w { frames = set w.frames frame.0 (bit_and (slice_index w.frames frame.0) 18446744073709551614) }) (set homes frame.0 (Some (Some log)))
       (set views seat (record (put_home layout who (Some log) v) { locks = without (is_lock_of frame) v.locks }))
@@ -309,7 +309,7 @@ module _ (layout : Layout) (w : Words) (homes : Homes) (views : List View) (seat
         pages = changed (is_page_lock_of log.page) (λ (l : PageLock). record l { trans = None }) v.pages;
         locks = without (is_lock_of frame) v.locks;
       })))
-      (sym (GoingHome.listed-renewed layout w homes views seat v who log given.me given.past given.turn h can within))
+      (sym (GoingHome.listed-renewed layout w homes views seat v who log given.me given.past given.turn h can within given.sound))
       (subst (FrameRule layout (record w { frames = set w.frames frame.0 (bit_and (slice_index w.frames frame.0) 18446744073709551614) }) (set homes frame.0 (Some (Some log))))
       (set-set views seat renewed (record renewed {
         locks = without (is_lock_of frame) renewed.locks;

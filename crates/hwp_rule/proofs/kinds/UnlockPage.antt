@@ -192,7 +192,7 @@ module _ (layout : Layout) (w : Words) (homes : Homes) (views : List View) (seat
   within = subst (λ (n : ℕ). n < length layout.pages) (sym same) given.place
 
   abbrev renewed : View
-  renewed = GoingHome.renewed layout w homes views seat v who log given.me given.past given.turn given.rule can within
+  renewed = GoingHome.renewed layout w homes views seat v who log given.me given.past given.turn given.rule can within given.sound
 
   abbrev after : View → List View
   after x = set views seat (record x { pages = without (is_page_lock_of page) v.pages; bodies = without (is_body_of log.page) x.bodies })
@@ -206,15 +206,15 @@ module _ (layout : Layout) (w : Words) (homes : Homes) (views : List View) (seat
   keeps-renewed : FrameRule layout freed home (after renewed)
   keeps-renewed = subst (FrameRule layout freed home) (set-set views seat renewed (record renewed { pages = without (is_page_lock_of page) v.pages; bodies = without (is_body_of log.page) renewed.bodies }))
       (keeps-unlock-body layout w homes (set views seat renewed) seat renewed page (slice_index w.pages page.0) asks.has.lock given.shaped
-      (GoingHome.me-renewed layout w homes views seat v who log given.me given.past given.turn given.rule can within) there asks.has.listed asks.has.page_is asks.no_frame
-      (GoingHome.rule layout w homes views seat v who log given.me given.past given.turn given.rule can within)
-      log (GoingHome.found-body layout w homes views seat v who log given.me given.past given.turn given.rule can within).0 (record can.body { log = log })
-      (GoingHome.body-renewed layout w homes views seat v who log given.me given.past given.turn given.rule can within) (same-number log.page.0 log.page.0 refl) refl within same asks.named
-      (GoingHome.ended layout w homes views seat v who log given.me given.past given.turn given.rule can within)
-      (GoingHome.fit layout w homes views seat v who log given.me given.past given.turn given.rule can within))
+      (GoingHome.me-renewed layout w homes views seat v who log given.me given.past given.turn given.rule can within given.sound) there asks.has.listed asks.has.page_is asks.no_frame
+      (GoingHome.rule layout w homes views seat v who log given.me given.past given.turn given.rule can within given.sound)
+      log (GoingHome.found-body layout w homes views seat v who log given.me given.past given.turn given.rule can within given.sound).0 (record can.body { log = log })
+      (GoingHome.body-renewed layout w homes views seat v who log given.me given.past given.turn given.rule can within given.sound) (same-number log.page.0 log.page.0 refl) refl within same asks.named
+      (GoingHome.ended layout w homes views seat v who log given.me given.past given.turn given.rule can within given.sound)
+      (GoingHome.fit layout w homes views seat v who log given.me given.past given.turn given.rule can within given.sound))
 
   keeps-home : FrameRule layout freed home (set views seat (record (put_home layout who (Some log) v) { pages = without (is_page_lock_of page) v.pages }))
-  keeps-home = subst (λ (x : View). FrameRule layout freed home (after x)) (sym (GoingHome.listed-renewed layout w homes views seat v who log given.me given.past given.turn given.rule can within)) keeps-renewed
+  keeps-home = subst (λ (x : View). FrameRule layout freed home (after x)) (sym (GoingHome.listed-renewed layout w homes views seat v who log given.me given.past given.turn given.rule can within given.sound)) keeps-renewed
 
 pub keeps-unlock_page : (page : Page) → Keeps (steps.UnlockPage page)
 keeps-unlock_page page layout w homes views seat v who None given =

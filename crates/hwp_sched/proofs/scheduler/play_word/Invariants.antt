@@ -1,7 +1,7 @@
 use Rattle.std.proofs.Common.{◌≡◌, length}
 use Rattle.hwp_step.specs.Ranks.{member}
 use Rattle.hwp_sched.specs.Order.{running, Word}
-use Rattle.hwp_sched.specs.Rank.{cost_at, words_in}
+use Rattle.hwp_sched.specs.Rank.{need_at, words_in}
 use Rattle.hwp_sched.specs.Ready.{InPlay}
 use Rattle.hwp_sched.proofs.Telling.{SoFar}
 use Rattle.hwp_sched.proofs.scheduler.play_word.Given as goal
@@ -14,4 +14,4 @@ invariant-loop-levels g l = record {
 }
 
 abbrev pub decreases-loop-levels : goal.decreases-loop-levels
-decreases-loop-levels g l = cost_at (member g.T.Machine.who g.T.Machine.plan g.T.Machine.put g.T.Machine.bare g.T.Machine.next g.T.Machine.fits g.T.Ranked.class_of g.T.Ranked.cost g.T.Ranked.aborts g.T.Ranked.claims) l.tasks (words_in (running (g.B.Board.machine l.board) (g.B.Board.seat l.board) l.tasks (g.B.Board.state l.board))) l.cpu
+decreases-loop-levels g l = need_at (member g.T.Machine.who g.T.Machine.plan g.T.Machine.put g.T.Machine.bare g.T.Machine.next g.T.Machine.fits g.T.Ranked.class_of g.T.Ranked.cost g.T.Ranked.aborts g.T.Ranked.claims) l.tasks (words_in (running (g.B.Board.machine l.board) (g.B.Board.seat l.board) l.tasks (g.B.Board.state l.board))) l.cpu

@@ -1,0 +1,7 @@
+//! The parts of a memory failure that take a poisoned frame from those that use it, or could: a free one is taken out of
+//! the free ones.
+#![tactic(auto)]
+
+mod grab;
+
+pub use grab::{Grab, GrabAnswer};

@@ -1,0 +1,37 @@
+-- The machine check of a raise: what the law says of it, line by line.
+use Rattle.std.proofs.Common.{◌≡◌, ◌⊎◌, inl, inr, ℕ, zero, suc, ◌<◌, ◌≤◌, ◌||◌, Bool, true, false, cond, List, [], ◌∷◌, Option, Some, None, MatchBool, is_some, length, slice_get, refl, sym, ap, ◌∙◌, subst, arith}
+use Rattle.std.specs.Int.{from_bool}
+use Rattle.std.proofs.lemmas.Option.{none-some, same_Some}
+use Rattle.hwp_geom.specs.declared.Who.{Who}
+use Rattle.hwp_banks.specs.declared.Event.{Event}
+use Rattle.hwp_script.specs.declared.Script.{Script}
+use Rattle.hwp_report.specs.declared.Report.{Report}
+use Rattle.hwp_law.specs.Checks.{AreLinesOf, Banks, IsCheck, empty_banks, has_stop, held_from}
+use Rattle.hwp_law.specs.Commands.{Arrival}
+use Rattle.hwp_law.specs.Lines.{EventLine}
+use Rattle.hwp_events.specs.Accesses.{IsRaisedLine, IsRawLine}
+use Rattle.hwp_events.specs.Firsts.{AreRight}
+use Rattle.hwp_events.specs.Found.{may_stop, resting, stops}
+use Rattle.hwp_events.proofs.FoundLaws.{one-line, or-none}
+
+module _ (script : Script) (report : Report) (who : Who) (how : Arrival) where
+  abbrev Right : Option Event → ℕ → EventLine → Type 0
+  Right raw number line = IsRaisedLine script report who how raw number line
+
+  pub check-forth : (raw : Option Event) (lines : List EventLine) → IsCheck script report who how (resting raw) lines → (length lines ≡ from_bool (is_some raw)) × AreRight (Right raw) lines
+  check-forth None [] is = (refl, λ n l there. absurd (none-some l there))
+  check-forth None (l ∷ ls) is = absurd is
+  check-forth (Some event) lines is =
+      let one = one-line script report who how (stops how event || false) 1 event lines is in
+      (ap length one.1, subst (AreRight (Right (Some event))) (sym one.1) (λ n l there. at-number one.0 one.2 n l there))
+    where
+      at-number : (x : EventLine) → IsRawLine script report who how (stops how event || false) (Some event) x → (n : ℕ) (l : EventLine) → slice_get (x ∷ []) n ≡ Some l → Right (Some event) n l
+      at-number x own zero l there = (refl, subst (IsRawLine script report who how (may_stop how (Some event)) (Some event)) (same_Some _ _ there) (subst (λ (b : Bool). IsRawLine script report who how b (Some event) x) (or-none (stops how event)) own))
+      at-number x own (suc n) l there = absurd (none-some l there)
+
+  pub check-back : (raw : Option Event) (lines : List EventLine) → length lines ≡ from_bool (is_some raw) → AreRight (Right raw) lines → IsCheck script report who how (resting raw) lines
+  check-back None [] size right = record {}
+  check-back None (l ∷ ls) size right = absurd (omega (arith, size))
+  check-back (Some event) [] size right = absurd (omega (arith, size))
+  check-back (Some event) (l ∷ []) size right = (subst (λ (b : Bool). IsRawLine script report who how b (Some event) l) (sym (or-none (stops how event))) (right 0 l refl).1, record {})
+  check-back (Some event) (l ∷ m ∷ ms) size right = absurd (omega (arith, size))

@@ -1,0 +1,12 @@
+-- A scrub by the table of the lowest lines that were marked.
+use Rattle.std.specs.Prelude.{ℕ, ◌≤◌, Bool, cond, List, slice_index_or}
+use Rattle.hwp_geom.specs.Limits.{line_limit}
+use Rattle.hwp_events.specs.Scrubs.{Course}
+use Rattle.hwp_events.specs.declared.reach.Range.{Range}
+
+-- up to which line a scrub must meet one at a place: any, where the scrub didn't go to its end
+abbrev pub low_of : List ℕ → Bool → ℕ → ℕ
+low_of table whole place = cond whole (slice_index_or table place line_limit) line_limit
+
+abbrev pub course_of : List ℕ → Range → Course
+course_of table range = record { low = low_of table range.whole; last = range.last; bound = range.bound }

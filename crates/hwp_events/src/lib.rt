@@ -1,0 +1,12 @@
+//! The event lines of a report: whether the lines of a command are those that its machine checks ask, and if not, which is the
+//! first that isn't, and whether some lack.
+#![tactic(auto)]
+
+mod accesses;
+mod acts;
+mod lines;
+mod reach;
+mod records;
+mod shown;
+
+pub use records::was_poisoned;

@@ -1,0 +1,32 @@
+use hwp_banks::Origin;
+use hwp_geom::{Line, Mode};
+use hwp_report::Acted;
+use hwp_severity::McgBits;
+
+/// An event line of a report, and its place among the lines of its processor.
+#[derive(Clone, Copy)]
+pub struct Shown {
+    pub place: usize,
+    pub seq: u32,
+    pub bank: u8,
+    pub status: u64,
+    pub addr: u64,
+    pub misc: u64,
+    pub row: u8,
+    pub acted: Acted,
+}
+
+/// How a machine check arrives: two bits of IA32_MCG_STATUS, and the mode of the processor.
+#[derive(Clone, Copy)]
+pub struct Arrival {
+    pub mcg: McgBits,
+    pub mode: Mode,
+}
+
+/// The machine checks of an access: what makes their own event, at which line, and how many there are.
+#[derive(Clone, Copy)]
+pub struct Checks {
+    pub origin: Origin,
+    pub at: Line,
+    pub count: u64,
+}
