@@ -15,5 +15,5 @@ pub use glances::{Glance, glances_of, was_away, was_cached, was_dirty, was_mappe
 pub use marked::{
     came_to, marks_of, reported, was_hardware_seen, was_moved, was_taken_back, was_taken_free,
 };
-pub use named::others;
+pub use named::{is_elsewhere, others};
 pub use windows::{Span, is_in_span, is_not_below, no_floors, raise, spans};

@@ -1,9 +1,8 @@
-ghost use Rattle.std.specs.Prelude.{◌≡◌, ◌≤◌, None, IfOk, length, slice_index_or};
-ghost use Rattle.std.specs.Prelude.{replicate, false};
+ghost use Rattle.std.specs.Prelude.{◌≡◌, ◌↔◌, ◌<◌, ◌≤◌, false, None, IfOk, IsTrue, length, replicate, slice_index_or};
 ghost use Rattle.hwp_law.specs.Answers.{is_answering};
-ghost use Rattle.hwp_evidence.specs.Named.{flagged, flagged_page, flagged_pages, is_at, is_other};
+ghost use Rattle.hwp_evidence.specs.Named.{HasOther, flagged, flagged_page, flagged_pages, is_at, is_other};
 
-use hwp_geom::{Cpu, List, OutOfMemory, Page};
+use hwp_geom::{Cpu, List, OutOfMemory, Page, Who};
 use hwp_page::{At, Entry, What};
 use std::alloc::Global;
 
@@ -96,4 +95,15 @@ pub fn others(
         number += 1;
     }
     Ok(flags)
+}
+
+/// Whether the command has an entry that its answer has to name, and that is elsewhere.
+pub fn is_elsewhere(pages: &[List<Entry>], named: &[Option<At>], flags: &[bool], who: Who) -> bool
+    requires flags { flags.now ≡ flagged_pages named.now who.cpu (replicate (length flags.now) false) 0 pages.now }
+    requires inside { who.seq < length flags.now }
+    ensures { IsTrue result ↔ HasOther pages.now who (slice_index_or named.now who.seq None) }
+{
+    let _pages = pages;
+    let _named = named;
+    flags[who.seq as usize]
 }
