@@ -108,30 +108,30 @@ module _ (script : Script) (report : Report) (who : Who) (how : Arrival) (origin
     abbrev Second : List EventLine → EventLine → Type 0
     Second lines line = IsRawLine script report who how (has_stopper how origin raw || begins_in_panic lines) (beside origin raw) line
 
-    is-first : (lines : List EventLine) (number : ℕ) (line : EventLine) → number ≡ 0 → number < asked_by_access acc → Own raw line → Right lines number line
+    pub is-first : (lines : List EventLine) (number : ℕ) (line : EventLine) → number ≡ 0 → number < asked_by_access acc → Own raw line → Right lines number line
     is-first lines number line is within own = (within, subst (λ (b : Bool). MatchBool b (Own raw line) (MatchBool ((number == 1) && is_some (beside origin raw)) (Second lines line) (Own None line))) (sym (eq-eqb number 0 is)) own)
 
-    is-second : (lines : List EventLine) (number : ℕ) (line : EventLine) → number ≡ 1 → is_some (beside origin raw) ≡ true → number < asked_by_access acc → Second lines line → Right lines number line
+    pub is-second : (lines : List EventLine) (number : ℕ) (line : EventLine) → number ≡ 1 → is_some (beside origin raw) ≡ true → number < asked_by_access acc → Second lines line → Right lines number line
     is-second lines number line is some within second = (
       within,
       subst (λ (b : Bool). MatchBool b (Own raw line) (MatchBool ((number == 1) && is_some (beside origin raw)) (Second lines line) (Own None line))) (sym (ne_eqb number 0 (λ z. omega (arith, is, z))))
           (subst (λ (b : Bool). MatchBool b (Second lines line) (Own None line)) (sym (and_from (number == 1) (is_some (beside origin raw)) (eq-eqb number 1 is) some)) second),
     )
 
-    is-later : (lines : List EventLine) (number : ℕ) (line : EventLine) → 0 < number → ((number == 1) && is_some (beside origin raw)) ≡ false → number < asked_by_access acc → Own None line → Right lines number line
+    pub is-later : (lines : List EventLine) (number : ℕ) (line : EventLine) → 0 < number → ((number == 1) && is_some (beside origin raw)) ≡ false → number < asked_by_access acc → Own None line → Right lines number line
     is-later lines number line more not_second within own = (
       within,
       subst (λ (b : Bool). MatchBool b (Own raw line) (MatchBool ((number == 1) && is_some (beside origin raw)) (Second lines line) (Own None line))) (sym (ne_eqb number 0 (λ z. omega (arith, more, z))))
           (subst (λ (b : Bool). MatchBool b (Second lines line) (Own None line)) (sym not_second) own),
     )
 
-    of-first : (lines : List EventLine) (number : ℕ) (line : EventLine) → number ≡ 0 → Right lines number line → Own raw line
+    pub of-first : (lines : List EventLine) (number : ℕ) (line : EventLine) → number ≡ 0 → Right lines number line → Own raw line
     of-first lines number line is right = MatchBool-at_true _ _ (eq-eqb number 0 is) right.1
 
-    of-second : (lines : List EventLine) (number : ℕ) (line : EventLine) → number ≡ 1 → is_some (beside origin raw) ≡ true → Right lines number line → Second lines line
+    pub of-second : (lines : List EventLine) (number : ℕ) (line : EventLine) → number ≡ 1 → is_some (beside origin raw) ≡ true → Right lines number line → Second lines line
     of-second lines number line is some right = MatchBool-at_true _ _ (and_from (number == 1) (is_some (beside origin raw)) (eq-eqb number 1 is) some) (MatchBool-at_false _ _ (ne_eqb number 0 (λ z. omega (arith, is, z))) right.1)
 
-    of-later : (lines : List EventLine) (number : ℕ) (line : EventLine) → 0 < number → ((number == 1) && is_some (beside origin raw)) ≡ false → Right lines number line → Own None line
+    pub of-later : (lines : List EventLine) (number : ℕ) (line : EventLine) → 0 < number → ((number == 1) && is_some (beside origin raw)) ≡ false → Right lines number line → Own None line
     of-later lines number line more not_second right = MatchBool-at_false _ _ not_second (MatchBool-at_false _ _ (ne_eqb number 0 (λ z. omega (arith, more, z))) right.1)
 
     abbrev Checked : ℕ → List EventLine → Banks → Type 0

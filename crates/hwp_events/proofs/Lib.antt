@@ -5,3 +5,5 @@ mod AccessLaws
 mod RaiseLaws
 mod LineLaws
 mod OwnLaws
+mod Scanning
+mod MarkLaws

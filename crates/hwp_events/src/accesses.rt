@@ -1,10 +1,10 @@
-ghost use Rattle.std.specs.Prelude.{◌≡◌, ◌↔◌, ◌<◌, ◌≤◌, ◌||◌, ℕ, true, IsTrue, IsBitSet, MatchOption, length, map};
+ghost use Rattle.std.specs.Prelude.{◌≡◌, ◌↔◌, ◌<◌, ◌≤◌, ◌^◌, ◌||◌, ℕ, true, None, IsTrue, IsBitSet, MatchOption, length, map};
 ghost use Rattle.hwp_law.specs.Checks.{is_panic};
 ghost use Rattle.hwp_law.specs.Lines.{bad_lines_of};
-ghost use Rattle.hwp_events.specs.Accesses.{IsAccessLine, IsOwnLine, IsRawLine, begins_in_panic};
-ghost use Rattle.hwp_events.specs.Firsts.{AreRight, IsFirstWrong};
+ghost use Rattle.hwp_events.specs.Accesses.{IsAccessLine, IsOwnLine, IsRawLine, asked_by_access, begins_in_panic};
+ghost use Rattle.hwp_events.specs.Firsts.{IsScanned};
 ghost use Rattle.hwp_events.specs.Found.{IsCandidate, beside, may_stop, of_access, own_found, stops};
-ghost use Rattle.hwp_events.specs.Told.{coming, told};
+ghost use Rattle.hwp_events.specs.Told.{access_by, coming, told};
 
 use crate::acts::{is_line_of, is_panic, stops};
 use crate::lines::{bad_lines_of, has_line};
@@ -67,12 +67,12 @@ fn own_found(origin: Origin, raw: &mut Bank, frame: Frame, at: Line) -> Event
 }
 
 /// What a machine check finds in bank 1 beside its own event.
-fn beside(origin: Origin, raw: &Bank) -> Option<Event>
-    ensures { result ≡ beside origin raw.now }
+fn beside(origin: Origin, raw: Option<Event>) -> Option<Event>
+    ensures { result ≡ beside origin raw }
 {
     match origin {
         Origin::Fetch => None,
-        _ => raw.get(),
+        _ => raw,
     }
 }
 
@@ -87,14 +87,22 @@ fn may_stop(how: Arrival, event: Option<Event>) -> bool
 }
 
 /// Whether the own event or what is found beside it would stop the machine.
-fn has_stopper(how: Arrival, own: Event, beside: Option<Event>) -> bool
+pub(crate) fn has_stopper(how: Arrival, own: Event, beside: Option<Event>) -> bool
     ensures { result ≡ (stops (coming how) own || may_stop (coming how) beside) }
 {
     stops(how, own) || may_stop(how, beside)
 }
 
+/// Whether failures are held back in the second line of an access's first machine check.
+fn is_held(how: Arrival, checks: &Checks, beside: Option<Event>, lines: &[Shown]) -> bool
+    ensures { result ≡ ((stops (coming how) (own_found checks.now.origin None (record { 0 = 0 }) checks.now.at) || may_stop (coming how) beside) || begins_in_panic (map told lines.now)) }
+{
+    let own = own_found(checks.origin, &mut Bank::new(), Frame(0), checks.at);
+    has_stopper(how, own, beside) || begins_in_panic(lines)
+}
+
 /// Whether the line tells what bank 1 held, where it held something.
-fn is_raw_line(
+pub(crate) fn is_raw_line(
     script: &Script,
     report: &Report,
     who: Who,
@@ -118,17 +126,17 @@ fn is_own_line(
     report: &Report,
     who: Who,
     how: Arrival,
-    checks: Checks,
+    checks: &Checks,
     raw: &mut Bank,
     line: &Shown,
 ) -> bool
-    requires access { of_access checks.origin ≡ true }
+    requires access { of_access checks.now.origin ≡ true }
     requires frames { length report.now.frames ≤ 65536 }
-    ensures { IsTrue result ↔ IsOwnLine script.now report.now who (coming how) checks.origin checks.at raw.old (told line.now) }
+    ensures { IsTrue result ↔ IsOwnLine script.now report.now who (coming how) checks.now.origin checks.now.at raw.old (told line.now) }
 {
     match candidate(report, checks.at, line.addr) {
         Some(frame) => {
-            let beside = beside(checks.origin, raw);
+            let beside = beside(checks.origin, raw.get());
             let own = own_found(checks.origin, raw, frame, checks.at);
             let held = has_stopper(how, own, beside);
             let bank = checks.origin.bank() as u8;
@@ -146,4 +154,99 @@ fn begins_in_panic(lines: &[Shown]) -> bool
         Some(line) => is_panic(line.acted),
         None => false,
     }
+}
+
+/// How many lines the machine checks ask, of which the first finds this in bank 1.
+pub(crate) fn asked_by_access(checks: &Checks, raw: Option<Event>) -> u64
+    requires { checks.now.count < 2 ^ 63 }
+    ensures { result ≡ asked_by_access (access_by checks.now raw) }
+{
+    if checks.count == 0 {
+        return 0;
+    }
+    checks.count - 1
+        + if beside(checks.origin, raw).is_some() {
+            2
+        } else {
+            1
+        }
+}
+
+/// Whether the line is right as the first one. Bank 1 is given up.
+fn is_first_line(
+    script: &Script,
+    report: &Report,
+    who: Who,
+    how: Arrival,
+    checks: &Checks,
+    raw: &mut Bank,
+    line: &Shown,
+) -> bool
+    requires access { of_access checks.now.origin ≡ true }
+    requires frames { length report.now.frames ≤ 65536 }
+    requires few { checks.now.count < 2 ^ 63 }
+    ensures { IsTrue result ↔ ((0 < asked_by_access (access_by checks.now raw.old)) × IsOwnLine script.now report.now who (coming how) checks.now.origin checks.now.at raw.old (told line.now)) }
+{
+    asked_by_access(checks, raw.get()) > 0
+        && is_own_line(script, report, who, how, checks, raw, line)
+}
+
+/// Whether the line is right as the one with this number, not the first.
+fn is_later_line(
+    script: &Script,
+    report: &Report,
+    who: Who,
+    how: Arrival,
+    checks: &Checks,
+    raw: Option<Event>,
+    lines: &[Shown],
+    number: usize,
+    line: &Shown,
+) -> bool
+    requires access { of_access checks.now.origin ≡ true }
+    requires frames { length report.now.frames ≤ 65536 }
+    requires few { checks.now.count < 2 ^ 63 }
+    requires later { 0 < number }
+    ensures { IsTrue result ↔ IsAccessLine script.now report.now who (coming how) (access_by checks.now raw) (map told lines.now) number (told line.now) }
+{
+    if number as u64 >= asked_by_access(checks, raw) {
+        return false;
+    }
+    let beside = beside(checks.origin, raw);
+    if number == 1 && beside.is_some() {
+        let held = is_held(how, checks, beside, lines);
+        return is_raw_line(script, report, who, how, held, beside, line);
+    }
+    is_own_line(script, report, who, how, checks, &mut Bank::new(), line)
+}
+
+/// The first line that isn't the one that the machine checks ask at its place. Bank 1 is given up.
+pub(crate) fn access_wrong(
+    script: &Script,
+    report: &Report,
+    who: Who,
+    how: Arrival,
+    checks: &Checks,
+    raw: &mut Bank,
+    lines: &[Shown],
+) -> Option<usize>
+    requires access { of_access checks.now.origin ≡ true }
+    requires frames { length report.now.frames ≤ 65536 }
+    requires few { checks.now.count < 2 ^ 63 }
+    ensures { IsScanned (IsAccessLine script.now report.now who (coming how) (access_by checks.now raw.old) (map told lines.now)) (map told lines.now) result }
+{
+    let held = raw.get();
+    if lines.is_empty() {
+        return None;
+    }
+    if !is_first_line(script, report, who, how, checks, raw, &lines[0]) {
+        return Some(0);
+    }
+    for number in 1..lines.len() {
+        let line = &lines[number];
+        if !is_later_line(script, report, who, how, checks, held, lines, number, line) {
+            return Some(number);
+        }
+    }
+    None
 }

@@ -1,0 +1,17 @@
+use Rattle.std.proofs.Common.{rules, arith, Option, map}
+use Rattle.hwp_banks.specs.declared.Event.{Event}
+use Rattle.hwp_events.specs.Accesses.{IsAccessLine}
+use Rattle.hwp_events.specs.Told.{access_by, coming, told}
+use Rattle.hwp_events.proofs.Scanning.{right-all, right-next-by}
+use Rattle.hwp_events.proofs.accesses.access_wrong.Goals as goal
+
+pub loop-number-preserved : goal.loop-number-preserved
+loop-number-preserved c = (
+  omega arith,
+  right-next-by (λ (o : Option Event). IsAccessLine c.args.script.now c.args.report.now c.args.who (coming c.args.how) (access_by c.args.checks.now o) (map told c.args.lines.now)) c.get-held.result c.args.raw.now c.args.lines.now c.loop-number.number _
+      (omega arith) c.get-held.ensures.held (c.if-not-is_later_line.ensures.0 (search rules)) c.loop-number.invariant.1,
+)
+
+pub returns : goal.returns
+returns c =
+    right-all (IsAccessLine c.args.script.now c.args.report.now c.args.who (coming c.args.how) (access_by c.args.checks.now c.args.raw.now) (map told c.args.lines.now)) c.args.lines.now c.loop-number.number (omega arith) c.loop-number.invariant.1

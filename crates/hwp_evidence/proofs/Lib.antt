@@ -1,0 +1,9 @@
+pub mod Reading
+mod AmpleLaws
+mod GlanceLaws
+mod SpanLaws
+pub mod WindowLaws
+mod FloorLaws
+mod EndLaws
+mod MarkLaws
+pub mod NamedLaws

@@ -1,0 +1,19 @@
+//! What a report shows for the answers of its commands: the states of pages at places of their histories, the windows of
+//! commands, the entries that answers name, the ends of processes, the records of frames, and the policies of threads.
+#![tactic(auto)]
+
+mod ample;
+mod ends;
+mod glances;
+mod marked;
+mod named;
+mod windows;
+
+pub use ample::is_ample;
+pub use ends::{had_ended, has_ending, own_ends, page_ends};
+pub use glances::{Glance, glances_of, was_away, was_cached, was_dirty, was_mapped, was_unused};
+pub use marked::{
+    came_to, marks_of, reported, was_hardware_seen, was_moved, was_taken_back, was_taken_free,
+};
+pub use named::{is_elsewhere, others};
+pub use windows::{Span, is_in_span, is_not_below, no_floors, raise, spans};

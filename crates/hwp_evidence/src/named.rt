@@ -1,0 +1,109 @@
+ghost use Rattle.std.specs.Prelude.{◌≡◌, ◌↔◌, ◌<◌, ◌≤◌, false, None, IfOk, IsTrue, length, replicate, slice_index_or};
+ghost use Rattle.hwp_law.specs.Answers.{is_answering};
+ghost use Rattle.hwp_evidence.specs.Named.{HasOther, flagged, flagged_page, flagged_pages, is_at, is_other};
+
+use hwp_geom::{Cpu, List, OutOfMemory, Page, Who};
+use hwp_page::{At, Entry, What};
+use std::alloc::Global;
+
+/// Whether the command's answer has to name the entry.
+fn is_answering(what: &What) -> bool
+    ensures { result ≡ is_answering what.now }
+{
+    !matches!(
+        what,
+        What::FaultIn | What::Map { .. } | What::Mce { .. } | What::Fail { .. }
+    )
+}
+
+/// Whether this place is named.
+fn is_at(named: Option<At>, at: At) -> bool
+    ensures { result ≡ is_at named at }
+{
+    match named {
+        None => false,
+        Some(named) => named.page.0 == at.page.0 && named.entry == at.entry,
+    }
+}
+
+/// The place that a command's answer names.
+fn named_by(named: &[Option<At>], seq: u32) -> Option<At>
+    ensures { result ≡ slice_index_or named.now seq None }
+{
+    match named.get(seq as usize) {
+        Some(at) => *at,
+        None => None,
+    }
+}
+
+/// Whether the entry is one of the processor that its command's answer has to name, and doesn't.
+fn is_other(named: &[Option<At>], cpu: Cpu, at: At, entry: &Entry) -> bool
+    ensures { result ≡ is_other named.now cpu at entry.now }
+{
+    entry.who.cpu.0 == cpu.0
+        && is_answering(&entry.what)
+        && !is_at(named_by(named, entry.who.seq), at)
+}
+
+/// Sets the flag of the entry's command, if its answer doesn't name the entry.
+fn flag(flags: &mut Vec<bool>, named: &[Option<At>], cpu: Cpu, at: At, entry: &Entry)
+    ensures { flags.new.items ≡ flagged named.now cpu flags.old.items at entry.now }
+{
+    if is_other(named, cpu, at, entry) {
+        let seq = entry.who.seq as usize;
+        if seq < flags.len() {
+            flags[seq] = true;
+        }
+    }
+}
+
+/// The same of the entries of a page.
+fn flag_page(flags: &mut Vec<bool>, named: &[Option<At>], cpu: Cpu, page: Page, entries: &[Entry])
+    ensures { flags.new.items ≡ flagged_page named.now cpu page flags.old.items 0 entries.now }
+{
+    let mut number = 0;
+    for entry in entries {
+        flag(
+            flags,
+            named,
+            cpu,
+            At {
+                page,
+                entry: number,
+            },
+            entry,
+        );
+        number += 1;
+    }
+}
+
+/// For each of so many commands of the processor whether it has an entry that its answer has to name, and doesn't.
+pub fn others(
+    alloc: Global,
+    commands: usize,
+    named: &[Option<At>],
+    cpu: Cpu,
+    pages: &[List<Entry>],
+) -> Result<Vec<bool>, OutOfMemory>
+    requires { length pages.now ≤ 256 }
+    ensures { IfOk result (λ flags. flags.items ≡ flagged_pages named.now cpu (replicate commands false) 0 pages.now) }
+{
+    let mut flags = vec![in alloc; false; commands]?;
+    let mut number = 0;
+    for entries in pages {
+        flag_page(&mut flags, named, cpu, Page(number), entries.as_slice());
+        number += 1;
+    }
+    Ok(flags)
+}
+
+/// Whether the command has an entry that its answer has to name, and that is elsewhere.
+pub fn is_elsewhere(pages: &[List<Entry>], named: &[Option<At>], flags: &[bool], who: Who) -> bool
+    requires flags { flags.now ≡ flagged_pages named.now who.cpu (replicate (length flags.now) false) 0 pages.now }
+    requires inside { who.seq < length flags.now }
+    ensures { IsTrue result ↔ HasOther pages.now who (slice_index_or named.now who.seq None) }
+{
+    let _pages = pages;
+    let _named = named;
+    flags[who.seq as usize]
+}
