@@ -6,3 +6,4 @@ mod RaiseLaws
 mod LineLaws
 mod OwnLaws
 mod Scanning
+mod MarkLaws
