@@ -7,3 +7,4 @@ mod LineLaws
 mod OwnLaws
 mod Scanning
 mod MarkLaws
+mod ScrubScans
