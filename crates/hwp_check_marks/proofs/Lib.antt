@@ -4,3 +4,6 @@ mod Keeping
 mod Tallying
 mod Unpairing
 mod Counting
+mod WalkLaws
+mod LowLaws
+mod LackingLaws

@@ -169,7 +169,7 @@ entries-front-low q list i within = before list i within
         omega (arith, all, one, rest)
 
 -- the count of a command with a kind is that of its marks, or entries, of the kind
-eqb-swap : (a b : ℕ) → (a == b) ≡ (b == a)
+pub eqb-swap : (a b : ℕ) → (a == b) ≡ (b == a)
 eqb-swap a b = elim (cases_Bool (a == b)) [
   | inl is ↦ is ∙ sym (eq-eqb b a (sym (eqb-true a b is)))
   | inr not_so ↦ not_so ∙ sym (ne_eqb b a (λ e. eqb-false a b not_so (sym e)))

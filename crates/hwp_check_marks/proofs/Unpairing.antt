@@ -25,7 +25,7 @@ use Rattle.hwp_check_rules.specs.MarkFaults.{IsMovedOnly, IsSecond, IsUnpaired, 
 use Rattle.hwp_check_marks.specs.MarkScans.{IsClear, IsFirstFault}
 use Rattle.hwp_check_rules.specs.Standing.{entry_height, frame_height, frame_line, last_line, what_height}
 use Rattle.hwp_check_marks.specs.Unpaired.{AllFew, AreFew, IsExtra, IsFirstExtra, IsTooMany, NoneExtra, allowed, before_in, exceeds, in_frames, is_extra, is_kind}
-use Rattle.hwp_check_marks.proofs.Shown.{and-both, and-left, and-right, frame-next, frame-rises, marks-are, same-self, same-who, shown-in}
+use Rattle.hwp_check_marks.proofs.Shown.{and-both, and-left, and-right, frame-next, frame-rises, marks-are, same-self, same-situation, same-who, shown-in}
 
 abbrev flag : Bool → ℕ
 flag b = cond b 1 0
@@ -122,24 +122,6 @@ before-less p frames frame place line mark shown there such =
     let inside : count_by p (take place line.marks) + flag (p (get_or line.marks place mark)) ≤ count_by p line.marks = sum_by_more_le (λ (y : MarkLine). flag (p y)) line.marks place mark (slice_get_within line.marks place mark there) in
     let one : flag (p (get_or line.marks place mark)) ≡ flag true = ap (λ (m : MarkLine). flag (p m)) (get_or_from_slice_get line.marks place mark mark there) ∙ ap flag such in
     omega (arith, above, this, inside, one)
-
--- situations of one number are one
-situation-of : ℕ → Situation
-situation-of n =
-    cond (n == 0) situations.Free (cond (n == 1) situations.Kernel (cond (n == 2) situations.FileClean (cond (n == 3) situations.FileDirty (cond (n == 4) situations.AnonOnly (cond (n == 5) situations.SwapClean situations.SwapDirty)))))
-
-situation-back : (s : Situation) → situation-of (situation_number s) ≡ s
-unfolding situation-of
-situation-back situations.Free = refl
-situation-back situations.Kernel = refl
-situation-back situations.FileClean = refl
-situation-back situations.FileDirty = refl
-situation-back situations.AnonOnly = refl
-situation-back situations.SwapClean = refl
-situation-back situations.SwapDirty = refl
-
-same-situation : (s t : Situation) → (situation_number s == situation_number t) ≡ true → s ≡ t
-same-situation s t is = sym (situation-back s) ∙ ap situation-of (eqb-true (situation_number s) (situation_number t) is) ∙ situation-back t
 
 or-cases : (a b : Bool) → (a || b) ≡ true → (a ≡ true) ⊎ (b ≡ true)
 or-cases true b is = inl refl

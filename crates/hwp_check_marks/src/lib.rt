@@ -5,6 +5,8 @@ mod counts;
 mod kept;
 mod keys;
 mod kinds;
+mod lacking;
+mod lows;
 mod records;
 mod tallies;
 mod unpaired;

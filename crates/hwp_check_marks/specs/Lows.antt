@@ -1,0 +1,34 @@
+-- The lowest frame that each command's event lines name with a result, as the lines are gone through.
+use Rattle.std.specs.Prelude.{◌≡◌, ℕ, ◌<◌, ◌==◌, ◌&&◌, nat_lt, Bool, false, cond, List, [], Option, Some, None, fold, is_some, slice_get, unwrap_or}
+use Rattle.std.specs.HashMap.{HashMap}
+use Rattle.std.specs.HashMap as hash
+use Rattle.hwp_geom.specs.declared.Who.{Who}
+use Rattle.hwp_banks.specs.Addresses.{frame_at}
+use Rattle.hwp_report.specs.declared.CpuLine.{CpuLine}
+use Rattle.hwp_report.specs.declared.CpuLine.TheVariants as lines
+use Rattle.hwp_report.specs.declared.Report.{Report}
+use Rattle.hwp_law.specs.Lines.{events_of}
+use Rattle.hwp_law.specs.Records.{result_of}
+use Rattle.hwp_check_rules.specs.MarkFaults.{lower, lowest_of}
+
+abbrev pub is_pair : ℕ × ℕ → ℕ × ℕ → Bool
+is_pair x y = (x.0 == y.0) && (x.1 == y.1)
+
+abbrev pub low_at : {S : Type 0} → HashMap (ℕ × ℕ) ℕ S → ℕ × ℕ → Option ℕ
+low_at m q = hash.get is_pair m q
+
+-- a line of a processor makes the lowest frame of a command lower
+abbrev pub row_low : ℕ → ℕ × ℕ → Option ℕ → CpuLine → Option ℕ
+row_low cpu q low (lines.Event seq bank status addr misc row acted) = cond (is_some (result_of acted) && is_pair (cpu, seq) q) (Some (lower (frame_at addr) low)) low
+row_low cpu q low (lines.Answer seq answer) = low
+
+abbrev pub rows_low : ℕ → ℕ × ℕ → Option ℕ → List CpuLine → Option ℕ
+rows_low cpu q low rows = fold (row_low cpu q) low rows
+
+-- the same of the processors below this number
+abbrev pub lows_below : ℕ → Report → ℕ × ℕ → Option ℕ
+lows_below n report q = cond (nat_lt q.0 n) (rows_low q.0 q None (unwrap_or (slice_get report.cpus q.0) [])) None
+
+-- these are the lowest frames of all commands
+abbrev pub AreLows : {S : Type 0} → Report → HashMap (ℕ × ℕ) ℕ S → Type 0
+AreLows report lows = (who : Who) → low_at lows (who.cpu.0, who.seq) ≡ lowest_of (events_of report who)
