@@ -1,0 +1,2 @@
+pub mod Grabbing
+pub mod GrabCosts
