@@ -8,3 +8,4 @@ mod OwnLaws
 mod Scanning
 mod MarkLaws
 mod ScrubScans
+mod ScrubLines
