@@ -9,3 +9,4 @@ mod Scanning
 mod MarkLaws
 mod ScrubScans
 mod ScrubLines
+mod ScrubFound
