@@ -7,3 +7,7 @@ mod Counting
 mod WalkLaws
 mod LowLaws
 mod LackingLaws
+mod SaidLaws
+mod NeededLaws
+mod UrgentLaws
+mod MisLaws

@@ -32,7 +32,7 @@ fn lower(lows: &mut Lows, key: (u8, u32), frame: u64) -> Result<(), OutOfMemory>
 }
 
 /// Whether an event line says a result.
-fn is_result(acted: Acted) -> bool
+pub(crate) fn is_result(acted: Acted) -> bool
     ensures { result ≡ is_some (result_of acted) }
 {
     matches!(acted, Acted::Recovered | Acted::Delayed | Acted::Ignored)
