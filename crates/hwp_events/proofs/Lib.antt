@@ -8,3 +8,5 @@ mod OwnLaws
 mod Scanning
 mod MarkLaws
 mod ScrubScans
+mod ScrubLines
+mod ScrubFound
