@@ -11,3 +11,4 @@ mod SaidLaws
 mod NeededLaws
 mod UrgentLaws
 mod MisLaws
+mod Deciding

@@ -9,7 +9,7 @@ use Rattle.hwp_check_rules.specs.Standing.{entry_height, page_height}
 use Rattle.hwp_check_marks.specs.Walks.{IsAsked, IsAskedIn, IsLowest, walk_entries, walk_pages}
 
 -- one line more that is so
-sooner-least : (P : ℕ → Type 0) (found : Option ℕ) (line : ℕ) → IsLowest P found → IsLowest (λ (n : ℕ). P n ⊎ (n ≡ line)) (sooner found line)
+pub sooner-least : (P : ℕ → Type 0) (found : Option ℕ) (line : ℕ) → IsLowest P found → IsLowest (λ (n : ℕ). P n ⊎ (n ≡ line)) (sooner found line)
 sooner-least P None line none = record { at = inr refl; first = λ other asked. elim asked [ | inl old ↦ absurd (none other old) | inr is ↦ omega (arith, is) ] }
 sooner-least P (Some n) line least = elim (cases_lt line n) [
   | inl low ↦

@@ -7,6 +7,7 @@ mod keys;
 mod kinds;
 mod lacking;
 mod lows;
+mod marks;
 mod misrequired;
 mod needed;
 mod records;
@@ -14,3 +15,5 @@ mod said;
 mod tallies;
 mod unpaired;
 mod urgent;
+
+pub use marks::marks_fault;
