@@ -13,7 +13,7 @@ use Rattle.hwp_rule.specs.declared.State.{State}
 use Rattle.hwp_rule.specs.declared.Step.{Step}
 use Rattle.hwp_rule.specs.declared.Step.TheVariants as steps
 use Rattle.hwp_rule.specs.declared.View.{View}
-use Rattle.hwp_rule.specs.Asks.{HasInHand}
+use Rattle.hwp_rule.specs.Asks.{CanRetire, HasInHand}
 use Rattle.hwp_rule.specs.Lists.{SomeMember}
 use Rattle.hwp_rule.specs.Rule.{Holds}
 use Rattle.hwp_rule.specs.Views.{is_hand_of, lock_found, unpoisoned, with_refs, without}
@@ -28,10 +28,11 @@ use Rattle.hwp_step.specs.Hands.{Hand, hand_of, empty}
 use Rattle.hwp_step.proofs.Stepping.{on-turn-after, hand-planned, steps-planned, can-make}
 use Rattle.hwp_known.proofs.Seeing.{saw-adopt}
 use Rattle.hwp_hold.specs.Takes.{adopted_lock}
+use Rattle.hwp_hold.proofs.Telling.{Tells, empty-tells, frame-tells}
 use Rattle.hwp_claim.specs.declared.grab.Grab.{Grab}
 use Rattle.hwp_claim.specs.declared.grab.GrabAt.{GrabAt}
 use Rattle.hwp_claim.specs.declared.grab.GrabAt.TheVariants as at
-use Rattle.hwp_claim.specs.Grabs.{at_available, has_bit, plan, plan_at, next, next_at, turn, reserving, handed, grabbed, held_at, WasFree, KnowsAt, Fits, hand_next, hand_next_at}
+use Rattle.hwp_claim.specs.Grabs.{at_available, has_bit, plan, plan_at, next, next_at, turn, reserving, handed, grabbed, held_at, WasFree, KnowsAt, Fits, hand_next, hand_next_at, class, class_at}
 
 -- the frame is in hand, where the hand has it alone
 in-hand : (view : View) (frame : Frame) → hand_of view ≡ handed frame → HasInHand view frame
@@ -141,3 +142,30 @@ users-word layout s h frame found inside met user = kernel ∙ ap (λ (b : Bool)
 
     kernel : slice_get layout.kernel frame.0 ≡ Some declared
     kernel = slice_get-get_or layout.kernel frame.0 false (subst (λ (n : ℕ). frame.0 < n) (sym h.sound.kernel) inside)
+
+-- its class tells what is held
+pub grab-tells : (layout : Layout) (view : View) (g : Grab) → Fits layout view g → Tells view (class g)
+grab-tells layout view g fits = which g.at fits.held
+  where
+    which : (x : GrabAt) → hand_of view ≡ held_at g.frame x → Tells view (class_at x)
+    which at.LoadAvailable held = empty-tells view 4 held
+    which (at.Reserve seen) held = empty-tells view 4 held
+    which at.TakeBit held = frame-tells view
+    which at.Unreserve held = frame-tells view
+    which at.Adopt held = frame-tells view
+    which at.LookAgain held = empty-tells view 4 held
+    which (at.Grabbed word) held = frame-tells view
+
+-- a poisoned frame that was grabbed can go out of use
+pub grabbed-retires : (view : View) (frame : Frame) → hand_of view ≡ grabbed frame true → CanRetire view frame None
+grabbed-retires view frame held = record {
+  has = record {
+    lock = adopted_lock frame true;
+    listed = subst (λ (h : Hand). SomeMember (λ (l : FrameLock). l ≡ adopted_lock frame true) h.locks) (sym held) (0, adopted_lock frame true, refl, refl);
+    frame_is = refl;
+  };
+  unowned = refl;
+  unhandled = refl;
+  poisoned = refl;
+  empty = refl;
+}

@@ -7,3 +7,7 @@ mod LineLaws
 mod OwnLaws
 mod Scanning
 mod MarkLaws
+mod ScrubScans
+mod ScrubLines
+mod ScrubFound
+mod ScrubForth

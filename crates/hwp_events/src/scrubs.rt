@@ -1,9 +1,10 @@
-ghost use Rattle.std.specs.Prelude.{◌≡◌, ◌≤◌, ◌<◌, ◌+◌, ◌-◌, ◌^◌, ◌↔◌, ◌||◌, IsTrue};
+ghost use Rattle.std.specs.Prelude.{◌≡◌, ◌≤◌, ◌<◌, ◌+◌, ◌-◌, ◌*◌, ◌^◌, ◌↔◌, ◌||◌, IsTrue, length, map};
 ghost use Rattle.hwp_banks.specs.Addresses.{frame_at};
 ghost use Rattle.hwp_banks.specs.Events.{own_status};
+ghost use Rattle.hwp_events.specs.Firsts.{IsScanned, first_of};
 ghost use Rattle.hwp_events.specs.Found.{has_stopper};
-ghost use Rattle.hwp_events.specs.Scrubbing.{IsAhead, course_of, low_of};
-ghost use Rattle.hwp_events.specs.Scrubs.{IsScrubbedLine, after, marked_from, may_meet, own_at, passed_to, place_of, tells_own, turn};
+ghost use Rattle.hwp_events.specs.Scrubbing.{IsAhead, IsRightIn, IsSound, IsWithin, course_of, low_of};
+ghost use Rattle.hwp_events.specs.Scrubs.{IsScrubbedLine, after, after_all, lacking, marked_from, may_meet, own_at, passed_to, place_of, tells_own, turn};
 ghost use Rattle.hwp_events.specs.Told.{coming, told};
 ghost use Rattle.hwp_banks.specs.declared.Origin.TheVariants as origins;
 
@@ -84,7 +85,8 @@ fn may_meet(
     reach: Reach,
     line: &Shown,
 ) -> bool
-    ensures { result ≡ may_meet report.now (course_of table.now range) origin reach (told line.now) }
+    ensures may { result ≡ may_meet report.now (course_of table.now range) origin reach (told line.now) }
+    ensures ahead { IsTrue result → IsWithin range reach origin (told line.now) }
 {
     let frame = line.addr / 4096;
     let place = place_of(origin, frame);
@@ -98,7 +100,8 @@ fn may_meet(
 
 /// What a line is to the scrub.
 fn turn(report: &Report, table: &[u8], range: Range, reach: Reach, line: &Shown) -> Turn
-    ensures { result ≡ turn report.now (course_of table.now range) reach (told line.now) }
+    ensures turn { result ≡ turn report.now (course_of table.now range) reach (told line.now) }
+    ensures ahead { IsAhead range reach (told line.now) result }
 {
     let held = reach.raw.is_some();
     let open = reach.begun.is_some();
@@ -140,11 +143,12 @@ fn passed_to(table: &[u8], range: Range, reach: Reach, place: u64) -> u64
 
 /// How far the scrub has come when it met a line of this kind.
 fn met(table: &[u8], range: Range, reach: Reach, origin: Origin, line: &Shown) -> Reach
-    requires ahead { reach.next ≤ place_of origin (frame_at line.now.addr) }
+    requires ahead { IsWithin range reach origin (told line.now) }
     requires few { reach.passed ≤ reach.next }
     ensures next { result.next ≡ place_of origin (frame_at line.now.addr) + 1 }
     ensures passed { result.passed ≡ passed_to (course_of table.now range) reach (place_of origin (frame_at line.now.addr)) }
     ensures few { result.passed ≤ result.next }
+    ensures within { result.next ≤ 2 * range.last + 2 }
     ensures same { (result.raw ≡ reach.raw) × (result.begun ≡ reach.begun) × (result.strays ≡ reach.strays) }
 {
     let place = place_of(origin, line.addr / 4096);
@@ -156,14 +160,14 @@ fn met(table: &[u8], range: Range, reach: Reach, origin: Origin, line: &Shown) -
 }
 
 /// How far the scrub has come behind a line.
-fn after(table: &[u8], range: Range, reach: Reach, line: &Shown, turn: Turn) -> Reach
-    requires ahead { IsAhead reach (told line.now) turn }
-    requires few { reach.passed ≤ reach.next }
-    requires room { reach.strays < 2 ^ 63 }
+fn after(table: &[u8], range: Range, reach: Reach, line: &Shown, turn: Turn, behind: usize) -> Reach
+    requires ahead { IsAhead range reach (told line.now) turn }
+    requires sound { IsSound range reach behind }
+    requires room { behind < 2 ^ 63 }
     ensures after { result ≡ after (course_of table.now range) reach (told line.now) turn }
-    ensures few { result.passed ≤ result.next }
-    ensures strays { result.strays ≤ reach.strays + 1 }
+    ensures sound { IsSound range result (behind + 1) }
 {
+    let _count = behind;
     match turn {
         Turn::Beside => Reach {
             begun: Some(is_panic(line.acted)),
@@ -231,4 +235,58 @@ fn either(a: bool, b: bool) -> bool
     ensures { result ≡ (a || b) }
 {
     a || b
+}
+
+/// The first line that is wrong, by the one found so far.
+fn first_of(found: Option<usize>, right: bool, number: usize) -> Option<usize>
+    ensures { result ≡ first_of found right number }
+{
+    match found {
+        Some(first) => Some(first),
+        None => if right { None } else { Some(number) },
+    }
+}
+
+/// What came of the lines of a scrub: the first that is wrong, and how far the scrub has come behind the last.
+#[derive(Clone, Copy)]
+pub(crate) struct Scanned {
+    pub wrong: Option<usize>,
+    pub end: Reach,
+}
+
+/// Goes over the lines of a scrub.
+pub(crate) fn scan(
+    script: &Script,
+    report: &Report,
+    who: Who,
+    how: Arrival,
+    table: &[u8],
+    range: Range,
+    start: Reach,
+    lines: &[Shown],
+) -> Scanned
+    requires { IsSound range start 0 }
+    ensures scanned { IsScanned (IsRightIn script.now report.now who (coming how) (course_of table.now range) start (map told lines.now)) (map told lines.now) result.wrong }
+    ensures end { result.end ≡ after_all report.now (course_of table.now range) start (map told lines.now) }
+    ensures sound { IsSound range result.end (length lines.now) }
+{
+    let mut reach = start;
+    let mut wrong = None;
+    for number in 0..lines.len() {
+        let line = &lines[number];
+        let turn = turn(report, table, range, reach, line);
+        let right = is_scrubbed_line(script, report, who, how, reach, line, turn);
+        wrong = first_of(wrong, right, number);
+        reach = after(table, range, reach, line, turn, number);
+    }
+    Scanned { wrong, end: reach }
+}
+
+/// How many lines a scrub lacks where it has come so far.
+pub(crate) fn lacking(table: &[u8], range: Range, reach: Reach, lines: usize) -> u64
+    requires { IsSound range reach lines }
+    ensures { result ≡ lacking (course_of table.now range) reach }
+{
+    let end = 2 * u64::from(range.last) + 2;
+    passed_to(table, range, reach, end) + u64::from(reach.begun.is_some())
 }
