@@ -6,3 +6,4 @@ mod PlainLaws
 mod CauseLaws
 mod LineLaws
 mod BeforeLaws
+mod Legal

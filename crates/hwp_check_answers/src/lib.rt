@@ -5,6 +5,7 @@ mod asking;
 mod befores;
 mod causes;
 mod disorders;
+mod gathering;
 mod known;
 mod placing;
 mod plain;
