@@ -1,0 +1,1 @@
+use Rattle.hwp_claim.proofs.FrameSlots.{owner-caches}
