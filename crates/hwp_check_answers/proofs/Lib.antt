@@ -3,3 +3,5 @@ mod TellLaws
 mod AskLaws
 mod OrderLaws
 mod PlainLaws
+mod CauseLaws
+mod LineLaws

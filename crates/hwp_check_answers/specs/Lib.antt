@@ -3,3 +3,5 @@ pub mod Telling
 pub mod Plain
 pub mod Asking
 pub mod Disorders
+pub mod Causing
+pub mod Knowing

@@ -2,7 +2,10 @@
 #![tactic(auto)]
 
 mod asking;
+mod causes;
 mod disorders;
+mod known;
 mod placing;
 mod plain;
+mod right;
 mod telling;

@@ -12,7 +12,7 @@ use hwp_report::{Answer, Report};
 use hwp_script::{Command, Script};
 
 /// The entry at a place.
-fn entry_at(pages: &[List<Entry>], at: At) -> Option<&Entry>
+pub(crate) fn entry_at(pages: &[List<Entry>], at: At) -> Option<&Entry>
     ensures { option_copied result ≡ entry_at pages.now at }
 {
     let entries = pages.get(usize::from(at.page.0))?;

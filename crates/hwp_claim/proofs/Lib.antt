@@ -1,1 +1,4 @@
+pub mod Grabbing
+pub mod GrabCosts
 pub mod FrameSlots
+pub mod Leaving

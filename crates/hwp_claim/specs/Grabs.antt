@@ -82,8 +82,8 @@ answer g = answer_at g.at
 abbrev pub reserving : Hand
 reserving = record empty { reserved = 1 }
 
-abbrev pub in_hand : Frame → Hand
-in_hand frame = record empty { hands = unpoisoned frame ∷ [] }
+abbrev pub handed : Frame → Hand
+handed frame = record empty { hands = unpoisoned frame ∷ [] }
 
 abbrev pub grabbed : Frame → Bool → Hand
 grabbed frame poisoned = record empty { refs = record { frame = frame; count = 1 } ∷ []; locks = adopted_lock frame poisoned ∷ [] }
@@ -93,7 +93,7 @@ held_at frame at.LoadAvailable = empty
 held_at frame (at.Reserve seen) = empty
 held_at frame at.TakeBit = reserving
 held_at frame at.Unreserve = reserving
-held_at frame at.Adopt = in_hand frame
+held_at frame at.Adopt = handed frame
 held_at frame at.LookAgain = empty
 held_at frame (at.Grabbed word) = grabbed frame (is_poisoned word)
 

@@ -87,7 +87,7 @@ impl Machine for Grab {
 
     ghost bare = { λ g. g };
 
-    ghost shows = { λ g found got. got ≡ None };
+    ghost shows = { λ g found got. Unit {0} };
 
     ghost next = { λ layout g found got after result. (after ≡ next g found) × (result ≡ turn g found) };
 

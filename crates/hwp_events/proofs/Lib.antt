@@ -6,3 +6,5 @@ mod RaiseLaws
 mod LineLaws
 mod OwnLaws
 mod Scanning
+mod MarkLaws
+mod ScrubScans

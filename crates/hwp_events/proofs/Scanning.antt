@@ -1,10 +1,10 @@
 -- Lines gone through one after another up to the first that isn't right.
-use Rattle.std.proofs.Common.{◌≡◌, ◌⊎◌, inl, inr, ℕ, ◌+◌, ◌<◌, ◌≤◌, List, Option, Some, get_or, length, map, option_map, slice_get, refl, sym, ap, ◌∙◌, subst, arith}
+use Rattle.std.proofs.Common.{◌≡◌, ◌⊎◌, ◌↔◌, inl, inr, ℕ, ◌+◌, ◌<◌, ◌≤◌, Bool, true, false, List, Option, Some, None, IsTrue, get_or, length, map, option_map, slice_get, true≢false, refl, sym, ap, ◌∙◌, subst, arith}
 use Rattle.std.proofs.lemmas.Bool.{cases_lt}
 use Rattle.std.proofs.lemmas.List.{length-map}
 use Rattle.std.proofs.lemmas.Option.{same_Some, slice_get-get_or, slice_get-map, slice_get_within}
 use Rattle.hwp_law.specs.Lines.{EventLine}
-use Rattle.hwp_events.specs.Firsts.{AreRight, AreRightTo, IsFirstWrong}
+use Rattle.hwp_events.specs.Firsts.{AreRight, AreRightTo, IsFirstWrong, IsScanned, IsScannedTo, first_of}
 use Rattle.hwp_events.specs.Told.{told}
 use Rattle.hwp_events.specs.declared.shown.Shown.{Shown}
 
@@ -37,3 +37,14 @@ module _ (Right : ℕ → EventLine → Type 0) (lines : List Shown) where
 -- the same where what is right depends on something that was read
 pub right-next-by : {X : Type 0} (R : X → ℕ → EventLine → Type 0) (x y : X) (lines : List Shown) (n : ℕ) (d : Shown) → n < length lines → x ≡ y → R x n (told (get_or lines n d)) → AreRightTo (R y) (map told lines) n → AreRightTo (R y) (map told lines) (n + 1)
 right-next-by R x y lines n d within same right before = right-next (R y) lines n d within (subst (λ z. R z n (told (get_or lines n d))) same right) before
+
+module _ (Right : ℕ → EventLine → Type 0) (lines : List Shown) where
+  -- one line more, right or wrong, where the first that is wrong was found or not
+  pub scanned-next : (n : ℕ) (d : Shown) (found : Option ℕ) (right : Bool) → n < length lines → IsTrue right ↔ Right n (told (get_or lines n d)) → IsScannedTo Right (map told lines) n found → IsScannedTo Right (map told lines) (n + 1) (first_of found right n)
+  scanned-next n d (Some first) right within decides first_is = first_is
+  scanned-next n d None true within decides before = right-next Right lines n d within (decides.0 refl) before
+  scanned-next n d None false within decides before = first-wrong Right lines n d within (λ is. true≢false (sym (decides.1 is))) before
+
+  pub scanned-all : (n : ℕ) (found : Option ℕ) → length lines ≤ n → IsScannedTo Right (map told lines) n found → IsScanned Right (map told lines) found
+  scanned-all n (Some first) all first_is = first_is
+  scanned-all n None all before = right-all Right lines n all before

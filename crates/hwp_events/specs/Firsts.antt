@@ -1,5 +1,5 @@
 -- The first of the event lines of a command that isn't right at its place.
-use Rattle.std.specs.Prelude.{◌≡◌, ℕ, ◌<◌, List, Option, Some, MatchOption, slice_get}
+use Rattle.std.specs.Prelude.{◌≡◌, ℕ, ◌<◌, Bool, true, false, List, Option, Some, None, MatchOption, slice_get}
 use Rattle.hwp_law.specs.Lines.{EventLine}
 
 -- each is right
@@ -20,3 +20,13 @@ pub record IsFirstWrong (Right : ℕ → EventLine → Type 0) (lines : List Eve
 -- all are right, or this is the first that isn't
 abbrev pub IsScanned : (ℕ → EventLine → Type 0) → List EventLine → Option ℕ → Type 0
 IsScanned Right lines found = MatchOption found (AreRight Right lines) (IsFirstWrong Right lines)
+
+-- the first that isn't, by the one found so far and whether this one is right
+abbrev pub first_of : Option ℕ → Bool → ℕ → Option ℕ
+first_of (Some found) right number = Some found
+first_of None true number = None
+first_of None false number = Some number
+
+-- so far: all are right, or the first that isn't was found
+abbrev pub IsScannedTo : (ℕ → EventLine → Type 0) → List EventLine → ℕ → Option ℕ → Type 0
+IsScannedTo Right lines n found = MatchOption found (AreRightTo Right lines n) (IsFirstWrong Right lines)

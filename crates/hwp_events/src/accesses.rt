@@ -87,7 +87,7 @@ fn may_stop(how: Arrival, event: Option<Event>) -> bool
 }
 
 /// Whether the own event or what is found beside it would stop the machine.
-fn has_stopper(how: Arrival, own: Event, beside: Option<Event>) -> bool
+pub(crate) fn has_stopper(how: Arrival, own: Event, beside: Option<Event>) -> bool
     ensures { result ≡ (stops (coming how) own || may_stop (coming how) beside) }
 {
     stops(how, own) || may_stop(how, beside)
@@ -102,7 +102,7 @@ fn is_held(how: Arrival, checks: &Checks, beside: Option<Event>, lines: &[Shown]
 }
 
 /// Whether the line tells what bank 1 held, where it held something.
-fn is_raw_line(
+pub(crate) fn is_raw_line(
     script: &Script,
     report: &Report,
     who: Who,

@@ -7,6 +7,7 @@ mod acts;
 mod lines;
 mod reach;
 mod records;
+mod scrubs;
 mod shown;
 
 pub use records::was_poisoned;

@@ -18,7 +18,7 @@ use Rattle.hwp_geom.specs.declared.TransDecl.{TransDecl}
 use Rattle.hwp_geom.specs.declared.VSlot.{VSlot}
 use Rattle.hwp_geom.specs.Limits.{line_limit}
 use Rattle.hwp_words.specs.declared.Pte.TheVariants as ptes
-use Rattle.hwp_words.specs.Frames.{count_of, owner_of, handled_of, poison_of, is_handled, lock_of}
+use Rattle.hwp_words.specs.Frames.{count_of, owner_of, handled_of, is_handled, lock_of}
 use Rattle.hwp_words.specs.Names.{page_named}
 use Rattle.hwp_words.specs.Translations.{pte_word}
 use Rattle.hwp_rule.specs.declared.FrameLock.{FrameLock}

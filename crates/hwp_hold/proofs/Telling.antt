@@ -1,8 +1,7 @@
 -- The class of a task under way tells what is held: 1 where a frame is, and at most 2 where a page is.
-use Rattle.std.proofs.Common.{◌≡◌, ◌⊎◌, inl, inr, ℕ, ◌<◌, ◌≤◌, min, Bool, true, false, cond, [], Option, Some, None, is_none, refl, sym, ap, ◌∙◌, arith}
+use Rattle.std.proofs.Common.{◌≡◌, inl, inr, ℕ, ◌≤◌, min, true, false, [], Option, Some, None, is_none, refl, ap, ◌∙◌, arith}
 use Rattle.std.proofs.lemmas.Bool.{both_ways}
 use Rattle.hwp_geom.specs.declared.Layout.{Layout}
-use Rattle.hwp_geom.specs.declared.Page.{Page}
 use Rattle.hwp_page.specs.History.{BodyValue}
 use Rattle.hwp_rule.specs.declared.View.{View}
 use Rattle.hwp_step.specs.Calls.{logs}

@@ -9,7 +9,7 @@ use Rattle.std.proofs.lemmas.Option.{same_Some, slice_get-get_or}
 use Rattle.hwp_geom.specs.declared.Frame.{Frame}
 use Rattle.hwp_geom.specs.declared.Layout.{Layout}
 use Rattle.hwp_geom.specs.declared.Who.{Who}
-use Rattle.hwp_words.specs.Frames.{lock_of, poison_of, handled_of, kernel_of, cycle_of, is_poisoned, is_handled, is_kernel, handled_bit}
+use Rattle.hwp_words.specs.Frames.{lock_of, poison_of, handled_of, cycle_of, is_poisoned, is_kernel, handled_bit}
 use Rattle.hwp_words.proofs.FieldLaws.{field-xor, field-xor_other}
 use Rattle.hwp_words.proofs.FrameSteps.{fields-lock, fields-unlock}
 use Rattle.hwp_rule.specs.declared.FrameLock.{FrameLock}
@@ -29,12 +29,12 @@ use Rattle.hwp_rule.specs.Moves.{Move}
 use Rattle.hwp_rule.specs.Rule.{Holds}
 use Rattle.hwp_rule.specs.Served.{IsServed}
 use Rattle.hwp_rule.specs.Steps.{place_of, word_after, goes}
-use Rattle.hwp_rule.specs.Views.{view_by, view_after, noted, loaded, taken, listed_of, listed, put_home, body_of, lock_found, lock_of_page}
+use Rattle.hwp_rule.specs.Views.{view_by, view_after, noted, loaded, taken, listed_of, put_home, body_of, lock_found, lock_of_page}
 use Rattle.hwp_rule.specs.Words.{Words, read, put, index, IsPlace}
 use Rattle.hwp_rule.specs.parts.Locks.{IsLocked}
 use Rattle.hwp_rule.specs.parts.Marks.{MarksAlternate}
 use Rattle.hwp_rule.proofs.Lists.{same-or, keep, at_map}
-use Rattle.hwp_rule.proofs.Meeting.{frame-word, hand-bare}
+use Rattle.hwp_rule.proofs.Meeting.{hand-bare}
 use Rattle.hwp_rule.proofs.Moving.{shaped}
 use Rattle.hwp_rule.proofs.WordsByKind.{same-put, words-read, words-put}
 use Rattle.hwp_step.specs.Ranks.{Pending, failures_left, words_at}

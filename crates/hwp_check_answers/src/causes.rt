@@ -1,0 +1,113 @@
+ghost use Rattle.std.specs.Prelude.{◌≡◌, ◌↔◌, IsTrue, length, true};
+ghost use Rattle.hwp_kill.specs.Prctl.{reply};
+ghost use Rattle.hwp_page.specs.declared.What.TheVariants as entries;
+ghost use Rattle.hwp_law.specs.Answers.{StandsAt, is_ample, reply_answer};
+ghost use Rattle.hwp_law.specs.Causes.{IsFailureAnswer, IsOfflineAnswer, IsUnpoisonAnswer};
+ghost use Rattle.hwp_law.specs.Policies.{arguments};
+ghost use Rattle.hwp_evidence.specs.Marked.{reported};
+
+use crate::plain::{are_bad_lines, bad_lines_of};
+use crate::telling::entry_at;
+use hwp_events::was_poisoned;
+use hwp_evidence::{
+    came_to, marks_of, was_hardware_seen, was_moved, was_taken_back, was_taken_free,
+};
+use hwp_form::PrctlArgs;
+use hwp_geom::{Frame, List, Who};
+use hwp_kill::{Policy, Reply, prctl};
+use hwp_page::{At, Entry, Outcome, What};
+use hwp_report::{Answer, Report};
+use hwp_script::Script;
+
+/// Whether the answer is that number of a policy.
+fn is_number(answer: &Answer, number: u64) -> bool
+    ensures { IsTrue result ↔ (answer.now ≡ Answer.Is number) }
+{
+    match *answer {
+        Answer::Is(told) => told == number,
+        _ => false,
+    }
+}
+
+/// Whether the answer is what prctl(2) replies.
+pub(crate) fn is_reply(old: Policy, args: &PrctlArgs, answer: &Answer) -> bool
+    ensures { IsTrue result ↔ (answer.now ≡ reply_answer (reply old (arguments args.now))) }
+{
+    match prctl(
+        old,
+        [args.operation, args.arg2, args.arg3, args.arg4, args.arg5],
+    ) {
+        Reply::Set(_) => matches!(answer, Answer::Done),
+        Reply::Is(policy) => is_number(answer, policy.number()),
+        Reply::Einval => matches!(answer, Answer::Einval),
+    }
+}
+
+/// Whether the answer is that of a failure of a frame that a command brings about.
+pub(crate) fn is_failure(report: &Report, who: Who, frame: Frame, answer: &Answer) -> bool
+    ensures { IsTrue result ↔ IsFailureAnswer report.now who frame answer.now }
+{
+    match *answer {
+        Answer::Recovered => came_to(report, who, frame, Outcome::Recovered),
+        Answer::Delayed => came_to(report, who, frame, Outcome::Delayed),
+        Answer::Ignored => came_to(report, who, frame, Outcome::Ignored),
+        Answer::Already => was_poisoned(marks_of(report, frame), who, true),
+        _ => false,
+    }
+}
+
+/// Whether at the place stands an entry of the command that moved the page's content.
+fn is_soft_at(pages: &[List<Entry>], who: Who, at: At) -> bool
+    ensures { IsTrue result ↔ StandsAt pages.now who at entries.Soft }
+{
+    match entry_at(pages, at) {
+        Some(entry) => entry.who == who && matches!(entry.what, What::Soft),
+        None => false,
+    }
+}
+
+/// Whether the answer is that of a soft offline of a frame that isn't the kernel's.
+pub(crate) fn is_offline(
+    script: &Script,
+    report: &Report,
+    ample: bool,
+    who: Who,
+    frame: Frame,
+    answer: &Answer,
+) -> bool
+    requires { ample ≡ is_ample script.now }
+    ensures { IsTrue result ↔ IsOfflineAnswer script.now report.now who frame answer.now }
+{
+    match *answer {
+        Answer::Moved(_, at) => {
+            is_soft_at(report.pages.as_slice(), who, at) && was_moved(report, who, frame)
+        }
+        Answer::TakenFree => was_taken_free(report, who, frame),
+        Answer::Already => was_poisoned(marks_of(report, frame), who, true),
+        Answer::HasBad(mask) => are_bad_lines(bad_lines_of(report, frame), mask),
+        Answer::NoFrame => !ample,
+        _ => false,
+    }
+}
+
+/// Whether the answer is that of a command that takes back a failure, where a bank's event had poisoned some frame by the end of
+/// the processor's command number `first`.
+pub(crate) fn is_unpoison(
+    report: &Report,
+    first: u64,
+    who: Who,
+    frame: Frame,
+    answer: &Answer,
+) -> bool
+    requires { first ≡ reported who.cpu report.now.frames }
+    ensures { IsTrue result ↔ IsUnpoisonAnswer report.now who frame answer.now }
+{
+    match *answer {
+        Answer::Done => was_taken_back(report, who, frame),
+        Answer::NotPoisoned => was_poisoned(marks_of(report, frame), who, false),
+        Answer::HardwareSeen => was_hardware_seen(report, first, who),
+        Answer::HasBad(mask) => are_bad_lines(bad_lines_of(report, frame), mask),
+        Answer::InUse(_) => true,
+        _ => false,
+    }
+}

@@ -1,1 +1,0 @@
-use Rattle.hwp_claim.proofs.FrameSlots.{owner-caches}
