@@ -10,3 +10,4 @@ mod MarkLaws
 mod ScrubScans
 mod ScrubLines
 mod ScrubFound
+mod ScrubForth

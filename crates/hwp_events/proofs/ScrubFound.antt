@@ -57,9 +57,12 @@ module _ (script : Script) (report : Report) (who : Who) (how : Arrival) where
   bad-back None raw frame lines left found = (found.0, ap resting found.1)
   bad-back (Some at) None frame lines left (damaged, (l, lines_are, is), left_is) =
       (damaged, ap resting left_is, subst (λ (ls : List EventLine). AreLinesOf script report who how (has_stopper how origins.BadLine None) ((2, own_event origins.BadLine frame at) ∷ []) ls) (sym lines_are) (is, record {}))
-  bad-back (Some at) (Some event) frame lines left (damaged, (m, l, lines_are, first, second), left_is) =
-      (damaged, ap resting left_is, subst (λ (s : Bool). AreLinesOf script report who how s ((1, event) ∷ (2, own_event origins.BadLine frame at) ∷ []) lines) (sym (stop-bad how (Some event) frame at))
-      (subst (λ (ls : List EventLine). AreLinesOf script report who how (has_stopper how origins.BadLine (Some event)) ((1, event) ∷ (2, own_event origins.BadLine frame at) ∷ []) ls) (sym lines_are) (first, (second, record {}))))
+  bad-back (Some at) (Some event) frame lines left (damaged, (m, l, lines_are, first, second), left_is) = (
+    damaged,
+    ap resting left_is,
+    subst (λ (s : Bool). AreLinesOf script report who how s ((1, event) ∷ (2, own_event origins.BadLine frame at) ∷ []) lines) (sym (stop-bad how (Some event) frame at))
+        (subst (λ (ls : List EventLine). AreLinesOf script report who how (has_stopper how origins.BadLine (Some event)) ((1, event) ∷ (2, own_event origins.BadLine frame at) ∷ []) ls) (sym lines_are) (first, (second, record {}))),
+  )
 
   pub weak-forth : (met : Option ℕ) (raw : Option Event) (frame : Frame) (lines : List EventLine) (after : Banks) → IsWeakFound script report who how frame met (resting raw) lines after → WeakMet met frame lines × (after ≡ resting raw)
   weak-forth None raw frame lines after found = (found.0, found.1)
