@@ -34,14 +34,14 @@ use Rattle.hwp_check_marks.proofs.WalkLaws.{other-words, sooner-least}
 
 -- the lower of two lines
 both-lowest : (P Q : ℕ → Type 0) (f g : Option ℕ) → IsLowest P f → IsLowest Q g → IsLowest (λ (n : ℕ). P n ⊎ Q n) (soonest f g)
-both-lowest P Q f None low none = other-words P (λ (n : ℕ). P n ⊎ Q n) f (λ n p. inl p) (λ n e. elim e [ | inl p ↦ p | inr q ↦ absurd (none n q) ]) low
+both-lowest P Q f None low none = other-words P (λ (n : ℕ). P n ⊎ Q n) f (λ n p. inl p) (λ n e. elim e [ inl p ↦ p | inr q ↦ absurd (none n q) ]) low
 both-lowest P Q f (Some m) low least =
     at-once (sooner f m) (sooner-least P f m low)
   where
     at-once : (h : Option ℕ) → IsLowest (λ (n : ℕ). P n ⊎ (n ≡ m)) h → IsLowest (λ (n : ℕ). P n ⊎ Q n) h
     at-once None none = absurd (none m (inr refl))
     at-once (Some k) first = record {
-      at = elim first.at [ | inl p ↦ inl p | inr is ↦ inr (subst Q (sym is) least.at) ];
+      at = elim first.at [ inl p ↦ inl p | inr is ↦ inr (subst Q (sym is) least.at) ];
       first = λ other e. elim e [
         | inl p ↦ first.first other (inl p)
         | inr q ↦ let low_one : m ≤ other = least.first other q in let here : k ≤ m = first.first m (inr refl) in omega (arith, low_one, here)
@@ -149,7 +149,7 @@ module _ (script : Script) (report : Report) where
       there-at r = ap (λ (o : Option (List Entry)). option_and_then (λ (es : List Entry). slice_get es r.some.place) o) r.shown ∙ r.some.there
 
   equal-or : (a b : ℕ) → (a ≢ b → ⊥) → a ≡ b
-  equal-or a b not_apart = elim (cases_Bool (a == b)) [ | inl is ↦ eqb-true a b is | inr is ↦ absurd (not_apart (eqb-false a b is)) ]
+  equal-or a b not_apart = elim (cases_Bool (a == b)) [ inl is ↦ eqb-true a b is | inr is ↦ absurd (not_apart (eqb-false a b is)) ]
 
   module _ (few : AllFew report) (none_lacks : (line : ℕ) → IsMarkLacking script report line → ⊥) (none_differs : (line : ℕ) → IsMisrequired report line → ⊥) where
     no-lack : (who : Who) → LacksMarks report who → ⊥
@@ -246,7 +246,7 @@ module _ (script : Script) (report : Report) where
   fault-parts line (inr (inr (inr m))) = inr (inr m)
 
   module _ (many : length report.frames ≤ length script.layout.kernel) (kept extra lacks wrong : Option ℕ) (of_kept : MatchOption kept (IsClear (RecordsFit script report) (IsRecordFault script report)) (λ line. IsFirstFault (RecordsFit script report) (IsRecordFault script report) line))
-    (of_extra : MatchOption extra (IsClear (AllFew report) (IsExtra report)) (λ line. IsFirstFault (AllFew report) (IsExtra report) line)) (of_lacks : IsLowest (IsMarkLacking script report) lacks) (of_wrong : IsLowest (IsMisrequired report) wrong) where
+      (of_extra : MatchOption extra (IsClear (AllFew report) (IsExtra report)) (λ line. IsFirstFault (AllFew report) (IsExtra report) line)) (of_lacks : IsLowest (IsMarkLacking script report) lacks) (of_wrong : IsLowest (IsMisrequired report) wrong) where
     lowest : IsLowest (IsMarkFault script report) (soonest (soonest kept extra) (soonest lacks wrong))
     lowest =
         other-words Parts (IsMarkFault script report) _ (parts-fault many) fault-parts

@@ -36,7 +36,7 @@ not-true true is = absurd (true≢false (sym is))
 not-true false is = refl
 
 module _ {S : Type 0} (report : Report) (needed urgent : HashMap ((ℕ × ℕ) × ℕ) ℕ S) (needed_are : (who : Who) (s : Situation) → at_key needed (key_of who (kinds.Failure s)) ≡ entries_of report who (is_required s))
-  (urgent_are : (who : Who) (s : Situation) → at_key urgent (key_of who (kinds.Failure s)) ≡ urgent_from report who s 0 report.frames) where
+    (urgent_are : (who : Who) (s : Situation) → at_key urgent (key_of who (kinds.Failure s)) ≡ urgent_from report who s 0 report.frames) where
   differ : (who : Who) (s : Situation) → differs needed urgent who s ≡ true → entries_of report who (is_required s) ≢ urgent_from report who s 0 report.frames
   differ who s is same =
       eqb-false (at_key needed (key_of who (kinds.Failure s))) (at_key urgent (key_of who (kinds.Failure s))) (not-true (at_key needed (key_of who (kinds.Failure s)) == at_key urgent (key_of who (kinds.Failure s))) is)

@@ -54,7 +54,7 @@ noted-same f g many rows same noted = record {
 
 -- one row more
 module _ {S : Type 0} {T : Type 0} (f : (ℕ × ℕ) × ℕ → List ℕ) (many next : HashMap ((ℕ × ℕ) × ℕ) ℕ S) (rows later : HashMap (((ℕ × ℕ) × ℕ) × ℕ) ℕ T) (key : (ℕ × ℕ) × ℕ) (row : ℕ) (noted : AreNoted f many rows)
-  (counted : (q : (ℕ × ℕ) × ℕ) → at_key next q ≡ at_key many q + raise key q) (put : (p : ((ℕ × ℕ) × ℕ) × ℕ) → row_at later p ≡ cond (is_place (key, at_key many key) p) (Some row) (row_at rows p)) where
+    (counted : (q : (ℕ × ℕ) × ℕ) → at_key next q ≡ at_key many q + raise key q) (put : (p : ((ℕ × ℕ) × ℕ) × ℕ) → row_at later p ≡ cond (is_place (key, at_key many key) p) (Some row) (row_at rows p)) where
   row-more : (q : (ℕ × ℕ) × ℕ) (k : ℕ) → row_at later (q, k) ≡ slice_get (f q ++ cond (is_key key q) (row ∷ []) []) k
   row-more q k = elim (cases_Bool (is_key key q)) [
     | inl mine ↦
