@@ -12,12 +12,17 @@ const VERSION: &str = "hwp 0.1.0";
 /// What `--help` prints.
 const HELP: &str = "\
 usage: hwp step < SCRIPT > REPORT
+       hwp gen N > SCRIPT
+       hwp sum N > SUMMARY
 
 Simulates Linux memory failure (hwpoison) on a machine of its own. Today it runs
 scripts in which no memory fails; docs/FORMATS.md has the formats.
 
   hwp step     reads a fault script from standard input, runs it, and writes the
                report to standard output
+  hwp gen N    writes the fault script of seed N, a number below 2^64
+  hwp sum N    runs that script and writes the summary of its report; refused as
+               long as not all its commands are supported
   hwp --help   prints this text
   hwp --version
 

@@ -7,3 +7,8 @@ mod Counting
 mod WalkLaws
 mod LowLaws
 mod LackingLaws
+mod SaidLaws
+mod NeededLaws
+mod UrgentLaws
+mod MisLaws
+mod Deciding

@@ -90,7 +90,7 @@ below-next report n rows lows next are was more q = elim (cases_lt q.0 n) [
 pub all-lows : {S : Type 0} (report : Report) (n : ℕ) (lows : HashMap (ℕ × ℕ) ℕ S) → length report.cpus ≤ n → ((q : ℕ × ℕ) → low_at lows q ≡ lows_below n report q) → AreLows report lows
 all-lows report n lows all was who = elim (cases_lt who.cpu.0 n) [
   | inl low ↦ was (who.cpu.0, who.seq) ∙ ap (λ (b : Bool). cond b (rows_low who.cpu.0 (who.cpu.0, who.seq) None (unwrap_or (slice_get report.cpus who.cpu.0) [])) None) (lt-ltb who.cpu.0 n low)
-  ∙ rows-lowest who.cpu.0 who.seq (unwrap_or (slice_get report.cpus who.cpu.0) [])
+      ∙ rows-lowest who.cpu.0 who.seq (unwrap_or (slice_get report.cpus who.cpu.0) [])
   | inr high ↦
       was (who.cpu.0, who.seq) ∙ ap (λ (b : Bool). cond b (rows_low who.cpu.0 (who.cpu.0, who.seq) None (unwrap_or (slice_get report.cpus who.cpu.0) [])) None) (le-ltb who.cpu.0 n high)
       ∙ ap (λ (o : Option (List CpuLine)). lowest_of (events_among (unwrap_or o []) who.seq)) (sym (slice_get_past report.cpus who.cpu.0 (omega (arith, all, high))))

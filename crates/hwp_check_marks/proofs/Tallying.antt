@@ -22,7 +22,7 @@ use Rattle.hwp_check_marks.specs.Unpaired.{in_frames, in_page, in_pages, is_entr
 use Rattle.hwp_check_marks.specs.declared.kinds.Kind.{Kind}
 use Rattle.hwp_check_marks.specs.declared.kinds.Kind.TheVariants as kinds
 
-abbrev flag : Bool → ℕ
+abbrev pub flag : Bool → ℕ
 flag b = cond b 1 0
 
 flag-one : (b : Bool) → flag b ≤ 1
@@ -62,7 +62,7 @@ two-kinds who k l q less =
     let c : flag (kind_number k == q.1) + flag (kind_number l == q.1) ≤ 1 = one-kind (kind_number k) (kind_number l) q.1 less in
     omega (arith, a, b, c)
 
-raise-one : (x q : (ℕ × ℕ) × ℕ) → raise x q ≤ 1
+pub raise-one : (x q : (ℕ × ℕ) × ℕ) → raise x q ≤ 1
 raise-one x q = flag-one (((x.0.0 == q.0.0) && (x.0.1 == q.0.1)) && (x.1 == q.1))
 
 -- a mark is counted once at most for a key, and so is an entry
@@ -175,16 +175,16 @@ eqb-swap a b = elim (cases_Bool (a == b)) [
   | inr not_so ↦ not_so ∙ sym (ne_eqb b a (λ e. eqb-false a b not_so (sym e)))
 ]
 
-same-swap : (v w : Who) → ((v.cpu.0 == w.cpu.0) && (v.seq == w.seq)) ≡ is_same_command w v
+pub same-swap : (v w : Who) → ((v.cpu.0 == w.cpu.0) && (v.seq == w.seq)) ≡ is_same_command w v
 same-swap v w = ap (λ (b : Bool). b && (v.seq == w.seq)) (eqb-swap v.cpu.0 w.cpu.0) ∙ ap (λ (b : Bool). (w.cpu.0 == v.cpu.0) && b) (eqb-swap v.seq w.seq)
 
-raise-is : (v w : Who) (k l : Kind) → raise (key_of v k) (key_of w l) ≡ flag (is_same_command w v && (kind_number k == kind_number l))
+pub raise-is : (v w : Who) (k l : Kind) → raise (key_of v k) (key_of w l) ≡ flag (is_same_command w v && (kind_number k == kind_number l))
 raise-is v w k l = ap (λ (b : Bool). flag (b && (kind_number k == kind_number l))) (same-swap v w)
 
 other-kind : (a b : ℕ) → a < b → ((a == b) ≡ false) × ((b == a) ≡ false)
 other-kind a b less = (ne_eqb a b (λ e. omega (arith, e, less)), ne_eqb b a (λ e. omega (arith, e, less)))
 
-raise-none : (v w : Who) (k l : Kind) → (kind_number k == kind_number l) ≡ false → raise (key_of v k) (key_of w l) ≡ 0
+pub raise-none : (v w : Who) (k l : Kind) → (kind_number k == kind_number l) ≡ false → raise (key_of v k) (key_of w l) ≡ 0
 raise-none v w k l other = raise-is v w k l ∙ ap (λ (b : Bool). flag (is_same_command w v && b)) other ∙ never (is_same_command w v)
   where
     never : (b : Bool) → flag (b && false) ≡ 0
@@ -198,7 +198,7 @@ raise-same v w k l same = raise-is v w k l ∙ ap (λ (b : Bool). flag (is_same_
     always true = refl
     always false = refl
 
-and-none : (b : Bool) → 0 ≡ flag (b && false)
+pub and-none : (b : Bool) → 0 ≡ flag (b && false)
 and-none true = refl
 and-none false = refl
 
@@ -283,7 +283,7 @@ what-kind v w _ kinds.Moved = and-none (is_same_command w v)
 what-kind v w _ kinds.Commanded = and-none (is_same_command w v)
 
 -- sums of what is the same are the same
-same-sum : {X : Type 0} (f g : X → ℕ) (xs : List X) → ((x : X) → f x ≡ g x) → sum_by f xs ≡ sum_by g xs
+pub same-sum : {X : Type 0} (f g : X → ℕ) (xs : List X) → ((x : X) → f x ≡ g x) → sum_by f xs ≡ sum_by g xs
 same-sum f g [] same = refl
 same-sum f g (x ∷ xs) same =
     let a : sum_by f (x ∷ xs) ≡ f x + sum_by f xs = sum_by-cons f x xs in

@@ -5,3 +5,5 @@ pub mod Tallies
 pub mod Walks
 pub mod Lows
 pub mod Lacking
+pub mod Said
+pub mod Needed

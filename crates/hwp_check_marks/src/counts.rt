@@ -4,8 +4,8 @@ ghost use Rattle.hwp_check_marks.specs.Counts.{at_key, raise};
 use hwp_geom::OutOfMemory;
 use std::collections::HashMap;
 
-/// A processor, the number of one of its commands, and a number that says what is counted of it.
-pub(crate) type Key = ((u8, u32), u8);
+/// A processor, the number of one of its commands, and a number that says what of it is counted.
+pub(crate) type Key = ((u8, u32), u64);
 
 /// How often each key was counted.
 pub(crate) type Counts = HashMap<Key, u64>;

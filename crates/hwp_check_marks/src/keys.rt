@@ -44,5 +44,5 @@ fn kind_number(kind: Kind) -> u8
 pub(crate) fn key_of(who: Who, kind: Kind) -> Key
     ensures { result ≡ key_of who kind }
 {
-    ((who.cpu.0, who.seq), kind_number(kind))
+    ((who.cpu.0, who.seq), u64::from(kind_number(kind)))
 }

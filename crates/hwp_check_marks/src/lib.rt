@@ -7,6 +7,13 @@ mod keys;
 mod kinds;
 mod lacking;
 mod lows;
+mod marks;
+mod misrequired;
+mod needed;
 mod records;
+mod said;
 mod tallies;
 mod unpaired;
+mod urgent;
+
+pub use marks::marks_fault;

@@ -32,7 +32,7 @@ fn lower(lows: &mut Lows, key: (u8, u32), frame: u64) -> Result<(), OutOfMemory>
 }
 
 /// Whether an event line says a result.
-fn is_result(acted: Acted) -> bool
+pub(crate) fn is_result(acted: Acted) -> bool
     ensures { result ≡ is_some (result_of acted) }
 {
     matches!(acted, Acted::Recovered | Acted::Delayed | Acted::Ignored)
@@ -44,7 +44,10 @@ fn lower_row(lows: &mut Lows, cpu: u8, row: &CpuLine) -> Result<(), OutOfMemory>
 {
     match *row {
         CpuLine::Event {
-            seq, addr, acted, ..
+            seq,
+            addr,
+            acted,
+            ..
         } => {
             if is_result(acted) {
                 lower(lows, (cpu, seq), addr / 4096)

@@ -62,11 +62,7 @@ fn note(flags: &mut Vec<bool>, row: &CpuLine)
 }
 
 /// Which of so many commands were answered `done`. The lines are read from the last one on, so the first answer counts.
-pub fn done_of(
-    alloc: Global,
-    count: usize,
-    rows: &[CpuLine],
-) -> Result<Vec<bool>, OutOfMemory>
+pub fn done_of(alloc: Global, count: usize, rows: &[CpuLine]) -> Result<Vec<bool>, OutOfMemory>
     ensures count { IfOk result (λ flags. length flags.items ≡ count) }
     ensures done { IfOk result (λ flags. AreDone rows.now flags.items) }
 {
@@ -129,11 +125,7 @@ fn past_of(
 }
 
 /// What is known of each thread of the script.
-pub fn pasts_of(
-    alloc: Global,
-    script: &Script,
-    report: &Report,
-) -> Result<Vec<Past>, OutOfMemory>
+pub fn pasts_of(alloc: Global, script: &Script, report: &Report) -> Result<Vec<Past>, OutOfMemory>
     requires { length script.now.layout.threads ≤ 256 }
     ensures { IfOk result (λ pasts. ArePasts script.now report.now pasts.items) }
 {

@@ -9,8 +9,8 @@ ghost use Rattle.hwp_check_state.specs.Sights.{IsBelow, IsFirstOf, IsNotBelow, I
 ghost use Rattle.hwp_check_rules.specs.Standing.{last_line};
 ghost use Rattle.hwp_check_rules.specs.Verdicts.{Holds, IsBroken, Seen as SeenRule};
 
-use hwp_check_rules::{Past, page_at, pasts_of, sooner_if, soonest};
 use crate::sights::{Sight, add_pages};
+use hwp_check_rules::{Past, page_at, pasts_of, sooner_if, soonest};
 use hwp_geom::OutOfMemory;
 use hwp_kill::{Policy, Seen};
 use hwp_report::Report;

@@ -8,3 +8,7 @@ mod OwnLaws
 mod Scanning
 mod MarkLaws
 mod ScrubScans
+mod ScrubLines
+mod ScrubFound
+mod ScrubForth
+mod ScrubBack

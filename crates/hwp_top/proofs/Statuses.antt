@@ -1,48 +1,40 @@
 -- The statuses of the top call are those of its list.
-use Rattle.std.specs.Prelude.{◌≡◌, ◌≢◌, ℕ, List, [], ◌∷◌, Contains, Bool, true, false, if◌then◌else◌, is_some, ◌⊎◌, Option, Some, None, IsSomeAnd}
-use Rattle.std.proofs.Common.{lit<, refl, subst, sym, ap, ◌∙◌, inl, inr, arith}
-use Rattle.std.proofs.lemmas.Option.{none-some, same_Some}
+use Rattle.std.specs.Prelude.{◌≡◌, ℕ, List, [], ◌∷◌, Contains, Bool, true, false, if◌then◌else◌, is_some, ◌⊎◌, Option, Some, None}
+use Rattle.std.proofs.Common.{lit<, refl, subst, sym, inl, inr}
 use Rattle.hwp_report.specs.declared.Report.{Report}
-use Rattle.hwp_top.specs.Top.{IsDone, done_status, told_text, write_fault_text}
+use Rattle.hwp_top.specs.declared.served.Call.{Call}
+use Rattle.hwp_top.specs.declared.served.Call.TheVariants as calls
+use Rattle.hwp_top.specs.Outputs.{IsOutputOf}
+use Rattle.hwp_top.specs.Top.{IsDone, done_status}
 
 abbrev Listed : ℕ → Type 0
 Listed n = Contains (0 ∷ 2 ∷ 3 ∷ 4 ∷ 5 ∷ 6 ∷ 8 ∷ []) n
 
-listed_if : (stopped : Bool) → Listed (if stopped then 8 else 0)
-listed_if true = (6, lit< tt, refl)
-listed_if false = (0, lit< tt, refl)
-
-pub done_is_listed : (report : Report) → Listed (done_status report)
-done_is_listed report = listed_if (is_some report.stop)
+done_is_listed : (n : ℕ) → IsDone n → Listed n
+done_is_listed n (inl zero) = subst Listed (sym zero) (0, lit< tt, refl)
+done_is_listed n (inr eight) = subst Listed (sym eight) (6, lit< tt, refl)
 
 pub fault_is_listed : (n : ℕ) → (n ≡ 3) ⊎ ((n ≡ 4) ⊎ (n ≡ 6)) → Listed n
 fault_is_listed n (inl is) = subst Listed (sym is) (2, lit< tt, refl)
 fault_is_listed n (inr (inl is)) = subst Listed (sym is) (3, lit< tt, refl)
 fault_is_listed n (inr (inr is)) = subst Listed (sym is) (5, lit< tt, refl)
 
--- a report that is delivered is written whole, or in part
-pub delivered : (report : Report) (n : ℕ) → (n ≡ done_status report) ⊎ (n ≡ 5) → IsDone n ⊎ (n ≡ 5)
-delivered report n (inl done) = inl (by (is_some report.stop) done)
+report_is_done : (report : Report) → IsDone (done_status report)
+report_is_done report = by (is_some report.stop)
   where
-    by : (stopped : Bool) → n ≡ (if stopped then 8 else 0) → IsDone n
-    by true is = inr is
-    by false is = inl is
-delivered report n (inr cut) = inr cut
+    by : (stopped : Bool) → IsDone (if stopped then 8 else 0)
+    by true = inr refl
+    by false = inl refl
 
-pub not-four : (n : ℕ) → IsDone n ⊎ (n ≡ 5) → n ≡ 4 → ⊥
-not-four n (inl (inl zero)) four = omega (arith, zero, four)
-not-four n (inl (inr eight)) four = omega (arith, eight, four)
-not-four n (inr five) four = omega (arith, five, four)
+-- an output has the status of a call that is done
+output_is_done : (call : Call) (left left' : Option (List ℕ)) (status : ℕ) (text : List ℕ) (report : Option Report) → IsOutputOf call left left' status text report → IsDone status
+output_is_done calls.Step left left' status text (Some report) o = subst IsDone (sym o.status_is) (report_is_done report)
+output_is_done calls.Step left left' status text None o = elim o [ ]
+output_is_done (calls.Gen seed) left left' status text report o = inl o.1
+output_is_done (calls.Sum seed) left left' status text (Some report) o = inl o.status_is
+output_is_done (calls.Sum seed) left left' status text None o = elim o [ ]
 
-pub neither : (n : ℕ) → IsDone n ⊎ (n ≡ 5) → (IsDone n → ⊥) → n ≢ 5 → ⊥
-neither n (inl done) not_done not_cut = not_done done
-neither n (inr cut) not_done not_cut = not_cut cut
-
--- of its statuses that of a part alone has a text
-pub told-cut : (Told : List ℕ → Type 0) (n : ℕ) → IsDone n ⊎ (n ≡ 5) → (n ≡ 5 → Told write_fault_text) → (text : List ℕ) → told_text n ≡ Some text → Told text
-told-cut Told n (inl (inl zero)) told text is = absurd (none-some text (sym (ap told_text zero) ∙ is))
-told-cut Told n (inl (inr eight)) told text is = absurd (none-some text (sym (ap told_text eight) ∙ is))
-told-cut Told n (inr five) told text is = subst Told (same_Some write_fault_text text (sym (ap told_text five) ∙ is)) (told five)
-
-pub some-and : {A : Type 0} (P : A → Type 0) (o : Option A) (x : A) → o ≡ Some x → P x → IsSomeAnd o P
-some-and {A} P o x is here = subst (λ (y : Option A). IsSomeAnd y P) (sym is) here
+-- an output that is written, whole or in part, ends with a status of the list
+pub output_is_listed : (call : Call) (left left' : Option (List ℕ)) (status n : ℕ) (text : List ℕ) (report : Option Report) → IsOutputOf call left left' status text report → (n ≡ status) ⊎ (n ≡ 5) → Listed n
+output_is_listed call left left' status n text report o (inl whole) = subst Listed (sym whole) (done_is_listed status (output_is_done call left left' status text report o))
+output_is_listed call left left' status n text report o (inr cut) = subst Listed (sym cut) (4, lit< tt, refl)

@@ -13,10 +13,6 @@ use Rattle.hwp_law.specs.Report.{IsReport}
 use Rattle.hwp_law.specs.Runs.{IsOfRun}
 use Rattle.hwp_core.specs.Runs.{AreSupported, IsCoreRun}
 
--- the words are those of the command that runs a script step by step
-abbrev pub IsStep : List (List ℕ) → Type 0
-IsStep words = words ≡ codes "step" ∷ []
-
 -- the script has only what is built: each of its commands is supported
 abbrev pub IsBuilt : Script → Type 0
 IsBuilt script = AreSupported script
@@ -40,14 +36,18 @@ pub record Takes (left left' : Option (List ℕ)) (script : Script) : Type 0 whe
   pub reads : Reads bytes script
   pub built : IsBuilt script
 
--- the report is one of the script that a source gave, and of a run of the processors on the written schedule
-pub record Reports (left left' : Option (List ℕ)) (report : Report) : Type 0 where
-  pub script : Script
-  pub takes : Takes left left' script
+-- the report is one of the script, and of a run of its processors on the written schedule
+pub record IsReportOfRun (script : Script) (report : Report) : Type 0 where
   pub law : IsReport script report
   pub run : IsOfRun script report
   pub lawful : IsLawful script report
   pub core : IsCoreRun script report
+
+-- the report is one of the script that a source gave
+pub record Reports (left left' : Option (List ℕ)) (report : Report) : Type 0 where
+  pub script : Script
+  pub takes : Takes left left' script
+  pub report_of : IsReportOfRun script report
 
 -- the name of a reason
 abbrev pub why_text : Why → List ℕ
@@ -92,7 +92,7 @@ told_text status =
     else if status == 6 then Some memory_text
     else None
 
--- the whole report was written
+-- the whole output was written
 abbrev pub IsDone : ℕ → Type 0
 IsDone status = (status ≡ 0) ⊎ (status ≡ 8)
 

@@ -23,14 +23,14 @@ pub enum InputFault {
 }
 
 /// The refusal of a whole script.
-fn whole(why: Why) -> InputFault
+pub(crate) fn whole(why: Why) -> InputFault
     ensures { result ≡ InputFault.Refused (record { line = 0; why = why }) }
 {
     InputFault::Refused(Refused { line: 0, why })
 }
 
 /// Whether a script has only what is built.
-fn is_all_built(script: &Script) -> bool
+pub(crate) fn is_all_built(script: &Script) -> bool
     ensures { IsTrue result ↔ IsBuilt script.now }
 {
     script

@@ -4,5 +4,9 @@
 mod calls;
 mod inputs;
 mod messages;
+mod outputs;
+mod served;
+mod words;
 
 pub use calls::{Done, top};
+pub use served::Call;

@@ -97,7 +97,24 @@ fn are_usage(rt: &impl Abort, alloc: Global, rows: &[&[&str]]) {
     }
 }
 
-const OTHER_WORDS: &[&[&str]] = &[&[], &["run"], &["step", "now"], &["gen", "01"], &["STEP"]];
+const OTHER_WORDS: &[&[&str]] = &[
+    &[],
+    &["run"],
+    &["check"],
+    &["step", "now"],
+    &["STEP"],
+    &["gen"],
+    &["sum"],
+    &["gen", "01"],
+    &["sum", "+1"],
+    &["gen", ""],
+    &["gen", "1 "],
+    &["gen", "18446744073709551616"],
+    &["gen", "5", "6"],
+    &["5", "gen"],
+    &["step", "5"],
+    &["Gen", "5"],
+];
 
 #[test]
 fn other_words_are_usage(rt: HostRuntime) {

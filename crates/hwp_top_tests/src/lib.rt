@@ -1,5 +1,5 @@
-//! Tests of the top call: worked scripts and their reports, on one processor and on several, refusals, and faults of the source
-//! and the sink.
+//! Tests of the top call: worked scripts and their reports, on one processor and on several, refusals, faults of the source
+//! and the sink, and scripts made from a seed.
 #![tactic(auto)]
 
 #[cfg(test)]
@@ -12,3 +12,5 @@ mod judging;
 mod many;
 #[cfg(test)]
 mod processors;
+#[cfg(test)]
+mod seeds;

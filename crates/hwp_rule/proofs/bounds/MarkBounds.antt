@@ -18,7 +18,7 @@ use Rattle.hwp_rule.specs.parts.Counter.{CountDebts, is_by_hardware, is_poisonin
 use Rattle.hwp_rule.specs.parts.Marks.{poisonings, revivals}
 use Rattle.hwp_rule.proofs.Counting.{below-term, below-most, sum-le, sum-ones, all-le, all-swap, all-term}
 use Rattle.hwp_rule.proofs.Lists.{same-or, same-number, sum-map}
-use Rattle.hwp_rule.proofs.Marking.{due}
+use Rattle.hwp_rule.proofs.steps.Marking.{due}
 use Rattle.hwp_rule.proofs.WordsByKind.{word-there}
 use Rattle.hwp_rule.proofs.bounds.CycleBounds.{cycles-few}
 

@@ -18,7 +18,7 @@ use Rattle.hwp_rule.proofs.Lists.{at_map, same-or, set_again}
 use Rattle.hwp_rule.proofs.Keeps.{Keeps}
 use Rattle.hwp_rule.proofs.FrameWord.{IsLike, bare-like, like-fields, placed-again, counted-again, like-handed-all}
 use Rattle.hwp_rule.proofs.bounds.RefBounds.{count-fits}
-use Rattle.hwp_rule.proofs.CountSteps.{keeps-refs}
+use Rattle.hwp_rule.proofs.steps.CountSteps.{keeps-refs}
 use Rattle.hwp_rule.proofs.WordsByKind.{word-there}
 use Rattle.hwp_rule.proofs.Sights.{keeps-shown, explained-frame}
 use Rattle.hwp_rule.specs.declared.step.Step.TheVariants as steps

@@ -16,7 +16,7 @@ use Rattle.hwp_rule.specs.Words.{Words}
 use Rattle.hwp_rule.specs.parts.Fits.{KnowsWords, KnowsOwn}
 use Rattle.hwp_rule.proofs.bounds.Exhausted.{explained-available}
 use Rattle.hwp_rule.proofs.Keeps.{Keeps}
-use Rattle.hwp_rule.proofs.PageLockLists.{keeps-listing}
+use Rattle.hwp_rule.proofs.steps.PageLockLists.{keeps-listing}
 use Rattle.hwp_rule.proofs.WordsByKind.{word-there, same-put}
 use Rattle.hwp_rule.proofs.Lists.{at_map, set_here, set-set, each-changed}
 use Rattle.hwp_rule.proofs.ShownWords.{explained-bad, explained-weak, explained-stop, explained-policy, explained-counter, explained-process}

@@ -33,7 +33,7 @@ use Rattle.hwp_rule.proofs.Lists.{at_map, map-was, same-number, set_again, set_h
 use Rattle.hwp_rule.proofs.FrameWord.{IsLike, like-fields, like-locked}
 use Rattle.hwp_rule.proofs.Keeps.{Keeps, IsShaped}
 use Rattle.hwp_rule.proofs.Carrying.{carry-none, carry-out}
-use Rattle.hwp_rule.proofs.FrameLockSteps.{keeps-locking}
+use Rattle.hwp_rule.proofs.steps.FrameLockSteps.{keeps-locking}
 use Rattle.hwp_rule.proofs.FittingWords.{or-odd, not-is, first-lock, knows-knowing}
 use Rattle.hwp_rule.proofs.WordsByKind.{word-there}
 use Rattle.hwp_rule.specs.declared.step.Step.TheVariants as steps

@@ -34,7 +34,7 @@ use Rattle.hwp_rule.proofs.Carrying.{carry-none, carry-out}
 use Rattle.hwp_rule.proofs.Keeps.{Keeps, IsShaped}
 use Rattle.hwp_rule.proofs.FittingWords.{or-odd, not-is, knows-knowing}
 use Rattle.hwp_rule.proofs.Without.{find-is, find-none}
-use Rattle.hwp_rule.proofs.PageLockSteps.{keeps-paging}
+use Rattle.hwp_rule.proofs.steps.PageLockSteps.{keeps-paging}
 use Rattle.hwp_rule.proofs.WordsByKind.{word-there}
 use Rattle.hwp_rule.specs.declared.step.Step.TheVariants as steps
 

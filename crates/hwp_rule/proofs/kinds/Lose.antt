@@ -25,7 +25,7 @@ use Rattle.hwp_rule.specs.parts.Losses.{Losing, IsPoisonLoss, LossesBalance}
 use Rattle.hwp_rule.proofs.Counting.{below-term}
 use Rattle.hwp_rule.proofs.Keeps.{Keeps, IsShaped}
 use Rattle.hwp_rule.proofs.Lists.{at_map, at_set, change, each-set, keep, set_here, set-set, sum-map, sum-set}
-use Rattle.hwp_rule.proofs.Marking.{reported_of, owed_of}
+use Rattle.hwp_rule.proofs.steps.Marking.{reported_of, owed_of}
 use Rattle.hwp_rule.proofs.OwedLosses.{behind-within}
 use Rattle.hwp_rule.proofs.Without.{each-without, sum-without}
 use Rattle.hwp_rule.proofs.WordsByKind.{word-there}

@@ -43,9 +43,9 @@ use Rattle.hwp_rule.proofs.FrameFields.{pages-kept}
 use Rattle.hwp_rule.proofs.Keeps.{Keeps}
 use Rattle.hwp_rule.proofs.Kept
 use Rattle.hwp_rule.proofs.Lists.{change, keep, at_map, at_set, at_changed, set_here, set_else, set-set, same-or, same-number, sum-set, each-set, each-push}
-use Rattle.hwp_rule.proofs.Marking
-use Rattle.hwp_rule.proofs.Marking.{due, by_hardware}
-use Rattle.hwp_rule.proofs.PoisonedLocks.{keeps-poison-listed}
+use Rattle.hwp_rule.proofs.steps.Marking
+use Rattle.hwp_rule.proofs.steps.Marking.{due, by_hardware}
+use Rattle.hwp_rule.proofs.steps.PoisonedLocks.{keeps-poison-listed}
 use Rattle.hwp_rule.proofs.Sights.{keeps-shown, explained-frame}
 use Rattle.hwp_rule.proofs.WordsByKind.{word-there}
 

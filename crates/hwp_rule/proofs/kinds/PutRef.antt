@@ -24,7 +24,7 @@ use Rattle.hwp_rule.specs.parts.Places.{HasOnePlace, IsBare, in_hand, IsHanded}
 use Rattle.hwp_rule.proofs.Lists.{at_map, map-was, same-or, same-number, set_again, sum-set, term-le, terms-le, each-set, each-push, sum-zero}
 use Rattle.hwp_rule.proofs.Keeps.{Keeps}
 use Rattle.hwp_rule.proofs.FrameWord.{IsLike, bare-like, like-fields, placed-again, counted-again, like-handed-all}
-use Rattle.hwp_rule.proofs.CountSteps.{keeps-refs}
+use Rattle.hwp_rule.proofs.steps.CountSteps.{keeps-refs}
 use Rattle.hwp_rule.proofs.WordsByKind.{word-there}
 use Rattle.hwp_rule.specs.declared.step.Step.TheVariants as steps
 use Rattle.hwp_rule.proofs.Refs

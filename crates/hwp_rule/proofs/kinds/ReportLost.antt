@@ -14,7 +14,7 @@ use Rattle.hwp_rule.specs.parts.Holdings.{AreOwn}
 use Rattle.hwp_rule.specs.parts.Losses.{Losing, IsPoisonLoss, LossesBalance}
 use Rattle.hwp_rule.proofs.Keeps.{Keeps}
 use Rattle.hwp_rule.proofs.Lists.{change, keep, at_map, at_set, set_here, set-set, each-set, sum-set}
-use Rattle.hwp_rule.proofs.Marking.{reported_of, owed_of}
+use Rattle.hwp_rule.proofs.steps.Marking.{reported_of, owed_of}
 use Rattle.hwp_rule.proofs.WordsByKind.{word-there}
 use Rattle.hwp_rule.proofs.Sights.{keeps-sight, explained-quiet}
 use Rattle.hwp_rule.specs.declared.place.Place.TheVariants as places

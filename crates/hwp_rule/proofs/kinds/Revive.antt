@@ -44,8 +44,8 @@ use Rattle.hwp_rule.proofs.FrameFields.{pages-kept, unlocked-kept, placed-kept}
 use Rattle.hwp_rule.proofs.Keeps.{Keeps}
 use Rattle.hwp_rule.proofs.Kept
 use Rattle.hwp_rule.proofs.Lists.{change, keep, at_map, at_set, at_changed, set_here, set_else, set_again, same-or, same-number, sum-set, term-le, each-set, each-push}
-use Rattle.hwp_rule.proofs.Marking
-use Rattle.hwp_rule.proofs.Marking.{by_hardware}
+use Rattle.hwp_rule.proofs.steps.Marking
+use Rattle.hwp_rule.proofs.steps.Marking.{by_hardware}
 use Rattle.hwp_rule.proofs.Sights.{keeps-shown, explained-frame}
 use Rattle.hwp_rule.proofs.WordsByKind.{word-there}
 

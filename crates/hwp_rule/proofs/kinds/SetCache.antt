@@ -20,9 +20,9 @@ use Rattle.hwp_rule.specs.parts.Owners.{CacheWordsOwned, NamesOwn, HoldsBoth}
 use Rattle.hwp_rule.proofs.Keeps.{Keeps}
 use Rattle.hwp_rule.proofs.KnownByLocks.{lock-listed, page-listed}
 use Rattle.hwp_rule.proofs.Lists.{at_map, at_set, same-or, same-number, set_here, set_else}
-use Rattle.hwp_rule.proofs.NameSteps.{names-name, names-in, frame_in-name, named-set, page-locked, page-knows, frames-few, names-own, fits-naming, keeps-naming}
+use Rattle.hwp_rule.proofs.steps.NameSteps.{names-name, names-in, frame_in-name, named-set, page-locked, page-knows, frames-few, names-own, fits-naming, keeps-naming}
 use Rattle.hwp_rule.proofs.Refs.{hits}
-use Rattle.hwp_rule.proofs.PageLockLists.{same-locks, caches-listed, bodies-listed}
+use Rattle.hwp_rule.proofs.steps.PageLockLists.{same-locks, caches-listed, bodies-listed}
 use Rattle.hwp_rule.proofs.WordsByKind.{word-there}
 use Rattle.hwp_rule.specs.declared.step.Step.TheVariants as steps
 

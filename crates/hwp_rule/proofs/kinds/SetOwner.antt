@@ -26,7 +26,7 @@ use Rattle.hwp_rule.proofs.Keeps.{Keeps}
 use Rattle.hwp_rule.proofs.KnownByLocks.{lock-listed, page-listed}
 use Rattle.hwp_rule.proofs.Lists.{at_map, at_set, same-or, set_here, set_else, each-weaken, some-set}
 use Rattle.hwp_rule.proofs.WordsByKind.{word-there}
-use Rattle.hwp_rule.proofs.OwnerSteps.{owning, same-locks, kept-owning}
+use Rattle.hwp_rule.proofs.steps.OwnerSteps.{owning, same-locks, kept-owning}
 use Rattle.hwp_rule.specs.declared.step.Step.TheVariants as steps
 
 unhandled-word : (word : ℕ) → is_handled word ≡ false → handled_of word ≡ 0

@@ -18,9 +18,9 @@ use Rattle.hwp_rule.specs.parts.Fits.{KnowsWords}
 use Rattle.hwp_rule.specs.parts.Owners.{TranslationsOwned, NamesOwn}
 use Rattle.hwp_rule.proofs.Keeps.{Keeps}
 use Rattle.hwp_rule.proofs.Lists.{at_set, same-or, set_here, set_else}
-use Rattle.hwp_rule.proofs.NameSteps.{Names, names-name, names-poison, names-in, frame_in-name, named-set, page-knows, frames-few, names-own, fits-naming, keeps-naming}
+use Rattle.hwp_rule.proofs.steps.NameSteps.{Names, names-name, names-poison, names-in, frame_in-name, named-set, page-knows, frames-few, names-own, fits-naming, keeps-naming}
 use Rattle.hwp_rule.proofs.Refs.{hits}
-use Rattle.hwp_rule.proofs.PageLockLists.{caches-listed, bodies-listed}
+use Rattle.hwp_rule.proofs.steps.PageLockLists.{caches-listed, bodies-listed}
 use Rattle.hwp_rule.proofs.WordsByKind.{word-there}
 use Rattle.hwp_words.specs.declared.Pte.TheVariants as ptes
 use Rattle.hwp_rule.specs.declared.step.Step.TheVariants as steps

@@ -28,7 +28,7 @@ use Rattle.hwp_rule.proofs.FrameWord.{IsLike, like-fields, like-locked}
 use Rattle.hwp_rule.proofs.Without.{sum-without, length-without, each-without, some-without}
 use Rattle.hwp_rule.proofs.FittingWords.{first-lock}
 use Rattle.hwp_rule.proofs.Carrying.{carry-none, carry-home, another}
-use Rattle.hwp_rule.proofs.FrameLockSteps.{keeps-locking}
+use Rattle.hwp_rule.proofs.steps.FrameLockSteps.{keeps-locking}
 use Rattle.hwp_geom.specs.declared.Who.{Who}
 use Rattle.hwp_rule.specs.Asks.{CanUnlockFrame, CanGoHome}
 use Rattle.hwp_rule.proofs.Keeps.{Given, Keeps}

@@ -30,7 +30,7 @@ use Rattle.hwp_rule.proofs.Carrying.{carry-none, carry-home, another}
 use Rattle.hwp_rule.proofs.Counting.{some-term}
 use Rattle.hwp_rule.proofs.Keeps.{Given, Keeps, IsShaped}
 use Rattle.hwp_rule.proofs.Without.{sum-without, length-without, each-without, find-none}
-use Rattle.hwp_rule.proofs.PageLockSteps.{keeps-paging}
+use Rattle.hwp_rule.proofs.steps.PageLockSteps.{keeps-paging}
 use Rattle.hwp_rule.proofs.WordsByKind.{word-there}
 use Rattle.hwp_rule.specs.declared.step.Step.TheVariants as steps
 use Rattle.hwp_rule.proofs.GoingHome

@@ -35,7 +35,7 @@ use Rattle.hwp_rule.proofs.Keeps.{IsShaped}
 use Rattle.hwp_rule.proofs.KnownByLocks.{page-listed, lock-referenced, lock-names}
 use Rattle.hwp_rule.proofs.Lists.{change, keep, at_map, at_set, map-was, same-or, same-number, each-set, each-weaken, sum-set, term-le, terms-le, length-changed}
 use Rattle.hwp_rule.proofs.Without.{find-is}
-use Rattle.hwp_rule.proofs.PageLockLists.{same-locks, locks-listed}
+use Rattle.hwp_rule.proofs.steps.PageLockLists.{same-locks, locks-listed}
 use Rattle.hwp_rule.proofs.Refs.{hits, renamed, refs-renamed, some-renamed, length-renamed, shares-renamed}
 use Rattle.hwp_words.specs.declared.Pte.TheVariants as ptes
 use Rattle.hwp_rule.proofs.Kept

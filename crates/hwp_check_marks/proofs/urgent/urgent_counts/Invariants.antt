@@ -1,0 +1,10 @@
+use Rattle.std.proofs.Common.{◌≡◌, ◌+◌, ◌≤◌, ℕ, drop, take, sum_by}
+use Rattle.hwp_check_rules.specs.Standing.{frame_height}
+use Rattle.hwp_check_marks.specs.Counts.{at_key}
+use Rattle.hwp_check_marks.specs.Needed.{frames_urgent}
+use Rattle.hwp_check_marks.proofs.urgent.urgent_counts.Given as goal
+
+abbrev pub invariant-loop-frame : goal.invariant-loop-frame
+invariant-loop-frame l =
+    ((q : (ℕ × ℕ) × ℕ) → at_key l.counts q + frames_urgent l.fn.rows l.frame q (drop l.frame l.fn.frames) ≡ frames_urgent l.fn.rows 0 q l.fn.frames)
+    × ((q : (ℕ × ℕ) × ℕ) → at_key l.counts q ≤ sum_by frame_height (take l.frame l.fn.frames))

@@ -1,0 +1,58 @@
+-- What each call writes, and why it writes nothing.
+use Rattle.std.specs.Prelude.{◌≡◌, ◌≤◌, ℕ, List, Option, None, IsSomeAnd, length}
+use Rattle.hwp_script.specs.Limits.{script_limit}
+use Rattle.hwp_script.specs.declared.Refused.{Refused}
+use Rattle.hwp_script.specs.declared.Why.TheVariants as whys
+use Rattle.hwp_script_print.specs.Round.{IsTextOf}
+use Rattle.hwp_script_print.specs.Text.{script_text}
+use Rattle.hwp_gen.specs.Generated.{generated}
+use Rattle.hwp_report.specs.declared.Report.{Report}
+use Rattle.hwp_report.specs.Text.{report_text}
+use Rattle.hwp_summary.specs.Counts.{summary_of}
+use Rattle.hwp_summary.specs.Text.{summary_text}
+use Rattle.hwp_top.specs.declared.served.Call.{Call}
+use Rattle.hwp_top.specs.declared.served.Call.TheVariants as calls
+use Rattle.hwp_top.specs.Calls.{IsCall}
+use Rattle.hwp_top.specs.Top.{IsBuilt, IsReportOfRun, Refuses, Reports, done_status}
+
+-- the text is that of the seed's script; where it is no longer than a script may be, it is read as this script, and as no other
+pub record IsGenerated (seed : ℕ) (text : List ℕ) : Type 0 where
+  pub text_is : text ≡ script_text (generated seed)
+  pub read : length text ≤ script_limit → IsTextOf text (generated seed)
+
+-- the report of a script that a source gave, its text, and its status
+pub record IsStepped (left left' : Option (List ℕ)) (status : ℕ) (text : List ℕ) (report : Report) : Type 0 where
+  pub reports : Reports left left' report
+  pub status_is : status ≡ done_status report
+  pub text_is : text ≡ report_text report
+
+-- a report of the seed's script, as `step` gives it, and the text of its summary
+pub record IsSummed (seed status : ℕ) (text : List ℕ) (report : Report) : Type 0 where
+  pub built : IsBuilt (generated seed)
+  pub report_of : IsReportOfRun (generated seed) report
+  pub status_is : status ≡ 0
+  pub text_is : text ≡ summary_text seed (summary_of report)
+
+-- the output of a call: its status, its text, and its report where it has one
+abbrev pub IsOutputOf : Call → Option (List ℕ) → Option (List ℕ) → ℕ → List ℕ → Option Report → Type 0
+IsOutputOf calls.Step left left' status text report = IsSomeAnd report (IsStepped left left' status text)
+IsOutputOf (calls.Gen seed) left left' status text report = IsGenerated seed text × (status ≡ 0) × (report ≡ None)
+IsOutputOf (calls.Sum seed) left left' status text report = IsSomeAnd report (IsSummed seed status text)
+
+-- a call is refused: what the source gave is, or the seed's script has what is not built
+abbrev pub IsRefusedFor : Call → Option (List ℕ) → Option (List ℕ) → Refused → Type 0
+IsRefusedFor calls.Step left left' refused = Refuses left left' refused
+IsRefusedFor (calls.Gen seed) left left' refused = ⊥
+IsRefusedFor (calls.Sum seed) left left' refused = (¬ IsBuilt (generated seed)) × (refused ≡ record { line = 0; why = whys.NotBuilt })
+
+-- the words ask for a call, and this is its output
+pub record IsOutput (words : List (List ℕ)) (left left' : Option (List ℕ)) (status : ℕ) (text : List ℕ) (report : Option Report) : Type 0 where
+  pub call : Call
+  pub asked : IsCall words call
+  pub output : IsOutputOf call left left' status text report
+
+-- the words ask for a call, and it is refused
+pub record IsRefusedCall (words : List (List ℕ)) (left left' : Option (List ℕ)) (refused : Refused) : Type 0 where
+  pub call : Call
+  pub asked : IsCall words call
+  pub refuses : IsRefusedFor call left left' refused

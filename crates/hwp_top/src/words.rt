@@ -1,0 +1,73 @@
+//! The words of a command.
+ghost use Rattle.std.specs.Prelude.{◌≡◌, ◌↔◌, ℕ, [], ◌∷◌, map, string_bytes, IfSome, IfNone, IsTrue};
+ghost use Rattle.hwp_form.specs.Numbers.{IsNumber};
+ghost use Rattle.hwp_top.specs.Calls.{IsCall, IsNoCall};
+
+use crate::served::Call;
+use itoa::Buffer;
+
+/// Whether a word has this text.
+fn is_text(word: &[u8], text: &str) -> bool
+    ensures { IsTrue result ↔ (word.now ≡ text.now) }
+{
+    word == text.as_bytes()
+}
+
+/// The number that a word is: `0` or decimal digits without a leading zero, below 2^64.
+fn read_number(word: &[u8]) -> Option<u64>
+    ensures some { IfSome result (IsNumber word.now) }
+    ensures none { IfNone result ((n : ℕ) → IsNumber word.now n → ⊥) }
+{
+    let Ok(text) = str::from_utf8(word) else {
+        return None;
+    };
+    let Ok(number) = text.parse::<u64>() else {
+        return None;
+    };
+    if Buffer::new().format(number) == text {
+        Some(number)
+    } else {
+        None
+    }
+}
+
+/// The call that one word is.
+fn call_alone(word: &[u8]) -> Option<Call>
+    ensures some { IfSome result (IsCall (word.now ∷ [])) }
+    ensures none { IfNone result (IsNoCall (word.now ∷ [])) }
+{
+    if is_text(word, "step") {
+        Some(Call::Step)
+    } else {
+        None
+    }
+}
+
+/// The call that a word and a number are.
+fn call_with(word: &[u8], number: &[u8]) -> Option<Call>
+    ensures some { IfSome result (IsCall (word.now ∷ number.now ∷ [])) }
+    ensures none { IfNone result (IsNoCall (word.now ∷ number.now ∷ [])) }
+{
+    let Some(seed) = read_number(number) else {
+        return None;
+    };
+    if is_text(word, "gen") {
+        return Some(Call::Gen(seed));
+    }
+    if is_text(word, "sum") {
+        return Some(Call::Sum(seed));
+    }
+    None
+}
+
+/// The call that the words are, if they are one.
+pub(crate) fn call_of(words: &[String]) -> Option<Call>
+    ensures some { IfSome result (IsCall (map string_bytes words.now)) }
+    ensures none { IfNone result (IsNoCall (map string_bytes words.now)) }
+{
+    match words {
+        [word] => call_alone(word.as_bytes()),
+        [word, number] => call_with(word.as_bytes(), number.as_bytes()),
+        _ => None,
+    }
+}

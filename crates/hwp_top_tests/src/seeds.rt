@@ -1,0 +1,74 @@
+//! `gen` and `sum`: the script that a seed gives, and the summary of its report.
+
+use crate::helpers::{Left, call, leaves};
+use hwp_gen::generate;
+use hwp_script::{Script, read};
+use hwp_script_print::print;
+use std::alloc::Global;
+use std::process::Abort;
+
+/// A call from a source whose first read fails.
+fn unread(rt: &impl Abort, alloc: Global, words: &[&str]) -> Left {
+    call(rt, alloc, words, b"step", &[1], (4096, &[]))
+}
+
+/// The bytes are the text of the script.
+fn has_text(rt: &impl Abort, alloc: Global, bytes: &[u8], script: &Script) {
+    let text = print(alloc, script).expect(rt, "memory");
+    assert!(rt; bytes == text.as_slice());
+}
+
+/// `gen` writes the script of the seed, which is read back, and reads nothing itself.
+fn writes_script(rt: &impl Abort, alloc: Global, word: &str, seed: u64) {
+    let left = unread(rt, alloc, &["gen", word]);
+    assert_eq!(rt; (left.reported, left.status), (false, 0));
+    has_text(
+        rt,
+        alloc,
+        left.out.bytes(),
+        &generate(alloc, seed).expect(rt, "memory"),
+    );
+    has_text(
+        rt,
+        alloc,
+        left.out.bytes(),
+        &read(alloc, left.out.bytes()).expect(rt, "a script"),
+    );
+}
+
+#[test]
+fn gen_writes_the_script_of_its_seed(rt: HostRuntime) {
+    writes_script(&rt, rt.alloc(), "5", 5);
+    writes_script(&rt, rt.alloc(), "0", 0);
+    writes_script(&rt, rt.alloc(), "18446744073709551615", u64::MAX);
+}
+
+#[test]
+fn two_runs_of_gen_write_equal_bytes(rt: HostRuntime) {
+    let first = unread(&rt, rt.alloc(), &["gen", "5"]);
+    let second = unread(&rt, rt.alloc(), &["gen", "5"]);
+    let other = unread(&rt, rt.alloc(), &["gen", "6"]);
+    assert!(&rt; first.out.bytes() == second.out.bytes());
+    assert!(&rt; first.out.bytes() != other.out.bytes());
+}
+
+/// The third write of 16 bytes fails.
+#[test]
+fn gen_tells_a_fault_of_the_sink(rt: HostRuntime) {
+    let left = call(&rt, rt.alloc(), &["gen", "5"], b"", &[], (16, &[3]));
+    leaves(
+        &rt,
+        &left,
+        false,
+        5,
+        "hwp 1\ncpus 4\nframes 256\nkernel 0",
+        "write fault\n",
+    );
+}
+
+/// The script of a seed has commands that are not supported yet.
+#[test]
+fn sum_is_refused(rt: HostRuntime) {
+    let left = unread(&rt, rt.alloc(), &["sum", "7"]);
+    leaves(&rt, &left, false, 3, "", "script line 0: NotBuilt\n");
+}
