@@ -71,7 +71,7 @@ frame-counted frames i d list had within is was q =
 
 -- a mark that is over is the first that is one too many, and behind one that isn't there is none so far
 module _ {S : Type 0} (report : Report) (above : List FrameLine) (list : List MarkLine) (i : ℕ) (d mark : MarkLine) (entries had : HashMap ((ℕ × ℕ) × ℕ) ℕ S) (over : Bool) (of_entries : CountEntries report.pages entries)
-  (of_marks : CountMarks above (take i list) had) (none : NoneExtra report above list i) (within : i < length list) (is : mark ≡ get_or list i d) (asked : over ≡ is_over entries had mark) where
+    (of_marks : CountMarks above (take i list) had) (none : NoneExtra report above list i) (within : i < length list) (is : mark ≡ get_or list i d) (asked : over ≡ is_over entries had mark) where
   there : slice_get list i ≡ Some mark
   there = slice_get-get_or list i d within ∙ ap Some (sym is)
 
@@ -112,7 +112,7 @@ module _ (report : Report) (n heading : ℕ) (d : FrameLine) (list : List MarkLi
       core within is counted none = (
         frame-counted report.frames n d list had within is counted,
         few-next report n heading (heading + (1 + length list)) (get_or report.frames n d) below (slice_get-get_or report.frames n d within)
-        (subst (λ (ms : List MarkLine). NoneExtra report (take n report.frames) ms (length ms)) is none) (ap (λ (ms : List MarkLine). heading + (1 + length ms)) is),
+            (subst (λ (ms : List MarkLine). NoneExtra report (take n report.frames) ms (length ms)) is none) (ap (λ (ms : List MarkLine). heading + (1 + length ms)) is),
       )
 
   pub first-frame : (place : ℕ) (xs : List FrameLine) → xs ≡ report.frames → n < length xs → list ≡ (get_or xs n d).marks → IsFirstExtra report (take n xs) list place

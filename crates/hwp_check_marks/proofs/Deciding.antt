@@ -1,11 +1,10 @@
 -- The rule of marks holds where none of its four parts finds a line, and else the lowest of the lines found is the first that
 -- breaks it.
-use Rattle.std.proofs.Common.{◌≡◌, ◌≢◌, ◌⊎◌, inl, inr, ℕ, zero, suc, ◌+◌, ◌<◌, ◌≤◌, ◌==◌, ◌&&◌, min, Bool, true, false, cond, List, [], ◌∷◌, Option, Some, None, MatchOption, count_by, filter, get_or, length, option_and_then, slice_get, sum_by, true≢false, refl, sym, ap, ◌∙◌, subst, arith}
+use Rattle.std.proofs.Common.{◌≡◌, ◌≢◌, ◌⊎◌, inl, inr, ℕ, ◌+◌, ◌<◌, ◌≤◌, ◌==◌, ◌&&◌, min, Bool, true, false, cond, List, [], ◌∷◌, Option, Some, None, MatchOption, count_by, get_or, length, option_and_then, slice_get, sum_by, true≢false, refl, sym, ap, ◌∙◌, subst, arith}
 use Rattle.std.specs.List.{zip}
 use Rattle.std.proofs.lemmas.Bool.{cases_Bool, cases_lt, eqb-false, eqb-true}
 use Rattle.std.proofs.lemmas.List.Sums.{sum_by-cons}
 use Rattle.std.proofs.lemmas.Option.{none-some, slice_get-get_or, slice_get_within}
-use Rattle.hwp_geom.specs.declared.Frame.{Frame}
 use Rattle.hwp_geom.specs.declared.Who.{Who}
 use Rattle.hwp_page.specs.declared.At.{At}
 use Rattle.hwp_page.specs.declared.Entry.{Entry}
@@ -16,16 +15,16 @@ use Rattle.hwp_script.specs.declared.Script.{Script}
 use Rattle.hwp_report.specs.declared.FrameLine.{FrameLine}
 use Rattle.hwp_report.specs.declared.MarkLine.{MarkLine}
 use Rattle.hwp_report.specs.declared.Report.{Report}
-use Rattle.hwp_law.specs.Lines.{EventLine, is_same_command, marks_of}
-use Rattle.hwp_law.specs.Pairings.{AreRecorded, entries_of, finds, has_page, is_failure, is_failure_mark, is_move_mark, is_required, is_soft, is_urgent, marks_in, situation_number, urgent_from}
+use Rattle.hwp_law.specs.Lines.{EventLine, is_same_command}
+use Rattle.hwp_law.specs.Pairings.{AreRecorded, entries_of, finds, has_page, is_failure, is_failure_mark, is_move_mark, is_required, is_soft, is_urgent, marks_in, urgent_from}
 use Rattle.hwp_law.specs.Places.{entry_at}
 use Rattle.hwp_law.specs.Records.{IsAnswered, IsMarkAt, hardware_marks, how_in, is_by_hardware, result_lines, who_in}
-use Rattle.hwp_check_rules.specs.Firsts.{IsLeast, sooner, soonest}
-use Rattle.hwp_check_rules.specs.MarkFaults.{HasNoEvent, IsMarkFault, IsMarkLacking, IsMarkWrong, IsMisfound, IsMisrequired, LacksMarks, home_of}
+use Rattle.hwp_check_rules.specs.Firsts.{sooner, soonest}
+use Rattle.hwp_check_rules.specs.MarkFaults.{HasNoEvent, IsMarkFault, IsMarkLacking, IsMisfound, IsMisrequired, LacksMarks, home_of}
 use Rattle.hwp_check_rules.specs.Rules.{MarksFit}
 use Rattle.hwp_check_rules.specs.Standing.{entry_line, frame_line}
 use Rattle.hwp_check_rules.specs.Verdicts.{IsBroken, Marks}
-use Rattle.hwp_check_marks.specs.MarkScans.{IsClear, IsFirstFault, IsRecordFault, IsRecordWrong, RecordsFit}
+use Rattle.hwp_check_marks.specs.MarkScans.{IsClear, IsFirstFault, IsRecordFault, RecordsFit}
 use Rattle.hwp_check_marks.specs.Unpaired.{AllFew, IsExtra, IsTooMany}
 use Rattle.hwp_check_marks.specs.Walks.{IsLowest}
 use Rattle.hwp_check_marks.proofs.LackingLaws.{SomeEntryIn, some-entry}
@@ -34,14 +33,14 @@ use Rattle.hwp_check_marks.proofs.WalkLaws.{other-words, sooner-least}
 
 -- the lower of two lines
 both-lowest : (P Q : ℕ → Type 0) (f g : Option ℕ) → IsLowest P f → IsLowest Q g → IsLowest (λ (n : ℕ). P n ⊎ Q n) (soonest f g)
-both-lowest P Q f None low none = other-words P (λ (n : ℕ). P n ⊎ Q n) f (λ n p. inl p) (λ n e. elim e [ | inl p ↦ p | inr q ↦ absurd (none n q) ]) low
+both-lowest P Q f None low none = other-words P (λ (n : ℕ). P n ⊎ Q n) f (λ n p. inl p) (λ n e. elim e [ inl p ↦ p | inr q ↦ absurd (none n q) ]) low
 both-lowest P Q f (Some m) low least =
     at-once (sooner f m) (sooner-least P f m low)
   where
     at-once : (h : Option ℕ) → IsLowest (λ (n : ℕ). P n ⊎ (n ≡ m)) h → IsLowest (λ (n : ℕ). P n ⊎ Q n) h
     at-once None none = absurd (none m (inr refl))
     at-once (Some k) first = record {
-      at = elim first.at [ | inl p ↦ inl p | inr is ↦ inr (subst Q (sym is) least.at) ];
+      at = elim first.at [ inl p ↦ inl p | inr is ↦ inr (subst Q (sym is) least.at) ];
       first = λ other e. elim e [
         | inl p ↦ first.first other (inl p)
         | inr q ↦ let low_one : m ≤ other = least.first other q in let here : k ≤ m = first.first m (inr refl) in omega (arith, low_one, here)
@@ -149,7 +148,7 @@ module _ (script : Script) (report : Report) where
       there-at r = ap (λ (o : Option (List Entry)). option_and_then (λ (es : List Entry). slice_get es r.some.place) o) r.shown ∙ r.some.there
 
   equal-or : (a b : ℕ) → (a ≢ b → ⊥) → a ≡ b
-  equal-or a b not_apart = elim (cases_Bool (a == b)) [ | inl is ↦ eqb-true a b is | inr is ↦ absurd (not_apart (eqb-false a b is)) ]
+  equal-or a b not_apart = elim (cases_Bool (a == b)) [ inl is ↦ eqb-true a b is | inr is ↦ absurd (not_apart (eqb-false a b is)) ]
 
   module _ (few : AllFew report) (none_lacks : (line : ℕ) → IsMarkLacking script report line → ⊥) (none_differs : (line : ℕ) → IsMisrequired report line → ⊥) where
     no-lack : (who : Who) → LacksMarks report who → ⊥
@@ -246,7 +245,7 @@ module _ (script : Script) (report : Report) where
   fault-parts line (inr (inr (inr m))) = inr (inr m)
 
   module _ (many : length report.frames ≤ length script.layout.kernel) (kept extra lacks wrong : Option ℕ) (of_kept : MatchOption kept (IsClear (RecordsFit script report) (IsRecordFault script report)) (λ line. IsFirstFault (RecordsFit script report) (IsRecordFault script report) line))
-    (of_extra : MatchOption extra (IsClear (AllFew report) (IsExtra report)) (λ line. IsFirstFault (AllFew report) (IsExtra report) line)) (of_lacks : IsLowest (IsMarkLacking script report) lacks) (of_wrong : IsLowest (IsMisrequired report) wrong) where
+      (of_extra : MatchOption extra (IsClear (AllFew report) (IsExtra report)) (λ line. IsFirstFault (AllFew report) (IsExtra report) line)) (of_lacks : IsLowest (IsMarkLacking script report) lacks) (of_wrong : IsLowest (IsMisrequired report) wrong) where
     lowest : IsLowest (IsMarkFault script report) (soonest (soonest kept extra) (soonest lacks wrong))
     lowest =
         other-words Parts (IsMarkFault script report) _ (parts-fault many) fault-parts

@@ -1,15 +1,13 @@
 -- The lowest frame that was noted for a command is the lowest of its event lines.
-use Rattle.std.proofs.Common.{◌≡◌, inl, inr, ℕ, ◌+◌, ◌<◌, ◌≤◌, ◌==◌, ◌&&◌, nat_lt, min, Bool, true, false, cond, List, [], ◌∷◌, Option, Some, None, filter, filter_map, fold, is_some, length, slice_get, unwrap_or, true≢false, refl, sym, ap, ◌∙◌, arith}
+use Rattle.std.proofs.Common.{◌≡◌, inl, inr, ℕ, ◌+◌, ◌≤◌, ◌==◌, ◌&&◌, min, Bool, true, false, cond, List, [], ◌∷◌, Option, Some, None, is_some, length, slice_get, unwrap_or, refl, sym, ap, ◌∙◌, arith}
 use Rattle.std.specs.HashMap.{HashMap}
 use Rattle.std.proofs.lemmas.Bool.{cases_lt, eq-eqb, le-ltb, lt-ltb, ne_eqb}
 use Rattle.std.proofs.lemmas.Option.{slice_get_past}
-use Rattle.hwp_geom.specs.declared.Who.{Who}
 use Rattle.hwp_banks.specs.Addresses.{frame_at}
-use Rattle.hwp_report.specs.declared.Acted.{Acted}
 use Rattle.hwp_report.specs.declared.CpuLine.{CpuLine}
 use Rattle.hwp_report.specs.declared.CpuLine.TheVariants as lines
 use Rattle.hwp_report.specs.declared.Report.{Report}
-use Rattle.hwp_law.specs.Lines.{EventLine, event_in, events_among, events_of}
+use Rattle.hwp_law.specs.Lines.{EventLine, events_among}
 use Rattle.hwp_law.specs.Records.{result_of}
 use Rattle.hwp_check_rules.specs.MarkFaults.{lower, lowest_of}
 use Rattle.hwp_check_marks.specs.Lows.{AreLows, is_pair, low_at, lows_below, row_low, rows_low}
@@ -90,7 +88,7 @@ below-next report n rows lows next are was more q = elim (cases_lt q.0 n) [
 pub all-lows : {S : Type 0} (report : Report) (n : ℕ) (lows : HashMap (ℕ × ℕ) ℕ S) → length report.cpus ≤ n → ((q : ℕ × ℕ) → low_at lows q ≡ lows_below n report q) → AreLows report lows
 all-lows report n lows all was who = elim (cases_lt who.cpu.0 n) [
   | inl low ↦ was (who.cpu.0, who.seq) ∙ ap (λ (b : Bool). cond b (rows_low who.cpu.0 (who.cpu.0, who.seq) None (unwrap_or (slice_get report.cpus who.cpu.0) [])) None) (lt-ltb who.cpu.0 n low)
-  ∙ rows-lowest who.cpu.0 who.seq (unwrap_or (slice_get report.cpus who.cpu.0) [])
+      ∙ rows-lowest who.cpu.0 who.seq (unwrap_or (slice_get report.cpus who.cpu.0) [])
   | inr high ↦
       was (who.cpu.0, who.seq) ∙ ap (λ (b : Bool). cond b (rows_low who.cpu.0 (who.cpu.0, who.seq) None (unwrap_or (slice_get report.cpus who.cpu.0) [])) None) (le-ltb who.cpu.0 n high)
       ∙ ap (λ (o : Option (List CpuLine)). lowest_of (events_among (unwrap_or o []) who.seq)) (sym (slice_get_past report.cpus who.cpu.0 (omega (arith, all, high))))

@@ -1,28 +1,28 @@
 -- What a walk over entries finds is the lowest line that one of them asks for.
-use Rattle.std.proofs.Common.{◌≡◌, ◌⊎◌, inl, inr, ℕ, zero, suc, ◌+◌, ◌<◌, ◌≤◌, min, Bool, true, false, List, [], ◌∷◌, Option, Some, None, slice_get, sum_by, take, true≢false, refl, sym, ap, ◌∙◌, subst, arith}
+use Rattle.std.proofs.Common.{◌≡◌, ◌⊎◌, inl, inr, ℕ, zero, suc, ◌+◌, ◌≤◌, min, Bool, true, List, [], ◌∷◌, Option, Some, None, slice_get, sum_by, take, true≢false, refl, sym, ap, ◌∙◌, subst, arith}
 use Rattle.std.proofs.lemmas.Bool.{cases_Bool, cases_lt}
 use Rattle.std.proofs.lemmas.List.Sums.{sum_by-cons}
 use Rattle.std.proofs.lemmas.Option.{none-some, same_Some}
 use Rattle.hwp_page.specs.declared.Entry.{Entry}
-use Rattle.hwp_check_rules.specs.Firsts.{IsLeast, sooner, sooner_if}
+use Rattle.hwp_check_rules.specs.Firsts.{sooner, sooner_if}
 use Rattle.hwp_check_rules.specs.Standing.{entry_height, page_height}
 use Rattle.hwp_check_marks.specs.Walks.{IsAsked, IsAskedIn, IsLowest, walk_entries, walk_pages}
 
 -- one line more that is so
 pub sooner-least : (P : ℕ → Type 0) (found : Option ℕ) (line : ℕ) → IsLowest P found → IsLowest (λ (n : ℕ). P n ⊎ (n ≡ line)) (sooner found line)
-sooner-least P None line none = record { at = inr refl; first = λ other asked. elim asked [ | inl old ↦ absurd (none other old) | inr is ↦ omega (arith, is) ] }
+sooner-least P None line none = record { at = inr refl; first = λ other asked. elim asked [ inl old ↦ absurd (none other old) | inr is ↦ omega (arith, is) ] }
 sooner-least P (Some n) line least = elim (cases_lt line n) [
   | inl low ↦
       let is : min n line ≡ line = omega (arith, low) in
       record {
         at = inr is;
-        first = λ other asked. elim asked [ | inl old ↦ let after : n ≤ other = least.first other old in omega (arith, after, low) | inr same ↦ omega (arith, same) ];
+        first = λ other asked. elim asked [ inl old ↦ let after : n ≤ other = least.first other old in omega (arith, after, low) | inr same ↦ omega (arith, same) ];
       }
   | inr high ↦
       let is : min n line ≡ n = omega (arith, high) in
       record {
         at = inl (subst P (sym is) least.at);
-        first = λ other asked. elim asked [ | inl old ↦ let after : n ≤ other = least.first other old in omega (arith, after, is) | inr same ↦ omega (arith, same, high) ];
+        first = λ other asked. elim asked [ inl old ↦ let after : n ≤ other = least.first other old in omega (arith, after, is) | inr same ↦ omega (arith, same, high) ];
       }
 ]
 
@@ -60,7 +60,7 @@ module _ (asks : Entry → Bool) (wants : Entry → ℕ → ℕ) where
           inr (record { place = k; entry = a.entry; there = there; so = a.so; line_is = is ∙ ap (wants a.entry) same })
 
   walk-entries : (P : ℕ → Type 0) (line : ℕ) (found : Option ℕ) (es : List Entry) → IsLowest P found → IsLowest (λ (n : ℕ). P n ⊎ IsAsked asks wants line es n) (walk_entries asks wants line found es)
-  walk-entries P line found [] low = other-words P (λ (n : ℕ). P n ⊎ IsAsked asks wants line [] n) found (λ n was. inl was) (λ n asked. elim asked [ | inl was ↦ was | inr a ↦ absurd (none-some _ a.there) ]) low
+  walk-entries P line found [] low = other-words P (λ (n : ℕ). P n ⊎ IsAsked asks wants line [] n) found (λ n was. inl was) (λ n asked. elim asked [ inl was ↦ was | inr a ↦ absurd (none-some _ a.there) ]) low
   walk-entries P line found (e ∷ es) low = elim (cases_Bool (asks e)) [
     | inl so ↦
         let step : IsLowest (λ (n : ℕ). P n ⊎ (n ≡ wants e line)) (sooner_if (asks e) found (wants e line)) =
@@ -73,16 +73,16 @@ module _ (asks : Entry → Bool) (wants : Entry → ℕ → ℕ) where
         ])
         (λ n asked. elim asked [
           | inl was ↦ inl (inl was)
-          | inr a ↦ elim (one-of line n e es a) [ | inl first ↦ inl (inr first.1) | inr later ↦ inr later ]
+          | inr a ↦ elim (one-of line n e es a) [ inl first ↦ inl (inr first.1) | inr later ↦ inr later ]
         ])
         (walk-entries (λ (n : ℕ). P n ⊎ (n ≡ wants e line)) (line + entry_height e) (sooner_if (asks e) found (wants e line)) es step)
     | inr not_so ↦
         let step : IsLowest P (sooner_if (asks e) found (wants e line)) = subst (λ (b : Bool). IsLowest P (sooner_if b found (wants e line))) (sym not_so) low in
         other-words (λ (n : ℕ). P n ⊎ IsAsked asks wants (line + entry_height e) es n) (λ (n : ℕ). P n ⊎ IsAsked asks wants line (e ∷ es) n) _
-        (λ n asked. elim asked [ | inl was ↦ inl was | inr later ↦ inr (later-one line n e es later) ])
+        (λ n asked. elim asked [ inl was ↦ inl was | inr later ↦ inr (later-one line n e es later) ])
         (λ n asked. elim asked [
           | inl was ↦ inl was
-          | inr a ↦ elim (one-of line n e es a) [ | inl first ↦ absurd (true≢false (sym first.0 ∙ not_so)) | inr later ↦ inr later ]
+          | inr a ↦ elim (one-of line n e es a) [ inl first ↦ absurd (true≢false (sym first.0 ∙ not_so)) | inr later ↦ inr later ]
         ])
         (walk-entries P (line + entry_height e) (sooner_if (asks e) found (wants e line)) es step)
   ]
@@ -112,7 +112,7 @@ module _ (asks : Entry → Bool) (wants : Entry → ℕ → ℕ) where
           inr (record { page = k; list = a.list; shown = shown; asked = subst (λ (j : ℕ). IsAsked asks wants j a.list n) (omega (arith, more)) asked })
 
   walk-pages : (P : ℕ → Type 0) (line : ℕ) (found : Option ℕ) (pages : List (List Entry)) → IsLowest P found → IsLowest (λ (n : ℕ). P n ⊎ IsAskedIn asks wants line pages n) (walk_pages asks wants line found pages)
-  walk-pages P line found [] low = other-words P (λ (n : ℕ). P n ⊎ IsAskedIn asks wants line [] n) found (λ n was. inl was) (λ n asked. elim asked [ | inl was ↦ was | inr a ↦ absurd (none-some _ a.shown) ]) low
+  walk-pages P line found [] low = other-words P (λ (n : ℕ). P n ⊎ IsAskedIn asks wants line [] n) found (λ n was. inl was) (λ n asked. elim asked [ inl was ↦ was | inr a ↦ absurd (none-some _ a.shown) ]) low
   walk-pages P line found (es ∷ rest) low =
       other-words (λ (n : ℕ). (P n ⊎ IsAsked asks wants (line + 1) es n) ⊎ IsAskedIn asks wants (line + page_height es) rest n) (λ (n : ℕ). P n ⊎ IsAskedIn asks wants line (es ∷ rest) n) _
       (λ n asked. elim asked [
@@ -122,12 +122,12 @@ module _ (asks : Entry → Bool) (wants : Entry → ℕ → ℕ) where
       ])
       (λ n asked. elim asked [
         | inl was ↦ inl (inl was)
-        | inr a ↦ elim (one-page line n es rest a) [ | inl here ↦ inl (inr here) | inr later ↦ inr later ]
+        | inr a ↦ elim (one-page line n es rest a) [ inl here ↦ inl (inr here) | inr later ↦ inr later ]
       ])
       (walk-pages (λ (n : ℕ). P n ⊎ IsAsked asks wants (line + 1) es n) (line + page_height es) (walk_entries asks wants (line + 1) found es) rest (walk-entries P (line + 1) found es low))
 
   -- the whole walk
   pub walked : (line : ℕ) (pages : List (List Entry)) → IsLowest (IsAskedIn asks wants line pages) (walk_pages asks wants line None pages)
   walked line pages =
-      other-words (λ (n : ℕ). ⊥ ⊎ IsAskedIn asks wants line pages n) (IsAskedIn asks wants line pages) _ (λ n asked. elim asked [ | inl never ↦ absurd never | inr a ↦ a ]) (λ n a. inr a)
+      other-words (λ (n : ℕ). ⊥ ⊎ IsAskedIn asks wants line pages n) (IsAskedIn asks wants line pages) _ (λ n asked. elim asked [ inl never ↦ absurd never | inr a ↦ a ]) (λ n a. inr a)
       (walk-pages (λ (n : ℕ). ⊥) line None pages (λ n never. never))

@@ -44,7 +44,10 @@ fn lower_row(lows: &mut Lows, cpu: u8, row: &CpuLine) -> Result<(), OutOfMemory>
 {
     match *row {
         CpuLine::Event {
-            seq, addr, acted, ..
+            seq,
+            addr,
+            acted,
+            ..
         } => {
             if is_result(acted) {
                 lower(lows, (cpu, seq), addr / 4096)

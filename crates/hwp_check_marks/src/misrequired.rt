@@ -60,12 +60,7 @@ fn walk_entries(
 }
 
 /// The lowest line of such entries of pages, the first of which has its heading on the line.
-fn walk_pages(
-    needed: &Counts,
-    urgent: &Counts,
-    first: u64,
-    pages: &[List<Entry>],
-) -> Option<u64>
+fn walk_pages(needed: &Counts, urgent: &Counts, first: u64, pages: &[List<Entry>]) -> Option<u64>
     requires room { first + sum_by page_height pages.now < 2 ^ 64 }
     ensures { result ≡ walk_pages (is_misrequired needed.now urgent.now) (λ e line. line) first None pages.now }
 {

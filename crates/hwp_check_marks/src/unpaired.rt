@@ -43,8 +43,7 @@ fn is_over(entries: &Counts, had: &Counts, mark: &MarkLine) -> bool
                 situation,
                 ..
             } => {
-                (has_page(situation)
-                    && is_reached(entries, had, who, Kind::Failure(situation)))
+                (has_page(situation) && is_reached(entries, had, who, Kind::Failure(situation)))
                     || (!hardware && is_reached(entries, had, who, Kind::Commanded))
             }
             How::Moved => {

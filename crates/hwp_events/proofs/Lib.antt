@@ -11,3 +11,4 @@ mod ScrubScans
 mod ScrubLines
 mod ScrubFound
 mod ScrubForth
+mod ScrubBack

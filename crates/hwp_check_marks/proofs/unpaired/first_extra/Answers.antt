@@ -18,5 +18,5 @@ pub loop-place-preserved : goal.loop-place-preserved
 loop-place-preserved c = (
   counted-next c.args.above.now c.args.marks.now c.loop-place.place _ _ c.loop-place.had c.add_mark.new.counts c.loop-place-test.true refl c.loop-place.invariant.0 c.in_ok-add_mark.ensures,
   extra-not c.args.report.now c.args.above.now c.args.marks.now c.loop-place.place _ _ c.args.entries.now c.loop-place.had c.is_over.result c.requires.entries c.loop-place.invariant.0 c.loop-place.invariant.1
-  c.loop-place-test.true refl c.is_over.ensures c.if-is_over.false,
+      c.loop-place-test.true refl c.is_over.ensures c.if-is_over.false,
 )

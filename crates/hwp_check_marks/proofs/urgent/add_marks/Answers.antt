@@ -1,16 +1,15 @@
-use Rattle.std.proofs.Common.{◌≡◌, ◌≤◌, ◌+◌, ℕ, get_or, length, drop, refl, arith}
+use Rattle.std.proofs.Common.{arith}
 use Rattle.hwp_check_marks.specs.Counts.{at_key}
-use Rattle.hwp_check_marks.specs.Needed.{marks_urgent}
 use Rattle.hwp_check_marks.proofs.UrgentLaws.{marks-most, marks-next, own-next}
 use Rattle.hwp_check_marks.proofs.urgent.add_marks.Goals as goal
 
 pub add_mark-requires-clause-room : goal.add_mark-requires-clause-room
 add_mark-requires-clause-room c =
     λ q.
-        let was = c.loop-mark.invariant.0 q in
-        let most = marks-most c.args.rows.now (λ x. 0) c.args.frame q c.args.marks.now in
-        let room = c.requires.room q in
-        omega (arith, was, most, room)
+    let was = c.loop-mark.invariant.0 q in
+    let most = marks-most c.args.rows.now (λ x. 0) c.args.frame q c.args.marks.now in
+    let room = c.requires.room q in
+    omega (arith, was, most, room)
 
 pub loop-mark-preserved : goal.loop-mark-preserved
 loop-mark-preserved c = (

@@ -1,0 +1,69 @@
+ghost use Rattle.std.specs.Prelude.{◌<◌, ◌^◌, IfOk, MatchOption};
+ghost use Rattle.hwp_script.specs.Valid.{IsValid};
+ghost use Rattle.hwp_check_rules.specs.Standing.{last_line};
+ghost use Rattle.hwp_check_rules.specs.Verdicts.{HoldBelow, IsVerdict};
+
+use hwp_check_marks::marks_fault;
+use hwp_check_rules::Verdict;
+use hwp_check_state::{count_fault, frames_fault, losses_fault, seen_fault, stop_fault};
+use hwp_geom::OutOfMemory;
+use hwp_report::Report;
+use hwp_script::Script;
+use std::alloc::Global;
+
+/// The verdict, where the rule of policies seen or that of marks is broken.
+fn marked_verdict(
+    alloc: Global,
+    script: &Script,
+    report: &Report,
+) -> Result<Option<Verdict>, OutOfMemory>
+    requires valid { IsValid script.now }
+    requires room { last_line report.now < 2 ^ 64 }
+    requires below { HoldBelow 4 script.now report.now }
+    ensures { IfOk result (λ found. MatchOption found (HoldBelow 6 script.now report.now) (IsVerdict script.now report.now)) }
+{
+    if let Some(place) = seen_fault(alloc, script, report)? {
+        return Ok(Some(Verdict::Not { place, rule: 4 }));
+    }
+    if let Some(place) = marks_fault(alloc, script, report)? {
+        return Ok(Some(Verdict::Not { place, rule: 5 }));
+    }
+    Ok(None)
+}
+
+/// The verdict, where the rules that need no memory are the next.
+fn counted_verdict(script: &Script, report: &Report) -> Option<Verdict>
+    requires room { last_line report.now < 2 ^ 64 }
+    requires below { HoldBelow 6 script.now report.now }
+    ensures { MatchOption result (HoldBelow 9 script.now report.now) (IsVerdict script.now report.now) }
+{
+    if let Some(place) = count_fault(script, report) {
+        return Some(Verdict::Not { place, rule: 6 });
+    }
+    if let Some(place) = losses_fault(script, report) {
+        return Some(Verdict::Not { place, rule: 7 });
+    }
+    if let Some(place) = stop_fault(script, report) {
+        return Some(Verdict::Not { place, rule: 8 });
+    }
+    None
+}
+
+/// The verdict, where the rule of answers and those before it hold.
+pub fn late_verdict(alloc: Global, script: &Script, report: &Report) -> Result<Verdict, OutOfMemory>
+    requires valid { IsValid script.now }
+    requires room { last_line report.now < 2 ^ 64 }
+    requires below { HoldBelow 4 script.now report.now }
+    ensures { IfOk result (λ verdict. IsVerdict script.now report.now verdict) }
+{
+    if let Some(verdict) = marked_verdict(alloc, script, report)? {
+        return Ok(verdict);
+    }
+    if let Some(verdict) = counted_verdict(script, report) {
+        return Ok(verdict);
+    }
+    match frames_fault(alloc, script, report)? {
+        Some(place) => Ok(Verdict::Not { place, rule: 9 }),
+        None => Ok(Verdict::Legal),
+    }
+}
