@@ -12,3 +12,4 @@ mod ScrubLines
 mod ScrubFound
 mod ScrubForth
 mod ScrubBack
+mod Lowest
