@@ -1,11 +1,10 @@
 -- The rule of marks holds where none of its four parts finds a line, and else the lowest of the lines found is the first that
 -- breaks it.
-use Rattle.std.proofs.Common.{◌≡◌, ◌≢◌, ◌⊎◌, inl, inr, ℕ, zero, suc, ◌+◌, ◌<◌, ◌≤◌, ◌==◌, ◌&&◌, min, Bool, true, false, cond, List, [], ◌∷◌, Option, Some, None, MatchOption, count_by, filter, get_or, length, option_and_then, slice_get, sum_by, true≢false, refl, sym, ap, ◌∙◌, subst, arith}
+use Rattle.std.proofs.Common.{◌≡◌, ◌≢◌, ◌⊎◌, inl, inr, ℕ, ◌+◌, ◌<◌, ◌≤◌, ◌==◌, ◌&&◌, min, Bool, true, false, cond, List, [], ◌∷◌, Option, Some, None, MatchOption, count_by, get_or, length, option_and_then, slice_get, sum_by, true≢false, refl, sym, ap, ◌∙◌, subst, arith}
 use Rattle.std.specs.List.{zip}
 use Rattle.std.proofs.lemmas.Bool.{cases_Bool, cases_lt, eqb-false, eqb-true}
 use Rattle.std.proofs.lemmas.List.Sums.{sum_by-cons}
 use Rattle.std.proofs.lemmas.Option.{none-some, slice_get-get_or, slice_get_within}
-use Rattle.hwp_geom.specs.declared.Frame.{Frame}
 use Rattle.hwp_geom.specs.declared.Who.{Who}
 use Rattle.hwp_page.specs.declared.At.{At}
 use Rattle.hwp_page.specs.declared.Entry.{Entry}
@@ -16,16 +15,16 @@ use Rattle.hwp_script.specs.declared.Script.{Script}
 use Rattle.hwp_report.specs.declared.FrameLine.{FrameLine}
 use Rattle.hwp_report.specs.declared.MarkLine.{MarkLine}
 use Rattle.hwp_report.specs.declared.Report.{Report}
-use Rattle.hwp_law.specs.Lines.{EventLine, is_same_command, marks_of}
-use Rattle.hwp_law.specs.Pairings.{AreRecorded, entries_of, finds, has_page, is_failure, is_failure_mark, is_move_mark, is_required, is_soft, is_urgent, marks_in, situation_number, urgent_from}
+use Rattle.hwp_law.specs.Lines.{EventLine, is_same_command}
+use Rattle.hwp_law.specs.Pairings.{AreRecorded, entries_of, finds, has_page, is_failure, is_failure_mark, is_move_mark, is_required, is_soft, is_urgent, marks_in, urgent_from}
 use Rattle.hwp_law.specs.Places.{entry_at}
 use Rattle.hwp_law.specs.Records.{IsAnswered, IsMarkAt, hardware_marks, how_in, is_by_hardware, result_lines, who_in}
-use Rattle.hwp_check_rules.specs.Firsts.{IsLeast, sooner, soonest}
-use Rattle.hwp_check_rules.specs.MarkFaults.{HasNoEvent, IsMarkFault, IsMarkLacking, IsMarkWrong, IsMisfound, IsMisrequired, LacksMarks, home_of}
+use Rattle.hwp_check_rules.specs.Firsts.{sooner, soonest}
+use Rattle.hwp_check_rules.specs.MarkFaults.{HasNoEvent, IsMarkFault, IsMarkLacking, IsMisfound, IsMisrequired, LacksMarks, home_of}
 use Rattle.hwp_check_rules.specs.Rules.{MarksFit}
 use Rattle.hwp_check_rules.specs.Standing.{entry_line, frame_line}
 use Rattle.hwp_check_rules.specs.Verdicts.{IsBroken, Marks}
-use Rattle.hwp_check_marks.specs.MarkScans.{IsClear, IsFirstFault, IsRecordFault, IsRecordWrong, RecordsFit}
+use Rattle.hwp_check_marks.specs.MarkScans.{IsClear, IsFirstFault, IsRecordFault, RecordsFit}
 use Rattle.hwp_check_marks.specs.Unpaired.{AllFew, IsExtra, IsTooMany}
 use Rattle.hwp_check_marks.specs.Walks.{IsLowest}
 use Rattle.hwp_check_marks.proofs.LackingLaws.{SomeEntryIn, some-entry}

@@ -1,7 +1,7 @@
 -- The lowest frame of the entries that lack marks is the lowest of the commands that do, and its line is the first.
-use Rattle.std.proofs.Common.{◌≡◌, ◌⊎◌, inl, inr, ℕ, zero, suc, ◌+◌, ◌<◌, ◌≤◌, ◌==◌, ◌&&◌, nat_lt, Bool, true, false, cond, List, [], ◌∷◌, Option, Some, None, count_by, drop, get_or, length, min, slice_get, sum_by, take, true≢false, refl, sym, ap, ◌∙◌, subst, arith}
+use Rattle.std.proofs.Common.{◌≡◌, inl, inr, ℕ, suc, ◌+◌, ◌<◌, ◌≤◌, ◌&&◌, Bool, true, false, cond, List, [], ◌∷◌, Option, Some, None, count_by, drop, get_or, length, slice_get, sum_by, true≢false, refl, sym, ap, ◌∙◌, subst, arith}
 use Rattle.std.specs.HashMap.{HashMap}
-use Rattle.std.proofs.lemmas.Bool.{cases_Bool, cases_lt, eq-eqb, lt-ltb, ltb-true}
+use Rattle.std.proofs.lemmas.Bool.{cases_Bool, cases_lt, lt-ltb, ltb-true}
 use Rattle.std.proofs.lemmas.List.{drop_more}
 use Rattle.std.proofs.lemmas.List.Sums.{sum_by-cons}
 use Rattle.hwp_geom.specs.declared.Who.{Who}
@@ -13,7 +13,7 @@ use Rattle.hwp_script.specs.declared.Script.{Script}
 use Rattle.hwp_report.specs.declared.FrameLine.{FrameLine}
 use Rattle.hwp_report.specs.declared.Report.{Report}
 use Rattle.hwp_law.specs.Lines.{is_same_command}
-use Rattle.hwp_law.specs.Pairings.{entries_of, has_page, is_failure, is_failure_mark, is_move_mark, is_soft, marks_in, situation_number}
+use Rattle.hwp_law.specs.Pairings.{entries_of, has_page, is_failure, is_soft}
 use Rattle.hwp_check_rules.specs.Firsts.{IsLeast, sooner_if}
 use Rattle.hwp_check_rules.specs.MarkFaults.{IsMarkLacking, LacksMarks, home_of}
 use Rattle.hwp_check_rules.specs.Standing.{entry_height, frame_line, page_height}
@@ -21,7 +21,7 @@ use Rattle.hwp_check_marks.specs.Counts.{at_key}
 use Rattle.hwp_check_marks.specs.Lacking.{IsHomeLacking, has_fewer, is_lacking, kind_asked, lowest_entry, lowest_in}
 use Rattle.hwp_check_marks.specs.Tallies.{frames_raise, key_of, pages_raise}
 use Rattle.hwp_check_marks.specs.Unpaired.{in_frames, in_pages}
-use Rattle.hwp_check_marks.specs.Walks.{IsAsked, IsAskedIn, IsLowest, walk_entries, walk_pages}
+use Rattle.hwp_check_marks.specs.Walks.{IsAskedIn, IsLowest, walk_entries, walk_pages}
 use Rattle.hwp_check_marks.specs.declared.kinds.Kind.{Kind}
 use Rattle.hwp_check_marks.specs.declared.kinds.Kind.TheVariants as kinds
 use Rattle.hwp_check_marks.proofs.Shown.{and-left, and-right, frame-rises, same-situation, same-who}

@@ -1,15 +1,13 @@
 -- The lowest frame that was noted for a command is the lowest of its event lines.
-use Rattle.std.proofs.Common.{◌≡◌, inl, inr, ℕ, ◌+◌, ◌<◌, ◌≤◌, ◌==◌, ◌&&◌, nat_lt, min, Bool, true, false, cond, List, [], ◌∷◌, Option, Some, None, filter, filter_map, fold, is_some, length, slice_get, unwrap_or, true≢false, refl, sym, ap, ◌∙◌, arith}
+use Rattle.std.proofs.Common.{◌≡◌, inl, inr, ℕ, ◌+◌, ◌≤◌, ◌==◌, ◌&&◌, min, Bool, true, false, cond, List, [], ◌∷◌, Option, Some, None, is_some, length, slice_get, unwrap_or, refl, sym, ap, ◌∙◌, arith}
 use Rattle.std.specs.HashMap.{HashMap}
 use Rattle.std.proofs.lemmas.Bool.{cases_lt, eq-eqb, le-ltb, lt-ltb, ne_eqb}
 use Rattle.std.proofs.lemmas.Option.{slice_get_past}
-use Rattle.hwp_geom.specs.declared.Who.{Who}
 use Rattle.hwp_banks.specs.Addresses.{frame_at}
-use Rattle.hwp_report.specs.declared.Acted.{Acted}
 use Rattle.hwp_report.specs.declared.CpuLine.{CpuLine}
 use Rattle.hwp_report.specs.declared.CpuLine.TheVariants as lines
 use Rattle.hwp_report.specs.declared.Report.{Report}
-use Rattle.hwp_law.specs.Lines.{EventLine, event_in, events_among, events_of}
+use Rattle.hwp_law.specs.Lines.{EventLine, events_among}
 use Rattle.hwp_law.specs.Records.{result_of}
 use Rattle.hwp_check_rules.specs.MarkFaults.{lower, lowest_of}
 use Rattle.hwp_check_marks.specs.Lows.{AreLows, is_pair, low_at, lows_below, row_low, rows_low}

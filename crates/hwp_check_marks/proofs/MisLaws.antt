@@ -1,12 +1,10 @@
 -- The lowest line that the walk over failures finds is the first of a failure whose command has not as many that needed the page
 -- as its event lines ask.
-use Rattle.std.proofs.Common.{◌≡◌, ◌≢◌, ℕ, ◌+◌, ◌<◌, ◌==◌, ◌&&◌, not, Bool, true, false, List, [], ◌∷◌, Option, Some, None, drop, get_or, length, option_and_then, slice_get, sum_by, take, true≢false, unwrap_or, refl, sym, ap, ◌∙◌, subst, arith}
+use Rattle.std.proofs.Common.{◌≡◌, ◌≢◌, ℕ, ◌+◌, ◌==◌, ◌&&◌, not, Bool, true, false, List, [], Option, Some, None, length, option_and_then, slice_get, sum_by, take, true≢false, unwrap_or, refl, sym, ap, ◌∙◌, subst, arith}
 use Rattle.std.specs.HashMap.{HashMap}
 use Rattle.std.proofs.lemmas.Bool.{eq-eqb, eqb-false, ne_eqb}
-use Rattle.std.proofs.lemmas.List.{drop_more}
 use Rattle.std.proofs.lemmas.Option.{none-some}
 use Rattle.hwp_geom.specs.declared.Who.{Who}
-use Rattle.hwp_page.specs.declared.At.{At}
 use Rattle.hwp_page.specs.declared.Entry.{Entry}
 use Rattle.hwp_page.specs.declared.Situation.{Situation}
 use Rattle.hwp_page.specs.declared.What.{What}
@@ -14,14 +12,13 @@ use Rattle.hwp_page.specs.declared.What.TheVariants as entries
 use Rattle.hwp_report.specs.declared.FrameLine.{FrameLine}
 use Rattle.hwp_report.specs.declared.Report.{Report}
 use Rattle.hwp_law.specs.Pairings.{entries_of, has_page, is_failure, is_required, situation_number, urgent_from}
-use Rattle.hwp_law.specs.Places.{entry_at}
 use Rattle.hwp_check_rules.specs.MarkFaults.{IsMisrequired}
 use Rattle.hwp_check_rules.specs.Standing.{entry_height, entry_line, page_height, page_line}
 use Rattle.hwp_check_marks.specs.Counts.{at_key}
 use Rattle.hwp_check_marks.specs.Needed.{differs, frames_urgent, is_misneeded, is_misrequired, pages_needed}
 use Rattle.hwp_check_marks.specs.Said.{AreNoted, said_below}
 use Rattle.hwp_check_marks.specs.Tallies.{key_of}
-use Rattle.hwp_check_marks.specs.Walks.{IsAsked, IsAskedIn, IsLowest, walk_entries, walk_pages}
+use Rattle.hwp_check_marks.specs.Walks.{IsAskedIn, IsLowest, walk_pages}
 use Rattle.hwp_check_marks.specs.declared.kinds.Kind.TheVariants as kinds
 use Rattle.hwp_check_marks.proofs.NeededLaws.{needed-is}
 use Rattle.hwp_check_marks.proofs.Shown.{and-both, and-left, and-right, same-situation}

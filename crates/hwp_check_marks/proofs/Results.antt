@@ -2,7 +2,7 @@
 use Rattle.std.proofs.Common.{◌≡◌, ◌≢◌, ◌⊎◌, inl, inr, ℕ, zero, suc, ◌+◌, ◌-◌, ◌<◌, ◌≤◌, ◌==◌, ◌&&◌, ◌||◌, Bool, true, false, cond, List, [], ◌∷◌, Option, Some, None, add-one, drop, filter, filter_map, get_or, is_some, length, slice_get, take, true≢false, refl, sym, ap, ◌∙◌, subst, arith}
 use Rattle.std.specs.List.{cons_option}
 use Rattle.std.proofs.Math.Nat.{add-zero}
-use Rattle.std.proofs.lemmas.Bool.{cases_Bool, eq-eqb, eqb-true, ltb-false, ltb-true}
+use Rattle.std.proofs.lemmas.Bool.{cases_Bool, eqb-true, ltb-false, ltb-true}
 use Rattle.std.proofs.lemmas.List.{drop_all}
 use Rattle.std.proofs.lemmas.Option.{none-some, same_Some}
 use Rattle.hwp_geom.specs.declared.Frame.{Frame}
@@ -22,7 +22,7 @@ use Rattle.hwp_report.specs.declared.Report.{Report}
 use Rattle.hwp_law.specs.Lines.{EventLine, events_among, is_same_command, rows_of}
 use Rattle.hwp_law.specs.Records.{hardware_act, hardware_marks, is_by_hardware, line_results, mark_results, outcome_act, result_lines, result_of, who_in}
 use Rattle.hwp_check_marks.specs.MarkScans.{HasEvent, IsNextResult, is_beyond, result_in, results_in, row_beyond, rows_beyond}
-use Rattle.hwp_check_marks.proofs.Shown.{and-both, and-left, and-right, same-self}
+use Rattle.hwp_check_marks.proofs.Shown.{and-right}
 
 -- a list from a place on begins with the item there
 drop-suc : {X : Type 0} (xs : List X) (i : ℕ) (d : X) → i < length xs → drop i xs ≡ get_or xs i d ∷ drop (suc i) xs

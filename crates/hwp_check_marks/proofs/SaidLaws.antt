@@ -1,5 +1,5 @@
 -- What was noted of event lines are the rows of a command's lines with a result for a frame.
-use Rattle.std.proofs.Common.{◌≡◌, ◌≢◌, inl, inr, ℕ, zero, suc, ◌+◌, ◌<◌, ◌≤◌, ◌==◌, ◌&&◌, nat_lt, Bool, true, false, cond, List, [], ◌∷◌, ◌++◌, Option, Some, None, filter, filter_map, get_or, is_some, length, map, option_map, slice_get, sum_by, take, unwrap_or, refl, sym, ap, ◌∙◌, subst, arith}
+use Rattle.std.proofs.Common.{◌≡◌, inl, inr, ℕ, zero, suc, ◌+◌, ◌<◌, ◌≤◌, ◌==◌, ◌&&◌, Bool, true, false, cond, List, [], ◌∷◌, ◌++◌, Option, Some, filter, get_or, is_some, length, map, slice_get, sum_by, take, unwrap_or, refl, sym, ap, ◌∙◌, arith}
 use Rattle.std.specs.HashMap.{HashMap}
 use Rattle.std.proofs.lemmas.Bool.{cases_Bool, cases_lt, eq-eqb, eqb-false, eqb-true, le-ltb, lt-ltb, ne_eqb}
 use Rattle.std.proofs.lemmas.List.{append-nil, get_or-take, length-take-le, take_all, take_more}
@@ -11,7 +11,7 @@ use Rattle.hwp_report.specs.declared.Acted.{Acted}
 use Rattle.hwp_report.specs.declared.CpuLine.{CpuLine}
 use Rattle.hwp_report.specs.declared.CpuLine.TheVariants as lines
 use Rattle.hwp_report.specs.declared.Report.{Report}
-use Rattle.hwp_law.specs.Lines.{EventLine, event_in, events_among, events_of}
+use Rattle.hwp_law.specs.Lines.{EventLine, events_among}
 use Rattle.hwp_law.specs.Records.{result_lines, result_of}
 use Rattle.hwp_check_rules.specs.Standing.{cpu_height, last_line}
 use Rattle.hwp_check_marks.specs.Counts.{at_key, is_key, raise}

@@ -1,5 +1,5 @@
 -- What stands where in a report: the marks of a frame, and the headings of frames, which rise.
-use Rattle.std.proofs.Common.{◌≡◌, ℕ, ◌+◌, ◌≤◌, ◌==◌, ◌&&◌, Bool, cond, true, false, List, [], Option, Some, None, length, option_map, slice_get, sum_by, take, true≢false, unwrap_or, refl, sym, ap, ◌∙◌, subst, arith}
+use Rattle.std.proofs.Common.{◌≡◌, ℕ, ◌+◌, ◌≤◌, ◌==◌, ◌&&◌, Bool, cond, true, false, [], Option, Some, None, length, option_map, slice_get, sum_by, take, true≢false, unwrap_or, refl, sym, ap, ◌∙◌, subst, arith}
 use Rattle.std.proofs.lemmas.Bool.{eq-eqb, eqb-true}
 use Rattle.std.proofs.lemmas.List.{take-take}
 use Rattle.std.proofs.lemmas.List.Sums.{sum_by_more, sum_by-take-le}

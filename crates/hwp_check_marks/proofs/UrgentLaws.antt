@@ -1,10 +1,10 @@
 -- The counts of marks whose event line asks for an entry that a thread needs are those of the report's pairs of marks and lines.
-use Rattle.std.proofs.Common.{◌≡◌, inl, inr, ℕ, zero, suc, ◌+◌, ◌<◌, ◌≤◌, ◌==◌, ◌&&◌, Bool, true, false, cond, List, [], ◌∷◌, Option, Some, None, count_by, drop, filter, get_or, length, map, slice_get, sum_by, take, refl, sym, ap, ◌∙◌, subst, arith}
+use Rattle.std.proofs.Common.{◌≡◌, inl, inr, ℕ, suc, ◌+◌, ◌<◌, ◌≤◌, ◌==◌, ◌&&◌, Bool, true, false, cond, List, [], ◌∷◌, Option, Some, None, count_by, drop, get_or, length, map, slice_get, sum_by, take, refl, sym, ap, ◌∙◌, arith}
 use Rattle.std.specs.HashMap.{HashMap}
 use Rattle.std.specs.List.{zip}
 use Rattle.std.proofs.lemmas.Bool.{cases_Bool, eq-eqb}
 use Rattle.std.proofs.lemmas.List.{drop_more}
-use Rattle.std.proofs.lemmas.List.Sums.{sum_by-cons, sum_by_more, sum_by_more_le}
+use Rattle.std.proofs.lemmas.List.Sums.{sum_by-cons, sum_by_more}
 use Rattle.hwp_geom.specs.declared.Who.{Who}
 use Rattle.hwp_page.specs.declared.Outcome.{Outcome}
 use Rattle.hwp_page.specs.declared.Situation.{Situation}
@@ -15,16 +15,16 @@ use Rattle.hwp_report.specs.declared.MarkLine.{MarkLine}
 use Rattle.hwp_report.specs.declared.MarkLine.TheVariants as marks
 use Rattle.hwp_report.specs.declared.Report.{Report}
 use Rattle.hwp_law.specs.Lines.{EventLine, is_same_command}
-use Rattle.hwp_law.specs.Pairings.{finds, is_urgent, situation_number, urgent_from}
-use Rattle.hwp_law.specs.Records.{hardware_marks, how_in, is_by_hardware, result_lines, who_in}
+use Rattle.hwp_law.specs.Pairings.{is_urgent, situation_number, urgent_from}
+use Rattle.hwp_law.specs.Records.{hardware_marks, is_by_hardware, result_lines, who_in}
 use Rattle.hwp_check_rules.specs.Standing.{frame_height}
-use Rattle.hwp_check_marks.specs.Counts.{at_key, raise}
-use Rattle.hwp_check_marks.specs.Needed.{frames_urgent, how_own, how_urgent, is_nine, mark_urgent, marks_urgent, own_raise}
+use Rattle.hwp_check_marks.specs.Counts.{raise}
+use Rattle.hwp_check_marks.specs.Needed.{frames_urgent, how_urgent, is_nine, mark_urgent, marks_urgent, own_raise}
 use Rattle.hwp_check_marks.specs.Said.{AreNoted, row_at, said_below}
 use Rattle.hwp_check_marks.specs.Tallies.{key_of}
 use Rattle.hwp_check_marks.specs.declared.kinds.Kind.TheVariants as kinds
 use Rattle.hwp_check_marks.proofs.SaidLaws.{row-in, said-all}
-use Rattle.hwp_check_marks.proofs.Shown.{same-self, same-who}
+use Rattle.hwp_check_marks.proofs.Shown.{same-who}
 use Rattle.hwp_check_marks.proofs.Tallying.{flag, raise-is, raise-one, same-swap}
 
 module _ {S : Type 0} (rows : HashMap (((ℕ × ℕ) × ℕ) × ℕ) ℕ S) where

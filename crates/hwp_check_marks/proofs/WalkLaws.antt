@@ -1,10 +1,10 @@
 -- What a walk over entries finds is the lowest line that one of them asks for.
-use Rattle.std.proofs.Common.{◌≡◌, ◌⊎◌, inl, inr, ℕ, zero, suc, ◌+◌, ◌<◌, ◌≤◌, min, Bool, true, false, List, [], ◌∷◌, Option, Some, None, slice_get, sum_by, take, true≢false, refl, sym, ap, ◌∙◌, subst, arith}
+use Rattle.std.proofs.Common.{◌≡◌, ◌⊎◌, inl, inr, ℕ, zero, suc, ◌+◌, ◌≤◌, min, Bool, true, List, [], ◌∷◌, Option, Some, None, slice_get, sum_by, take, true≢false, refl, sym, ap, ◌∙◌, subst, arith}
 use Rattle.std.proofs.lemmas.Bool.{cases_Bool, cases_lt}
 use Rattle.std.proofs.lemmas.List.Sums.{sum_by-cons}
 use Rattle.std.proofs.lemmas.Option.{none-some, same_Some}
 use Rattle.hwp_page.specs.declared.Entry.{Entry}
-use Rattle.hwp_check_rules.specs.Firsts.{IsLeast, sooner, sooner_if}
+use Rattle.hwp_check_rules.specs.Firsts.{sooner, sooner_if}
 use Rattle.hwp_check_rules.specs.Standing.{entry_height, page_height}
 use Rattle.hwp_check_marks.specs.Walks.{IsAsked, IsAskedIn, IsLowest, walk_entries, walk_pages}
 

@@ -1,5 +1,5 @@
 -- Which entries have not the marks that they ask for.
-use Rattle.std.specs.Prelude.{◌≡◌, ℕ, ◌<◌, nat_lt, Bool, false, cond, List, [], ◌∷◌, Option, Some, None}
+use Rattle.std.specs.Prelude.{◌≡◌, ℕ, nat_lt, Bool, false, cond, List, [], ◌∷◌, Option, Some, None}
 use Rattle.std.specs.HashMap.{HashMap}
 use Rattle.hwp_geom.specs.declared.Who.{Who}
 use Rattle.hwp_page.specs.declared.Entry.{Entry}

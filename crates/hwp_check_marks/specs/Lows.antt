@@ -1,5 +1,5 @@
 -- The lowest frame that each command's event lines name with a result, as the lines are gone through.
-use Rattle.std.specs.Prelude.{◌≡◌, ℕ, ◌<◌, ◌==◌, ◌&&◌, nat_lt, Bool, false, cond, List, [], Option, Some, None, fold, is_some, slice_get, unwrap_or}
+use Rattle.std.specs.Prelude.{◌≡◌, ℕ, ◌==◌, ◌&&◌, nat_lt, Bool, cond, List, [], Option, Some, None, fold, is_some, slice_get, unwrap_or}
 use Rattle.std.specs.HashMap.{HashMap}
 use Rattle.std.specs.HashMap as hash
 use Rattle.hwp_geom.specs.declared.Who.{Who}

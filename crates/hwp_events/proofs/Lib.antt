@@ -11,3 +11,6 @@ mod ScrubScans
 mod ScrubLines
 mod ScrubFound
 mod ScrubForth
+mod ScrubBack
+mod Lowest
+mod Whole

@@ -219,18 +219,18 @@ module _ (script : Script) (report : Report) (who : Who) (how : Arrival) (course
           (bad-after (opened reach m) frame at l (has_stopper how origins.BadLine (Some event) || is_panic m.acted) r.next r.gap r.passed r.strays (or_right (is_none reach.raw) true refl) held within small damaged low second)
 
   -- the frames that the scrub goes over, from one on
-  module _ (small : (origin : Origin) (frame at : ℕ) → IsDamaged report origin frame at → at < 64)
+  module _ (first : ℕ) (small : (origin : Origin) (frame at : ℕ) → IsDamaged report origin frame at → at < 64)
       (lows : (origin : Origin) (frame : Frame) (met : Option ℕ) → ((at : ℕ) → met ≡ Some at → at < 64) → MeetsMarked script report who origin frame met → MeetsLow course.low (place_of origin frame.0) met)
-      (bounds : (frame at : ℕ) → frame ≤ course.last → IsDamaged report origins.BadLine frame at → at ≤ course.low (2 * frame) → 2 * frame < course.bound) where
-    bad-frame : (reach : Reach) (raw : Option Event) (frame : Frame) (met : Option ℕ) (lines : List EventLine) (left : Option Event) → Ready course.low reach (2 * frame.0) raw → frame.0 ≤ course.last
+      (bounds : (frame at : ℕ) → first ≤ frame → frame ≤ course.last → IsDamaged report origins.BadLine frame at → at ≤ course.low (2 * frame) → 2 * frame < course.bound) where
+    bad-frame : (reach : Reach) (raw : Option Event) (frame : Frame) (met : Option ℕ) (lines : List EventLine) (left : Option Event) → Ready course.low reach (2 * frame.0) raw → first ≤ frame.0 → frame.0 ≤ course.last
         → MeetsMarked script report who origins.BadLine frame met → BadMet script report who how met raw frame lines left → AllGood reach lines × Ready course.low (fold step reach lines) (2 * frame.0 + 1) left
-    bad-frame reach raw frame None lines left r within marked (none, left_is) =
+    bad-frame reach raw frame None lines left r from within marked (none, left_is) =
         subst (λ (ls : List EventLine). AllGood reach ls × Ready course.low (fold step reach ls) (2 * frame.0 + 1) left) (sym none)
         (record {}, subst (Ready course.low reach (2 * frame.0 + 1)) (sym left_is) (ready-skip course.low reach (2 * frame.0) raw r (lows origins.BadLine frame None (λ at is. absurd (none-some at is)) marked)))
-    bad-frame reach raw frame (Some at) lines left r within marked (damaged, are, left_is) =
+    bad-frame reach raw frame (Some at) lines left r from within marked (damaged, are, left_is) =
         let less : at < 64 = small origins.BadLine frame.0 at damaged in
         let low : at ≤ course.low (2 * frame.0) = lows origins.BadLine frame (Some at) (λ a is. subst (λ (n : ℕ). n < 64) (same_Some _ _ is) less) marked in
-        let done = bad-ready reach raw frame at lines r within (bounds frame.0 at within damaged low) less damaged low are in
+        let done = bad-ready reach raw frame at lines r within (bounds frame.0 at from within damaged low) less damaged low are in
         (done.0, subst (Ready course.low (fold step reach lines) (2 * frame.0 + 1)) (sym left_is) done.1)
 
     weak-frame : (reach : Reach) (raw : Option Event) (frame : Frame) (met : Option ℕ) (lines : List EventLine) → Ready course.low reach (2 * frame.0 + 1) raw → frame.0 ≤ course.last
@@ -245,12 +245,12 @@ module _ (script : Script) (report : Report) (who : Who) (how : Arrival) (course
         subst (λ (ls : List EventLine). AllGood reach ls × Ready course.low (fold step reach ls) (2 * frame.0 + 2) raw) (sym lines_are) ((done.0, record {}), done.1)
 
     -- one frame
-    frame-forth : (reach : Reach) (raw : Option Event) (frame : Frame) (lines : List EventLine) (banks : Banks) → Ready course.low reach (2 * frame.0) raw → frame.0 ≤ course.last
+    frame-forth : (reach : Reach) (raw : Option Event) (frame : Frame) (lines : List EventLine) (banks : Banks) → Ready course.low reach (2 * frame.0) raw → first ≤ frame.0 → frame.0 ≤ course.last
         → IsScrubbed script report who how frame (resting raw) lines banks → (left : Option Event) × (banks ≡ resting left) × AllGood reach lines × Ready course.low (fold step reach lines) (2 * frame.0 + 2) left
-    frame-forth reach raw frame lines banks r within s =
+    frame-forth reach raw frame lines banks r from within s =
         let b = bad-forth script report who how s.bad raw frame s.bad_lines s.between s.bad_found in
         let w = weak-forth script report who how s.weak b.0 frame s.weak_lines banks (subst (λ (x : Banks). IsWeakFound script report who how frame s.weak x s.weak_lines banks) b.2 s.weak_found) in
-        let one = bad-frame reach raw frame s.bad s.bad_lines b.0 r within s.met_bad b.1 in
+        let one = bad-frame reach raw frame s.bad s.bad_lines b.0 r from within s.met_bad b.1 in
         let other = weak-frame (fold step reach s.bad_lines) b.0 frame s.weak s.weak_lines one.1 within s.met_weak w.0 in (
           b.0,
           w.1,
@@ -259,18 +259,18 @@ module _ (script : Script) (report : Report) (who : Who) (how : Arrival) (course
         )
 
     -- all frames
-    pub frames-forth : (more : ℕ) (frame : ℕ) (reach : Reach) (raw : Option Event) (lines : List EventLine) (banks : Banks) → Ready course.low reach (2 * frame) raw → frame + more ≤ course.last + 1
+    pub frames-forth : (more : ℕ) (frame : ℕ) (reach : Reach) (raw : Option Event) (lines : List EventLine) (banks : Banks) → Ready course.low reach (2 * frame) raw → first ≤ frame → frame + more ≤ course.last + 1
         → AreScrubbed script report who how frame more (resting raw) lines banks → (left : Option Event) × (banks ≡ resting left) × AllGood reach lines × Ready course.low (fold step reach lines) (2 * (frame + more)) left
-    frames-forth zero frame reach raw lines banks r within are = (
+    frames-forth zero frame reach raw lines banks r from within are = (
       raw,
       are.1,
       subst (AllGood reach) (sym are.0) (record {}),
       subst (λ (ls : List EventLine). Ready course.low (fold step reach ls) (2 * (frame + 0)) raw) (sym are.0) (subst (λ (n : ℕ). Ready course.low reach n raw) (let e : 2 * frame ≡ 2 * (frame + 0) = omega arith in e) r),
     )
-    frames-forth (suc more) frame reach raw lines banks r within (now, later, between, lines_are, scrubbed, rest) =
-        let one = frame-forth reach raw (record { 0 = frame }) now between r (omega (arith, within)) scrubbed in
+    frames-forth (suc more) frame reach raw lines banks r from within (now, later, between, lines_are, scrubbed, rest) =
+        let one = frame-forth reach raw (record { 0 = frame }) now between r from (omega (arith, within)) scrubbed in
         let ready : Ready course.low (fold step reach now) (2 * (frame + 1)) one.0 = subst (λ (n : ℕ). Ready course.low (fold step reach now) n one.0) (let e : 2 * frame + 2 ≡ 2 * (frame + 1) = omega arith in e) one.3 in
-        let other = frames-forth more (frame + 1) (fold step reach now) one.0 later banks ready (omega (arith, within)) (subst (λ (x : Banks). AreScrubbed script report who how (frame + 1) more x later banks) one.1 rest) in (
+        let other = frames-forth more (frame + 1) (fold step reach now) one.0 later banks ready (omega (arith, from)) (omega (arith, within)) (subst (λ (x : Banks). AreScrubbed script report who how (frame + 1) more x later banks) one.1 rest) in (
           other.0,
           other.1,
           subst (AllGood reach) (sym lines_are) (all-append reach now later one.2 other.2),

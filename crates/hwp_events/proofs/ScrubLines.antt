@@ -175,7 +175,7 @@ module _ (report : Report) (course : Course) where
           (not-second (line.bank == bank_of origins.BadLine) (line.status == own_status origins.BadLine) (line.misc == line_misc) (line.addr % 64 == 0) other)
 
   -- by its turn, what is known of a line
-  abbrev Known : Reach → EventLine → Turn → Type 0
+  abbrev pub Known : Reach → EventLine → Turn → Type 0
   Known reach line turns.Beside = (is_some reach.raw ≡ true) × (is_none reach.begun ≡ true) × (reach.next < course.bound)
   Known reach line turns.Bad = ((is_none reach.raw || is_some reach.begun) ≡ true) × Met origins.BadLine reach line
   Known reach line turns.Weak = (is_none reach.begun ≡ true) × Met origins.WeakLine reach line

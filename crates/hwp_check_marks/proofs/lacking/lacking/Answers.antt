@@ -1,12 +1,9 @@
-use Rattle.std.proofs.Common.{◌∙◌, sym, ap, List, ℕ, ◌≡◌, Option, subst}
-use Rattle.hwp_page.specs.declared.Entry.{Entry}
-use Rattle.hwp_report.specs.declared.FrameLine.{FrameLine}
+use Rattle.std.proofs.Common.{sym, ℕ, Option, subst}
 use Rattle.hwp_check_rules.specs.Firsts.{IsLeast}
-use Rattle.hwp_check_rules.specs.MarkFaults.{IsMarkLacking, home_of}
-use Rattle.hwp_check_marks.specs.Lacking.{IsHomeLacking, is_lacking, lowest_in}
-use Rattle.hwp_check_marks.specs.Tallies.{frames_raise, pages_raise}
+use Rattle.hwp_check_rules.specs.MarkFaults.{IsMarkLacking}
+use Rattle.hwp_check_marks.specs.Lacking.{IsHomeLacking}
 use Rattle.hwp_check_marks.specs.Walks.{IsLowest}
-use Rattle.hwp_check_marks.proofs.LackingLaws.{line-least, lowest-home, lowest-of, none-lacks}
+use Rattle.hwp_check_marks.proofs.LackingLaws.{line-least, lowest-of, none-lacks}
 use Rattle.hwp_check_marks.proofs.lacking.lacking.Goals as goal
 
 pub returns-in-Some : goal.returns-in-Some

@@ -1,4 +1,4 @@
-use Rattle.std.proofs.Common.{◌≤◌, length, arith}
+use Rattle.std.proofs.Common.{◌≤◌, arith}
 use Rattle.hwp_check_marks.proofs.LowLaws.{all-lows, below-next}
 use Rattle.hwp_check_marks.proofs.lows.lows_of.Goals as goal
 

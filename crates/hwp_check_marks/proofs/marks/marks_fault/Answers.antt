@@ -1,4 +1,4 @@
-use Rattle.std.proofs.Common.{◌≡◌, ◌≤◌, ◌∙◌, ℕ, Option, MatchOption, length, ap, sym, subst, arith}
+use Rattle.std.proofs.Common.{◌≡◌, ◌∙◌, ℕ, Option, MatchOption, ap, sym, subst, arith}
 use Rattle.hwp_check_rules.specs.Firsts.{soonest}
 use Rattle.hwp_check_rules.specs.Rules.{MarksFit}
 use Rattle.hwp_check_rules.specs.Verdicts.{IsBroken, Marks}

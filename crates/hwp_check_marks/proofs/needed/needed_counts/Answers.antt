@@ -1,4 +1,4 @@
-use Rattle.std.proofs.Common.{◌≡◌, ℕ, take, arith}
+use Rattle.std.proofs.Common.{◌≡◌, take, arith}
 use Rattle.hwp_check_marks.specs.Counts.{at_key}
 use Rattle.hwp_check_marks.specs.Needed.{pages_needed}
 use Rattle.hwp_check_marks.proofs.NeededLaws.{needed-room}

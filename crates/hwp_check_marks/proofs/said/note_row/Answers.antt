@@ -1,6 +1,4 @@
-use Rattle.std.proofs.Common.{◌≡◌, ◌∙◌, ◌++◌, ℕ, List, true, is_some, sym, subst}
-use Rattle.hwp_report.specs.declared.CpuLine.{CpuLine}
-use Rattle.hwp_check_marks.specs.Said.{AreNoted, row_said}
+use Rattle.std.proofs.Common.{◌∙◌, sym}
 use Rattle.hwp_check_marks.proofs.SaidLaws.{event-noted, noted-more}
 use Rattle.hwp_check_marks.proofs.said.note_row.Goals as goal
 

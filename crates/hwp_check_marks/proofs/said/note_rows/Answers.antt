@@ -1,5 +1,4 @@
-use Rattle.std.proofs.Common.{◌≡◌, ◌≤◌, ◌<◌, ◌+◌, ◌++◌, ℕ, length, take, arith}
-use Rattle.hwp_check_marks.specs.Counts.{at_key}
+use Rattle.std.proofs.Common.{◌++◌, take, arith}
 use Rattle.hwp_check_marks.specs.Said.{rows_said}
 use Rattle.hwp_check_marks.proofs.SaidLaws.{rows-next}
 use Rattle.hwp_check_marks.proofs.said.note_rows.Goals as goal

@@ -1,4 +1,4 @@
-use Rattle.std.proofs.Common.{◌<◌, length, arith}
+use Rattle.std.proofs.Common.{◌<◌, arith}
 use Rattle.hwp_check_marks.proofs.SaidLaws.{below-next, said-room}
 use Rattle.hwp_check_marks.specs.Said.{said_below}
 use Rattle.hwp_check_marks.proofs.said.said_of.Goals as goal

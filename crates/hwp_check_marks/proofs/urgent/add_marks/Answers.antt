@@ -1,6 +1,5 @@
-use Rattle.std.proofs.Common.{◌≡◌, ◌≤◌, ◌+◌, ℕ, get_or, length, drop, refl, arith}
+use Rattle.std.proofs.Common.{arith}
 use Rattle.hwp_check_marks.specs.Counts.{at_key}
-use Rattle.hwp_check_marks.specs.Needed.{marks_urgent}
 use Rattle.hwp_check_marks.proofs.UrgentLaws.{marks-most, marks-next, own-next}
 use Rattle.hwp_check_marks.proofs.urgent.add_marks.Goals as goal
 
