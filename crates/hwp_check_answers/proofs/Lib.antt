@@ -7,3 +7,4 @@ mod CauseLaws
 mod LineLaws
 mod BeforeLaws
 mod Legal
+mod JudgeLaws

@@ -6,6 +6,7 @@ mod befores;
 mod causes;
 mod disorders;
 mod gathering;
+mod judging;
 mod known;
 mod placing;
 mod plain;
