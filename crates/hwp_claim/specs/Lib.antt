@@ -1,1 +1,2 @@
 pub mod Grabs
+pub mod Meets

@@ -3,5 +3,7 @@
 #![tactic(auto)]
 
 mod grab;
+mod meet;
 
 pub use grab::{Grab, GrabAnswer};
+pub use meet::{Meet, MeetAnswer};

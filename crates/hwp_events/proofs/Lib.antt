@@ -12,3 +12,5 @@ mod ScrubLines
 mod ScrubFound
 mod ScrubForth
 mod ScrubBack
+mod Lowest
+mod Whole

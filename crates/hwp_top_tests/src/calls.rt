@@ -105,20 +105,26 @@ const OTHER_WORDS: &[&[&str]] = &[
     &["STEP"],
     &["gen"],
     &["sum"],
-    &["gen", "01"],
-    &["sum", "+1"],
-    &["gen", ""],
-    &["gen", "1 "],
-    &["gen", "18446744073709551616"],
-    &["gen", "5", "6"],
     &["5", "gen"],
-    &["step", "5"],
-    &["Gen", "5"],
+    &["gen", "5", "6"],
 ];
 
 #[test]
 fn other_words_are_usage(rt: HostRuntime) {
     are_usage(&rt, rt.alloc(), OTHER_WORDS);
+}
+
+const OTHER_SEEDS: &[&[&str]] = &[
+    &["gen", "01"],
+    &["sum", "+1"],
+    &["gen", ""],
+    &["gen", "1 "],
+    &["gen", "18446744073709551616"],
+];
+
+#[test]
+fn a_seed_is_a_number_of_a_script(rt: HostRuntime) {
+    are_usage(&rt, rt.alloc(), OTHER_SEEDS);
 }
 
 const PAGES: &[(&str, &str)] = &[
