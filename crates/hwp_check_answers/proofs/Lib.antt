@@ -5,3 +5,6 @@ mod OrderLaws
 mod PlainLaws
 mod CauseLaws
 mod LineLaws
+mod BeforeLaws
+mod Legal
+mod JudgeLaws

@@ -5,3 +5,5 @@ pub mod Asking
 pub mod Disorders
 pub mod Causing
 pub mod Knowing
+pub mod Befores
+pub mod Judging

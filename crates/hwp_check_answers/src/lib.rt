@@ -2,8 +2,11 @@
 #![tactic(auto)]
 
 mod asking;
+mod befores;
 mod causes;
 mod disorders;
+mod gathering;
+mod judging;
 mod known;
 mod placing;
 mod plain;

@@ -409,20 +409,26 @@ module _ (layout : Layout) (view : View) (who : Who) (frame : Frame) where
 
   module _ (page : Page) where
     can-free-page : (shelf : Option BodyValue) → IsPaged layout view page frame shelf → CanUnlockPage layout who view page (logs shelf) × AddsNoFailure view (logs shelf)
-    can-free-page None has = (record {
-      has = record { lock = record { page = page; resident = true; cache = has.cache; trans = None }; listed = ap (λ (h : Hand). slice_get h.pages 0) has.hand_is; page_is = refl };
-      named = refl;
-      put_away = λ none. ap (λ (h : Hand). find (is_body_of page) h.bodies) has.hand_is;
-      no_frame = subst (λ (h : Hand). EachMember (λ (l : FrameLock). l.owner ≢ page.0 + 1) h.locks) (sym has.hand_is) (λ i x e. absurd (none-some x e));
-      put = tt;
-    }, tt)
-    can-free-page (Some b) has = (record {
-      has = record { lock = page_lock page None (words_of layout None (log_of b)); listed = ap (λ (h : Hand). slice_get h.pages 0) has.hand_is; page_is = refl };
-      named = ap (λ (p : Page). p.0 + 1) (has.body_is b refl).page_is;
-      put_away = λ none. absurd (none-some (log_of b) (sym none));
-      no_frame = subst (λ (h : Hand). EachMember (λ (l : FrameLock). l.owner ≢ page.0 + 1) h.locks) (sym has.hand_is) (λ i x e. absurd (none-some x e));
-      put = home;
-    }, adds-one view (log_of b) (body_in None (log_of b) has.seen) (ap (λ (h : Hand). h.bodies) has.hand_is) (none-fails layout who None (log_of b) has.seen))
+    can-free-page None has = (
+      record {
+        has = record { lock = record { page = page; resident = true; cache = has.cache; trans = None }; listed = ap (λ (h : Hand). slice_get h.pages 0) has.hand_is; page_is = refl };
+        named = refl;
+        put_away = λ none. ap (λ (h : Hand). find (is_body_of page) h.bodies) has.hand_is;
+        no_frame = subst (λ (h : Hand). EachMember (λ (l : FrameLock). l.owner ≢ page.0 + 1) h.locks) (sym has.hand_is) (λ i x e. absurd (none-some x e));
+        put = tt;
+      },
+      tt,
+    )
+    can-free-page (Some b) has = (
+      record {
+        has = record { lock = page_lock page None (words_of layout None (log_of b)); listed = ap (λ (h : Hand). slice_get h.pages 0) has.hand_is; page_is = refl };
+        named = ap (λ (p : Page). p.0 + 1) (has.body_is b refl).page_is;
+        put_away = λ none. absurd (none-some (log_of b) (sym none));
+        no_frame = subst (λ (h : Hand). EachMember (λ (l : FrameLock). l.owner ≢ page.0 + 1) h.locks) (sym has.hand_is) (λ i x e. absurd (none-some x e));
+        put = home;
+      },
+      adds-one view (log_of b) (body_in None (log_of b) has.seen) (ap (λ (h : Hand). h.bodies) has.hand_is) (none-fails layout who None (log_of b) has.seen),
+    )
       where
         -- as if there were no reference
         ahead : unholds.HoldsAhead layout who (record view { refs = [] }) page None 1 (Some b)
