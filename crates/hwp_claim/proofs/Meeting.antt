@@ -42,12 +42,15 @@ use Rattle.hwp_hold.specs.Unholds as unholds
 use Rattle.hwp_hold.specs.Unlocks as unlocks
 use Rattle.hwp_hold.specs.Unlocks.{IsReleasing, empty_frame}
 use Rattle.hwp_hold.proofs.Linking.{held-ahead, held-unholds, none-fails}
+use Rattle.hwp_hold.proofs.Telling.{Tells, empty-tells, frame-tells, no-frame, no-page, page-tells, unlock-tells}
 use Rattle.hwp_hold.proofs.Unholding as unholding
 use Rattle.hwp_hold.proofs.Unlocking as unlocking
 use Rattle.hwp_claim.specs.declared.meet.Meet.{Meet}
 use Rattle.hwp_claim.specs.declared.meet.MeetAt.{MeetAt}
 use Rattle.hwp_claim.specs.declared.meet.MeetAt.TheVariants as at
-use Rattle.hwp_claim.specs.Meets.{is_ended, is_owner, is_taken, owner_in, plan, plan_at, put, put_at, bare, bare_at, referenced, free_at, owned_at, released, released_at, next, next_at, ShowsAt, Shows, turn, paged, reference, IsInUse, IsPaged, IsLeaving, HoldsPoisoned, Fits, FitsAt}
+use Rattle.hwp_claim.specs.declared.meet.MeetAnswer.{MeetAnswer}
+use Rattle.hwp_claim.specs.declared.meet.MeetAnswer.TheVariants as answers
+use Rattle.hwp_claim.specs.Meets.{is_ended, is_owner, is_taken, owner_in, plan, plan_at, put, put_at, bare, bare_at, referenced, free_at, owned_at, released, released_at, next, next_at, ShowsAt, Shows, turn, paged, reference, IsInUse, IsPaged, IsLeaving, HoldsPoisoned, Fits, FitsAt, Met, MetAt, answer, answer_at, back, class, class_at, is_owned_at, released_answer}
 use Rattle.hwp_claim.proofs.FrameSlots
 use Rattle.hwp_claim.proofs.Leaving
 
@@ -308,9 +311,9 @@ module _ (layout : Layout) (old new : View) (who : Who) (frame : Frame) (inside 
               inside = has.inside;
             }
 
-            is-met : is_ended cycle found ≡ false → HoldsPoisoned layout new who page frame b
+            poisoned-met : is_ended cycle found ≡ false → HoldsPoisoned layout new who page frame b
             unfolding holds
-            is-met lasts = record {
+            poisoned-met lasts = record {
               holds = holds;
               unhandled = FrameSlots.owner-unhandled layout made.told.board made.told.rule frame found inside made.told.met (free-word found is) page owner;
               poisoned = not-ended cycle found lasts;
@@ -321,7 +324,7 @@ module _ (layout : Layout) (old new : View) (who : Who) (frame : Frame) (inside 
 
           own-fits : (e : Bool) → is_ended cycle found ≡ e → FitsAt layout new who frame (owned_at page shelf got e true)
           own-fits true ended = subst (λ (g : Option BodyValue). FitsAt layout new who frame (owned_at page shelf g true true)) (sym there-is.1) (own-leaves there-is.0 there-is.1 there-is.2)
-          own-fits false lasts = subst (λ (g : Option BodyValue). FitsAt layout new who frame (owned_at page shelf g false true)) (sym there-is.1) (is-met there-is.0 there-is.1 there-is.2 lasts)
+          own-fits false lasts = subst (λ (g : Option BodyValue). FitsAt layout new who frame (owned_at page shelf g false true)) (sym there-is.1) (poisoned-met there-is.0 there-is.1 there-is.2 lasts)
 
       owned-locked : ShowsAt cycle (at.LockOwned page shelf) found got × FitsAt layout new who frame (cond (is_free found) (owned_at page shelf got (is_ended cycle found) (is_owner page found)) (at.LockOwned page shelf))
       owned-locked = ((λ free lasts own. ap (λ (g : Option BodyValue). is_some g) (there-is free own).1), which (is_free found) refl)
@@ -409,20 +412,26 @@ module _ (layout : Layout) (view : View) (who : Who) (frame : Frame) where
 
   module _ (page : Page) where
     can-free-page : (shelf : Option BodyValue) → IsPaged layout view page frame shelf → CanUnlockPage layout who view page (logs shelf) × AddsNoFailure view (logs shelf)
-    can-free-page None has = (record {
-      has = record { lock = record { page = page; resident = true; cache = has.cache; trans = None }; listed = ap (λ (h : Hand). slice_get h.pages 0) has.hand_is; page_is = refl };
-      named = refl;
-      put_away = λ none. ap (λ (h : Hand). find (is_body_of page) h.bodies) has.hand_is;
-      no_frame = subst (λ (h : Hand). EachMember (λ (l : FrameLock). l.owner ≢ page.0 + 1) h.locks) (sym has.hand_is) (λ i x e. absurd (none-some x e));
-      put = tt;
-    }, tt)
-    can-free-page (Some b) has = (record {
-      has = record { lock = page_lock page None (words_of layout None (log_of b)); listed = ap (λ (h : Hand). slice_get h.pages 0) has.hand_is; page_is = refl };
-      named = ap (λ (p : Page). p.0 + 1) (has.body_is b refl).page_is;
-      put_away = λ none. absurd (none-some (log_of b) (sym none));
-      no_frame = subst (λ (h : Hand). EachMember (λ (l : FrameLock). l.owner ≢ page.0 + 1) h.locks) (sym has.hand_is) (λ i x e. absurd (none-some x e));
-      put = home;
-    }, adds-one view (log_of b) (body_in None (log_of b) has.seen) (ap (λ (h : Hand). h.bodies) has.hand_is) (none-fails layout who None (log_of b) has.seen))
+    can-free-page None has = (
+      record {
+        has = record { lock = record { page = page; resident = true; cache = has.cache; trans = None }; listed = ap (λ (h : Hand). slice_get h.pages 0) has.hand_is; page_is = refl };
+        named = refl;
+        put_away = λ none. ap (λ (h : Hand). find (is_body_of page) h.bodies) has.hand_is;
+        no_frame = subst (λ (h : Hand). EachMember (λ (l : FrameLock). l.owner ≢ page.0 + 1) h.locks) (sym has.hand_is) (λ i x e. absurd (none-some x e));
+        put = tt;
+      },
+      tt,
+    )
+    can-free-page (Some b) has = (
+      record {
+        has = record { lock = page_lock page None (words_of layout None (log_of b)); listed = ap (λ (h : Hand). slice_get h.pages 0) has.hand_is; page_is = refl };
+        named = ap (λ (p : Page). p.0 + 1) (has.body_is b refl).page_is;
+        put_away = λ none. absurd (none-some (log_of b) (sym none));
+        no_frame = subst (λ (h : Hand). EachMember (λ (l : FrameLock). l.owner ≢ page.0 + 1) h.locks) (sym has.hand_is) (λ i x e. absurd (none-some x e));
+        put = home;
+      },
+      adds-one view (log_of b) (body_in None (log_of b) has.seen) (ap (λ (h : Hand). h.bodies) has.hand_is) (none-fails layout who None (log_of b) has.seen),
+    )
       where
         -- as if there were no reference
         ahead : unholds.HoldsAhead layout who (record view { refs = [] }) page None 1 (Some b)
@@ -461,3 +470,58 @@ can layout view m step fits is = which m.at fits.at is
     which (at.Back ended) has e = absurd (none-some step e)
     which at.Free has e = absurd (none-some step e)
     which (at.Owned page body) has e = absurd (none-some step e)
+
+-- ---- what the parent gets
+
+-- what the task came to is held, or nothing is
+pub is-met : (layout : Layout) (view : View) (m : Meet) (x : MeetAnswer) → Fits layout view m → answer m ≡ Some x → Met layout view m x
+is-met layout view m x fits answered = which m.at fits.at answered
+  where
+    which : (y : MeetAt) → FitsAt layout view m.who m.frame y → answer_at y ≡ Some x → MetAt layout view m.who m.frame y x
+    which (at.GetRef seen) has is = absurd (none-some x is)
+    which at.LockFree has is = absurd (none-some x is)
+    which (at.LockPage page) has is = absurd (none-some x is)
+    which (at.LockOwned page shelf) has is = absurd (none-some x is)
+    which (at.Unlock body ended) has is = absurd (none-some x is)
+    which (at.UnlockFrame page shelf body ended) has is = absurd (none-some x is)
+    which (at.UnlockPage page shelf ended) has is = absurd (none-some x is)
+    which (at.Release r ended) has is = by r.at has.under_way is
+      where
+        by : (y : ReleaseAt) → is_none (releases.plan_at r.frame r.count y) ≡ false → released_answer ended y ≡ Some x → MetAt layout view m.who m.frame (at.Release r ended) x
+        by release_at.Put on is = absurd (none-some x is)
+        by release_at.Give on is = absurd (none-some x is)
+        by release_at.Unreserve on is = absurd (none-some x is)
+        by release_at.Adopt on is = absurd (none-some x is)
+        by release_at.Retire on is = absurd (none-some x is)
+        by release_at.Back on is = absurd (both_ways true on refl)
+    which (at.Back ended) has is = subst (MetAt layout view m.who m.frame (at.Back ended)) (same_Some (back ended) x is) (by ended)
+      where
+        by : (e : Bool) → MetAt layout view m.who m.frame (at.Back ended) (back e)
+        by true = has
+        by false = has
+    which at.Free has is = subst (MetAt layout view m.who m.frame at.Free) (same_Some answers.Free x is) has
+    which (at.Owned page body) has is = subst (MetAt layout view m.who m.frame (at.Owned page body)) (same_Some (answers.Owned page) x is) (refl, λ b own. subst (HoldsPoisoned layout view m.who page m.frame) (sym own) has)
+
+-- its class tells what is held
+pub meet-tells : (layout : Layout) (view : View) (m : Meet) → Fits layout view m → Tells view (class m)
+meet-tells layout view m fits = which m.at fits.at
+  where
+    alone : (page : Page) (cache : Option ℕ) (shelf : Option Log) (seen : ℕ) → hand_of view ≡ paged layout page m.frame cache shelf seen → Tells view 2
+    alone page cache None seen is = page-tells view is 2 refl refl refl (omega arith)
+    alone page cache (Some log) seen is = page-tells view is 2 refl refl refl (omega arith)
+
+    counting : hand_of view ≡ reference m.frame → Tells view 4
+    counting is = ((λ some. absurd (no-frame view is refl refl refl some)), (λ some. absurd (no-page view is refl some)))
+
+    which : (x : MeetAt) → FitsAt layout view m.who m.frame x → Tells view (class_at x)
+    which (at.GetRef seen) has = empty-tells view 4 has.0
+    which at.LockFree has = counting has
+    which (at.LockPage page) has = counting has.0
+    which (at.LockOwned page shelf) has = alone page has.cache (logs shelf) has.seen has.hand_is
+    which (at.Unlock body ended) has = frame-tells view
+    which (at.UnlockFrame page shelf body ended) has = frame-tells view
+    which (at.UnlockPage page shelf ended) has = alone page has.cache (logs shelf) has.seen has.hand_is
+    which (at.Release r ended) has = unlock-tells layout view (record { who = m.who; at = unlock_at.Release r }) (record { on_turn = fits.on_turn; at = has }) has.under_way
+    which (at.Back ended) has = empty-tells view 4 has
+    which at.Free has = frame-tells view
+    which (at.Owned page body) has = frame-tells view

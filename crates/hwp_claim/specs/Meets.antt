@@ -246,6 +246,16 @@ pub record Fits (layout : Layout) (view : View) (m : Meet) : Type 0 where
   pub frame : m.frame.0 < layout.frames
   pub at : FitsAt layout view m.who m.frame m.at
 
+-- what each answer leaves: nothing held; the frame locked, with one reference and no page; or the page and the frame held, with the body
+abbrev pub MetAt : Layout → View → Who → Frame → MeetAt → MeetAnswer → Type 0
+MetAt layout view who frame x answers.LookAgain = hand_of view ≡ empty
+MetAt layout view who frame x answers.Ended = hand_of view ≡ empty
+MetAt layout view who frame x answers.Free = hand_of view ≡ empty_frame frame false true
+MetAt layout view who frame x (answers.Owned page) = (is_owned_at x ≡ true) × ((body : BodyValue) → IsBodyAt x body → HoldsPoisoned layout view who page frame body)
+
+abbrev pub Met : Layout → View → Meet → MeetAnswer → Type 0
+Met layout view m x = MetAt layout view m.who m.frame m.at x
+
 -- 1 while the frame is locked, in hand or reserved, and 2 while the page is locked
 abbrev pub class_at : MeetAt → ℕ
 class_at (at.GetRef seen) = 4
