@@ -8,7 +8,7 @@ use Rattle.hwp_geom.specs.declared.Layout.{Layout}
 use Rattle.hwp_geom.specs.declared.Page.{Page}
 use Rattle.hwp_geom.specs.declared.Who.{Who}
 use Rattle.hwp_page.specs.History.{BodyValue, IsReplay}
-use Rattle.hwp_words.specs.Frames.{count_of, cycle_of, is_handled, is_poisoned, owner_of}
+use Rattle.hwp_words.specs.Frames.{cycle_of, is_handled, is_poisoned, owner_of}
 use Rattle.hwp_rule.specs.declared.FrameLock.{FrameLock}
 use Rattle.hwp_rule.specs.declared.Log.{Log}
 use Rattle.hwp_rule.specs.declared.PageLock.{PageLock}
@@ -21,20 +21,19 @@ use Rattle.hwp_rule.specs.Lists.{EachMember}
 use Rattle.hwp_rule.specs.Logs.{log_of, state_of}
 use Rattle.hwp_rule.specs.Slots.{IsIn, frame_slot, shelf_slot, is_out, moved_out}
 use Rattle.hwp_rule.specs.Unfailed.{AddsNoFailure}
-use Rattle.hwp_rule.specs.Views.{body_of, is_body_of, is_lock_of, is_page_lock_of, knowing, lock_found, locks_on, refs_on, with_refs, without}
+use Rattle.hwp_rule.specs.Views.{is_body_of, is_lock_of, is_page_lock_of, knowing, lock_found, locks_on, refs_on, without}
 use Rattle.hwp_rule.specs.parts.Bodies.{content_name}
 use Rattle.hwp_rule.proofs.Lists.{same-number}
 use Rattle.hwp_rule.proofs.Meeting.{free-word, lock-knows, named-body, on-shelf}
 use Rattle.hwp_rule.proofs.Unfailed.{adds-one}
 use Rattle.hwp_step.specs.declared.Turn.{Turn}
 use Rattle.hwp_step.specs.Calls.{CanMake, FitsLayout, IsOnTurn, Steps, logs}
-use Rattle.hwp_step.specs.Hands.{Hand, body_in, empty, hand_after, hand_of, putting, taking}
+use Rattle.hwp_step.specs.Hands.{Hand, body_in, empty, hand_of, putting, taking}
 use Rattle.hwp_step.proofs.Stepping.{on-turn-after, content_of, brought, was-home, hand-planned, steps-planned, can-make, can-put}
 use Rattle.hwp_known.proofs.Seeing.{saw-log-frame}
 use Rattle.hwp_hold.specs.declared.release.Release.{Release}
 use Rattle.hwp_hold.specs.declared.release.ReleaseAt.{ReleaseAt}
 use Rattle.hwp_hold.specs.declared.release.ReleaseAt.TheVariants as release_at
-use Rattle.hwp_hold.specs.declared.unlock.Unlock.{Unlock}
 use Rattle.hwp_hold.specs.declared.unlock.UnlockAt.TheVariants as unlock_at
 use Rattle.hwp_hold.specs.Holds.{is_free, held, one_ref, page_lock, words_of, HoldsPage, IsBodyOf}
 use Rattle.hwp_hold.specs.Releases as releases
@@ -50,7 +49,7 @@ use Rattle.hwp_claim.specs.declared.meet.MeetAt.{MeetAt}
 use Rattle.hwp_claim.specs.declared.meet.MeetAt.TheVariants as at
 use Rattle.hwp_claim.specs.declared.meet.MeetAnswer.{MeetAnswer}
 use Rattle.hwp_claim.specs.declared.meet.MeetAnswer.TheVariants as answers
-use Rattle.hwp_claim.specs.Meets.{is_ended, is_owner, is_taken, owner_in, plan, plan_at, put, put_at, bare, bare_at, referenced, free_at, owned_at, released, released_at, next, next_at, ShowsAt, Shows, turn, paged, reference, IsInUse, IsPaged, IsLeaving, HoldsPoisoned, Fits, FitsAt, Met, MetAt, answer, answer_at, back, class, class_at, is_owned_at, released_answer}
+use Rattle.hwp_claim.specs.Meets.{is_ended, is_owner, is_taken, owner_in, plan, plan_at, put, put_at, bare, bare_at, referenced, free_at, owned_at, released_at, next, next_at, ShowsAt, Shows, turn, paged, reference, IsInUse, IsPaged, IsLeaving, HoldsPoisoned, Fits, FitsAt, Met, MetAt, answer, answer_at, back, class, class_at, released_answer}
 use Rattle.hwp_claim.proofs.FrameSlots
 use Rattle.hwp_claim.proofs.Leaving
 
