@@ -5,3 +5,4 @@ mod OrderLaws
 mod PlainLaws
 mod CauseLaws
 mod LineLaws
+mod BeforeLaws

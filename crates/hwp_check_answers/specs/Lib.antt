@@ -5,3 +5,4 @@ pub mod Asking
 pub mod Disorders
 pub mod Causing
 pub mod Knowing
+pub mod Befores

@@ -2,6 +2,7 @@
 #![tactic(auto)]
 
 mod asking;
+mod befores;
 mod causes;
 mod disorders;
 mod known;

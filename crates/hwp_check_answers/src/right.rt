@@ -1,10 +1,8 @@
-ghost use Rattle.std.specs.Prelude.{◌≡◌, ◌↔◌, IsTrue, length, true};
+ghost use Rattle.std.specs.Prelude.{◌≡◌, ◌≢◌, ◌↔◌, IsTrue, true};
+ghost use Rattle.hwp_report.specs.declared.Answer.TheVariants as answers;
 ghost use Rattle.std.specs.List.{list_any};
 ghost use Rattle.hwp_law.specs.Causes.{IsCaused, IsHeeded, ends_machine};
 ghost use Rattle.hwp_law.specs.Lines.{events_of};
-ghost use Rattle.hwp_law.specs.Policies.{policy_before};
-ghost use Rattle.hwp_evidence.specs.Ends.{ArePageEnds};
-ghost use Rattle.hwp_evidence.specs.Marked.{reported};
 ghost use Rattle.hwp_check_rules.specs.Answered.{IsRight, IsShown};
 ghost use Rattle.hwp_check_answers.specs.Asking.{is_by_state as is_by_state_of};
 ghost use Rattle.hwp_check_answers.specs.Causing.{IsLast, is_last as is_last_of};
@@ -127,4 +125,103 @@ fn is_last(
     ensures { IsTrue result ↔ IsCaused script.now report.now who command.now answer.now }
 {
     is_last_right(script, report, known, own, told, who, command, answer)
+}
+
+/// Whether an answer other than `stopped` has its cause.
+fn is_caused(
+    script: &Script,
+    report: &Report,
+    known: &Known,
+    own: &Own,
+    told: Told,
+    who: Who,
+    command: &Command,
+    answer: &Answer,
+) -> bool
+    requires known { IsKnown script.now report.now known.now }
+    requires own { IsOwn script.now report.now who.cpu own.now }
+    requires told { IsTold script.now report.now who command.now told }
+    requires goes_on { answer.now ≢ answers.Stopped }
+    ensures { IsTrue result ↔ IsCaused script.now report.now who command.now answer.now }
+{
+    if names_entry(answer) {
+        return is_by_entry(script, report, who, command, answer);
+    }
+    if names_state(answer) {
+        return is_by_state(script, report, known, who, command, answer);
+    }
+    if speaks_plainly(command, answer) {
+        return is_plain(
+            script,
+            report,
+            known.ample,
+            told.events,
+            who,
+            command,
+            answer,
+        );
+    }
+    match *answer {
+        Answer::BadLines(mask, at) => is_by_lines(script, report, known, who, command, mask, at),
+        Answer::Gone(page) => is_by_end(script, report, own.ends.as_slice(), who, command, page),
+        _ => is_last(script, report, known, own, told, who, command, answer),
+    }
+}
+
+/// Whether the report shows the cause of the answer; that of `stopped` is the matter of the stop line.
+fn is_shown(
+    script: &Script,
+    report: &Report,
+    known: &Known,
+    own: &Own,
+    told: Told,
+    who: Who,
+    command: &Command,
+    answer: &Answer,
+) -> bool
+    requires known { IsKnown script.now report.now known.now }
+    requires own { IsOwn script.now report.now who.cpu own.now }
+    requires told { IsTold script.now report.now who command.now told }
+    ensures { IsTrue result ↔ IsShown script.now report.now who command.now answer.now }
+{
+    if is_stopped(answer) {
+        return true;
+    }
+    is_caused(script, report, known, own, told, who, command, answer)
+}
+
+/// Whether the answer is `stopped`.
+fn is_stopped(answer: &Answer) -> bool
+    ensures { IsTrue result ↔ (answer.now ≡ answers.Stopped) }
+{
+    matches!(answer, Answer::Stopped)
+}
+
+/// Whether the answer is `stopped` where one of the command's events stopped the machine, or was a panic.
+fn is_heeded(report: &Report, told: Told, who: Who, answer: &Answer) -> bool
+    requires { told.ends ≡ list_any ends_machine (events_of report.now who) }
+    ensures { IsTrue result ↔ IsHeeded report.now who answer.now }
+{
+    let _from = (report.count, who);
+    !told.ends || is_stopped(answer)
+}
+
+/// Whether the answer is right.
+pub(crate) fn is_right(
+    script: &Script,
+    report: &Report,
+    known: &Known,
+    own: &Own,
+    told: Told,
+    who: Who,
+    command: &Command,
+    answer: &Answer,
+) -> bool
+    requires known { IsKnown script.now report.now known.now }
+    requires own { IsOwn script.now report.now who.cpu own.now }
+    requires told { IsTold script.now report.now who command.now told }
+    ensures { IsTrue result ↔ IsRight script.now report.now who command.now answer.now }
+{
+    is_shown(script, report, known, own, told, who, command, answer)
+        && is_heeded(report, told, who, answer)
 }

@@ -13,3 +13,4 @@ mod ScrubFound
 mod ScrubForth
 mod ScrubBack
 mod Lowest
+mod Whole

@@ -7,3 +7,4 @@ mod FloorLaws
 mod EndLaws
 mod MarkLaws
 pub mod NamedLaws
+mod CountLaws

@@ -88,7 +88,7 @@ take-most xs zero = ap (λ (m : ℕ). take m xs) (let z : min 0 (length xs) ≡ 
 take-most [] (suc n) = ap (λ (m : ℕ). take m []) (let z : min (suc n) 0 ≡ 0 = omega arith in z)
 take-most (x ∷ xs) (suc n) = ap (λ (m : ℕ). take m (x ∷ xs)) (let z : min (suc n) (suc (length xs)) ≡ suc (min n (length xs)) = omega arith in z) ∙ ap (λ (l : List _). x ∷ l) (take-most xs n)
 
-past-empty : {X : Type 0} (xs : List X) (n : ℕ) → length xs ≤ n → drop n xs ≡ []
+pub past-empty : {X : Type 0} (xs : List X) (n : ℕ) → length xs ≤ n → drop n xs ≡ []
 past-empty [] zero few = refl
 past-empty [] (suc n) few = refl
 past-empty (x ∷ xs) zero few = absurd (omega (arith, few))

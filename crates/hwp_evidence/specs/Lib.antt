@@ -1,4 +1,5 @@
 pub mod Ample
+pub mod Counts
 pub mod Ends
 pub mod Glances
 pub mod Marked

@@ -3,6 +3,7 @@
 #![tactic(auto)]
 
 mod ample;
+mod counts;
 mod ends;
 mod glances;
 mod marked;
@@ -10,6 +11,7 @@ mod named;
 mod windows;
 
 pub use ample::is_ample;
+pub use counts::{event_counts, event_ends};
 pub use ends::{had_ended, has_ending, own_ends, page_ends};
 pub use glances::{Glance, glances_of, was_away, was_cached, was_dirty, was_mapped, was_unused};
 pub use marked::{

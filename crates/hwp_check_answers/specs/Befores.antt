@@ -1,0 +1,39 @@
+-- The policies of threads before the commands that ask for them or set them.
+use Rattle.std.specs.Prelude.{◌≡◌, ℕ, ◌<◌, List, [], ◌∷◌, Option, Some, None, replicate, slice_get, slice_index_or, slice_set, take}
+use Rattle.hwp_geom.specs.declared.Thread.{Thread}
+use Rattle.hwp_kill.specs.declared.Policy.{Policy}
+use Rattle.hwp_kill.specs.declared.Policy.TheVariants.{Default}
+use Rattle.hwp_script.specs.declared.Command.{Command}
+use Rattle.hwp_script.specs.declared.Command.TheVariants as commands
+use Rattle.hwp_script.specs.declared.PrctlArgs.{PrctlArgs}
+use Rattle.hwp_law.specs.Policies.{last_policy, setting_of, settings}
+
+-- the numbers that a thread can have
+abbrev pub thread_numbers : ℕ
+thread_numbers = 256
+
+-- the policies of threads after one was set, if one was
+abbrev pub set_to : List Policy → ℕ → Option Policy → List Policy
+set_to table thread None = table
+set_to table thread (Some policy) = slice_set table thread policy
+
+-- and after a command
+abbrev pub set_by : List Policy → Command → List Policy
+set_by table (commands.Prctl thread args) = set_to table thread.0 (setting_of thread (commands.Prctl thread args))
+set_by table _ = table
+
+-- the policy of the command's thread
+abbrev pub policy_of : List Policy → Command → Policy
+policy_of table (commands.Prctl thread args) = slice_index_or table thread.0 Default
+policy_of table _ = Default
+
+-- that before each command
+abbrev pub policies_before : List Policy → List Command → List Policy
+policies_before table [] = []
+policies_before table (command ∷ rest) = policy_of table command ∷ policies_before (set_by table command) rest
+
+-- these are the policies of the threads before their commands
+abbrev pub AreBefore : List Command → List Policy → Type 0
+AreBefore list policies =
+    (seq : ℕ) (thread : Thread) (args : PrctlArgs) → thread.0 < thread_numbers → slice_get list seq ≡ Some (commands.Prctl thread args)
+    → slice_get policies seq ≡ Some (last_policy (settings thread (take seq list)))
