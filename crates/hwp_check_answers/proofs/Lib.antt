@@ -6,3 +6,5 @@ mod PlainLaws
 mod CauseLaws
 mod LineLaws
 mod BeforeLaws
+mod Legal
+mod JudgeLaws

@@ -10,8 +10,9 @@ use Rattle.hwp_script.specs.declared.PrctlArgs.{PrctlArgs}
 use Rattle.hwp_law.specs.Causes.{ends_machine}
 use Rattle.hwp_law.specs.Lines.{events_of}
 use Rattle.hwp_law.specs.Policies.{policy_before}
-use Rattle.hwp_evidence.specs.Ends.{ArePageEnds}
+use Rattle.hwp_evidence.specs.Ends.{ArePageEnds, own_ends}
 use Rattle.hwp_evidence.specs.Marked.{reported}
+use Rattle.hwp_evidence.specs.Windows.{AreSpans}
 use Rattle.hwp_check_answers.specs.declared.right.Own.{Own}
 use Rattle.hwp_check_answers.specs.declared.right.Told.{Told}
 use Rattle.hwp_script.specs.declared.Script.{Script}
@@ -28,6 +29,8 @@ pub record IsKnown (script : Script) (report : Report) (known : Known) : Type 0 
 -- what is known of it for the answers of a processor is right
 pub record IsOwn (script : Script) (report : Report) (cpu : Cpu) (own : Own) : Type 0 where
   pub ends : ArePageEnds script.layout cpu report.pages own.ends.items
+  pub ended : own.ended.items ≡ own_ends script.layout cpu report.pages
+  pub spans : AreSpans cpu report.pages own.spans.items
   pub seen : own.reported ≡ reported cpu report.frames
 
 -- and what is known of a command

@@ -6,3 +6,4 @@ pub mod Disorders
 pub mod Causing
 pub mod Knowing
 pub mod Befores
+pub mod Judging

@@ -1,12 +1,10 @@
 ghost use Rattle.std.specs.Prelude.{◌≡◌, ◌↔◌, IsTrue};
-ghost use Rattle.hwp_geom.specs.Layout.{IsSound};
-ghost use Rattle.hwp_page.specs.Refusals.{IsDirty, IsMapped};
 ghost use Rattle.hwp_law.specs.States.{state_named};
-ghost use Rattle.hwp_check_answers.specs.Asking.{IsAskable, IsAtPage, IsDropOf, IsFreeOf, IsSo, IsUnusedBy};
+ghost use Rattle.hwp_check_answers.specs.Asking.{IsAskable, IsAtPage, IsDropOf, IsFreeOf};
 
 use hwp_check_rules::leads_to;
 use hwp_geom::{Layout, Page};
-use hwp_page::{At, PageState, What};
+use hwp_page::At;
 use hwp_report::Answer;
 use hwp_script::Command;
 
@@ -51,51 +49,6 @@ pub(crate) fn is_askable(layout: &Layout, command: &Command, answer: &Answer) ->
         Answer::NotMapped(at) => is_free_of(layout, command, at.page),
         Answer::Dirty(at) => is_drop_of(command, at.page),
         Answer::Mapped(at) => is_drop_of(command, at.page),
-        _ => false,
-    }
-}
-
-/// Whether the translation that the command frees isn't in use.
-fn is_unused_by(command: &Command, state: &PageState) -> bool
-    ensures { IsTrue result ↔ IsUnusedBy command.now state.now }
-{
-    match *command {
-        Command::Free { slot } => !state.maps.has(slot),
-        _ => false,
-    }
-}
-
-/// Whether the page is in a frame, and its content does not stand behind it.
-fn is_dirty(state: &PageState) -> bool
-    ensures { IsTrue result ↔ IsDirty state.now }
-{
-    state.cached && (state.dirty || state.back.is_none())
-}
-
-/// Whether it is in a frame, its content stands behind it, and translations lead to it.
-fn is_mapped(layout: &Layout, page: Page, state: &PageState) -> bool
-    requires { IsSound layout.now }
-    ensures { IsTrue result ↔ IsMapped state.now }
-{
-    state.cached && !state.dirty && state.back.is_some() && !state.allows(layout, page, &What::Drop)
-}
-
-/// Whether the state is as the command's answer says.
-pub(crate) fn is_so(
-    layout: &Layout,
-    page: Page,
-    command: &Command,
-    answer: &Answer,
-    state: &PageState,
-) -> bool
-    requires { IsSound layout.now }
-    ensures { IsTrue result ↔ IsSo command.now answer.now state.now }
-{
-    match *answer {
-        Answer::NotResident(_) => !state.cached,
-        Answer::NotMapped(_) => is_unused_by(command, state),
-        Answer::Dirty(_) => is_dirty(state),
-        Answer::Mapped(_) => is_mapped(layout, page, state),
         _ => false,
     }
 }

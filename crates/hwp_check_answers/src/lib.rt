@@ -5,6 +5,8 @@ mod asking;
 mod befores;
 mod causes;
 mod disorders;
+mod gathering;
+mod judging;
 mod known;
 mod placing;
 mod plain;

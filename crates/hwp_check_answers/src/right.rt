@@ -14,6 +14,7 @@ use crate::causes::{is_failure, is_offline, is_reply, is_unpoison};
 use crate::known::{Known, is_by_end, is_by_lines, is_by_state};
 use crate::plain::{is_kernels, is_plain};
 use crate::telling::is_by_entry;
+use hwp_evidence::Span;
 use hwp_geom::{List, Who};
 use hwp_kill::Policy;
 use hwp_report::{Answer, Report};
@@ -24,6 +25,10 @@ use hwp_script::{Command, Script};
 pub struct Own {
     /// The commands by which processes had ended in each page.
     pub ends: Vec<List<u64>>,
+    /// The commands of the processor by which processes had ended.
+    pub ended: Vec<u64>,
+    /// Where its commands stand in the histories of pages.
+    pub spans: Vec<Span>,
     /// The command at whose end a bank's event had poisoned some frame.
     pub reported: u64,
 }

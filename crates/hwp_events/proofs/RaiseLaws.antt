@@ -1,5 +1,5 @@
 -- The machine check of a raise: what the law says of it, line by line.
-use Rattle.std.proofs.Common.{◌≡◌, ◌⊎◌, inl, inr, ℕ, zero, suc, ◌<◌, ◌≤◌, ◌||◌, Bool, true, false, cond, List, [], ◌∷◌, Option, Some, None, MatchBool, is_some, length, slice_get, refl, sym, ap, ◌∙◌, subst, arith}
+use Rattle.std.proofs.Common.{◌≡◌, ◌⊎◌, inl, inr, ℕ, zero, suc, ◌<◌, ◌≤◌, ◌||◌, Bool, true, false, cond, List, [], ◌∷◌, Option, Some, None, MatchBool, get_or, is_some, length, map, slice_get, refl, sym, ap, ◌∙◌, subst, arith}
 use Rattle.std.specs.Int.{from_bool}
 use Rattle.std.proofs.lemmas.Option.{none-some, same_Some}
 use Rattle.hwp_geom.specs.declared.Who.{Who}
@@ -10,8 +10,10 @@ use Rattle.hwp_law.specs.Checks.{AreLinesOf, Banks, IsCheck, empty_banks, has_st
 use Rattle.hwp_law.specs.Commands.{Arrival}
 use Rattle.hwp_law.specs.Lines.{EventLine}
 use Rattle.hwp_events.specs.Accesses.{IsRaisedLine, IsRawLine}
-use Rattle.hwp_events.specs.Firsts.{AreRight}
+use Rattle.hwp_events.specs.Firsts.{AreRight, AreRightTo, IsFirstWrong}
 use Rattle.hwp_events.specs.Found.{may_stop, resting, stops}
+use Rattle.hwp_events.specs.Told.{told}
+use Rattle.hwp_events.specs.declared.shown.Shown.{Shown}
 use Rattle.hwp_events.proofs.FoundLaws.{one-line, or-none}
 
 module _ (script : Script) (report : Report) (who : Who) (how : Arrival) where
@@ -35,3 +37,13 @@ module _ (script : Script) (report : Report) (who : Who) (how : Arrival) where
   check-back (Some event) [] size right = absurd (omega (arith, size))
   check-back (Some event) (l ∷ []) size right = (subst (λ (b : Bool). IsRawLine script report who how b (Some event) l) (sym (or-none (stops how event))) (right 0 l refl).1, record {})
   check-back (Some event) (l ∷ m ∷ ms) size right = absurd (omega (arith, size))
+
+  -- a second line is wrong
+  pub second-wrong : (raw : Option Event) (lines : List Shown) (d : Shown) (held : Bool) → 1 < length lines → held ≡ may_stop how raw → IsRawLine script report who how held raw (told (get_or lines 0 d)) → IsFirstWrong (Right raw) (map told lines) 1
+  second-wrong raw [] d held more is first = absurd (omega (arith, more))
+  second-wrong raw (x ∷ []) d held more is first = absurd (omega (arith, more))
+  second-wrong raw (x ∷ y ∷ ys) d held more is first = record { line = told y; there = refl; before = before; wrong = λ wrong. absurd (let one : 1 ≡ 0 = wrong.0 in omega (arith, one)) }
+    where
+      before : AreRightTo (Right raw) (map told (x ∷ y ∷ ys)) 1
+      before zero l less there = (refl, subst (IsRawLine script report who how (may_stop how raw) raw) (same_Some _ _ there) (subst (λ (h : Bool). IsRawLine script report who how h raw (told x)) is first))
+      before (suc n) l less there = absurd (omega (arith, less))

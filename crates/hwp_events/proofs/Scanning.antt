@@ -1,5 +1,5 @@
 -- Lines gone through one after another up to the first that isn't right.
-use Rattle.std.proofs.Common.{◌≡◌, ◌⊎◌, ◌↔◌, inl, inr, ℕ, ◌+◌, ◌<◌, ◌≤◌, Bool, true, false, List, Option, Some, None, IsTrue, get_or, length, map, option_map, slice_get, true≢false, refl, sym, ap, ◌∙◌, subst, arith}
+use Rattle.std.proofs.Common.{◌≡◌, ◌⊎◌, ◌↔◌, inl, inr, ℕ, ◌+◌, ◌<◌, ◌≤◌, Bool, true, false, List, [], ◌∷◌, Option, Some, None, IsTrue, get_or, length, map, option_map, slice_get, true≢false, refl, sym, ap, ◌∙◌, subst, arith}
 use Rattle.std.proofs.lemmas.Bool.{cases_lt}
 use Rattle.std.proofs.lemmas.List.{length-map}
 use Rattle.std.proofs.lemmas.Option.{same_Some, slice_get-get_or, slice_get-map, slice_get_within}
@@ -48,3 +48,8 @@ module _ (Right : ℕ → EventLine → Type 0) (lines : List Shown) where
   pub scanned-all : (n : ℕ) (found : Option ℕ) → length lines ≤ n → IsScannedTo Right (map told lines) n found → IsScanned Right (map told lines) found
   scanned-all n (Some first) all first_is = first_is
   scanned-all n None all before = right-all Right lines n all before
+
+-- where no line is asked the first is wrong
+pub some-wrong : (lines : List Shown) → 0 < length lines → IsFirstWrong (λ (number : ℕ) (line : EventLine). ⊥) (map told lines) 0
+some-wrong [] some = absurd (omega (arith, some))
+some-wrong (x ∷ xs) some = record { line = told x; there = refl; before = none-right (λ (number : ℕ) (line : EventLine). ⊥) (x ∷ xs); wrong = λ none. none }

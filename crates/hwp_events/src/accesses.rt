@@ -77,7 +77,7 @@ fn beside(origin: Origin, raw: Option<Event>) -> Option<Event>
 }
 
 /// Whether an event that there may be would stop the machine.
-fn may_stop(how: Arrival, event: Option<Event>) -> bool
+pub(crate) fn may_stop(how: Arrival, event: Option<Event>) -> bool
     ensures { result ≡ may_stop (coming how) event }
 {
     match event {
@@ -185,7 +185,8 @@ fn is_first_line(
     requires access { of_access checks.now.origin ≡ true }
     requires frames { length report.now.frames ≤ 65536 }
     requires few { checks.now.count < 2 ^ 63 }
-    ensures { IsTrue result ↔ ((0 < asked_by_access (access_by checks.now raw.old)) × IsOwnLine script.now report.now who (coming how) checks.now.origin checks.now.at raw.old (told line.now)) }
+    ensures first { IsTrue result ↔ ((0 < asked_by_access (access_by checks.now raw.old)) × IsOwnLine script.now report.now who (coming how) checks.now.origin checks.now.at raw.old (told line.now)) }
+    ensures kept { checks.now.count ≡ 0 → raw.new ≡ raw.old }
 {
     asked_by_access(checks, raw.get()) > 0
         && is_own_line(script, report, who, how, checks, raw, line)
@@ -233,7 +234,8 @@ pub(crate) fn access_wrong(
     requires access { of_access checks.now.origin ≡ true }
     requires frames { length report.now.frames ≤ 65536 }
     requires few { checks.now.count < 2 ^ 63 }
-    ensures { IsScanned (IsAccessLine script.now report.now who (coming how) (access_by checks.now raw.old) (map told lines.now)) (map told lines.now) result }
+    ensures scanned { IsScanned (IsAccessLine script.now report.now who (coming how) (access_by checks.now raw.old) (map told lines.now)) (map told lines.now) result }
+    ensures kept { checks.now.count ≡ 0 → raw.new ≡ raw.old }
 {
     let held = raw.get();
     if lines.is_empty() {

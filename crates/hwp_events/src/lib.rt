@@ -4,10 +4,12 @@
 
 mod accesses;
 mod acts;
+mod faults;
 mod lines;
 mod reach;
 mod records;
 mod scrubs;
 mod shown;
 
+pub use faults::Faults;
 pub use records::was_poisoned;

@@ -12,6 +12,6 @@ loop-number-preserved c = (
       (omega arith) c.get-held.ensures.held (c.if-not-is_later_line.ensures.0 (search rules)) c.loop-number.invariant.1,
 )
 
-pub returns : goal.returns
-returns c =
+pub returns-clause-scanned : goal.returns-clause-scanned
+returns-clause-scanned c =
     right-all (IsAccessLine c.args.script.now c.args.report.now c.args.who (coming c.args.how) (access_by c.args.checks.now c.args.raw.now) (map told c.args.lines.now)) c.args.lines.now c.loop-number.number (omega arith) c.loop-number.invariant.1

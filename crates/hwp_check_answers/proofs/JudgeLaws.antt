@@ -1,0 +1,94 @@
+-- An answer is wrong by its window, or by the end of its process, exactly where what is known says so.
+use Rattle.std.proofs.Common.{◌≡◌, ◌⊎◌, ◌↔◌, ◌<◌, inl, inr, Bool, true, false, not, List, Option, Some, None, IsTrue, length, refl, sym, ap, ◌∙◌, subst, true≢false}
+use Rattle.std.proofs.lemmas.Option.{none-some, same_Some, slice_get_within}
+use Rattle.hwp_geom.specs.declared.Proc.{Proc}
+use Rattle.hwp_geom.specs.declared.Who.{Who}
+use Rattle.hwp_geom.specs.declared.Mask.{Mask}
+use Rattle.hwp_page.specs.declared.At.{At}
+use Rattle.hwp_page.specs.declared.PageState.{PageState}
+use Rattle.hwp_script.specs.declared.Command.{Command}
+use Rattle.hwp_script.specs.declared.Command.TheVariants as commands
+use Rattle.hwp_script.specs.declared.Script.{Script}
+use Rattle.hwp_report.specs.declared.Answer.{Answer}
+use Rattle.hwp_report.specs.declared.Answer.TheVariants as answers
+use Rattle.hwp_report.specs.declared.CpuLine.{CpuLine}
+use Rattle.hwp_report.specs.declared.Report.{Report}
+use Rattle.hwp_law.specs.Commands.{process_at}
+use Rattle.hwp_law.specs.Endings.{IsOver}
+use Rattle.hwp_law.specs.Causes.{IsCaused}
+use Rattle.hwp_law.specs.States.{HadState, IsInWindow, entry_named, state_named}
+use Rattle.hwp_evidence.specs.Ends.{HadEnded}
+use Rattle.hwp_evidence.specs.Named.{HasOther}
+use Rattle.hwp_check_rules.specs.AnswerFaults.{IsOutside, IsRevived, IsUnnamed}
+use Rattle.hwp_check_rules.specs.Answered.{IsRight}
+use Rattle.hwp_check_answers.specs.Asking.{IsSo, is_by_state}
+use Rattle.hwp_check_answers.specs.Causing.{MetBadLines}
+use Rattle.hwp_check_answers.specs.Judging.{HadGone}
+use Rattle.hwp_check_answers.proofs.AskLaws.{caused-asked}
+use Rattle.hwp_check_answers.proofs.CauseLaws.{caused_lines}
+
+module _ (script : Script) (report : Report) (later : Who) (answer : Answer) where
+  abbrev WasOver : Proc → Type 0
+  WasOver process = HadEnded script report later process ⊎ HadGone script report later process
+
+  pub revived_is : (process : Proc) → process_at script later ≡ Some process → (IsOver answer → ⊥) → WasOver process → IsRevived script report later answer
+  revived_is process is wrong (inl h) = record { who = h.who; process = process; ended = inl h.ended; before = h.before; process_is = is; wrong = wrong }
+  revived_is process is wrong (inr h) = record { who = h.who; process = process; ended = inr h.gone; before = h.before; process_is = is; wrong = wrong }
+
+  pub is_revived : (process : Proc) → process_at script later ≡ Some process → IsRevived script report later answer → WasOver process
+  is_revived process is r = elim r.ended [
+    | inl ended ↦ inl (subst (HadEnded script report later) same (record { who = r.who; ended = ended; before = r.before }))
+    | inr gone ↦ inr (subst (HadGone script report later) same (record { who = r.who; gone = gone; before = r.before }))
+  ]
+    where
+      same : r.process ≡ process
+      same = same_Some _ _ (sym r.process_is ∙ is)
+
+  pub no_process : process_at script later ≡ None → IsRevived script report later answer → ⊥
+  no_process none r = none-some r.process (sym none ∙ r.process_is)
+
+module _ (report : Report) (before : List CpuLine) (who : Who) (answer : Answer) where
+  pub outside_is : (at : At) (r : Bool) → state_named answer ≡ Some at → IsTrue r ↔ IsInWindow report.pages before who at → IsTrue (not r) → IsOutside report before who answer
+  outside_is at true named tells t = absurd (true≢false (sym t))
+  outside_is at false named tells t = record { at = at; names = named; outside = λ window. true≢false (sym (tells.1 window)) }
+
+  pub inside_is : (at : At) (r : Bool) → state_named answer ≡ Some at → IsTrue r ↔ IsInWindow report.pages before who at → IsOutside report before who answer → IsTrue (not r)
+  inside_is at true named tells o = absurd (o.outside (subst (IsInWindow report.pages before who) (same_Some _ _ (sym named ∙ o.names)) (tells.0 refl)))
+  inside_is at false named tells o = refl
+
+  pub no_place : state_named answer ≡ None → IsOutside report before who answer → ⊥
+  no_place none o = none-some o.at (sym none ∙ o.names)
+
+module _ (report : Report) (who : Who) (answer : Answer) (place : Option At) (is : place ≡ entry_named answer) where
+  pub unnamed_is : HasOther report.pages who place → IsUnnamed report who answer
+  unnamed_is h = record { at = h.at; entry = h.entry; there = h.there; own = h.own; answering = h.answering; other = λ same. h.other (is ∙ same) }
+
+  pub is_unnamed : IsUnnamed report who answer → HasOther report.pages who place
+  is_unnamed u = record { at = u.at; entry = u.entry; there = u.there; own = u.own; answering = u.answering; other = λ same. u.other (sym is ∙ same) }
+
+-- an answer that says what state a page was in, and has its cause, names a page of the report
+module _ (script : Script) (report : Report) (who : Who) (command : Command) where
+  page-there : (at : At) (P : PageState → Type 0) → HadState script.layout report.pages at P → at.page.0 < length report.pages
+  page-there at P had = slice_get_within report.pages at.page.0 had.entries had.there
+
+  met-there : (c : Command) (mask : Mask) (at : At) → MetBadLines script report c mask at → at.page.0 < length report.pages
+  met-there (commands.Sync page) mask at h = page-there at (λ s. s.cached ≡ true) h.1.cached
+  met-there (commands.Out page) mask at h = page-there at (λ s. s.cached ≡ true) h.1.cached
+  met-there c mask at h = absurd h
+
+  asked : (answer : Answer) (at : At) → is_by_state answer ≡ true → state_named answer ≡ Some at → IsCaused script report who command answer → at.page.0 < length report.pages
+  asked answer at by named caused = page-there at (IsSo command answer) (caused-asked script report who command answer at by named caused).1
+
+  caused-there : (answer : Answer) (at : At) → state_named answer ≡ Some at → IsCaused script report who command answer → at.page.0 < length report.pages
+  caused-there (answers.BadLines mask a) at named caused = subst (λ (x : At). x.page.0 < length report.pages) (same_Some _ _ named) (met-there command mask a (caused_lines script report who command mask a caused))
+  caused-there (answers.NotResident a) at named caused = asked (answers.NotResident a) at refl named caused
+  caused-there (answers.NotMapped a) at named caused = asked (answers.NotMapped a) at refl named caused
+  caused-there (answers.Dirty a) at named caused = asked (answers.Dirty a) at refl named caused
+  caused-there (answers.Mapped a) at named caused = asked (answers.Mapped a) at refl named caused
+  caused-there answer at named caused = absurd (none-some at named)
+
+  pub right_there : (answer : Answer) → IsRight script report who command answer → (at : At) → state_named answer ≡ Some at → at.page.0 < length report.pages
+  right_there answer right at named = elim right.shown [
+    | inl stopped ↦ absurd (none-some at (ap state_named (sym stopped) ∙ named))
+    | inr caused ↦ caused-there answer at named caused
+  ]

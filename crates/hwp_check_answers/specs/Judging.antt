@@ -1,0 +1,43 @@
+-- What is wrong about an answer, and what is not, where the lines before it are known.
+use Rattle.std.specs.Prelude.{◌≡◌, ◌↔◌, ◌<◌, Bool, true, false, List, None, length, replicate, slice_index_or}
+use Rattle.hwp_geom.specs.declared.Proc.{Proc}
+use Rattle.hwp_geom.specs.declared.Who.{Who}
+use Rattle.hwp_page.specs.Orders.{IsEarlier}
+use Rattle.hwp_script.specs.declared.Command.{Command}
+use Rattle.hwp_script.specs.declared.Script.{Script}
+use Rattle.hwp_report.specs.declared.Answer.{Answer}
+use Rattle.hwp_report.specs.declared.CpuLine.{CpuLine}
+use Rattle.hwp_report.specs.declared.Report.{Report}
+use Rattle.hwp_law.specs.Endings.{WasGone}
+use Rattle.hwp_law.specs.States.{entry_named}
+use Rattle.hwp_evidence.specs.Named.{flagged_pages}
+use Rattle.hwp_evidence.specs.Windows.{AreOfEarlier, floors_of}
+use Rattle.hwp_check_rules.specs.AnswerFaults.{IsOutside, IsRevived, IsUnnamed}
+use Rattle.hwp_check_rules.specs.Answered.{IsRight}
+use Rattle.hwp_check_answers.specs.declared.judging.Course.{Course}
+use Rattle.hwp_check_answers.specs.declared.judging.Naming.{Naming}
+
+-- an earlier command of the processor was answered that the process had ended
+pub record HadGone (script : Script) (report : Report) (later : Who) (process : Proc) : Type 0 where
+  pub who : Who
+  pub gone : WasGone script report who process
+  pub before : IsEarlier who later
+
+-- what the lines before a command's answer tell is right
+pub record IsCourse (script : Script) (report : Report) (before : List CpuLine) (later : Who) (course : Course) : Type 0 where
+  pub floors : course.floors.items ≡ floors_of (length report.pages) before
+  pub earlier : AreOfEarlier before later.seq
+  pub gone : (process : Proc) → (slice_index_or course.gone.items process.0 false ≡ true) ↔ HadGone script report later process
+
+-- nothing is wrong about an answer
+pub record IsGood (script : Script) (report : Report) (before : List CpuLine) (who : Who) (command : Command) (answer : Answer) : Type 0 where
+  pub right : IsRight script report who command answer
+  pub named : IsUnnamed report who answer → ⊥
+  pub within : IsOutside report before who answer → ⊥
+  pub stays : IsRevived script report who answer → ⊥
+
+-- what is known of a processor's commands by their numbers: the places that their answers name, and for which of them some entry is elsewhere
+pub record IsNaming (report : Report) (who : Who) (answer : Answer) (naming : Naming) : Type 0 where
+  pub inside : who.seq < length naming.others.items
+  pub named : slice_index_or naming.named.items who.seq None ≡ entry_named answer
+  pub others : naming.others.items ≡ flagged_pages naming.named.items who.cpu (replicate (length naming.others.items) false) 0 report.pages
