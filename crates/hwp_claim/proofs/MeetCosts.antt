@@ -1,23 +1,21 @@
 -- Each turn of a `Meet` lowers its cost.
-use Rattle.std.proofs.Common.{◌≡◌, ℕ, ◌+◌, ◌*◌, ◌%◌, ◌^◌, ◌<◌, ◌≤◌, ◌==◌, ◌||◌, Bool, true, false, not, cond, Option, Some, None, is_some, length, slice_get, slice_index, refl, sym, ap, ◌∙◌, subst, arith}
+use Rattle.std.proofs.Common.{◌≡◌, ℕ, ◌+◌, ◌*◌, ◌%◌, ◌^◌, ◌<◌, ◌≤◌, ◌==◌, ◌||◌, Bool, true, false, not, cond, Option, Some, None, is_some, slice_get, slice_index, refl, sym, ap, ◌∙◌, subst, arith}
 use Rattle.std.proofs.lemmas.Bool.{both_ways, eqb-true}
 use Rattle.std.proofs.lemmas.Option.{get_or_from_slice_get, none-some, same_Some}
 use Rattle.hwp_geom.specs.declared.Frame.{Frame}
 use Rattle.hwp_geom.specs.declared.Layout.{Layout}
 use Rattle.hwp_geom.specs.declared.Page.{Page}
-use Rattle.hwp_geom.specs.declared.Who.{Who}
 use Rattle.hwp_page.specs.History.{BodyValue}
 use Rattle.hwp_words.specs.Frames.{count_of, cycle_of, handled_of, is_handled, kernel_of, lock_of, owner_of, poison_of}
 use Rattle.hwp_words.specs.Names.{page_named}
 use Rattle.hwp_words.proofs.FrameSteps.{FieldsAre, fields-get_ref}
-use Rattle.hwp_rule.specs.declared.Log.{Log}
 use Rattle.hwp_rule.specs.declared.Place.TheVariants as places
 use Rattle.hwp_rule.specs.declared.State.{State}
 use Rattle.hwp_rule.specs.declared.Step.{Step}
 use Rattle.hwp_rule.specs.declared.Step.TheVariants as steps
 use Rattle.hwp_rule.specs.Rule.{Holds}
 use Rattle.hwp_rule.specs.Steps.{place_of, word_after}
-use Rattle.hwp_rule.specs.Words.{Words, index, put, read, words_of}
+use Rattle.hwp_rule.specs.Words.{Words, index, put, words_of}
 use Rattle.hwp_rule.proofs.Lists.{same-number, set_here}
 use Rattle.hwp_rule.proofs.Meeting.{frame-free, frame-word, held-word, page-free}
 use Rattle.hwp_rule.proofs.Moving.{shaped}
@@ -25,7 +23,7 @@ use Rattle.hwp_rule.proofs.bounds.RefBounds.{count-fits}
 use Rattle.hwp_step.specs.declared.Turn.{Turn}
 use Rattle.hwp_step.specs.declared.Turn.TheVariants.{Moved, Changed, Waits}
 use Rattle.hwp_step.specs.Boards.{view_of}
-use Rattle.hwp_step.specs.Hands.{Hand, hand_of}
+use Rattle.hwp_step.specs.Hands.{Hand}
 use Rattle.hwp_step.specs.Ranks.{Member, member, Made, IsRanked, Quiet, is_waits, stale, words_at}
 use Rattle.hwp_step.proofs.Ranking.{met, no-lock, no-page, rank-of, steps-on, words-after}
 use Rattle.hwp_hold.specs.declared.release.Release.{Release}
@@ -37,7 +35,7 @@ use Rattle.hwp_hold.proofs.Ranking.{met-own, release-class, release-falls, relea
 use Rattle.hwp_claim.specs.declared.meet.Meet.{Meet}
 use Rattle.hwp_claim.specs.declared.meet.MeetAt.{MeetAt}
 use Rattle.hwp_claim.specs.declared.meet.MeetAt.TheVariants as at
-use Rattle.hwp_claim.specs.Meets.{is_ended, is_owner, is_page, is_taken, owner_in, plan, plan_at, put as given, bare, bare_at, referenced, free_at, owned_at, released, next, next_at, ShowsAt, turn, turn_at, Fits, FitsAt, IsInUse, class, class_at, cost, cost_with, end_cost, word_in}
+use Rattle.hwp_claim.specs.Meets.{is_ended, is_owner, is_page, is_taken, owner_in, plan, plan_at, put as given, bare, bare_at, referenced, free_at, owned_at, released, next, next_at, ShowsAt, turn, turn_at, Fits, FitsAt, class, class_at, cost, cost_with, end_cost, word_in}
 use Rattle.hwp_claim.proofs.Meeting.{both, can, paged-locks}
 
 abbrev pub meet-member : Member Meet

@@ -8,7 +8,7 @@ use Rattle.hwp_geom.specs.declared.Layout.{Layout}
 use Rattle.hwp_geom.specs.declared.Page.{Page}
 use Rattle.hwp_geom.specs.declared.Who.{Who}
 use Rattle.hwp_page.specs.History.{BodyValue, IsReplay}
-use Rattle.hwp_words.specs.Frames.{count_of, cycle_of, is_handled, is_poisoned, owner_of}
+use Rattle.hwp_words.specs.Frames.{cycle_of, is_handled, is_poisoned, owner_of}
 use Rattle.hwp_rule.specs.declared.FrameLock.{FrameLock}
 use Rattle.hwp_rule.specs.declared.Log.{Log}
 use Rattle.hwp_rule.specs.declared.PageLock.{PageLock}
@@ -21,20 +21,19 @@ use Rattle.hwp_rule.specs.Lists.{EachMember}
 use Rattle.hwp_rule.specs.Logs.{log_of, state_of}
 use Rattle.hwp_rule.specs.Slots.{IsIn, frame_slot, shelf_slot, is_out, moved_out}
 use Rattle.hwp_rule.specs.Unfailed.{AddsNoFailure}
-use Rattle.hwp_rule.specs.Views.{body_of, is_body_of, is_lock_of, is_page_lock_of, knowing, lock_found, locks_on, refs_on, with_refs, without}
+use Rattle.hwp_rule.specs.Views.{is_body_of, is_lock_of, is_page_lock_of, knowing, lock_found, locks_on, refs_on, without}
 use Rattle.hwp_rule.specs.parts.Bodies.{content_name}
 use Rattle.hwp_rule.proofs.Lists.{same-number}
 use Rattle.hwp_rule.proofs.Meeting.{free-word, lock-knows, named-body, on-shelf}
 use Rattle.hwp_rule.proofs.Unfailed.{adds-one}
 use Rattle.hwp_step.specs.declared.Turn.{Turn}
 use Rattle.hwp_step.specs.Calls.{CanMake, FitsLayout, IsOnTurn, Steps, logs}
-use Rattle.hwp_step.specs.Hands.{Hand, body_in, empty, hand_after, hand_of, putting, taking}
+use Rattle.hwp_step.specs.Hands.{Hand, body_in, empty, hand_of, putting, taking}
 use Rattle.hwp_step.proofs.Stepping.{on-turn-after, content_of, brought, was-home, hand-planned, steps-planned, can-make, can-put}
 use Rattle.hwp_known.proofs.Seeing.{saw-log-frame}
 use Rattle.hwp_hold.specs.declared.release.Release.{Release}
 use Rattle.hwp_hold.specs.declared.release.ReleaseAt.{ReleaseAt}
 use Rattle.hwp_hold.specs.declared.release.ReleaseAt.TheVariants as release_at
-use Rattle.hwp_hold.specs.declared.unlock.Unlock.{Unlock}
 use Rattle.hwp_hold.specs.declared.unlock.UnlockAt.TheVariants as unlock_at
 use Rattle.hwp_hold.specs.Holds.{is_free, held, one_ref, page_lock, words_of, HoldsPage, IsBodyOf}
 use Rattle.hwp_hold.specs.Releases as releases
@@ -42,12 +41,15 @@ use Rattle.hwp_hold.specs.Unholds as unholds
 use Rattle.hwp_hold.specs.Unlocks as unlocks
 use Rattle.hwp_hold.specs.Unlocks.{IsReleasing, empty_frame}
 use Rattle.hwp_hold.proofs.Linking.{held-ahead, held-unholds, none-fails}
+use Rattle.hwp_hold.proofs.Telling.{Tells, empty-tells, frame-tells, no-frame, no-page, page-tells, unlock-tells}
 use Rattle.hwp_hold.proofs.Unholding as unholding
 use Rattle.hwp_hold.proofs.Unlocking as unlocking
 use Rattle.hwp_claim.specs.declared.meet.Meet.{Meet}
 use Rattle.hwp_claim.specs.declared.meet.MeetAt.{MeetAt}
 use Rattle.hwp_claim.specs.declared.meet.MeetAt.TheVariants as at
-use Rattle.hwp_claim.specs.Meets.{is_ended, is_owner, is_taken, owner_in, plan, plan_at, put, put_at, bare, bare_at, referenced, free_at, owned_at, released, released_at, next, next_at, ShowsAt, Shows, turn, paged, reference, IsInUse, IsPaged, IsLeaving, HoldsPoisoned, Fits, FitsAt}
+use Rattle.hwp_claim.specs.declared.meet.MeetAnswer.{MeetAnswer}
+use Rattle.hwp_claim.specs.declared.meet.MeetAnswer.TheVariants as answers
+use Rattle.hwp_claim.specs.Meets.{is_ended, is_owner, is_taken, owner_in, plan, plan_at, put, put_at, bare, bare_at, referenced, free_at, owned_at, released_at, next, next_at, ShowsAt, Shows, turn, paged, reference, IsInUse, IsPaged, IsLeaving, HoldsPoisoned, Fits, FitsAt, Met, MetAt, answer, answer_at, back, class, class_at, released_answer}
 use Rattle.hwp_claim.proofs.FrameSlots
 use Rattle.hwp_claim.proofs.Leaving
 
@@ -308,9 +310,9 @@ module _ (layout : Layout) (old new : View) (who : Who) (frame : Frame) (inside 
               inside = has.inside;
             }
 
-            is-met : is_ended cycle found ≡ false → HoldsPoisoned layout new who page frame b
+            poisoned-met : is_ended cycle found ≡ false → HoldsPoisoned layout new who page frame b
             unfolding holds
-            is-met lasts = record {
+            poisoned-met lasts = record {
               holds = holds;
               unhandled = FrameSlots.owner-unhandled layout made.told.board made.told.rule frame found inside made.told.met (free-word found is) page owner;
               poisoned = not-ended cycle found lasts;
@@ -321,7 +323,7 @@ module _ (layout : Layout) (old new : View) (who : Who) (frame : Frame) (inside 
 
           own-fits : (e : Bool) → is_ended cycle found ≡ e → FitsAt layout new who frame (owned_at page shelf got e true)
           own-fits true ended = subst (λ (g : Option BodyValue). FitsAt layout new who frame (owned_at page shelf g true true)) (sym there-is.1) (own-leaves there-is.0 there-is.1 there-is.2)
-          own-fits false lasts = subst (λ (g : Option BodyValue). FitsAt layout new who frame (owned_at page shelf g false true)) (sym there-is.1) (is-met there-is.0 there-is.1 there-is.2 lasts)
+          own-fits false lasts = subst (λ (g : Option BodyValue). FitsAt layout new who frame (owned_at page shelf g false true)) (sym there-is.1) (poisoned-met there-is.0 there-is.1 there-is.2 lasts)
 
       owned-locked : ShowsAt cycle (at.LockOwned page shelf) found got × FitsAt layout new who frame (cond (is_free found) (owned_at page shelf got (is_ended cycle found) (is_owner page found)) (at.LockOwned page shelf))
       owned-locked = ((λ free lasts own. ap (λ (g : Option BodyValue). is_some g) (there-is free own).1), which (is_free found) refl)
@@ -467,3 +469,58 @@ can layout view m step fits is = which m.at fits.at is
     which (at.Back ended) has e = absurd (none-some step e)
     which at.Free has e = absurd (none-some step e)
     which (at.Owned page body) has e = absurd (none-some step e)
+
+-- ---- what the parent gets
+
+-- what the task came to is held, or nothing is
+pub is-met : (layout : Layout) (view : View) (m : Meet) (x : MeetAnswer) → Fits layout view m → answer m ≡ Some x → Met layout view m x
+is-met layout view m x fits answered = which m.at fits.at answered
+  where
+    which : (y : MeetAt) → FitsAt layout view m.who m.frame y → answer_at y ≡ Some x → MetAt layout view m.who m.frame y x
+    which (at.GetRef seen) has is = absurd (none-some x is)
+    which at.LockFree has is = absurd (none-some x is)
+    which (at.LockPage page) has is = absurd (none-some x is)
+    which (at.LockOwned page shelf) has is = absurd (none-some x is)
+    which (at.Unlock body ended) has is = absurd (none-some x is)
+    which (at.UnlockFrame page shelf body ended) has is = absurd (none-some x is)
+    which (at.UnlockPage page shelf ended) has is = absurd (none-some x is)
+    which (at.Release r ended) has is = by r.at has.under_way is
+      where
+        by : (y : ReleaseAt) → is_none (releases.plan_at r.frame r.count y) ≡ false → released_answer ended y ≡ Some x → MetAt layout view m.who m.frame (at.Release r ended) x
+        by release_at.Put on is = absurd (none-some x is)
+        by release_at.Give on is = absurd (none-some x is)
+        by release_at.Unreserve on is = absurd (none-some x is)
+        by release_at.Adopt on is = absurd (none-some x is)
+        by release_at.Retire on is = absurd (none-some x is)
+        by release_at.Back on is = absurd (both_ways true on refl)
+    which (at.Back ended) has is = subst (MetAt layout view m.who m.frame (at.Back ended)) (same_Some (back ended) x is) (by ended)
+      where
+        by : (e : Bool) → MetAt layout view m.who m.frame (at.Back ended) (back e)
+        by true = has
+        by false = has
+    which at.Free has is = subst (MetAt layout view m.who m.frame at.Free) (same_Some answers.Free x is) has
+    which (at.Owned page body) has is = subst (MetAt layout view m.who m.frame (at.Owned page body)) (same_Some (answers.Owned page) x is) (refl, λ b own. subst (HoldsPoisoned layout view m.who page m.frame) (sym own) has)
+
+-- its class tells what is held
+pub meet-tells : (layout : Layout) (view : View) (m : Meet) → Fits layout view m → Tells view (class m)
+meet-tells layout view m fits = which m.at fits.at
+  where
+    alone : (page : Page) (cache : Option ℕ) (shelf : Option Log) (seen : ℕ) → hand_of view ≡ paged layout page m.frame cache shelf seen → Tells view 2
+    alone page cache None seen is = page-tells view is 2 refl refl refl (omega arith)
+    alone page cache (Some log) seen is = page-tells view is 2 refl refl refl (omega arith)
+
+    counting : hand_of view ≡ reference m.frame → Tells view 4
+    counting is = ((λ some. absurd (no-frame view is refl refl refl some)), (λ some. absurd (no-page view is refl some)))
+
+    which : (x : MeetAt) → FitsAt layout view m.who m.frame x → Tells view (class_at x)
+    which (at.GetRef seen) has = empty-tells view 4 has.0
+    which at.LockFree has = counting has
+    which (at.LockPage page) has = counting has.0
+    which (at.LockOwned page shelf) has = alone page has.cache (logs shelf) has.seen has.hand_is
+    which (at.Unlock body ended) has = frame-tells view
+    which (at.UnlockFrame page shelf body ended) has = frame-tells view
+    which (at.UnlockPage page shelf ended) has = alone page has.cache (logs shelf) has.seen has.hand_is
+    which (at.Release r ended) has = unlock-tells layout view (record { who = m.who; at = unlock_at.Release r }) (record { on_turn = fits.on_turn; at = has }) has.under_way
+    which (at.Back ended) has = empty-tells view 4 has
+    which at.Free has = frame-tells view
+    which (at.Owned page body) has = frame-tells view

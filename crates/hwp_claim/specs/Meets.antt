@@ -1,5 +1,5 @@
 -- A poisoned frame in use, met under its locks: the task's states, its steps and what they come to.
-use Rattle.std.specs.Prelude.{◌≡◌, ℕ, ◌+◌, ◌<◌, ◌==◌, ◌&&◌, ◌||◌, Bool, true, false, not, cond, List, [], ◌∷◌, Option, Some, None, is_some, length, slice_index}
+use Rattle.std.specs.Prelude.{◌≡◌, ℕ, ◌+◌, ◌<◌, ◌==◌, ◌&&◌, ◌||◌, Bool, true, false, not, cond, [], ◌∷◌, Option, Some, None, is_some, length, slice_index}
 use Rattle.hwp_geom.specs.declared.Frame.{Frame}
 use Rattle.hwp_geom.specs.declared.Layout.{Layout}
 use Rattle.hwp_geom.specs.declared.Page.{Page}
@@ -8,7 +8,6 @@ use Rattle.hwp_page.specs.History.{BodyValue}
 use Rattle.hwp_words.specs.Frames.{count_of, cycle_of, owner_of, is_handled, is_poisoned}
 use Rattle.hwp_words.specs.Names.{page_named}
 use Rattle.hwp_rule.specs.declared.Log.{Log}
-use Rattle.hwp_rule.specs.declared.Place.TheVariants as places
 use Rattle.hwp_rule.specs.declared.Step.{Step}
 use Rattle.hwp_rule.specs.declared.Step.TheVariants as steps
 use Rattle.hwp_rule.specs.declared.View.{View}
@@ -245,6 +244,16 @@ pub record Fits (layout : Layout) (view : View) (m : Meet) : Type 0 where
   pub on_turn : IsOnTurn view m.who
   pub frame : m.frame.0 < layout.frames
   pub at : FitsAt layout view m.who m.frame m.at
+
+-- what each answer leaves: nothing held; the frame locked, with one reference and no page; or the page and the frame held, with the body
+abbrev pub MetAt : Layout → View → Who → Frame → MeetAt → MeetAnswer → Type 0
+MetAt layout view who frame x answers.LookAgain = hand_of view ≡ empty
+MetAt layout view who frame x answers.Ended = hand_of view ≡ empty
+MetAt layout view who frame x answers.Free = hand_of view ≡ empty_frame frame false true
+MetAt layout view who frame x (answers.Owned page) = (is_owned_at x ≡ true) × ((body : BodyValue) → IsBodyAt x body → HoldsPoisoned layout view who page frame body)
+
+abbrev pub Met : Layout → View → Meet → MeetAnswer → Type 0
+Met layout view m x = MetAt layout view m.who m.frame m.at x
 
 -- 1 while the frame is locked, in hand or reserved, and 2 while the page is locked
 abbrev pub class_at : MeetAt → ℕ

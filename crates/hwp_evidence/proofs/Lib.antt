@@ -8,3 +8,4 @@ mod EndLaws
 mod MarkLaws
 pub mod NamedLaws
 mod CountLaws
+mod FirstLaws

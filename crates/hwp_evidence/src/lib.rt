@@ -5,6 +5,7 @@
 mod ample;
 mod counts;
 mod ends;
+mod firsts;
 mod glances;
 mod marked;
 mod named;
@@ -13,6 +14,7 @@ mod windows;
 pub use ample::is_ample;
 pub use counts::{event_counts, event_ends};
 pub use ends::{had_ended, has_ending, own_ends, page_ends};
+pub use firsts::{entries_named, first_answers};
 pub use glances::{Glance, glances_of, was_away, was_cached, was_dirty, was_mapped, was_unused};
 pub use marked::{
     came_to, marks_of, reported, was_hardware_seen, was_moved, was_taken_back, was_taken_free,
