@@ -14,3 +14,6 @@ mod ScrubForth
 mod ScrubBack
 mod Lowest
 mod Whole
+mod Bounds
+mod Walks
+mod ValidLaws

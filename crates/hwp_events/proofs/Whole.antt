@@ -23,7 +23,7 @@ use Rattle.hwp_law.specs.Pairings.{entries_of}
 use Rattle.hwp_events.specs.Accesses.{IsAccessLine, IsRaisedLine, asked_by_access}
 use Rattle.hwp_events.specs.Firsts.{AreRight}
 use Rattle.hwp_events.specs.Found.{of_access, resting}
-use Rattle.hwp_events.specs.Misfits.{IsRightLine, Lacks, access_of, course_of, leaves, logged_if, low_of, reach_from}
+use Rattle.hwp_events.specs.Misfits.{IsFit, IsRightLine, Lacks, access_of, course_of, leaves, logged_if, low_of, reach_from}
 use Rattle.hwp_events.specs.Scrubs.{Course, IsScrubbedLine, after, after_all, bound_from, lacking, marked_from, passed_to, turn}
 use Rattle.hwp_events.specs.Scrubbing.{IsRightIn}
 use Rattle.hwp_events.specs.declared.reach.Reach.{Reach}
@@ -198,11 +198,6 @@ module _ (script : Script) (report : Report) (who : Who) where
         not-begun : (o : Option Bool) → from_bool (is_some o) ≡ 0 → o ≡ None
         not-begun None is = refl
         not-begun (Some b) is = absurd (let one : 1 ≡ 0 = is in omega (arith, one))
-
-  -- the frames of a scrub are in order
-  abbrev pub IsFit : Command → Type 0
-  IsFit (commands.Scrub first last) = first.0 ≤ last.0
-  IsFit _ = Unit {0}
 
   logged-is : (a : Option Answer) (event : Event) (raw : Option Event) → logged_if_done a event (resting raw) ≡ resting (logged_if a event raw)
   logged-is (Some answers.Done) event raw = refl

@@ -1,5 +1,5 @@
 -- Which event line of a command isn't the one that its machine checks ask, whether some lack, and what the command leaves in bank 1.
-use Rattle.std.specs.Prelude.{◌≡◌, ℕ, ◌+◌, ◌-◌, ◌*◌, ◌<◌, ◌==◌, Bool, true, false, cond, List, [], ◌∷◌, Option, Some, None, MatchBool, is_some, length, slice_get, take}
+use Rattle.std.specs.Prelude.{◌≡◌, ℕ, ◌+◌, ◌-◌, ◌*◌, ◌<◌, ◌≤◌, ◌==◌, Bool, true, false, cond, List, [], ◌∷◌, Option, Some, None, MatchBool, is_some, length, slice_get, take}
 use Rattle.std.specs.Int.{from_bool}
 use Rattle.hwp_geom.specs.Limits.{line_limit}
 use Rattle.hwp_geom.specs.declared.Cpu.{Cpu}
@@ -20,6 +20,7 @@ use Rattle.hwp_law.specs.Events.{is_check, is_raised, raw_event}
 use Rattle.hwp_law.specs.Lines.{EventLine, answer_of, events_of}
 use Rattle.hwp_law.specs.Pairings.{entries_of}
 use Rattle.hwp_law.specs.Policies.{commands_before}
+use Rattle.hwp_events.specs.Firsts.{AreRight}
 use Rattle.hwp_events.specs.Accesses.{Access, IsAccessLine, IsRaisedLine, asked_by_access}
 use Rattle.hwp_events.specs.Scrubs.{Course, IsScrubbedLine, after_all, bound_from, lacking, lowest, turn}
 use Rattle.hwp_events.specs.declared.reach.Reach.{Reach}
@@ -107,3 +108,18 @@ pub record IsWrong (script : Script) (report : Report) (who : Who) (command : Co
   pub line : EventLine
   pub there : slice_get lines number ≡ Some line
   pub wrong : IsRightLine script report who command raw lines number line → ⊥
+
+-- the frames of a scrub are in order
+abbrev pub IsFit : Command → Type 0
+IsFit (commands.Scrub first last) = first.0 ≤ last.0
+IsFit _ = Unit {0}
+
+-- the event lines of a command are right, where it finds this in bank 1, and none lacks
+pub record IsTold (script : Script) (report : Report) (who : Who) (command : Command) (raw : Option Event) : Type 0 where
+  pub right : AreRight (IsRightLine script report who command raw (events_of report who)) (events_of report who)
+  pub enough : Lacks script report who command raw (events_of report who) → ⊥
+
+-- so it is with each command of a processor
+abbrev pub AreTold : Script → Report → Cpu → List Command → Type 0
+AreTold script report cpu list =
+    (seq : ℕ) (command : Command) → slice_get list seq ≡ Some command → IsTold script report (record { cpu = cpu; seq = seq }) command (found_by script report (record { cpu = cpu; seq = seq }))

@@ -1,15 +1,16 @@
 -- A scrub by the table of the lowest lines that were marked.
-use Rattle.std.specs.Prelude.{ℕ, ◌+◌, ◌*◌, ◌≤◌, Bool, cond, List, slice_index_or, take}
+use Rattle.std.specs.Prelude.{ℕ, ◌+◌, ◌-◌, ◌*◌, ◌≤◌, Bool, cond, List, slice_index_or, take}
 use Rattle.hwp_geom.specs.Limits.{line_limit}
 use Rattle.hwp_banks.specs.Addresses.{frame_at}
 use Rattle.hwp_banks.specs.declared.Origin.TheVariants as origins
 use Rattle.hwp_banks.specs.declared.Origin.{Origin}
+use Rattle.hwp_geom.specs.declared.Frame.{Frame}
 use Rattle.hwp_geom.specs.declared.Who.{Who}
 use Rattle.hwp_script.specs.declared.Script.{Script}
 use Rattle.hwp_report.specs.declared.Report.{Report}
 use Rattle.hwp_law.specs.Commands.{Arrival}
 use Rattle.hwp_law.specs.Lines.{EventLine}
-use Rattle.hwp_events.specs.Scrubs.{Course, IsScrubbedLine, after_all, place_of, turn}
+use Rattle.hwp_events.specs.Scrubs.{Course, IsScrubbedLine, after_all, bound_from, place_of, turn}
 use Rattle.hwp_events.specs.declared.reach.Reach.{Reach}
 use Rattle.hwp_events.specs.declared.reach.Turn.{Turn}
 use Rattle.hwp_events.specs.declared.reach.Turn.TheVariants as turns
@@ -21,6 +22,10 @@ low_of table whole place = cond whole (slice_index_or table place line_limit) li
 
 abbrev pub course_of : List ℕ → Range → Course
 course_of table range = record { low = low_of table range.whole; last = range.last; bound = range.bound }
+
+-- the same by the frames from the first to the last
+abbrev pub course_by : Report → List ℕ → Bool → Frame → Frame → Course
+course_by report table whole first last = record { low = low_of table whole; last = last.0; bound = bound_from report (low_of table whole) 0 first.0 (last.0 + 1 - first.0) }
 
 -- a line that the scrub meets isn't before the place that comes next, and its frame is one of the scrub's
 abbrev pub IsWithin : Range → Reach → Origin → EventLine → Type 0

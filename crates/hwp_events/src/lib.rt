@@ -8,6 +8,7 @@ mod faults;
 mod lines;
 mod reach;
 mod records;
+mod scrub_faults;
 mod scrubs;
 mod shown;
 

@@ -19,10 +19,10 @@ use hwp_report::Report;
 use hwp_script::Script;
 
 /// The greatest line number, and one more.
-const LINES: u8 = 64;
+pub(crate) const LINES: u8 = 64;
 
 /// Up to which line a scrub must meet one at the place, by a table of the lowest lines that were marked.
-fn low_at(table: &[u8], whole: bool, place: u64) -> u8
+pub(crate) fn low_at(table: &[u8], whole: bool, place: u64) -> u8
     ensures { result ≡ low_of table.now whole place }
 {
     if !whole {
@@ -35,7 +35,7 @@ fn low_at(table: &[u8], whole: bool, place: u64) -> u8
 }
 
 /// The place of a frame's bad line, or weak line.
-fn place_of(origin: Origin, frame: u64) -> u64
+pub(crate) fn place_of(origin: Origin, frame: u64) -> u64
     requires { frame < 2 ^ 62 }
     ensures { result ≡ place_of origin frame }
 {
