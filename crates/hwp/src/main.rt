@@ -12,6 +12,7 @@ const VERSION: &str = "hwp 0.1.0";
 /// What `--help` prints.
 const HELP: &str = "\
 usage: hwp step < SCRIPT > REPORT
+       hwp check < SCRIPT-AND-REPORT
        hwp gen N > SCRIPT
        hwp sum N > SUMMARY
 
@@ -20,14 +21,17 @@ scripts in which no memory fails; docs/FORMATS.md has the formats.
 
   hwp step     reads a fault script from standard input, runs it, and writes the
                report to standard output
+  hwp check    reads a script and the report behind it, and writes `legal`, or
+               `not PLACE RULE`: the rule that is broken, and where first
   hwp gen N    writes the fault script of seed N, a number below 2^64
   hwp sum N    runs that script and writes the summary of its report; refused as
                long as not all its commands are supported
   hwp --help   prints this text
   hwp --version
 
-Exit status: 0 done, 8 done and the machine stopped, 2 wrong words,
-3 the script is refused, 4 a read failed, 5 a write failed, 6 out of memory.";
+Exit status: 0 done, 1 done and the report isn't legal, 8 done and the machine
+stopped, 2 wrong words, 3 the script is refused, 4 a read failed, 5 a write
+failed, 6 out of memory.";
 
 /// The exit status of a program that is out of memory.
 const OUT_OF_MEMORY: u8 = 6;

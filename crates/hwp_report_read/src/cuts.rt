@@ -14,7 +14,7 @@ fn first_feed(text: &[u8]) -> Option<usize>
 }
 
 /// The first line of a text, without its line feed, and the text behind it.
-pub(crate) fn first_line(text: &[u8]) -> Option<(&[u8], &[u8])>
+pub fn first_line(text: &[u8]) -> Option<(&[u8], &[u8])>
     ensures { MatchOption result (All (λ b. b ≢ 10) text.now) (λ both. IsCut text.now both.0.now both.1.now) }
 {
     let Some(end) = first_feed(text) else {

@@ -5,4 +5,5 @@ mod cuts;
 mod partial;
 mod reading;
 
+pub use cuts::first_line;
 pub use reading::{BadReport, read};

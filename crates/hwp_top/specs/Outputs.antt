@@ -13,6 +13,7 @@ use Rattle.hwp_summary.specs.Text.{summary_text}
 use Rattle.hwp_top.specs.declared.served.Call.{Call}
 use Rattle.hwp_top.specs.declared.served.Call.TheVariants as calls
 use Rattle.hwp_top.specs.Calls.{IsCall}
+use Rattle.hwp_top.specs.Checked.{IsChecked, RefusesChecked}
 use Rattle.hwp_top.specs.Top.{IsBuilt, IsReportOfRun, Refuses, Reports, done_status}
 
 -- the text is that of the seed's script; where it is no longer than a script may be, it is read as this script, and as no other
@@ -36,12 +37,14 @@ pub record IsSummed (seed status : ℕ) (text : List ℕ) (report : Report) : Ty
 -- the output of a call: its status, its text, and its report where it has one
 abbrev pub IsOutputOf : Call → Option (List ℕ) → Option (List ℕ) → ℕ → List ℕ → Option Report → Type 0
 IsOutputOf calls.Step left left' status text report = IsSomeAnd report (IsStepped left left' status text)
+IsOutputOf calls.Check left left' status text report = IsChecked left left' status text × (report ≡ None)
 IsOutputOf (calls.Gen seed) left left' status text report = IsGenerated seed text × (status ≡ 0) × (report ≡ None)
 IsOutputOf (calls.Sum seed) left left' status text report = IsSomeAnd report (IsSummed seed status text)
 
 -- a call is refused: what the source gave is, or the seed's script has what is not built
 abbrev pub IsRefusedFor : Call → Option (List ℕ) → Option (List ℕ) → Refused → Type 0
 IsRefusedFor calls.Step left left' refused = Refuses left left' refused
+IsRefusedFor calls.Check left left' refused = RefusesChecked left left' refused
 IsRefusedFor (calls.Gen seed) left left' refused = ⊥
 IsRefusedFor (calls.Sum seed) left left' refused = (¬ IsBuilt (generated seed)) × (refused ≡ record { line = 0; why = whys.NotBuilt })
 

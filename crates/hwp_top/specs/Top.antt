@@ -94,7 +94,7 @@ told_text status =
 
 -- the whole output was written
 abbrev pub IsDone : ℕ → Type 0
-IsDone status = (status ≡ 0) ⊎ (status ≡ 8)
+IsDone status = (status ≡ 0) ⊎ ((status ≡ 1) ⊎ (status ≡ 8))
 
 -- the status of a report that was written: 8 where the machine stopped
 abbrev pub done_status : Report → ℕ

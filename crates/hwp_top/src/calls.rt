@@ -3,7 +3,7 @@ ghost use Rattle.std.specs.Io.KnownBytes.{Appends};
 ghost use Rattle.std.specs.Process.{exit_status};
 ghost use Rattle.hwp_io.specs.Causes.{AppendsStrictFront, Rose};
 ghost use Rattle.hwp_script.specs.declared.Refused.{Refused};
-ghost use Rattle.hwp_top.specs.Calls.{IsNoCall, IsStep};
+ghost use Rattle.hwp_top.specs.Calls.{IsNoCall, IsReading};
 ghost use Rattle.hwp_top.specs.Outputs.{IsOutput, IsRefusedCall};
 ghost use Rattle.hwp_top.specs.Top.{IsDone, Told, memory_text, refusal_text, told_text, write_fault_text};
 
@@ -35,12 +35,15 @@ impl Done {
 /// Serves the command that the words are:
 ///
 /// - `step` reads a fault script from `src`, runs it on its schedule, and writes the report to `out`;
+/// - `check` reads a fault script from `src` and, behind its line `end`, a report, and writes whether a run of the script can have
+///   the report: `legal`, or `not PLACE RULE` with the lowest rule that is broken and the first line of the report that breaks it;
 /// - `gen N` writes the script of seed N;
 /// - `sum N` runs that script and writes the summary of its report.
 ///
 /// The exit statuses are:
 ///
 /// - 0: done, and the whole output is written;
+/// - 1: done too, and the report that `check` read isn't legal;
 /// - 8: done too, and the report of `step` says that the machine stopped;
 /// - 2: the words are no command that is supported;
 /// - 3: the script is refused;
@@ -48,7 +51,7 @@ impl Done {
 /// - 5: the sink failed, and a part of the output is written;
 /// - 6: out of memory.
 ///
-/// For each but 0 and 8 a text goes to `err`. A fault of `err` changes nothing. (This project's rule.)
+/// For each but 0, 1 and 8 a text goes to `err`. A fault of `err` changes nothing. (This project's rule.)
 pub fn top<S: Source, K: Sink, E: Sink>(
     alloc: Global,
     words: &[String],
@@ -56,9 +59,10 @@ pub fn top<S: Source, K: Sink, E: Sink>(
     out: &mut K,
     err: &mut E,
 ) -> Done
-    ensures statuses { Contains (0 ∷ 2 ∷ 3 ∷ 4 ∷ 5 ∷ 6 ∷ 8 ∷ []) result.status }
+    ensures statuses { Contains (0 ∷ 1 ∷ 2 ∷ 3 ∷ 4 ∷ 5 ∷ 6 ∷ 8 ∷ []) result.status }
 
-    // Status 0, or 8 where the machine of `step` stopped: what is written is the output of the call that the words ask for.
+    // Status 0, or 8 where the machine of `step` stopped, or 1 where the report that `check` read isn't legal: what is written is
+    // the output of the call that the words ask for.
     ensures done { IsDone result.status → (text : List ℕ)
         × IsOutput (map string_bytes words.now) (S.left src.old) (S.left src.new) result.status text result.report
         × Appends (K.taken out.old) (K.taken out.new) text }
@@ -71,8 +75,8 @@ pub fn top<S: Source, K: Sink, E: Sink>(
     ensures read_fault { result.status ≡ 4 → Rose (S.faults src.old) (S.faults src.new) }
     ensures write_fault { result.status ≡ 5 → Rose (K.faults out.old) (K.faults out.new) }
 
-    // `step` alone reads the source.
-    ensures unread { (¬ IsStep (map string_bytes words.now)) → src.new ≡ src.old }
+    // `step` and `check` alone read the source.
+    ensures unread { (¬ IsReading (map string_bytes words.now)) → src.new ≡ src.old }
 
     // Status 5: a part of the output is written, and the report of `step` and `sum` is there.
     ensures cut { result.status ≡ 5 → (status : ℕ) × (text : List ℕ)

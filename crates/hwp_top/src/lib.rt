@@ -2,6 +2,7 @@
 #![tactic(auto)]
 
 mod calls;
+mod checking;
 mod inputs;
 mod messages;
 mod outputs;

@@ -8,6 +8,7 @@ ghost use Rattle.hwp_gen.specs.Generated.{generated};
 ghost use Rattle.hwp_top.specs.Outputs.{IsGenerated, IsOutputOf, IsRefusedFor, IsSummed};
 ghost use Rattle.hwp_top.specs.Top.{IsBuilt, Refuses, Reports};
 
+use crate::checking::checked;
 use crate::inputs::{InputFault, is_all_built, take_script, whole};
 use crate::served::Call;
 use hwp_core::run;
@@ -114,7 +115,7 @@ fn summed(alloc: Global, seed: u64) -> Result<Output, InputFault>
     })
 }
 
-/// The output of a call. `step` alone reads the source.
+/// The output of a call. `step` and `check` alone read the source.
 pub(crate) fn output_of<S: Source>(
     alloc: Global,
     call: Call,
@@ -123,10 +124,11 @@ pub(crate) fn output_of<S: Source>(
     ensures output { IfOk result (λ o. IsOutputOf call (S.left src.old) (S.left src.new) o.status o.text o.report) }
     ensures refused { (r : Refused) → IsErrOf result (InputFault.Refused r) → IsRefusedFor call (S.left src.old) (S.left src.new) r }
     ensures fault { IsErrOf result InputFault.ReadFault → Rose (S.faults src.old) (S.faults src.new) }
-    ensures unread { call ≢ Call.Step → src.new ≡ src.old }
+    ensures unread { call ≢ Call.Step → call ≢ Call.Check → src.new ≡ src.old }
 {
     match call {
         Call::Step => stepped(alloc, src),
+        Call::Check => checked(alloc, src),
         Call::Gen(seed) => script_text(alloc, seed),
         Call::Sum(seed) => summed(alloc, seed),
     }

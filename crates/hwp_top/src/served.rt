@@ -3,6 +3,8 @@
 pub enum Call {
     /// `step`: the report of the script that the source gives.
     Step,
+    /// `check`: whether what stands behind the script that the source gives is a report that a run of it can have.
+    Check,
     /// `gen N`: the script of seed N.
     Gen(u64),
     /// `sum N`: the summary of the report of that script.

@@ -37,10 +37,12 @@ fn call_alone(word: &[u8]) -> Option<Call>
     ensures none { IfNone result (IsNoCall (word.now ∷ [])) }
 {
     if is_text(word, "step") {
-        Some(Call::Step)
-    } else {
-        None
+        return Some(Call::Step);
     }
+    if is_text(word, "check") {
+        return Some(Call::Check);
+    }
+    None
 }
 
 /// The call that a word and a number are.

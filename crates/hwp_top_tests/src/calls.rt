@@ -5,7 +5,7 @@ use std::alloc::Global;
 use std::process::Abort;
 use std::str;
 
-const STORE_AND_LOAD: &str = "\
+pub const STORE_AND_LOAD: &str = "\
 hwp 1
 cpus 1
 frames 2
@@ -19,7 +19,7 @@ load 0 0 5
 end
 ";
 
-const STORED_AND_LOADED: &str = "\
+pub const STORED_AND_LOADED: &str = "\
 hwp-report 1
 stop none
 count 0
@@ -36,7 +36,7 @@ cpu 0 2
 end
 ";
 
-const WORKED: &[(&str, &str)] = &[
+pub const WORKED: &[(&str, &str)] = &[
     // a store and a load
     (STORE_AND_LOAD, STORED_AND_LOADED),
     // nothing but a frame
@@ -100,13 +100,13 @@ fn are_usage(rt: &impl Abort, alloc: Global, rows: &[&[&str]]) {
 const OTHER_WORDS: &[&[&str]] = &[
     &[],
     &["run"],
-    &["check"],
     &["step", "now"],
     &["STEP"],
     &["gen"],
     &["sum"],
     &["5", "gen"],
     &["gen", "5", "6"],
+    &["check", "5"],
 ];
 
 #[test]
@@ -127,7 +127,7 @@ fn a_seed_is_a_number_of_a_script(rt: HostRuntime) {
     are_usage(&rt, rt.alloc(), OTHER_SEEDS);
 }
 
-const PAGES: &[(&str, &str)] = &[
+pub const PAGES: &[(&str, &str)] = &[
     // a page of a file: dirty, then clean and mapped, then dropped, and read again
     (
         "hwp 1\ncpus 1\nframes 1\nfile 0\nproc 0\nthread 0 0 0 handler\npage 0 file 0 fill 3\ntrans 0 0 0\n\
@@ -169,7 +169,7 @@ fn commands_on_pages_change_what_frames_and_histories_show(rt: HostRuntime) {
     gives(&rt, rt.alloc(), 0, PAGES);
 }
 
-const POLICIES: &[(&str, &str)] = &[
+pub const POLICIES: &[(&str, &str)] = &[
     // policies set, read and cleared by two threads
     (
         "hwp 1\ncpus 1\nframes 1\nproc 0\nthread 0 0 0 nohandler\nthread 1 0 0 handler\ncpu 0\n\
@@ -193,7 +193,7 @@ fn prctl_answers_the_policy_that_was_set(rt: HostRuntime) {
     gives(&rt, rt.alloc(), 0, POLICIES);
 }
 
-const STOPPED: &[(&str, &str)] = &[
+pub const STOPPED: &[(&str, &str)] = &[
     // alone
     (
         "hwp 1\ncpus 1\nframes 2\nproc 0\nthread 0 0 0 handler\npage 0 anon\ntrans 0 0 0\ncpu 0\n\

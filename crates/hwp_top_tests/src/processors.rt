@@ -3,7 +3,7 @@
 use crate::helpers::gives;
 
 /// A page that both processors reach, processor 0 by translation 0 and processor 1 by translation 1.
-const SHARED: &[(&str, &str)] = &[
+pub const SHARED: &[(&str, &str)] = &[
     // a processor without commands
     (
         "hwp 1\ncpus 2\nframes 2\nproc 0\nthread 0 0 0 handler\npage 0 anon\ntrans 0 0 0\ncpu 0\n\
@@ -59,7 +59,7 @@ fn two_processors_share_a_page(rt: HostRuntime) {
 }
 
 /// Two processors, where a frame or a translation is taken from under one of them.
-const TAKEN: &[(&str, &str)] = &[
+pub const TAKEN: &[(&str, &str)] = &[
     // processor 0 has reserved the only frame
     (
         "hwp 1\ncpus 2\nframes 1\nproc 0\nproc 1\nthread 0 0 0 handler\nthread 1 1 1 handler\npage 0 anon\npage 1 anon\n\
@@ -105,7 +105,7 @@ fn a_frame_or_a_translation_is_taken_from_under_a_processor(rt: HostRuntime) {
     gives(&rt, rt.alloc(), 0, TAKEN);
 }
 
-const STOPPED: &[(&str, &str)] = &[
+pub const STOPPED: &[(&str, &str)] = &[
     // processor 1 stops the machine between two commands of processor 0
     (
         "hwp 1\ncpus 2\nframes 1\nproc 0\nthread 0 0 0 handler\npage 0 anon\ntrans 0 0 0\ncpu 0\n\

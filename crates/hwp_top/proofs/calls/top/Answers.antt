@@ -5,7 +5,7 @@ use Rattle.hwp_top.proofs.Statuses.{fault_is_listed, output_is_listed}
 use Rattle.hwp_top.proofs.calls.top.Goals as goal
 
 pub returns-in_default-clause-statuses : goal.returns-in_default-clause-statuses
-returns-in_default-clause-statuses g c = (1, lit< tt, refl)
+returns-in_default-clause-statuses g c = (2, lit< tt, refl)
 
 pub returns-in_default-clause-told : goal.returns-in_default-clause-told
 returns-in_default-clause-told g c text is =

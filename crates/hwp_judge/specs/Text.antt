@@ -1,0 +1,13 @@
+-- The text of a verdict.
+use Rattle.std.specs.Prelude.{ℕ, List, [], ◌∷◌, codes, decimal}
+use Rattle.hwp_geom.specs.Words.{line}
+use Rattle.hwp_check_rules.specs.declared.verdicts.Verdict.{Verdict}
+use Rattle.hwp_check_rules.specs.declared.verdicts.Verdict.TheVariants as verdicts
+
+-- `legal`, or `not PLACE RULE`
+abbrev pub verdict_words : Verdict → List (List ℕ)
+verdict_words verdicts.Legal = codes "legal" ∷ []
+verdict_words (verdicts.Not place rule) = codes "not" ∷ decimal place ∷ decimal rule ∷ []
+
+abbrev pub verdict_text : Verdict → List ℕ
+verdict_text verdict = line (verdict_words verdict)
