@@ -83,6 +83,94 @@ fn a_forged_load_is_told(rt: HostRuntime) {
     );
 }
 
+/// A report whose two lines from `number` on change places.
+fn with_swapped(rt: &impl Abort, alloc: Global, text: &str, number: u64) -> String {
+    let mut out = String::new(alloc);
+    let mut held = "";
+    let mut at = 0;
+    for line in text.lines() {
+        at += 1;
+        if at == number {
+            held = line;
+        } else {
+            writeln!(out, "{line}").expect(rt, "memory");
+            if at == number + 1 {
+                writeln!(out, "{held}").expect(rt, "memory");
+            }
+        }
+    }
+    out
+}
+
+/// What is said of each pair of lines that change places.
+const SWAPPED: &[&str] = &[
+    "not 1 1\n",
+    "not 2 1\n",
+    "not 3 1\n",
+    "not 4 1\n",
+    "not 6 1\n",
+    "not 6 1\n",
+    "not 7 2\n",
+    "not 8 2\n",
+    "not 9 2\n",
+    "not 10 1\n",
+    "not 11 1\n",
+    "not 12 3\n",
+    "not 13 1\n",
+];
+
+#[test]
+fn lines_that_change_places_are_told(rt: HostRuntime) {
+    let mut number = 0;
+    for said in SWAPPED {
+        number += 1;
+        let swapped = with_swapped(&rt, rt.alloc(), STORED_AND_LOADED, number);
+        says(&rt, rt.alloc(), STORE_AND_LOAD, swapped.as_str(), said, 1);
+    }
+}
+
+/// So many lines of a text.
+fn front_of(rt: &impl Abort, alloc: Global, text: &str, lines: u64) -> String {
+    let mut out = String::new(alloc);
+    let mut at = 0;
+    for line in text.lines() {
+        if at < lines {
+            writeln!(out, "{line}").expect(rt, "memory");
+        }
+        at += 1;
+    }
+    out
+}
+
+#[test]
+fn a_report_that_is_cut_is_told_at_its_end(rt: HostRuntime) {
+    for lines in 0..14 {
+        let front = front_of(&rt, rt.alloc(), STORED_AND_LOADED, lines);
+        let behind = lines + 1;
+        let said = format!(in rt.alloc(); "not {behind} 1\n").expect(&rt, "memory");
+        says(
+            &rt,
+            rt.alloc(),
+            STORE_AND_LOAD,
+            front.as_str(),
+            said.as_str(),
+            1,
+        );
+    }
+}
+
+#[test]
+fn a_forged_moment_is_told(rt: HostRuntime) {
+    let (script, report) = *PAGES.get(2).expect(&rt, "a row");
+    are_told(
+        &rt,
+        rt.alloc(),
+        script,
+        report,
+        &[(20, "2 notresident 0 0", "not 20 3\n")],
+    );
+}
+
 /// A load of a bad line, whose thread is signalled, and a load behind it.
 const BAD_LINE: &str = "\
 hwp 1\ncpus 1\nframes 2\nproc 0\nthread 0 0 0 handler\npage 0 anon\ntrans 0 0 0\ncpu 0\n\
@@ -217,7 +305,14 @@ const REFUSED: &[(&str, &str)] = &[
 #[test]
 fn check_refuses_what_is_no_script(rt: HostRuntime) {
     for (input, told) in REFUSED {
-        let left = call(&rt, rt.alloc(), &["check"], input.as_bytes(), &[], (4096, &[]));
+        let left = call(
+            &rt,
+            rt.alloc(),
+            &["check"],
+            input.as_bytes(),
+            &[],
+            (4096, &[]),
+        );
         leaves(&rt, &left, false, 3, "", told);
     }
 }
