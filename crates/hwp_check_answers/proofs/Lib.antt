@@ -10,3 +10,4 @@ mod Legal
 mod JudgeLaws
 mod CourseLaws
 mod NextLaws
+mod FactLaws

@@ -6,6 +6,7 @@ mod befores;
 mod causes;
 mod course;
 mod disorders;
+mod facts;
 mod gathering;
 mod judging;
 mod known;
