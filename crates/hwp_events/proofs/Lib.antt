@@ -17,3 +17,4 @@ mod Whole
 mod Bounds
 mod Walks
 mod ValidLaws
+mod JudgeLaws

@@ -6,3 +6,4 @@ pub mod Accesses
 pub mod Scrubs
 pub mod Scrubbing
 pub mod Misfits
+pub mod Judged
