@@ -8,3 +8,5 @@ mod LineLaws
 mod BeforeLaws
 mod Legal
 mod JudgeLaws
+mod CourseLaws
+mod NextLaws

@@ -1,19 +1,25 @@
 -- What is wrong about an answer, and what is not, where the lines before it are known.
-use Rattle.std.specs.Prelude.{◌≡◌, ◌↔◌, ◌<◌, Bool, true, false, List, None, length, replicate, slice_index_or}
+use Rattle.std.specs.Prelude.{◌≡◌, ◌↔◌, ◌+◌, ◌<◌, ℕ, Bool, true, false, List, Option, Some, None, length, replicate, slice_index_or, slice_set}
+use Rattle.hwp_geom.specs.declared.Cpu.{Cpu}
 use Rattle.hwp_geom.specs.declared.Proc.{Proc}
 use Rattle.hwp_geom.specs.declared.Who.{Who}
 use Rattle.hwp_page.specs.Orders.{IsEarlier}
 use Rattle.hwp_script.specs.declared.Command.{Command}
 use Rattle.hwp_script.specs.declared.Script.{Script}
 use Rattle.hwp_report.specs.declared.Answer.{Answer}
+use Rattle.hwp_report.specs.declared.Answer.TheVariants as answers
 use Rattle.hwp_report.specs.declared.CpuLine.{CpuLine}
+use Rattle.hwp_report.specs.declared.CpuLine.TheVariants as lines
 use Rattle.hwp_report.specs.declared.Report.{Report}
+use Rattle.hwp_law.specs.Commands.{process_at}
 use Rattle.hwp_law.specs.Endings.{WasGone}
+use Rattle.hwp_law.specs.Lines.{answer_among}
 use Rattle.hwp_law.specs.States.{entry_named}
+use Rattle.hwp_evidence.specs.Ends.{process_numbers}
 use Rattle.hwp_evidence.specs.Named.{flagged_pages}
 use Rattle.hwp_evidence.specs.Windows.{AreOfEarlier, floors_of}
 use Rattle.hwp_check_rules.specs.AnswerFaults.{IsOutside, IsRevived, IsUnnamed}
-use Rattle.hwp_check_rules.specs.Answered.{IsRight}
+use Rattle.hwp_check_rules.specs.Answered.{IsRight, seq_of}
 use Rattle.hwp_check_answers.specs.declared.judging.Course.{Course}
 use Rattle.hwp_check_answers.specs.declared.judging.Naming.{Naming}
 
@@ -27,7 +33,28 @@ pub record HadGone (script : Script) (report : Report) (later : Who) (process : 
 pub record IsCourse (script : Script) (report : Report) (before : List CpuLine) (later : Who) (course : Course) : Type 0 where
   pub floors : course.floors.items ≡ floors_of (length report.pages) before
   pub earlier : AreOfEarlier before later.seq
-  pub gone : (process : Proc) → (slice_index_or course.gone.items process.0 false ≡ true) ↔ HadGone script report later process
+  pub many : length course.gone.items ≡ process_numbers
+  pub gone : (process : Proc) → process.0 < process_numbers → (slice_index_or course.gone.items process.0 false ≡ true) ↔ HadGone script report later process
+
+-- the flags after an answer of a command of this process
+abbrev pub gone_after : List Bool → Option Proc → Answer → List Bool
+gone_after gone (Some process) (answers.Gone page) = slice_set gone process.0 true
+gone_after gone _ _ = gone
+
+-- the same after a line
+abbrev pub gone_by : Script → Cpu → List Bool → CpuLine → List Bool
+gone_by script cpu gone (lines.Event seq bank status addr misc row acted) = gone
+gone_by script cpu gone (lines.Answer seq answer) = gone_after gone (process_at script (record { cpu = cpu; seq = seq })) answer
+
+-- the number of the command whose answer comes next, after a line
+abbrev pub next_seq : ℕ → CpuLine → ℕ
+next_seq seq (lines.Event s bank status addr misc row acted) = seq
+next_seq seq (lines.Answer s answer) = seq + 1
+
+-- the line is of the command whose answer comes next, and if it is an answer it is the command's first
+pub record IsNextOf (rows : List CpuLine) (seq : ℕ) (line : CpuLine) : Type 0 where
+  pub of_next : seq_of line ≡ seq
+  pub first : (answer : Answer) → line ≡ lines.Answer seq answer → answer_among rows seq ≡ Some answer
 
 -- nothing is wrong about an answer
 pub record IsGood (script : Script) (report : Report) (before : List CpuLine) (who : Who) (command : Command) (answer : Answer) : Type 0 where

@@ -4,6 +4,7 @@
 mod asking;
 mod befores;
 mod causes;
+mod course;
 mod disorders;
 mod gathering;
 mod judging;

@@ -54,11 +54,11 @@ pub record IsUnnamed (report : Report) (who : Who) (answer : Answer) : Type 0 wh
   pub answering : is_answering entry.what ≡ true
   pub other : entry_named answer ≢ Some at
 
--- the answer says what state a page was in when the command can't have seen it
-pub record IsOutside (report : Report) (rows : List CpuLine) (who : Who) (answer : Answer) : Type 0 where
+-- the answer says what state a page was in when the command can't have seen it, by the lines before
+pub record IsOutside (report : Report) (before : List CpuLine) (who : Who) (answer : Answer) : Type 0 where
   pub at : At
   pub names : state_named answer ≡ Some at
-  pub outside : IsInWindow report.pages rows who at → ⊥
+  pub outside : IsInWindow report.pages before who at → ⊥
 
 -- the process whose thread makes the command had ended, and the answer says otherwise
 pub record IsRevived (script : Script) (report : Report) (later : Who) (answer : Answer) : Type 0 where
@@ -69,10 +69,10 @@ pub record IsRevived (script : Script) (report : Report) (later : Who) (answer :
   pub process_is : process_at script later ≡ Some process
   pub wrong : IsOver answer → ⊥
 
--- what is wrong about an answer
+-- what is wrong about an answer behind these lines of its processor
 abbrev pub IsAnswerWrong : Script → Report → List CpuLine → Who → Command → Answer → Type 0
-IsAnswerWrong script report rows who command answer =
-    (IsRight script report who command answer → ⊥) ⊎ IsUnnamed report who answer ⊎ IsOutside report rows who answer ⊎ IsRevived script report who answer
+IsAnswerWrong script report before who command answer =
+    (IsRight script report who command answer → ⊥) ⊎ IsUnnamed report who answer ⊎ IsOutside report before who answer ⊎ IsRevived script report who answer
 
 -- how many event lines of the command stand before a row
 abbrev pub events_before : List CpuLine → ℕ → ℕ → ℕ
@@ -84,9 +84,9 @@ pub record IsEventWrong (script : Script) (report : Report) (rows : List CpuLine
   pub found : AreFound script report who banks
   pub wrong : IsWrong script report who (arrival_of command) command banks (events_of report who) (events_before rows row who.seq)
 
--- what is wrong about a line of a command
+-- what is wrong about a line of a command: an answer is judged by the lines before it, since of lines that stand wrong the first is named
 abbrev pub IsLineWrong : Script → Report → Cpu → List CpuLine → ℕ → CpuLine → Command → Type 0
-IsLineWrong script report cpu rows row (lines.Answer seq answer) command = IsAnswerWrong script report rows (record { cpu = cpu; seq = seq }) command answer
+IsLineWrong script report cpu rows row (lines.Answer seq answer) command = IsAnswerWrong script report (take row rows) (record { cpu = cpu; seq = seq }) command answer
 IsLineWrong script report cpu rows row (lines.Event seq bank status addr misc graded acted) command = IsEventWrong script report rows row (record { cpu = cpu; seq = seq }) command
 
 -- a line of a processor that is not in its place, or is wrong

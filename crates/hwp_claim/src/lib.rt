@@ -1,5 +1,5 @@
 //! The parts of a memory failure that take a poisoned frame from those that use it, or could: a free one is taken out of
-//! the free ones.
+//! the free ones, and one in use is met under its locks.
 #![tactic(auto)]
 
 mod grab;

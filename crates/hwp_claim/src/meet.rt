@@ -253,7 +253,26 @@ fn released(release: Release, ended: bool) -> MeetAt
     }
 }
 
-ghost use Rattle.hwp_step.specs.declared.Turn.TheVariants.{Moved, Waits};
+ghost use Rattle.std.specs.Prelude.{◌==◌, false};
+ghost use Rattle.hwp_step.specs.declared.Turn.TheVariants.{Changed, Moved, Waits};
+ghost use Rattle.hwp_claim.specs.declared.meet.MeetAt.TheVariants.{
+  Back,
+  LockFree,
+  LockOwned,
+  LockPage,
+  Release as Releasing,
+};
+
+fn get_ref(seen: u64, found: u64) -> (MeetAt, Turn)
+    ensures at { result.0 ≡ cond (found == seen) (referenced (owner_in seen)) (Back false) }
+    ensures turn { result.1 ≡ cond (found == seen) Moved (Changed found) }
+{
+    if found == seen {
+        (referenced(seen), Turn::Moved)
+    } else {
+        (MeetAt::Back { ended: false }, Turn::Changed(found))
+    }
+}
 
 fn lock_free(cycle: u32, found: u64, got: Option<Body>) -> (MeetAt, Turn)
     ensures at { result.0 ≡ cond (is_free found) (free_at got (is_ended cycle found) (is_taken found)) LockFree }
@@ -263,6 +282,34 @@ fn lock_free(cycle: u32, found: u64, got: Option<Body>) -> (MeetAt, Turn)
         (free_at(cycle, found, got), Turn::Moved)
     } else {
         (MeetAt::LockFree, Turn::Waits(found))
+    }
+}
+
+fn lock_page(page: Page, found: u64, got: Option<Body>) -> (MeetAt, Turn)
+    ensures at { result.0 ≡ cond (is_free found) (LockOwned page got) (LockPage page) }
+    ensures turn { result.1 ≡ cond (is_free found) Moved (Waits found) }
+{
+    if is_free(found) {
+        (MeetAt::LockOwned { page, shelf: got }, Turn::Moved)
+    } else {
+        (MeetAt::LockPage { page }, Turn::Waits(found))
+    }
+}
+
+fn lock_owned(
+    page: Page,
+    cycle: u32,
+    found: u64,
+    shelf: Option<Body>,
+    got: Option<Body>,
+) -> (MeetAt, Turn)
+    ensures at { result.0 ≡ cond (is_free found) (owned_at page shelf got (is_ended cycle found) (is_owner page found)) (LockOwned page shelf) }
+    ensures turn { result.1 ≡ cond (is_free found) Moved (Waits found) }
+{
+    if is_free(found) {
+        (owned_at(page, cycle, found, shelf, got), Turn::Moved)
+    } else {
+        (MeetAt::LockOwned { page, shelf }, Turn::Waits(found))
     }
 }
 
@@ -281,28 +328,10 @@ fn settled(
     ensures turn { result.1 ≡ turn_at at found }
 {
     match at {
-        MeetAt::GetRef { seen } => {
-            if found == seen {
-                (referenced(seen), Turn::Moved)
-            } else {
-                (MeetAt::Back { ended: false }, Turn::Changed(found))
-            }
-        }
+        MeetAt::GetRef { seen } => get_ref(seen, found),
         MeetAt::LockFree => lock_free(cycle, found, got),
-        MeetAt::LockPage { page } => {
-            if is_free(found) {
-                (MeetAt::LockOwned { page, shelf: got }, Turn::Moved)
-            } else {
-                (MeetAt::LockPage { page }, Turn::Waits(found))
-            }
-        }
-        MeetAt::LockOwned { page, shelf } => {
-            if is_free(found) {
-                (owned_at(page, cycle, found, shelf, got), Turn::Moved)
-            } else {
-                (MeetAt::LockOwned { page, shelf }, Turn::Waits(found))
-            }
-        }
+        MeetAt::LockPage { page } => lock_page(page, found, got),
+        MeetAt::LockOwned { page, shelf } => lock_owned(page, cycle, found, shelf, got),
         MeetAt::Unlock { ended, .. } => (give_back(who, frame, ended), Turn::Moved),
         MeetAt::UnlockFrame {
             page,
@@ -321,7 +350,6 @@ fn settled(
     }
 }
 
-ghost use Rattle.hwp_claim.specs.declared.meet.MeetAt.TheVariants.{LockFree, Release as Releasing};
 ghost use Rattle.hwp_hold.specs.Releases.{begin as begin_release};
 
 fn give_back(who: Who, frame: Frame, ended: bool) -> MeetAt

@@ -1,0 +1,75 @@
+ghost use Rattle.std.specs.Prelude.{◌≡◌, IfOk, [], false, length, replicate};
+ghost use Rattle.hwp_evidence.specs.Ends.{process_numbers};
+ghost use Rattle.hwp_evidence.specs.Windows.{raised};
+ghost use Rattle.hwp_check_answers.specs.Judging.{IsCourse, gone_after, gone_by};
+
+use crate::judging::Course;
+use crate::known::process_at;
+use hwp_evidence::{no_floors, raise};
+use hwp_geom::{Cpu, OutOfMemory, Proc, Who};
+use hwp_report::{Answer, CpuLine, Report};
+use hwp_script::Script;
+use std::alloc::Global;
+
+/// The numbers that a process can have.
+const PROCESS_NUMBERS: usize = 256;
+
+/// Flags the process, if there is one and the answer says that it had ended.
+fn flag(gone: &mut Vec<bool>, process: Option<Proc>, answer: &Answer)
+    requires { length gone.old.items ≡ process_numbers }
+    ensures { gone.new.items ≡ gone_after gone.old.items process answer.now }
+{
+    if let Some(process) = process {
+        if matches!(answer, Answer::Gone(_)) {
+            gone[usize::from(process.0)] = true;
+        }
+    }
+}
+
+/// Flags the process of the line's command, if its answer says that it had ended.
+fn flag_by(script: &Script, cpu: Cpu, gone: &mut Vec<bool>, row: &CpuLine)
+    requires { length gone.old.items ≡ process_numbers }
+    ensures { gone.new.items ≡ gone_by script.now cpu gone.old.items row.now }
+{
+    match row {
+        CpuLine::Event { .. } => {}
+        CpuLine::Answer { seq, answer } => {
+            let who = Who { cpu, seq: *seq };
+            flag(gone, process_at(script, who), answer);
+        }
+    }
+}
+
+/// Notes a line more.
+pub(crate) fn note(script: &Script, cpu: Cpu, course: &mut Course, row: &CpuLine)
+    requires { length course.old.gone.items ≡ process_numbers }
+    ensures floors { course.new.floors.items ≡ raised course.old.floors.items row.now }
+    ensures gone { course.new.gone.items ≡ gone_by script.now cpu course.old.gone.items row.now }
+{
+    raise(&mut course.floors, row);
+    flag_by(script, cpu, &mut course.gone, row);
+}
+
+/// Flags of so many processes, none set.
+fn no_flags(alloc: Global, processes: usize) -> Result<Vec<bool>, OutOfMemory>
+    ensures { IfOk result (λ flags. flags.items ≡ replicate processes false) }
+{
+    Ok(vec![in alloc; false; processes]?)
+}
+
+/// What is known before any line.
+#[tactic(auto, using(crate::proofs::CourseLaws::begins))]
+pub(crate) fn begin(
+    alloc: Global,
+    script: &Script,
+    report: &Report,
+    cpu: Cpu,
+) -> Result<Course, OutOfMemory>
+    ensures { IfOk result (λ course. IsCourse script.now report.now [] (record { cpu = cpu; seq = 0 }) course) }
+{
+    let _script = script;
+    let _cpu = cpu;
+    let floors = no_floors(alloc, report.pages.len())?;
+    let gone = no_flags(alloc, PROCESS_NUMBERS)?;
+    Ok(Course { floors, gone })
+}
