@@ -18,3 +18,4 @@ mod Bounds
 mod Walks
 mod ValidLaws
 mod JudgeLaws
+mod IndexLaws

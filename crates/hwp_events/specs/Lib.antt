@@ -7,3 +7,4 @@ pub mod Scrubs
 pub mod Scrubbing
 pub mod Misfits
 pub mod Judged
+pub mod Indexed

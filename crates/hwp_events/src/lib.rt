@@ -5,6 +5,7 @@
 mod accesses;
 mod acts;
 mod faults;
+mod index;
 mod judge;
 mod lines;
 mod reach;
