@@ -17,3 +17,5 @@ mod Whole
 mod Bounds
 mod Walks
 mod ValidLaws
+mod JudgeLaws
+mod IndexLaws

@@ -6,3 +6,5 @@ pub mod Accesses
 pub mod Scrubs
 pub mod Scrubbing
 pub mod Misfits
+pub mod Judged
+pub mod Indexed

@@ -22,7 +22,7 @@ pub struct Faults {
 }
 
 /// The first line where none is asked.
-fn any(lines: &[Shown]) -> Option<usize>
+pub(crate) fn any(lines: &[Shown]) -> Option<usize>
     ensures { IsScanned (λ number line. ⊥) (map told lines.now) result }
 {
     if lines.is_empty() { None } else { Some(0) }

@@ -5,6 +5,8 @@
 mod accesses;
 mod acts;
 mod faults;
+mod index;
+mod judge;
 mod lines;
 mod reach;
 mod records;
@@ -13,4 +15,6 @@ mod scrubs;
 mod shown;
 
 pub use faults::Faults;
+pub use judge::{Known, command_faults};
 pub use records::was_poisoned;
+pub use shown::Shown;
