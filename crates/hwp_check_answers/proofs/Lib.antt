@@ -11,3 +11,4 @@ mod JudgeLaws
 mod CourseLaws
 mod NextLaws
 mod FactLaws
+mod WalkLaws

@@ -15,8 +15,11 @@ use Rattle.hwp_evidence.specs.Named.{flagged_pages}
 use Rattle.hwp_check_rules.specs.AnswerFaults.{IsAnswerWrong}
 use Rattle.hwp_check_answers.specs.Befores.{AreBefore}
 use Rattle.hwp_check_answers.specs.Judging.{IsGood}
+use Rattle.hwp_check_answers.specs.Knowing.{IsKnown, IsOwn}
 use Rattle.hwp_check_answers.specs.declared.facts.Facts.{Facts}
 use Rattle.hwp_check_answers.specs.declared.judging.Naming.{Naming}
+use Rattle.hwp_check_answers.specs.declared.known.Known.{Known}
+use Rattle.hwp_check_answers.specs.declared.right.Own.{Own}
 
 -- the policies, the events and the ends of the commands
 pub record AreFacts (commands : List Command) (rows : List CpuLine) (facts : Facts) : Type 0 where
@@ -59,3 +62,12 @@ pub record IsFirstBad (script : Script) (report : Report) (cpu : Cpu) (commands 
   pub there : slice_get rows row ≡ Some line
   pub bad : IsBadRow script report cpu commands (take row rows) line
   pub before : AreGoodRows script report cpu commands rows row
+
+-- all that is known of a processor, whose commands and lines these are
+pub record IsReady (script : Script) (report : Report) (cpu : Cpu) (commands : List Command) (rows : List CpuLine) (known : Known) (own : Own) (facts : Facts) (naming : Naming) : Type 0 where
+  pub of_script : slice_get script.lists cpu.0 ≡ Some commands
+  pub of_report : slice_get report.cpus cpu.0 ≡ Some rows
+  pub report_known : IsKnown script report known
+  pub own_known : IsOwn script report cpu own
+  pub are_facts : AreFacts commands rows facts
+  pub are_named : AreNamings report cpu commands rows naming

@@ -14,3 +14,4 @@ mod placing;
 mod plain;
 mod right;
 mod telling;
+mod walk;
