@@ -19,3 +19,5 @@ mod Walks
 mod ValidLaws
 mod JudgeLaws
 mod IndexLaws
+mod FirstAnswers
+mod CheckCounts

@@ -4,6 +4,7 @@
 
 mod accesses;
 mod acts;
+mod checks;
 mod faults;
 mod index;
 mod judge;
