@@ -10,3 +10,5 @@ mod Legal
 mod JudgeLaws
 mod CourseLaws
 mod NextLaws
+mod FactLaws
+mod WalkLaws

@@ -7,3 +7,4 @@ pub mod Causing
 pub mod Knowing
 pub mod Befores
 pub mod Judging
+pub mod Facts

@@ -176,6 +176,13 @@ module _ (named : List (Option At)) (cpu : Cpu) (seq : ℕ) where
       new-pages rest (n + 1) (flagged_page named cpu (record { 0 = n }) flags 0 x) p i list e (inside-page (record { 0 = n }) x flags inside) at there
       (subst (λ (m : ℕ). Flags (record { page = record { 0 = m }; entry = i }) e) (let z : n + suc p ≡ n + 1 + p = omega arith in z) f)
 
+flagged-length : (named : List (Option At)) (cpu : Cpu) (pages : List (List Entry)) (n : ℕ) (flags : List Bool) → length (flagged_pages named cpu flags n pages) ≡ length flags
+flagged-length named cpu [] n flags = refl
+flagged-length named cpu (x ∷ rest) n flags = flagged-length named cpu rest (n + 1) (flagged_page named cpu (record { 0 = n }) flags 0 x) ∙ page-many named cpu 0 (record { 0 = n }) x 0 flags
+
+pub others_many : (named : List (Option At)) (cpu : Cpu) (pages : List (List Entry)) (commands : ℕ) → length (flagged_pages named cpu (replicate commands false) 0 pages) ≡ commands
+others_many named cpu pages commands = flagged-length named cpu pages 0 (replicate commands false) ∙ length-replicate {A = Bool} commands false
+
 same-who : (a b : Who) → a.cpu.0 ≡ b.cpu.0 → a.seq ≡ b.seq → a ≡ b
 same-who a b cpu seq = λ i. record { cpu = record { 0 = cpu i }; seq = seq i }
 
