@@ -21,3 +21,4 @@ mod JudgeLaws
 mod IndexLaws
 mod FirstAnswers
 mod CheckCounts
+mod TableLaws

@@ -14,6 +14,8 @@ mod records;
 mod scrub_faults;
 mod scrubs;
 mod shown;
+mod tables;
+mod walk;
 
 pub use faults::Faults;
 pub use judge::{Known, command_faults};
