@@ -19,3 +19,6 @@ mod Walks
 mod ValidLaws
 mod JudgeLaws
 mod IndexLaws
+mod FirstAnswers
+mod CheckCounts
+mod TableLaws

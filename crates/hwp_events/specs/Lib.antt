@@ -8,3 +8,4 @@ pub mod Scrubbing
 pub mod Misfits
 pub mod Judged
 pub mod Indexed
+pub mod Walked

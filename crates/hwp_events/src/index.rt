@@ -1,9 +1,9 @@
-ghost use Rattle.std.specs.Prelude.{◌≡◌, [], length, replicate, IfOk, OnOk, map};
-ghost use Rattle.hwp_events.specs.Indexed.{AreShown, shown_at, with_shown};
+ghost use Rattle.std.specs.Prelude.{◌≡◌, [], replicate, IfOk, OnOk};
+ghost use Rattle.hwp_events.specs.Indexed.{AreFirst, AreShown, first_answer, shown_at, with_answer, with_shown};
 
 use crate::shown::Shown;
 use hwp_geom::{List, OutOfMemory};
-use hwp_report::CpuLine;
+use hwp_report::{Answer, CpuLine};
 use std::alloc::Global;
 
 /// The event that a line shows, which stands at this place.
@@ -71,4 +71,42 @@ pub(crate) fn events_by_command(
         add(&mut lists, shown_at(place, &rows[place]))?;
     }
     Ok(lists)
+}
+
+/// The first of two answers, where there are any.
+fn first_answer(first: Option<Answer>, other: Option<Answer>) -> Option<Answer>
+    ensures { result ≡ first_answer first other }
+{
+    match first {
+        Some(answer) => Some(answer),
+        None => other,
+    }
+}
+
+/// Adds a line's answer to that of its command, if there is such a command and it has none yet.
+fn add_answer(answers: &mut Vec<Option<Answer>>, row: &CpuLine)
+    ensures { answers.new.items ≡ with_answer row.now answers.old.items }
+{
+    if let CpuLine::Answer { seq, answer } = *row {
+        let at = seq as usize;
+        if at < answers.len() {
+            answers[at] = first_answer(answers[at], Some(answer));
+        }
+    }
+}
+
+/// For each of so many commands its first answer.
+pub(crate) fn answers_by_command(
+    alloc: Global,
+    count: usize,
+    rows: &[CpuLine],
+) -> Result<Vec<Option<Answer>>, OutOfMemory>
+    ensures { IfOk result (λ answers. AreFirst rows.now count answers.items) }
+{
+    let mut answers = Vec::new(alloc);
+    answers.resize(count, None)?;
+    for place in 0..rows.len() {
+        add_answer(&mut answers, &rows[place]);
+    }
+    Ok(answers)
 }

@@ -4,6 +4,7 @@
 
 mod accesses;
 mod acts;
+mod checks;
 mod faults;
 mod index;
 mod judge;
@@ -13,6 +14,8 @@ mod records;
 mod scrub_faults;
 mod scrubs;
 mod shown;
+mod tables;
+mod walk;
 
 pub use faults::Faults;
 pub use judge::{Known, command_faults};
