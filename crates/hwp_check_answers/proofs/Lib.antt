@@ -14,3 +14,4 @@ mod FactLaws
 mod WalkLaws
 mod SiftLaws
 mod JoinLaws
+pub mod RuleLaws
