@@ -15,3 +15,4 @@ mod WalkLaws
 mod SiftLaws
 mod JoinLaws
 pub mod RuleLaws
+pub mod BreakLaws
