@@ -12,3 +12,5 @@ mod CourseLaws
 mod NextLaws
 mod FactLaws
 mod WalkLaws
+mod SiftLaws
+mod JoinLaws

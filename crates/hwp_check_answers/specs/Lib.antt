@@ -8,3 +8,4 @@ pub mod Knowing
 pub mod Befores
 pub mod Judging
 pub mod Facts
+pub mod Sifting

@@ -1,6 +1,7 @@
 //! The rule of answers: each line of a processor in its place, an answer for each command, and each answer right.
 #![tactic(auto)]
 
+mod answering;
 mod asking;
 mod befores;
 mod causes;
@@ -13,5 +14,8 @@ mod known;
 mod placing;
 mod plain;
 mod right;
+mod sifting;
 mod telling;
 mod walk;
+
+pub use answering::answer_lines;
