@@ -22,3 +22,5 @@ mod IndexLaws
 mod FirstAnswers
 mod CheckCounts
 mod TableLaws
+mod WalkLaws
+mod WalkSteps

@@ -28,7 +28,7 @@ list-at layout cpu [] i list are there = absurd (none-some list there)
 list-at layout cpu (l ∷ ls) zero list are there = subst (All (IsCommandOf layout (cpu + 0))) (same_Some _ _ there) (subst (λ (c : ℕ). All (IsCommandOf layout c) l) (let e : cpu ≡ cpu + 0 = omega arith in e) are.0)
 list-at layout cpu (l ∷ ls) (suc i) list are there = subst (λ (c : ℕ). All (IsCommandOf layout c) list) (let e : cpu + 1 + i ≡ cpu + suc i = omega arith in e) (list-at layout (cpu + 1) ls i list are.1 there)
 
-command-of : (script : Script) (cpu n : ℕ) (list : List Command) (command : Command) → IsValid script → slice_get script.lists cpu ≡ Some list → slice_get list n ≡ Some command → IsCommandOf script.layout (0 + cpu) command
+pub command-of : (script : Script) (cpu n : ℕ) (list : List Command) (command : Command) → IsValid script → slice_get script.lists cpu ≡ Some list → slice_get list n ≡ Some command → IsCommandOf script.layout (0 + cpu) command
 command-of script cpu n list command valid of there = all-at (IsCommandOf script.layout (0 + cpu)) list n command (list-at script.layout 0 script.lists cpu list valid.lists of) there
 
 fit : (layout : Layout) (cpu : ℕ) (command : Command) → IsCommandOf layout cpu command → IsFit command

@@ -1,5 +1,5 @@
 -- What is wrong about the event lines of a processor, over its first commands.
-use Rattle.std.specs.Prelude.{◌≡◌, ℕ, ◌+◌, ◌*◌, ◌<◌, ◌≤◌, min, List, Option, Some, None, MatchBool, MatchOption, length, slice_get, slice_index_or, slice_set}
+use Rattle.std.specs.Prelude.{◌≡◌, ℕ, ◌+◌, ◌*◌, ◌<◌, ◌≤◌, min, ◌||◌, List, Option, Some, None, MatchBool, MatchOption, length, option_map, slice_get, slice_index_or, slice_set, unwrap_or}
 use Rattle.hwp_geom.specs.Limits.{line_limit}
 use Rattle.hwp_geom.specs.declared.Cpu.{Cpu}
 use Rattle.hwp_script.specs.declared.Command.{Command}
@@ -12,8 +12,9 @@ use Rattle.hwp_events.specs.Firsts.{AreRight}
 use Rattle.hwp_events.specs.Indexed.{shown_from}
 use Rattle.hwp_events.specs.Misfits.{IsRightLine, IsWrong, Lacks, found_by}
 use Rattle.hwp_events.specs.Scrubs.{lowest, place_of}
+use Rattle.hwp_events.specs.declared.faults.Faults.{Faults}
 use Rattle.hwp_events.specs.declared.shown.Shown.{Shown}
-use Rattle.hwp_events.specs.declared.walk.Misfits.{Misfits}
+use Rattle.hwp_events.specs.declared.misfits.Misfits.{Misfits}
 use Rattle.hwp_banks.specs.declared.Origin.TheVariants as origins
 
 -- a line that a command marks, in a table of the lowest lines
@@ -71,3 +72,20 @@ module _ (script : Script) (report : Report) (cpu : Cpu) (list : List Command) (
   pub record IsWalked (n : ℕ) (found : Misfits) : Type 0 where
     pub lacks : MatchBool found.lacks (LacksSome n) (LacksSome n → ⊥)
     pub wrong : MatchOption found.wrong (AllRight n) (IsFirstRow n)
+
+-- the lower of a row that was found so far, if one was, and one more
+abbrev pub sooner : Option ℕ → ℕ → Option ℕ
+sooner None place = Some place
+sooner (Some first) place = Some (min first place)
+
+-- where the event line with this number stands
+abbrev pub place_at : List Shown → ℕ → ℕ
+place_at lines number = unwrap_or (option_map (λ (s : Shown). s.place) (slice_get lines number)) 0
+
+abbrev pub joined_wrong : Option ℕ → Option ℕ → List Shown → Option ℕ
+joined_wrong found None lines = found
+joined_wrong found (Some number) lines = sooner found (place_at lines number)
+
+-- what was found so far with what is wrong about one command more
+abbrev pub joined : Misfits → Faults → List Shown → Misfits
+joined found faults lines = record { lacks = found.lacks || faults.lacks; wrong = joined_wrong found.wrong faults.wrong lines }

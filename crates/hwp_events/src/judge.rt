@@ -1,4 +1,4 @@
-ghost use Rattle.std.specs.Prelude.{◌≡◌, ◌≤◌, ◌<◌, ◌^◌, true, false, length, map};
+ghost use Rattle.std.specs.Prelude.{◌≡◌, ◌≤◌, ◌+◌, ◌<◌, ◌^◌, true, false, length, map};
 ghost use Rattle.hwp_law.specs.Commands.{arrival_of};
 ghost use Rattle.hwp_law.specs.Events.{is_check};
 ghost use Rattle.hwp_law.specs.Lines.{answer_of};
@@ -93,7 +93,7 @@ fn judge_access(
 ) -> Faults
     requires access { of_access origin ≡ true }
     requires frames { length report.now.frames ≤ 65536 }
-    requires few { known.now.checks < 2 ^ 63 }
+    requires few { known.now.checks + 1 < 2 ^ 64 }
     requires checks { known.now.checks ≡ entries_of report.now who is_check }
     ensures { IsAccessJudged script.now report.now who (coming how) origin at raw.old raw.new (map told lines.now) result }
 {
@@ -137,7 +137,7 @@ pub fn command_faults(
     lines: &[Shown],
 ) -> Faults
     requires frames { length report.now.frames ≤ 65536 }
-    requires few { known.now.checks < 2 ^ 63 }
+    requires few { known.now.checks + 1 < 2 ^ 64 }
     requires checks { known.now.checks ≡ entries_of report.now who is_check }
     requires answer { known.now.answer ≡ answer_of report.now who }
     requires table { IsTable script.now who table.now }

@@ -9,6 +9,7 @@ mod faults;
 mod index;
 mod judge;
 mod lines;
+mod misfits;
 mod reach;
 mod records;
 mod scrub_faults;
@@ -19,5 +20,6 @@ mod walk;
 
 pub use faults::Faults;
 pub use judge::{Known, command_faults};
+pub use misfits::Misfits;
 pub use records::was_poisoned;
 pub use shown::Shown;
