@@ -14,3 +14,5 @@ mod FactLaws
 mod WalkLaws
 mod SiftLaws
 mod JoinLaws
+pub mod RuleLaws
+pub mod BreakLaws

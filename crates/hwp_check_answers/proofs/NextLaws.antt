@@ -36,7 +36,7 @@ first-answer (lines.Answer s b ∷ rs) (suc row) seq answer is none =
     among-other s seq b rs (none 0 s b (omega arith) refl) ∙ first-answer rs row seq answer is (λ r t a low there. none (suc r) t a (omega (arith, low)) there)
 
 -- an answer counts
-count-rises : (rows : List CpuLine) (low high : ℕ) (line : CpuLine) → low < high → slice_get rows low ≡ Some line → is_answer line ≡ true → count_by is_answer (take low rows) < count_by is_answer (take high rows)
+pub count-rises : (rows : List CpuLine) (low high : ℕ) (line : CpuLine) → low < high → slice_get rows low ≡ Some line → is_answer line ≡ true → count_by is_answer (take low rows) < count_by is_answer (take high rows)
 count-rises rows low high line less is own =
     let one : count_by is_answer (take (low + 1) rows) ≡ count_by is_answer (take low rows) + 1 =
     count_by_more_yes is_answer rows low line (slice_get_within rows low line is) (ap is_answer (get_or_from_slice_get rows low line line is) ∙ own) in

@@ -32,11 +32,11 @@ is-not false none = refl
 same-at : (a b : At) → a.page.0 ≡ b.page.0 → a.entry ≡ b.entry → a ≡ b
 same-at a b page entry = λ i. record { page = record { 0 = page i }; entry = entry i }
 
-at-is : (named : Option At) (at : At) → is_at named at ≡ true → named ≡ Some at
+pub at-is : (named : Option At) (at : At) → is_at named at ≡ true → named ≡ Some at
 at-is None at is = absurd (true≢false (sym is))
 at-is (Some a) at is = let p = both (a.page.0 == at.page.0) (a.entry == at.entry) is in ap Some (same-at a at (eqb-true a.page.0 at.page.0 p.0) (eqb-true a.entry at.entry p.1))
 
-named-at : (named : Option At) (at : At) → named ≡ Some at → is_at named at ≡ true
+pub named-at : (named : Option At) (at : At) → named ≡ Some at → is_at named at ≡ true
 named-at None at is = absurd (none-some at is)
 named-at (Some a) at is =
     let same : a ≡ at = same_Some _ _ is in
