@@ -1,5 +1,5 @@
 -- What was found of a processor's event lines, and the law.
-use Rattle.std.proofs.Common.{◌≡◌, ◌⊎◌, inl, inr, ◌↔◌, ℕ, ◌+◌, ◌*◌, ◌<◌, ◌≤◌, ◌^◌, ◌&&◌, Bool, true, false, not, List, [], Option, Some, None, MatchBool, MatchOption, fold, is_none, length, option_map, slice_get, slice_index_or, unwrap_or, true≢false, refl, sym, ap, ◌∙◌, subst, arith}
+use Rattle.std.proofs.Common.{◌≡◌, inl, inr, ◌↔◌, ℕ, ◌<◌, ◌^◌, ◌&&◌, Bool, true, false, not, List, [], Option, Some, None, MatchBool, MatchOption, is_none, length, option_map, slice_get, slice_index_or, unwrap_or, refl, sym, ◌∙◌, subst, arith}
 use Rattle.std.specs.Int.{IsBitSet, bit_at}
 use Rattle.std.specs.List.{All}
 use Rattle.std.proofs.lemmas.Bool.{cases_lt}
@@ -21,8 +21,7 @@ use Rattle.hwp_report.specs.declared.Report.{Report}
 use Rattle.hwp_law.specs.Checks.{empty_banks}
 use Rattle.hwp_law.specs.Events.{AreEventsFrom, IsDamaged}
 use Rattle.hwp_events.specs.Misfits.{AreTold}
-use Rattle.hwp_events.specs.Scrubs.{lowest}
-use Rattle.hwp_events.specs.Walked.{AllRight, IsFirstRow, IsProcessorJudged, IsTableOf, IsWalked, IsWrongRow, LacksSome, is_clean}
+use Rattle.hwp_events.specs.Walked.{AllRight, IsFirstRow, IsProcessorJudged, IsTableOf, IsWalked, IsWrongRow, LacksSome}
 use Rattle.hwp_events.specs.declared.misfits.Misfits.{Misfits}
 use Rattle.hwp_events.proofs.LineLaws.{no-line}
 use Rattle.hwp_events.proofs.ValidLaws.{fits, has-lines}
