@@ -1,12 +1,11 @@
 -- The event lines of each command, line by line.
-use Rattle.std.proofs.Common.{◌≡◌, ◌⊎◌, inl, inr, ℕ, zero, suc, ◌+◌, ◌<◌, ◌≤◌, ◌==◌, Bool, true, false, cond, List, [], ◌∷◌, ◌++◌, Option, Some, None, filter, filter_map, get_or, length, map, replicate, slice_get, slice_index_or, slice_set, take, refl, sym, ap, ◌∙◌, subst, arith}
-use Rattle.std.specs.List.{cons_option}
+use Rattle.std.proofs.Common.{◌≡◌, ◌⊎◌, inl, inr, ℕ, zero, suc, ◌+◌, ◌<◌, ◌≤◌, ◌==◌, Bool, true, false, cond, List, [], ◌∷◌, ◌++◌, Option, Some, None, get_or, length, map, replicate, slice_get, slice_index_or, take, refl, sym, ap, ◌∙◌, subst, arith}
 use Rattle.std.proofs.lemmas.Bool.{cases_eq, eq-eqb, ne_eqb}
 use Rattle.std.proofs.lemmas.List.{append_assoc, get_or-set_other, get_or-set_same, length-replicate, length-set, length-take-le, take_all, take_more}
 use Rattle.std.proofs.lemmas.Option.{get_or_from_slice_get, none-some, same_Some, slice_get-get_or, slice_get_within}
 use Rattle.hwp_report.specs.declared.CpuLine.{CpuLine}
 use Rattle.hwp_report.specs.declared.CpuLine.TheVariants as lines
-use Rattle.hwp_law.specs.Lines.{EventLine, event_in, events_among}
+use Rattle.hwp_law.specs.Lines.{EventLine, events_among}
 use Rattle.hwp_events.specs.Indexed.{AreShown, own_shown, shown_at, shown_from, with_shown}
 use Rattle.hwp_events.specs.Told.{told}
 use Rattle.hwp_events.specs.declared.shown.Shown.{Shown}

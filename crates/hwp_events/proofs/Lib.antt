@@ -24,3 +24,4 @@ mod CheckCounts
 mod TableLaws
 mod WalkLaws
 mod WalkSteps
+mod Verdicts

@@ -1,8 +1,8 @@
 -- What is wrong about the event lines of a processor, one command more.
-use Rattle.std.proofs.Common.{◌≡◌, ◌⊎◌, inl, inr, ℕ, zero, suc, ◌+◌, ◌*◌, ◌<◌, ◌≤◌, ◌==◌, ◌||◌, min, Bool, true, false, cond, List, [], ◌∷◌, ◌++◌, Option, Some, None, MatchBool, MatchOption, get_or, length, map, option_map, slice_get, sum_by, take, unwrap_or, refl, sym, ap, ◌∙◌, subst, arith}
+use Rattle.std.proofs.Common.{◌≡◌, ◌⊎◌, inl, inr, ℕ, zero, suc, ◌+◌, ◌<◌, ◌≤◌, ◌==◌, ◌||◌, min, Bool, true, false, cond, List, [], ◌∷◌, ◌++◌, Option, Some, None, MatchBool, MatchOption, get_or, length, map, option_map, slice_get, take, unwrap_or, refl, sym, ap, ◌∙◌, subst, arith}
 use Rattle.std.proofs.lemmas.Bool.{cases_lt}
-use Rattle.std.proofs.lemmas.List.{length-map, length-take-le, take_more}
-use Rattle.std.proofs.lemmas.Option.{none-some, same_Some, slice_get-get_or, slice_get-map, slice_get_within}
+use Rattle.std.proofs.lemmas.List.{length-take-le, take_more}
+use Rattle.std.proofs.lemmas.Option.{none-some, same_Some}
 use Rattle.hwp_geom.specs.declared.Cpu.{Cpu}
 use Rattle.hwp_geom.specs.declared.Who.{Who}
 use Rattle.hwp_banks.specs.declared.Event.{Event}
@@ -13,11 +13,11 @@ use Rattle.hwp_report.specs.declared.CpuLine.TheVariants as rowkinds
 use Rattle.hwp_report.specs.declared.Report.{Report}
 use Rattle.hwp_law.specs.Lines.{EventLine, events_of}
 use Rattle.hwp_events.specs.Firsts.{AreRight, IsFirstWrong}
-use Rattle.hwp_events.specs.Indexed.{own_shown, shown_at, shown_from}
+use Rattle.hwp_events.specs.Indexed.{shown_from}
 use Rattle.hwp_events.specs.Judged.{IsJudged}
 use Rattle.hwp_events.specs.Misfits.{IsRightLine, IsWrong, Lacks, found_by, leaves, left_by}
 use Rattle.hwp_events.specs.Told.{told}
-use Rattle.hwp_events.specs.Walked.{AllRight, IsFirstRow, IsWalked, IsWrongRow, LacksSome, joined, joined_wrong, place_at, sooner}
+use Rattle.hwp_events.specs.Walked.{AllRight, IsFirstRow, IsWalked, IsWrongRow, LacksSome, joined, joined_wrong, place_at}
 use Rattle.hwp_events.specs.declared.faults.Faults.{Faults}
 use Rattle.hwp_events.specs.declared.misfits.Misfits.{Misfits}
 use Rattle.hwp_events.specs.declared.shown.Shown.{Shown}

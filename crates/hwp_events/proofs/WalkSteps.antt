@@ -1,8 +1,7 @@
 -- The walk over a processor's commands: what is known before each.
-use Rattle.std.proofs.Common.{◌≡◌, ℕ, ◌+◌, ◌*◌, ◌<◌, ◌≤◌, ◌^◌, ◌&&◌, false, List, [], ◌∷◌, Option, Some, None, count_by, get_or, length, map, slice_get, slice_index_or, sum_by, take, unwrap_or, refl, sym, ap, ◌∙◌, subst, arith}
+use Rattle.std.proofs.Common.{◌≡◌, ℕ, ◌+◌, ◌*◌, ◌<◌, ◌≤◌, ◌^◌, ◌&&◌, false, List, [], ◌∷◌, Option, Some, None, get_or, length, map, slice_get, sum_by, take, unwrap_or, refl, sym, ap, ◌∙◌, subst, arith}
 use Rattle.std.proofs.lemmas.List.Sums.{count_by-le-length, get_or-le-sum_by, sum_by-le-sum_by}
 use Rattle.std.proofs.lemmas.Option.{get_or_from_slice_get, slice_get-get_or, slice_get_within}
-use Rattle.hwp_geom.specs.Limits.{command_limit, line_limit}
 use Rattle.hwp_geom.specs.declared.Cpu.{Cpu}
 use Rattle.hwp_geom.specs.declared.Who.{Who}
 use Rattle.hwp_banks.specs.declared.Event.{Event}

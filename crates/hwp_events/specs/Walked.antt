@@ -1,5 +1,5 @@
 -- What is wrong about the event lines of a processor, over its first commands.
-use Rattle.std.specs.Prelude.{◌≡◌, ℕ, ◌+◌, ◌*◌, ◌<◌, ◌≤◌, min, ◌||◌, List, Option, Some, None, MatchBool, MatchOption, length, option_map, slice_get, slice_index_or, slice_set, unwrap_or}
+use Rattle.std.specs.Prelude.{◌≡◌, ℕ, ◌+◌, ◌*◌, ◌<◌, ◌≤◌, min, ◌||◌, ◌&&◌, Bool, not, List, [], Option, Some, None, is_none, MatchBool, MatchOption, length, option_map, slice_get, slice_index_or, slice_set, unwrap_or}
 use Rattle.hwp_geom.specs.Limits.{line_limit}
 use Rattle.hwp_geom.specs.declared.Cpu.{Cpu}
 use Rattle.hwp_script.specs.declared.Command.{Command}
@@ -7,6 +7,8 @@ use Rattle.hwp_script.specs.declared.Command.TheVariants as commands
 use Rattle.hwp_script.specs.declared.Script.{Script}
 use Rattle.hwp_report.specs.declared.CpuLine.{CpuLine}
 use Rattle.hwp_report.specs.declared.Report.{Report}
+use Rattle.hwp_law.specs.Checks.{empty_banks}
+use Rattle.hwp_law.specs.Events.{AreEventsFrom}
 use Rattle.hwp_law.specs.Lines.{events_of}
 use Rattle.hwp_events.specs.Firsts.{AreRight}
 use Rattle.hwp_events.specs.Indexed.{shown_from}
@@ -89,3 +91,12 @@ joined_wrong found (Some number) lines = sooner found (place_at lines number)
 -- what was found so far with what is wrong about one command more
 abbrev pub joined : Misfits → Faults → List Shown → Misfits
 joined found faults lines = record { lacks = found.lacks || faults.lacks; wrong = joined_wrong found.wrong faults.wrong lines }
+
+-- nothing is wrong
+abbrev pub is_clean : Misfits → Bool
+is_clean found = not found.lacks && is_none found.wrong
+
+-- what is said of a processor's event lines: what was found, and whether they are those that the law asks
+pub record IsProcessorJudged (script : Script) (report : Report) (cpu : Cpu) (list : List Command) (found : Misfits) : Type 0 where
+  pub walked : IsWalked script report cpu list (unwrap_or (slice_get report.cpus cpu.0) []) (length list) found
+  pub law : MatchBool (is_clean found) (AreEventsFrom script report cpu 0 list empty_banks) (AreEventsFrom script report cpu 0 list empty_banks → ⊥)

@@ -1,4 +1,4 @@
-use Rattle.std.proofs.Common.{List, ap, ◌∙◌}
+use Rattle.std.proofs.Common.{ap, ◌∙◌}
 use Rattle.hwp_page.specs.declared.Entry.{Entry}
 use Rattle.hwp_events.specs.Indexed.{with_check}
 use Rattle.hwp_events.proofs.CheckCounts.{page-few, page-next}

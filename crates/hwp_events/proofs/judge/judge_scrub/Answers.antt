@@ -1,5 +1,4 @@
-use Rattle.std.proofs.Common.{◌∙◌, Option, ap, refl}
-use Rattle.hwp_report.specs.declared.Answer.{Answer}
+use Rattle.std.proofs.Common.{◌∙◌, ap, refl}
 use Rattle.hwp_events.specs.Misfits.{is_scrubbed}
 use Rattle.hwp_events.specs.Told.{coming}
 use Rattle.hwp_events.proofs.JudgeLaws.{scrub-judged}
