@@ -1,22 +1,30 @@
 -- The first line that is out of place, and the first wrong answer as far as lines are in place, are the first of both.
-use Rattle.std.proofs.Common.{◌≡◌, ◌⊎◌, inl, inr, ℕ, ◌<◌, ◌≤◌, min, List, Option, Some, None, MatchOption, length, slice_get, refl, sym, ap, ◌∙◌, subst, arith}
+use Rattle.std.proofs.Common.{◌≡◌, ◌⊎◌, inl, inr, ℕ, ◌<◌, ◌≤◌, min, List, Option, Some, None, MatchOption, length, slice_get, take, refl, sym, ap, ◌∙◌, subst, arith}
 use Rattle.std.proofs.lemmas.Bool.{cases_lt}
 use Rattle.std.proofs.lemmas.Option.{slice_get_within}
 use Rattle.hwp_geom.specs.declared.Cpu.{Cpu}
 use Rattle.hwp_script.specs.declared.Command.{Command}
 use Rattle.hwp_script.specs.declared.Script.{Script}
 use Rattle.hwp_report.specs.declared.CpuLine.{CpuLine}
+use Rattle.hwp_report.specs.declared.CpuLine.TheVariants as lines
 use Rattle.hwp_report.specs.declared.Report.{Report}
 use Rattle.hwp_check_rules.specs.Firsts.{IsLeast, soonest}
 use Rattle.hwp_check_answers.specs.Disorders.{AreAllOrderly, AreOrderly, IsDisorder}
-use Rattle.hwp_check_answers.specs.Facts.{AreGoodRows}
-use Rattle.hwp_check_answers.proofs.SiftLaws.{behind}
+use Rattle.hwp_check_answers.specs.Facts.{AreGoodRows, at_number}
+use Rattle.hwp_check_answers.proofs.SiftLaws.{behind, good-not-wrong}
 use Rattle.hwp_check_answers.specs.Sifting.{AreAllRight, AreAllSound, AreSound, IsAnswerLine, IsFirstAnswer, IsWrongAnswer}
 
 module _ (script : Script) (report : Report) where
   pub no_disorder : AreAllOrderly script report → (line : ℕ) → IsDisorder script report line → ⊥
   no_disorder orderly line (inl u) = u.lacks ((orderly u.cpu.0 u.commands u.rows u.of_script u.of_report).each u.seq u.within)
   no_disorder orderly line (inr m) = m.out ((orderly m.cpu m.commands m.rows m.of_script m.of_report).in_place m.row m.shown m.there)
+
+  -- where all is right no line is wrong
+  pub no_answer_line : AreAllRight script report → (line : ℕ) → IsAnswerLine script report line → ⊥
+  no_answer_line all line (inl disorder) = no_disorder all.orderly line disorder
+  no_answer_line all line (inr w) =
+      good-not-wrong script report (take w.row w.rows) (at_number w.cpu w.seq) w.command w.answer
+      (all.good w.cpu w.commands w.rows w.of_script w.of_report w.row (lines.Answer w.seq w.answer) (slice_get_within w.rows w.row (lines.Answer w.seq w.answer) w.there) w.there w.seq w.answer w.command refl w.made) w.wrong
 
   -- where all lines are in place, nothing is wrong about any answer of a sound processor
   whole : (cpu : Cpu) (commands : List Command) (rows : List CpuLine) → AreOrderly commands rows → AreSound script report cpu commands rows → AreGoodRows script report cpu commands rows (length rows)

@@ -16,3 +16,4 @@ mod SiftLaws
 mod JoinLaws
 pub mod RuleLaws
 pub mod BreakLaws
+mod RuleJoin

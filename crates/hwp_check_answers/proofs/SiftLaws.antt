@@ -23,7 +23,7 @@ use Rattle.hwp_check_answers.specs.Sifting.{AreAllSound, AreSound, IsBehind, IsC
 use Rattle.hwp_check_answers.proofs.OrderLaws.{later-line, next-line}
 
 -- what is good isn't wrong
-good-not-wrong : (script : Script) (report : Report) (before : List CpuLine) (who : Who) (command : Command) (answer : Answer) → IsGood script report before who command answer → IsAnswerWrong script report before who command answer → ⊥
+pub good-not-wrong : (script : Script) (report : Report) (before : List CpuLine) (who : Who) (command : Command) (answer : Answer) → IsGood script report before who command answer → IsAnswerWrong script report before who command answer → ⊥
 good-not-wrong script report before who command answer good (inl wrong) = wrong good.right
 good-not-wrong script report before who command answer good (inr (inl wrong)) = good.named wrong
 good-not-wrong script report before who command answer good (inr (inr (inl wrong))) = good.within wrong

@@ -9,3 +9,4 @@ pub mod Befores
 pub mod Judging
 pub mod Facts
 pub mod Sifting
+pub mod Joining

@@ -18,4 +18,4 @@ mod sifting;
 mod telling;
 mod walk;
 
-pub use answering::answer_lines;
+pub use answering::{answer_lines, first_of_both};
