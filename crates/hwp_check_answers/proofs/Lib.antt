@@ -10,3 +10,10 @@ mod Legal
 mod JudgeLaws
 mod CourseLaws
 mod NextLaws
+mod FactLaws
+mod WalkLaws
+mod SiftLaws
+mod JoinLaws
+pub mod RuleLaws
+pub mod BreakLaws
+mod RuleJoin

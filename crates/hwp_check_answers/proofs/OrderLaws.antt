@@ -22,7 +22,7 @@ next-line report n rows there =
     sum_by_more cpu_height report.cpus n rows (slice_get_within report.cpus n rows there) ∙ ap (λ (r : List CpuLine). sum_by cpu_height (take n report.cpus) + cpu_height r) (get_or_from_slice_get report.cpus n rows rows there) in
     omega (arith, more)
 
-later-line : (report : Report) (i j : ℕ) → i ≤ j → cpu_line report i ≤ cpu_line report j
+pub later-line : (report : Report) (i j : ℕ) → i ≤ j → cpu_line report i ≤ cpu_line report j
 later-line report i j less =
     let part : sum_by cpu_height (take i (take j report.cpus)) ≤ sum_by cpu_height (take j report.cpus) = sum_by-take-le cpu_height (take j report.cpus) i in
     let same : sum_by cpu_height (take i (take j report.cpus)) ≡ sum_by cpu_height (take i report.cpus) = ap (sum_by cpu_height) (take-take i j report.cpus less) in

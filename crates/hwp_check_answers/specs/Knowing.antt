@@ -1,5 +1,5 @@
 -- What is known of a script and its report.
-use Rattle.std.specs.Prelude.{◌≡◌, length}
+use Rattle.std.specs.Prelude.{◌≡◌, ◌<◌, length}
 use Rattle.std.specs.List.{list_any}
 use Rattle.hwp_geom.specs.declared.Cpu.{Cpu}
 use Rattle.hwp_geom.specs.declared.Thread.{Thread}
@@ -19,6 +19,7 @@ use Rattle.hwp_script.specs.declared.Script.{Script}
 use Rattle.hwp_report.specs.declared.Report.{Report}
 use Rattle.hwp_law.specs.Answers.{is_ample}
 use Rattle.hwp_evidence.specs.Glances.{AreGlances}
+use Rattle.hwp_check_answers.specs.Befores.{thread_numbers}
 use Rattle.hwp_check_answers.specs.declared.known.Known.{Known}
 
 -- it is right
@@ -35,6 +36,6 @@ pub record IsOwn (script : Script) (report : Report) (cpu : Cpu) (own : Own) : T
 
 -- and what is known of a command
 pub record IsTold (script : Script) (report : Report) (who : Who) (command : Command) (told : Told) : Type 0 where
-  pub old : (thread : Thread) (args : PrctlArgs) → command ≡ commands.Prctl thread args → told.old ≡ policy_before script who thread
+  pub old : (thread : Thread) (args : PrctlArgs) → thread.0 < thread_numbers → command ≡ commands.Prctl thread args → told.old ≡ policy_before script who thread
   pub events : told.events ≡ length (events_of report who)
   pub ends : told.ends ≡ list_any ends_machine (events_of report who)

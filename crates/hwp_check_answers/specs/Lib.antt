@@ -7,3 +7,6 @@ pub mod Causing
 pub mod Knowing
 pub mod Befores
 pub mod Judging
+pub mod Facts
+pub mod Sifting
+pub mod Joining

@@ -1,10 +1,11 @@
-ghost use Rattle.std.specs.Prelude.{◌≡◌, ◌≢◌, ◌↔◌, IsTrue, true};
+ghost use Rattle.std.specs.Prelude.{◌≡◌, ◌≢◌, ◌↔◌, ◌<◌, IsTrue, true};
 ghost use Rattle.hwp_report.specs.declared.Answer.TheVariants as answers;
 ghost use Rattle.std.specs.List.{list_any};
 ghost use Rattle.hwp_law.specs.Causes.{IsCaused, IsHeeded, ends_machine};
 ghost use Rattle.hwp_law.specs.Lines.{events_of};
 ghost use Rattle.hwp_check_rules.specs.Answered.{IsRight, IsShown};
 ghost use Rattle.hwp_check_answers.specs.Asking.{is_by_state as is_by_state_of};
+ghost use Rattle.hwp_check_answers.specs.Befores.{thread_numbers};
 ghost use Rattle.hwp_check_answers.specs.Causing.{IsLast, is_last as is_last_of};
 ghost use Rattle.hwp_check_answers.specs.Knowing.{IsKnown, IsOwn, IsTold};
 ghost use Rattle.hwp_check_answers.specs.Plain.{is_plain as is_plain_of};
@@ -15,7 +16,7 @@ use crate::known::{Known, is_by_end, is_by_lines, is_by_state};
 use crate::plain::{is_kernels, is_plain};
 use crate::telling::is_by_entry;
 use hwp_evidence::Span;
-use hwp_geom::{List, Who};
+use hwp_geom::{List, Thread, Who};
 use hwp_kill::Policy;
 use hwp_report::{Answer, Report};
 use hwp_script::{Command, Script};
@@ -81,6 +82,13 @@ fn speaks_plainly(command: &Command, answer: &Answer) -> bool
     }
 }
 
+/// The number of a thread is of its width.
+fn small(thread: Thread)
+    ensures { thread.0 < thread_numbers }
+{
+    let _thread = thread;
+}
+
 /// Whether the answer is what a thread's policy, or a frame's record, says.
 fn is_last_right(
     script: &Script,
@@ -98,7 +106,10 @@ fn is_last_right(
     ensures { IsTrue result ↔ IsLast script.now report.now who command.now answer.now }
 {
     match *command {
-        Command::Prctl { args, .. } => is_reply(told.old, &args, answer),
+        Command::Prctl { thread, args } => {
+            small(thread);
+            is_reply(told.old, &args, answer)
+        }
         Command::Inject { frame } => {
             script.layout.recovery && is_failure(report, who, frame, answer)
         }

@@ -13,14 +13,13 @@ use Rattle.hwp_report.specs.declared.CpuLine.{CpuLine}
 use Rattle.hwp_report.specs.declared.CpuLine.TheVariants as lines
 use Rattle.hwp_report.specs.declared.Report.{Report}
 use Rattle.hwp_law.specs.Answers.{is_answering}
-use Rattle.hwp_law.specs.Checks.{Banks}
-use Rattle.hwp_law.specs.Commands.{arrival_of, process_at}
+use Rattle.hwp_law.specs.Commands.{process_at}
 use Rattle.hwp_law.specs.Endings.{HasEnded, IsOver, WasGone}
 use Rattle.hwp_law.specs.Lines.{events_of}
 use Rattle.hwp_law.specs.Places.{command_at, entry_at}
 use Rattle.hwp_law.specs.States.{IsInWindow, entry_named, state_named}
+use Rattle.hwp_events.specs.Misfits.{IsWrong, Lacks, found_by}
 use Rattle.hwp_check_rules.specs.Answered.{HasAnswer, IsInPlace, IsRight, is_answer, seq_of}
-use Rattle.hwp_check_rules.specs.Scans.{AreFound, IsWrong, Lacks}
 use Rattle.hwp_check_rules.specs.Standing.{cpu_line, row_line}
 
 -- a command has no answer
@@ -39,10 +38,8 @@ pub record IsUnanswered (script : Script) (report : Report) (line : ℕ) : Type 
 pub record LacksEvents (script : Script) (report : Report) (line : ℕ) : Type 0 where
   pub who : Who
   pub command : Command
-  pub banks : Banks
   pub made : command_at script who ≡ Some command
-  pub found : AreFound script report who banks
-  pub lacks : Lacks script report who (arrival_of command) command banks (events_of report who)
+  pub lacks : Lacks script report who command (found_by script report who) (events_of report who)
   pub line_is : line ≡ cpu_line report who.cpu.0
 
 -- an entry that answers the command is not the one that its answer names
@@ -80,9 +77,7 @@ events_before rows row seq = count_by (λ (l : CpuLine). not (is_answer l) && (s
 
 -- an event line is not the one that its command's machine checks ask at its place
 pub record IsEventWrong (script : Script) (report : Report) (rows : List CpuLine) (row : ℕ) (who : Who) (command : Command) : Type 0 where
-  pub banks : Banks
-  pub found : AreFound script report who banks
-  pub wrong : IsWrong script report who (arrival_of command) command banks (events_of report who) (events_before rows row who.seq)
+  pub wrong : IsWrong script report who command (found_by script report who) (events_of report who) (events_before rows row who.seq)
 
 -- what is wrong about a line of a command: an answer is judged by the lines before it, since of lines that stand wrong the first is named
 abbrev pub IsLineWrong : Script → Report → Cpu → List CpuLine → ℕ → CpuLine → Command → Type 0

@@ -4,7 +4,6 @@ pub mod Answered
 pub mod Rules
 pub mod Faults
 pub mod MarkFaults
-pub mod Scans
 pub mod AnswerFaults
 pub mod Verdicts
 pub mod Pasts

@@ -1,5 +1,5 @@
 -- Behind which place a scrub can meet no bad line, frame by frame; and what it leaves in bank 1.
-use Rattle.std.proofs.Common.{◌≡◌, ◌⊎◌, inl, inr, ℕ, zero, suc, ◌+◌, ◌-◌, ◌*◌, ◌<◌, cond, List, [], ◌∷◌, Option, Some, None, fold, refl, sym, ap, ◌∙◌, subst, arith}
+use Rattle.std.proofs.Common.{◌≡◌, ◌⊎◌, inl, inr, ℕ, zero, suc, ◌+◌, ◌-◌, ◌*◌, ◌<◌, cond, List, [], ◌∷◌, Option, None, refl, sym, ap, ◌∙◌, arith}
 use Rattle.hwp_banks.specs.declared.Event.{Event}
 use Rattle.hwp_report.specs.declared.Report.{Report}
 use Rattle.hwp_law.specs.Lines.{EventLine}

@@ -17,3 +17,11 @@ mod Whole
 mod Bounds
 mod Walks
 mod ValidLaws
+mod JudgeLaws
+mod IndexLaws
+mod FirstAnswers
+mod CheckCounts
+mod TableLaws
+mod WalkLaws
+mod WalkSteps
+mod Verdicts

@@ -1,5 +1,5 @@
 -- The damaged lines of frames.
-use Rattle.std.proofs.Common.{◌≡◌, ◌↔◌, ◌⊎◌, inl, inr, ℕ, ◌<◌, ◌≤◌, ◌/◌, ◌^◌, ◌==◌, Option, Some, None, IsTrue, bit_and, length, option_map, slice_get, unwrap_or, true≢false, refl, sym, ap, ◌∙◌, subst, arith}
+use Rattle.std.proofs.Common.{◌≡◌, ◌↔◌, inl, inr, ℕ, ◌<◌, ◌/◌, ◌^◌, Option, IsTrue, bit_and, length, option_map, unwrap_or, sym, ◌∙◌, subst, arith}
 use Rattle.std.specs.Int.{IsBitSet, bit_at}
 use Rattle.std.proofs.lemmas.Bool.{cases_lt, eq-eqb, eqb-true}
 use Rattle.std.proofs.lemmas.Nat.{bit_set_by_shift}
@@ -7,7 +7,7 @@ use Rattle.std.proofs.lemmas.Nat.Bits.{bit_at-zero, shr_and_one}
 use Rattle.std.proofs.lemmas.Option.{slice_get_past}
 use Rattle.hwp_report.specs.declared.FrameLine.{FrameLine}
 use Rattle.hwp_report.specs.declared.Report.{Report}
-use Rattle.hwp_law.specs.Lines.{bad_lines_of, weak_lines_of}
+use Rattle.hwp_law.specs.Lines.{bad_lines_of}
 use Rattle.hwp_events.specs.Scrubs.{has_line}
 
 pub has_line_is : (mask line : ℕ) → IsTrue (has_line mask line) ↔ IsBitSet mask line

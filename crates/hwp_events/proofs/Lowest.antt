@@ -1,5 +1,5 @@
 -- The lowest lines that earlier commands of a processor marked.
-use Rattle.std.proofs.Common.{◌≡◌, ◌⊎◌, inl, inr, ℕ, zero, suc, ◌+◌, ◌*◌, ◌<◌, ◌≤◌, ◌==◌, min, Bool, true, false, cond, List, [], ◌∷◌, Option, Some, None, fold, length, slice_get, take, unwrap_or, IsSomeAnd, refl, sym, ap, ◌∙◌, subst, arith}
+use Rattle.std.proofs.Common.{◌≡◌, ◌⊎◌, inl, inr, ℕ, zero, suc, ◌+◌, ◌*◌, ◌<◌, ◌≤◌, ◌==◌, min, Bool, true, false, cond, List, [], ◌∷◌, Option, Some, None, fold, slice_get, take, unwrap_or, IsSomeAnd, refl, sym, ap, ◌∙◌, subst, arith}
 use Rattle.std.specs.Option.{option_and_then}
 use Rattle.std.proofs.lemmas.Bool.{cases_lt, eq-eqb, eqb-true, true≢false}
 use Rattle.std.proofs.lemmas.Option.{none-some, same_Some}
@@ -95,10 +95,10 @@ marks-of origins.Fetch frame _ less = absurd (let l : 64 < 64 = less in omega (a
 
 -- the lowest of what commands mark at a place
 module _ (place : ℕ) where
-  abbrev from : ℕ → List Command → ℕ
+  abbrev pub from : ℕ → List Command → ℕ
   from start list = fold (λ (low : ℕ) (c : Command). min low (marked_at place c)) start list
 
-  from-start : (list : List Command) (start : ℕ) → from start list ≤ start
+  pub from-start : (list : List Command) (start : ℕ) → from start list ≤ start
   from-start [] start = omega arith
   from-start (c ∷ cs) start = let rest : from (min start (marked_at place c)) cs ≤ min start (marked_at place c) = from-start cs (min start (marked_at place c)) in omega (arith, rest)
 

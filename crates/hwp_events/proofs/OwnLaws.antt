@@ -1,5 +1,5 @@
 -- The line of an own event of a machine check of an access: the frame that its address says decides, or any that is bad there.
-use Rattle.std.proofs.Common.{◌≡◌, ◌⊎◌, ◌↔◌, inl, inr, ℕ, ◌<◌, ◌*◌, ◌+◌, ◌/◌, ◌||◌, Bool, true, false, Option, Some, None, true≢false, refl, sym, ap, ◌∙◌, subst, arith}
+use Rattle.std.proofs.Common.{◌≡◌, ◌⊎◌, ◌↔◌, inl, inr, ℕ, ◌<◌, ◌*◌, ◌+◌, ◌||◌, Bool, true, Option, Some, None, true≢false, refl, sym, ap, ◌∙◌, subst, arith}
 use Rattle.std.specs.Int.{IsBitSet}
 use Rattle.hwp_geom.specs.declared.Frame.{Frame}
 use Rattle.hwp_geom.specs.declared.Who.{Who}

@@ -1,12 +1,12 @@
 -- The machine check of a raise: what the law says of it, line by line.
-use Rattle.std.proofs.Common.{◌≡◌, ◌⊎◌, inl, inr, ℕ, zero, suc, ◌<◌, ◌≤◌, ◌||◌, Bool, true, false, cond, List, [], ◌∷◌, Option, Some, None, MatchBool, get_or, is_some, length, map, slice_get, refl, sym, ap, ◌∙◌, subst, arith}
+use Rattle.std.proofs.Common.{◌≡◌, ℕ, zero, suc, ◌<◌, ◌||◌, Bool, false, List, [], ◌∷◌, Option, Some, None, get_or, is_some, length, map, slice_get, refl, sym, ap, subst, arith}
 use Rattle.std.specs.Int.{from_bool}
 use Rattle.std.proofs.lemmas.Option.{none-some, same_Some}
 use Rattle.hwp_geom.specs.declared.Who.{Who}
 use Rattle.hwp_banks.specs.declared.Event.{Event}
 use Rattle.hwp_script.specs.declared.Script.{Script}
 use Rattle.hwp_report.specs.declared.Report.{Report}
-use Rattle.hwp_law.specs.Checks.{AreLinesOf, Banks, IsCheck, empty_banks, has_stop, held_from}
+use Rattle.hwp_law.specs.Checks.{IsCheck}
 use Rattle.hwp_law.specs.Commands.{Arrival}
 use Rattle.hwp_law.specs.Lines.{EventLine}
 use Rattle.hwp_events.specs.Accesses.{IsRaisedLine, IsRawLine}

@@ -14,7 +14,7 @@ use Rattle.hwp_script.specs.declared.Script.{Script}
 use Rattle.hwp_report.specs.declared.Report.{Report}
 use Rattle.hwp_law.specs.Checks.{IsLineOf, is_panic}
 use Rattle.hwp_law.specs.Commands.{Arrival}
-use Rattle.hwp_law.specs.Events.{AreScrubbed, IsScrubbed, MeetsMarked}
+use Rattle.hwp_law.specs.Events.{AreScrubbed, MeetsMarked}
 use Rattle.hwp_law.specs.Lines.{EventLine}
 use Rattle.hwp_events.specs.Accesses.{IsRawLine}
 use Rattle.hwp_events.specs.Found.{has_stopper, resting}
@@ -24,7 +24,7 @@ use Rattle.hwp_events.specs.declared.reach.Turn.{Turn}
 use Rattle.hwp_events.specs.declared.reach.Turn.TheVariants as turns
 use Rattle.hwp_events.proofs.FoundLaws.{or-none}
 use Rattle.hwp_events.proofs.MarkLaws.{is-unmarked, mark, mark-first, mark-last}
-use Rattle.hwp_events.proofs.ScrubForth.{AllGood, Good, MeetsLow, step}
+use Rattle.hwp_events.proofs.ScrubForth.{AllGood, MeetsLow, step}
 use Rattle.hwp_events.proofs.ScrubFound.{BadLines, BadMet, WeakMet, bad-back, weak-back}
 use Rattle.hwp_events.proofs.ScrubLines.{Known, Met, known}
 

@@ -1,13 +1,13 @@
 -- A scrub that the law allows, gone through line by line: each line is right, and no marked place is passed over.
-use Rattle.std.proofs.Common.{◌≡◌, ◌⊎◌, inl, inr, ℕ, zero, suc, ◌+◌, ◌-◌, ◌*◌, ◌<◌, ◌≤◌, ◌&&◌, ◌||◌, min, Bool, true, false, cond, List, [], ◌∷◌, ◌++◌, Option, Some, None, add-one, fold, is_none, is_some, unwrap_or, refl, sym, ap, ◌∙◌, subst, arith}
-use Rattle.std.proofs.lemmas.Bool.{cases_eq, cases_lt, cond-false, cond-true, or_left, or_right}
+use Rattle.std.proofs.Common.{◌≡◌, inl, inr, ℕ, zero, suc, ◌+◌, ◌-◌, ◌*◌, ◌<◌, ◌≤◌, ◌||◌, min, Bool, true, false, cond, List, [], ◌∷◌, ◌++◌, Option, Some, None, fold, is_none, is_some, unwrap_or, refl, sym, ap, ◌∙◌, subst, arith}
+use Rattle.std.proofs.lemmas.Bool.{cases_eq, cases_lt, cond-true, or_left, or_right}
 use Rattle.std.proofs.lemmas.List.Sums.{fold-append}
 use Rattle.std.proofs.lemmas.Option.{none-some, same_Some}
 use Rattle.hwp_geom.specs.Limits.{line_limit}
 use Rattle.hwp_geom.specs.declared.Frame.{Frame}
 use Rattle.hwp_geom.specs.declared.Who.{Who}
 use Rattle.hwp_banks.specs.Addresses.{frame_at}
-use Rattle.hwp_banks.specs.Events.{bank_of, own_event}
+use Rattle.hwp_banks.specs.Events.{own_event}
 use Rattle.hwp_banks.specs.declared.Event.{Event}
 use Rattle.hwp_banks.specs.declared.Origin.{Origin}
 use Rattle.hwp_banks.specs.declared.Origin.TheVariants as origins
@@ -15,11 +15,11 @@ use Rattle.hwp_script.specs.declared.Script.{Script}
 use Rattle.hwp_report.specs.declared.Report.{Report}
 use Rattle.hwp_law.specs.Checks.{Banks, IsLineOf, is_panic}
 use Rattle.hwp_law.specs.Commands.{Arrival}
-use Rattle.hwp_law.specs.Events.{AreScrubbed, IsBadFound, IsDamaged, IsScrubbed, IsWeakFound, MeetsMarked}
+use Rattle.hwp_law.specs.Events.{AreScrubbed, IsDamaged, IsScrubbed, IsWeakFound, MeetsMarked}
 use Rattle.hwp_law.specs.Lines.{EventLine, bad_lines_of}
 use Rattle.hwp_events.specs.Accesses.{IsRawLine}
 use Rattle.hwp_events.specs.Found.{has_stopper, resting}
-use Rattle.hwp_events.specs.Scrubs.{Course, IsScrubbedLine, after, after_all, bound_from, can_meet_bad, has_line, has_line_below, line_at, marked_from, may_meet, own_at, passed_to, place_of, turn}
+use Rattle.hwp_events.specs.Scrubs.{Course, IsScrubbedLine, after, bound_from, can_meet_bad, has_line, has_line_below, line_at, marked_from, own_at, passed_to, place_of, turn}
 use Rattle.hwp_events.specs.declared.reach.Reach.{Reach}
 use Rattle.hwp_events.specs.declared.reach.Turn.{Turn}
 use Rattle.hwp_events.specs.declared.reach.Turn.TheVariants as turns

@@ -1,19 +1,19 @@
 -- What the law says of a frame that a scrub goes over, in lines.
-use Rattle.std.proofs.Common.{◌≡◌, ◌⊎◌, inl, inr, ℕ, ◌+◌, ◌<◌, ◌≤◌, ◌||◌, Bool, true, false, List, [], ◌∷◌, ◌++◌, Option, Some, None, slice_get, slice_set, true≢false, refl, sym, ap, ◌∙◌, subst}
+use Rattle.std.proofs.Common.{◌≡◌, ℕ, ◌||◌, Bool, true, false, List, [], ◌∷◌, ◌++◌, Option, Some, None, refl, sym, ap, subst}
 use Rattle.std.proofs.lemmas.Option.{same_Some}
 use Rattle.hwp_geom.specs.declared.Frame.{Frame}
 use Rattle.hwp_geom.specs.declared.Who.{Who}
-use Rattle.hwp_banks.specs.Events.{bank_of, own_event}
+use Rattle.hwp_banks.specs.Events.{own_event}
 use Rattle.hwp_banks.specs.declared.Event.{Event}
 use Rattle.hwp_banks.specs.declared.Origin.TheVariants as origins
 use Rattle.hwp_script.specs.declared.Script.{Script}
 use Rattle.hwp_report.specs.declared.Report.{Report}
-use Rattle.hwp_law.specs.Checks.{AreLinesOf, Banks, IsLineOf, has_stop, held_from, is_panic, log_in}
+use Rattle.hwp_law.specs.Checks.{AreLinesOf, Banks, IsLineOf, has_stop, held_from, is_panic}
 use Rattle.hwp_law.specs.Commands.{Arrival}
 use Rattle.hwp_law.specs.Events.{IsBadFound, IsDamaged, IsWeakFound}
 use Rattle.hwp_law.specs.Lines.{EventLine}
-use Rattle.hwp_events.specs.Found.{has_stopper, may_stop, resting, stops}
-use Rattle.hwp_events.proofs.FoundLaws.{banks_at, held_raw, one-line, or-none, two-lines}
+use Rattle.hwp_events.specs.Found.{has_stopper, resting, stops}
+use Rattle.hwp_events.proofs.FoundLaws.{banks_at, held_raw, one-line, two-lines}
 
 held-bad : (raw : Option Event) (frame : Frame) (at : ℕ) → held_from 0 (banks_at origins.BadLine raw frame at) ≡ held_raw raw ++ (2, own_event origins.BadLine frame at) ∷ []
 held-bad None frame at = refl

@@ -1,11 +1,10 @@
 -- What a valid script says of its commands.
-use Rattle.std.proofs.Common.{◌≡◌, ℕ, zero, suc, ◌+◌, ◌<◌, ◌≤◌, List, [], ◌∷◌, Option, Some, None, slice_get, refl, sym, ap, ◌∙◌, subst, arith}
+use Rattle.std.proofs.Common.{◌≡◌, ℕ, zero, suc, ◌+◌, ◌<◌, List, [], ◌∷◌, Option, Some, None, slice_get, refl, subst, arith}
 use Rattle.std.specs.List.{All}
 use Rattle.std.specs.Option.{option_and_then}
 use Rattle.std.proofs.lemmas.List.Elements.{All-get_or}
 use Rattle.std.proofs.lemmas.Option.{get_or_from_slice_get, none-some, same_Some, slice_get_within}
 use Rattle.hwp_geom.specs.Limits.{line_limit}
-use Rattle.hwp_geom.specs.declared.Cpu.{Cpu}
 use Rattle.hwp_geom.specs.declared.Frame.{Frame}
 use Rattle.hwp_geom.specs.declared.Layout.{Layout}
 use Rattle.hwp_geom.specs.declared.Who.{Who}
@@ -16,7 +15,6 @@ use Rattle.hwp_script.specs.declared.Command.{Command}
 use Rattle.hwp_script.specs.declared.Command.TheVariants as commands
 use Rattle.hwp_script.specs.declared.Script.{Script}
 use Rattle.hwp_law.specs.Events.{marking}
-use Rattle.hwp_law.specs.Places.{command_at}
 use Rattle.hwp_events.specs.Misfits.{IsFit}
 use Rattle.hwp_events.proofs.Lowest.{HasLines}
 
@@ -28,7 +26,7 @@ list-at layout cpu [] i list are there = absurd (none-some list there)
 list-at layout cpu (l ∷ ls) zero list are there = subst (All (IsCommandOf layout (cpu + 0))) (same_Some _ _ there) (subst (λ (c : ℕ). All (IsCommandOf layout c) l) (let e : cpu ≡ cpu + 0 = omega arith in e) are.0)
 list-at layout cpu (l ∷ ls) (suc i) list are there = subst (λ (c : ℕ). All (IsCommandOf layout c) list) (let e : cpu + 1 + i ≡ cpu + suc i = omega arith in e) (list-at layout (cpu + 1) ls i list are.1 there)
 
-command-of : (script : Script) (cpu n : ℕ) (list : List Command) (command : Command) → IsValid script → slice_get script.lists cpu ≡ Some list → slice_get list n ≡ Some command → IsCommandOf script.layout (0 + cpu) command
+pub command-of : (script : Script) (cpu n : ℕ) (list : List Command) (command : Command) → IsValid script → slice_get script.lists cpu ≡ Some list → slice_get list n ≡ Some command → IsCommandOf script.layout (0 + cpu) command
 command-of script cpu n list command valid of there = all-at (IsCommandOf script.layout (0 + cpu)) list n command (list-at script.layout 0 script.lists cpu list valid.lists of) there
 
 fit : (layout : Layout) (cpu : ℕ) (command : Command) → IsCommandOf layout cpu command → IsFit command

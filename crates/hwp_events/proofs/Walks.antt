@@ -1,5 +1,5 @@
 -- The event lines of a processor are those that the law asks exactly where those of each command are right and none lacks.
-use Rattle.std.proofs.Common.{◌≡◌, ◌↔◌, ℕ, zero, suc, ◌+◌, ◌<◌, List, [], ◌∷◌, Option, Some, None, add-one, slice_get, take, unwrap_or, refl, sym, ap, ◌∙◌, subst, arith}
+use Rattle.std.proofs.Common.{◌≡◌, ◌↔◌, ℕ, zero, suc, ◌+◌, List, [], ◌∷◌, Option, Some, None, slice_get, take, unwrap_or, refl, sym, ap, subst, arith}
 use Rattle.std.proofs.lemmas.Option.{none-some, same_Some}
 use Rattle.hwp_geom.specs.declared.Cpu.{Cpu}
 use Rattle.hwp_geom.specs.declared.Who.{Who}
@@ -7,12 +7,11 @@ use Rattle.hwp_banks.specs.declared.Event.{Event}
 use Rattle.hwp_script.specs.declared.Command.{Command}
 use Rattle.hwp_script.specs.declared.Script.{Script}
 use Rattle.hwp_report.specs.declared.Report.{Report}
-use Rattle.hwp_law.specs.Checks.{Banks, empty_banks}
-use Rattle.hwp_law.specs.Events.{AreEvents, AreEventsFrom}
+use Rattle.hwp_law.specs.Checks.{empty_banks}
+use Rattle.hwp_law.specs.Events.{AreEventsFrom}
 use Rattle.hwp_law.specs.Lines.{events_of}
-use Rattle.hwp_events.specs.Firsts.{AreRight}
 use Rattle.hwp_events.specs.Found.{resting}
-use Rattle.hwp_events.specs.Misfits.{AreTold, IsFit, IsTold, IsWrong, Lacks, found_by, leaves, left_by}
+use Rattle.hwp_events.specs.Misfits.{AreTold, IsFit, IsTold, found_by, leaves, left_by}
 use Rattle.hwp_events.proofs.Lowest.{HasLines}
 use Rattle.hwp_events.proofs.Whole.{AreMasks, whole-back, whole-forth}
 

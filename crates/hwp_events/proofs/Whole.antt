@@ -1,9 +1,8 @@
 -- The event lines of a command are those that the law asks exactly where each is right at its place and none lacks.
-use Rattle.std.proofs.Common.{◌≡◌, ◌⊎◌, inl, inr, ℕ, zero, suc, ◌+◌, ◌-◌, ◌*◌, ◌<◌, ◌≤◌, ◌==◌, Bool, true, false, cond, List, [], ◌∷◌, Option, Some, None, MatchBool, fold, get_or, is_some, length, slice_get, take, refl, sym, ap, ◌∙◌, subst, arith}
+use Rattle.std.proofs.Common.{◌≡◌, inl, inr, ℕ, zero, suc, ◌+◌, ◌-◌, ◌*◌, ◌<◌, ◌≤◌, ◌==◌, Bool, true, false, cond, List, [], ◌∷◌, Option, Some, None, MatchBool, is_some, length, slice_get, refl, sym, ap, ◌∙◌, subst, arith}
 use Rattle.std.specs.Int.{from_bool}
-use Rattle.std.proofs.lemmas.Bool.{MatchBool-at_false, MatchBool-at_true, cases_lt}
+use Rattle.std.proofs.lemmas.Bool.{cases_lt}
 use Rattle.std.proofs.lemmas.Option.{none-some, same_Some, slice_get-get_or}
-use Rattle.hwp_geom.specs.Limits.{line_limit}
 use Rattle.hwp_geom.specs.declared.Frame.{Frame}
 use Rattle.hwp_geom.specs.declared.Who.{Who}
 use Rattle.hwp_banks.specs.declared.Event.{Event}
@@ -23,8 +22,8 @@ use Rattle.hwp_law.specs.Pairings.{entries_of}
 use Rattle.hwp_events.specs.Accesses.{IsAccessLine, IsRaisedLine, asked_by_access}
 use Rattle.hwp_events.specs.Firsts.{AreRight}
 use Rattle.hwp_events.specs.Found.{of_access, resting}
-use Rattle.hwp_events.specs.Misfits.{IsFit, IsRightLine, Lacks, access_of, course_of, leaves, logged_if, low_of, reach_from}
-use Rattle.hwp_events.specs.Scrubs.{Course, IsScrubbedLine, after, after_all, bound_from, lacking, marked_from, passed_to, turn}
+use Rattle.hwp_events.specs.Misfits.{IsFit, IsRightLine, Lacks, access_of, course_of, leaves, logged_if, reach_from}
+use Rattle.hwp_events.specs.Scrubs.{Course, IsScrubbedLine, after, after_all, lacking, marked_from, turn}
 use Rattle.hwp_events.specs.Scrubbing.{IsRightIn}
 use Rattle.hwp_events.specs.declared.reach.Reach.{Reach}
 use Rattle.hwp_events.specs.declared.reach.Turn.{Turn}
@@ -33,7 +32,7 @@ use Rattle.hwp_events.proofs.AccessLaws.{access-back, access-forth}
 use Rattle.hwp_events.proofs.Lowest.{HasLines, backs, lows, most}
 use Rattle.hwp_events.proofs.RaiseLaws.{check-back, check-forth}
 use Rattle.hwp_events.proofs.ScrubBack.{frames-back}
-use Rattle.hwp_events.proofs.ScrubForth.{AllGood, Good, Ready, bound-has, can-meet, frames-forth, step}
+use Rattle.hwp_events.proofs.ScrubForth.{AllGood, Ready, bound-has, can-meet, frames-forth, step}
 
 -- lines that can be damaged are lines
 abbrev pub AreMasks : Report → Type 0

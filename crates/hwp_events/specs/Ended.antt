@@ -1,5 +1,5 @@
 -- Whether a frame's record may have ended in a poisoning, or not, while a command ran, mark by mark.
-use Rattle.std.specs.Prelude.{ℕ, ◌==◌, nat_lt, ◌&&◌, ◌||◌, not, Bool, true, false, List, [], ◌∷◌}
+use Rattle.std.specs.Prelude.{◌==◌, nat_lt, ◌&&◌, ◌||◌, not, Bool, true, false, List, [], ◌∷◌}
 use Rattle.hwp_geom.specs.declared.Who.{Who}
 use Rattle.hwp_report.specs.declared.MarkLine.{MarkLine}
 use Rattle.hwp_law.specs.Records.{is_poisoning, who_in}

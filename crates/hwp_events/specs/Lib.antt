@@ -6,3 +6,6 @@ pub mod Accesses
 pub mod Scrubs
 pub mod Scrubbing
 pub mod Misfits
+pub mod Judged
+pub mod Indexed
+pub mod Walked

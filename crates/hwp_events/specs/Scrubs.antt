@@ -1,9 +1,8 @@
 -- The event lines of a scrub, one after another: at which place it comes to a line, and what it passes over. The bad line of a
 -- frame and its weak line have a place each, in the order in which the scrub comes to them.
-use Rattle.std.specs.Prelude.{◌≡◌, ℕ, zero, suc, ◌+◌, ◌-◌, ◌*◌, ◌/◌, ◌%◌, ◌^◌, ◌<◌, ◌==◌, nat_le, nat_lt, min, Bool, true, false, not, ◌&&◌, ◌||◌, cond, List, [], ◌∷◌, Option, Some, None, bit_and, fold, is_none, is_some, unwrap_or}
+use Rattle.std.specs.Prelude.{ℕ, zero, suc, ◌+◌, ◌-◌, ◌*◌, ◌/◌, ◌%◌, ◌^◌, ◌==◌, nat_le, nat_lt, min, Bool, false, ◌&&◌, ◌||◌, cond, List, Some, None, bit_and, fold, is_none, is_some, unwrap_or}
 use Rattle.std.specs.Int.{from_bool}
 use Rattle.hwp_geom.specs.Limits.{line_limit}
-use Rattle.hwp_geom.specs.declared.Frame.{Frame}
 use Rattle.hwp_geom.specs.declared.Who.{Who}
 use Rattle.hwp_banks.specs.Addresses.{frame_at}
 use Rattle.hwp_banks.specs.Events.{bank_of, line_misc, own_event, own_status}

@@ -6,7 +6,6 @@ use Rattle.hwp_page.specs.declared.Outcome.{Outcome}
 use Rattle.hwp_page.specs.declared.Outcome.TheVariants as outcomes
 use Rattle.hwp_report.specs.declared.Acted.{Acted}
 use Rattle.hwp_report.specs.declared.Acted.TheVariants as acts
-use Rattle.hwp_report.specs.declared.How.{How}
 use Rattle.hwp_report.specs.declared.How.TheVariants as hows
 use Rattle.hwp_report.specs.declared.MarkLine.{MarkLine}
 use Rattle.hwp_report.specs.declared.MarkLine.TheVariants as marks

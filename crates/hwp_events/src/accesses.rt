@@ -1,4 +1,4 @@
-ghost use Rattle.std.specs.Prelude.{◌≡◌, ◌↔◌, ◌<◌, ◌≤◌, ◌^◌, ◌||◌, ℕ, true, None, IsTrue, IsBitSet, MatchOption, length, map};
+ghost use Rattle.std.specs.Prelude.{◌≡◌, ◌↔◌, ◌<◌, ◌≤◌, ◌+◌, ◌^◌, ◌||◌, ℕ, true, None, IsTrue, IsBitSet, MatchOption, length, map};
 ghost use Rattle.hwp_law.specs.Checks.{is_panic};
 ghost use Rattle.hwp_law.specs.Lines.{bad_lines_of};
 ghost use Rattle.hwp_events.specs.Accesses.{IsAccessLine, IsOwnLine, IsRawLine, asked_by_access, begins_in_panic};
@@ -158,7 +158,7 @@ fn begins_in_panic(lines: &[Shown]) -> bool
 
 /// How many lines the machine checks ask, of which the first finds this in bank 1.
 pub(crate) fn asked_by_access(checks: &Checks, raw: Option<Event>) -> u64
-    requires { checks.now.count < 2 ^ 63 }
+    requires { checks.now.count + 1 < 2 ^ 64 }
     ensures { result ≡ asked_by_access (access_by checks.now raw) }
 {
     if checks.count == 0 {
@@ -184,7 +184,7 @@ fn is_first_line(
 ) -> bool
     requires access { of_access checks.now.origin ≡ true }
     requires frames { length report.now.frames ≤ 65536 }
-    requires few { checks.now.count < 2 ^ 63 }
+    requires few { checks.now.count + 1 < 2 ^ 64 }
     ensures first { IsTrue result ↔ ((0 < asked_by_access (access_by checks.now raw.old)) × IsOwnLine script.now report.now who (coming how) checks.now.origin checks.now.at raw.old (told line.now)) }
     ensures kept { checks.now.count ≡ 0 → raw.new ≡ raw.old }
 {
@@ -206,7 +206,7 @@ fn is_later_line(
 ) -> bool
     requires access { of_access checks.now.origin ≡ true }
     requires frames { length report.now.frames ≤ 65536 }
-    requires few { checks.now.count < 2 ^ 63 }
+    requires few { checks.now.count + 1 < 2 ^ 64 }
     requires later { 0 < number }
     ensures { IsTrue result ↔ IsAccessLine script.now report.now who (coming how) (access_by checks.now raw) (map told lines.now) number (told line.now) }
 {
@@ -233,7 +233,7 @@ pub(crate) fn access_wrong(
 ) -> Option<usize>
     requires access { of_access checks.now.origin ≡ true }
     requires frames { length report.now.frames ≤ 65536 }
-    requires few { checks.now.count < 2 ^ 63 }
+    requires few { checks.now.count + 1 < 2 ^ 64 }
     ensures scanned { IsScanned (IsAccessLine script.now report.now who (coming how) (access_by checks.now raw.old) (map told lines.now)) (map told lines.now) result }
     ensures kept { checks.now.count ≡ 0 → raw.new ≡ raw.old }
 {

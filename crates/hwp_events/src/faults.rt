@@ -1,4 +1,4 @@
-ghost use Rattle.std.specs.Prelude.{◌≡◌, ◌≤◌, ◌<◌, ◌==◌, ◌^◌, true, None, cond, nat_lt, is_some, length, map, MatchBool};
+ghost use Rattle.std.specs.Prelude.{◌≡◌, ◌≤◌, ◌+◌, ◌<◌, ◌==◌, ◌^◌, true, None, cond, nat_lt, is_some, length, map, MatchBool};
 ghost use Rattle.std.specs.Int.{from_bool};
 ghost use Rattle.hwp_law.specs.Events.{is_raised};
 ghost use Rattle.hwp_events.specs.Accesses.{IsAccessLine, IsRaisedLine, asked_by_access};
@@ -22,7 +22,7 @@ pub struct Faults {
 }
 
 /// The first line where none is asked.
-fn any(lines: &[Shown]) -> Option<usize>
+pub(crate) fn any(lines: &[Shown]) -> Option<usize>
     ensures { IsScanned (λ number line. ⊥) (map told lines.now) result }
 {
     if lines.is_empty() { None } else { Some(0) }
@@ -40,7 +40,7 @@ pub(crate) fn access_faults(
 ) -> Faults
     requires access { of_access checks.now.origin ≡ true }
     requires frames { length report.now.frames ≤ 65536 }
-    requires few { checks.now.count < 2 ^ 63 }
+    requires few { checks.now.count + 1 < 2 ^ 64 }
     ensures scanned { IsScanned (IsAccessLine script.now report.now who (coming how) (access_by checks.now raw.old) (map told lines.now)) (map told lines.now) result.wrong }
     ensures lacks { result.lacks ≡ nat_lt (length lines.now) (asked_by_access (access_by checks.now raw.old)) }
     ensures left { raw.new ≡ cond (checks.now.count == 0) raw.old None }

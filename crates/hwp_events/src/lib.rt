@@ -4,13 +4,24 @@
 
 mod accesses;
 mod acts;
+mod checks;
 mod faults;
+mod index;
+mod judge;
 mod lines;
+mod misfits;
+mod processors;
 mod reach;
 mod records;
 mod scrub_faults;
 mod scrubs;
 mod shown;
+mod tables;
+mod walk;
 
 pub use faults::Faults;
+pub use judge::{Known, command_faults};
+pub use misfits::Misfits;
+pub use processors::processor_faults;
 pub use records::was_poisoned;
+pub use shown::Shown;

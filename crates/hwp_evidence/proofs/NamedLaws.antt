@@ -1,6 +1,6 @@
 -- A command is flagged exactly where one of its entries that its answer has to name is elsewhere.
 use Rattle.std.proofs.Common.{◌≡◌, ◌≢◌, ◌⊎◌, inl, inr, ℕ, zero, suc, ◌+◌, ◌<◌, ◌==◌, ◌&&◌, not, Bool, true, false, cond, List, [], ◌∷◌, Option, Some, None, get_or, set, replicate, length, slice_get, refl, sym, ap, ◌∙◌, subst, true≢false, arith}
-use Rattle.std.proofs.lemmas.Bool.{cases_eq, eq-eqb, eqb-true, false_from_ne_true}
+use Rattle.std.proofs.lemmas.Bool.{cases_eq, eq-eqb, eqb-true}
 use Rattle.std.proofs.lemmas.List.{get_or-set_same, get_or-set_other, get_or-replicate, length-replicate, length-set}
 use Rattle.std.proofs.lemmas.Option.{none-some, same_Some}
 use Rattle.hwp_geom.specs.declared.Cpu.{Cpu}
@@ -9,7 +9,6 @@ use Rattle.hwp_geom.specs.declared.Who.{Who}
 use Rattle.hwp_page.specs.declared.At.{At}
 use Rattle.hwp_page.specs.declared.Entry.{Entry}
 use Rattle.hwp_law.specs.Answers.{is_answering}
-use Rattle.hwp_law.specs.Places.{entry_at}
 use Rattle.hwp_evidence.specs.Named.{HasOther, flagged, flagged_page, flagged_pages, is_at, is_other}
 use Rattle.hwp_evidence.proofs.WindowLaws.{entry-is, is-entry}
 
@@ -32,11 +31,11 @@ is-not false none = refl
 same-at : (a b : At) → a.page.0 ≡ b.page.0 → a.entry ≡ b.entry → a ≡ b
 same-at a b page entry = λ i. record { page = record { 0 = page i }; entry = entry i }
 
-at-is : (named : Option At) (at : At) → is_at named at ≡ true → named ≡ Some at
+pub at-is : (named : Option At) (at : At) → is_at named at ≡ true → named ≡ Some at
 at-is None at is = absurd (true≢false (sym is))
 at-is (Some a) at is = let p = both (a.page.0 == at.page.0) (a.entry == at.entry) is in ap Some (same-at a at (eqb-true a.page.0 at.page.0 p.0) (eqb-true a.entry at.entry p.1))
 
-named-at : (named : Option At) (at : At) → named ≡ Some at → is_at named at ≡ true
+pub named-at : (named : Option At) (at : At) → named ≡ Some at → is_at named at ≡ true
 named-at None at is = absurd (none-some at is)
 named-at (Some a) at is =
     let same : a ≡ at = same_Some _ _ is in
@@ -175,6 +174,13 @@ module _ (named : List (Option At)) (cpu : Cpu) (seq : ℕ) where
   new-pages (x ∷ rest) n flags (suc p) i list e inside at there f =
       new-pages rest (n + 1) (flagged_page named cpu (record { 0 = n }) flags 0 x) p i list e (inside-page (record { 0 = n }) x flags inside) at there
       (subst (λ (m : ℕ). Flags (record { page = record { 0 = m }; entry = i }) e) (let z : n + suc p ≡ n + 1 + p = omega arith in z) f)
+
+flagged-length : (named : List (Option At)) (cpu : Cpu) (pages : List (List Entry)) (n : ℕ) (flags : List Bool) → length (flagged_pages named cpu flags n pages) ≡ length flags
+flagged-length named cpu [] n flags = refl
+flagged-length named cpu (x ∷ rest) n flags = flagged-length named cpu rest (n + 1) (flagged_page named cpu (record { 0 = n }) flags 0 x) ∙ page-many named cpu 0 (record { 0 = n }) x 0 flags
+
+pub others_many : (named : List (Option At)) (cpu : Cpu) (pages : List (List Entry)) (commands : ℕ) → length (flagged_pages named cpu (replicate commands false) 0 pages) ≡ commands
+others_many named cpu pages commands = flagged-length named cpu pages 0 (replicate commands false) ∙ length-replicate {A = Bool} commands false
 
 same-who : (a b : Who) → a.cpu.0 ≡ b.cpu.0 → a.seq ≡ b.seq → a ≡ b
 same-who a b cpu seq = λ i. record { cpu = record { 0 = cpu i }; seq = seq i }

@@ -86,7 +86,8 @@ pub fn others(
     pages: &[List<Entry>],
 ) -> Result<Vec<bool>, OutOfMemory>
     requires { length pages.now ≤ 256 }
-    ensures { IfOk result (λ flags. flags.items ≡ flagged_pages named.now cpu (replicate commands false) 0 pages.now) }
+    ensures flags { IfOk result (λ flags. flags.items ≡ flagged_pages named.now cpu (replicate commands false) 0 pages.now) }
+    ensures many { IfOk result (λ flags. length flags.items ≡ commands) }
 {
     let mut flags = vec![in alloc; false; commands]?;
     let mut number = 0;

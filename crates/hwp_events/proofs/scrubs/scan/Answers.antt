@@ -1,6 +1,5 @@
-use Rattle.std.proofs.Common.{◌≡◌, ◌+◌, ℕ, IsTrue, List, Option, arith, map, sym, subst}
-use Rattle.hwp_law.specs.Lines.{EventLine}
-use Rattle.hwp_events.specs.Firsts.{IsScannedTo, first_of}
+use Rattle.std.proofs.Common.{◌+◌, IsTrue, map, sym, subst}
+use Rattle.hwp_events.specs.Firsts.{IsScannedTo}
 use Rattle.hwp_events.specs.Scrubbing.{IsRightIn, course_of}
 use Rattle.hwp_events.specs.Told.{coming, told}
 use Rattle.hwp_events.proofs.ScrubScans.{reach-next, right-at}

@@ -1,0 +1,102 @@
+-- A line that is out of place, or a wrong answer, breaks the rule of answers.
+use Rattle.std.proofs.Common.{◌≡◌, inl, inr, ℕ, ◌<◌, List, [], Option, Some, IsSomeAnd, count_by, slice_get, take, unwrap_or, refl, sym, ap, ◌∙◌, subst, arith}
+use Rattle.std.proofs.lemmas.Bool.{cases_lt}
+use Rattle.std.proofs.lemmas.Option.{none-some, same_Some}
+use Rattle.hwp_geom.specs.declared.Cpu.{Cpu}
+use Rattle.hwp_geom.specs.declared.Who.{Who}
+use Rattle.hwp_script.specs.declared.Command.{Command}
+use Rattle.hwp_script.specs.declared.Script.{Script}
+use Rattle.hwp_report.specs.declared.Answer.{Answer}
+use Rattle.hwp_report.specs.declared.Answer.TheVariants as answers
+use Rattle.hwp_report.specs.declared.CpuLine.{CpuLine}
+use Rattle.hwp_report.specs.declared.CpuLine.TheVariants as lines
+use Rattle.hwp_report.specs.declared.Report.{Report}
+use Rattle.hwp_law.specs.Lines.{answer_among, answer_of}
+use Rattle.hwp_law.specs.States.{entry_named}
+use Rattle.hwp_evidence.proofs.Reading.{item_of_take, none_of_take}
+use Rattle.hwp_check_rules.specs.AnswerFaults.{IsOutside, IsRevived, IsUnnamed}
+use Rattle.hwp_check_rules.specs.Answered.{is_answer}
+use Rattle.hwp_check_rules.specs.Rules.{AnswersFit}
+use Rattle.hwp_check_answers.specs.Disorders.{AreOrderly}
+use Rattle.hwp_check_answers.specs.Facts.{at_number}
+use Rattle.hwp_check_answers.specs.Sifting.{IsAnswerLine, IsWrongAnswer}
+use Rattle.hwp_check_answers.proofs.NextLaws.{count-rises, next_of}
+
+abbrev told_in : CpuLine → Answer
+told_in (lines.Event seq bank status addr misc graded acted) = answers.Stopped
+told_in (lines.Answer seq answer) = answer
+
+-- an item of a front of a list is one of the list
+of-take : {X : Type 0} (xs : List X) (n i : ℕ) (x : X) → slice_get (take n xs) i ≡ Some x → slice_get xs i ≡ Some x
+of-take xs n i x is = elim (cases_lt i n) [
+  | inl low ↦ sym (item_of_take xs n i low) ∙ is
+  | inr high ↦ absurd (none-some x (sym (none_of_take xs n i high) ∙ is))
+]
+
+-- lines in place have one answer of a command
+one-answer : (commands : List Command) (rows : List CpuLine) (i j seq : ℕ) (a b : Answer) → AreOrderly commands rows → slice_get rows i ≡ Some (lines.Answer seq a) → slice_get rows j ≡ Some (lines.Answer seq b) → a ≡ b
+one-answer commands rows i j seq a b orderly one other = elim (cases_lt i j) [
+  | inl low ↦ absurd (let rises : count_by is_answer (take i rows) < count_by is_answer (take j rows) = count-rises rows i j (lines.Answer seq a) low one refl in omega (arith, first, second, rises))
+  | inr high ↦ elim (cases_lt j i) [
+    | inl low ↦ absurd (let rises : count_by is_answer (take j rows) < count_by is_answer (take i rows) = count-rises rows j i (lines.Answer seq b) low other refl in omega (arith, first, second, rises))
+    | inr most ↦ ap told_in (same_Some _ _ (sym one ∙ ap (slice_get rows) (let same : i ≡ j = omega (arith, high, most) in same) ∙ other))
+  ]
+]
+  where
+    first : seq ≡ count_by is_answer (take i rows)
+    first = (orderly.in_place i (lines.Answer seq a) one).of_next
+
+    second : seq ≡ count_by is_answer (take j rows)
+    second = (orderly.in_place j (lines.Answer seq b) other).of_next
+
+module _ (script : Script) (report : Report) (fit : AnswersFit script report) where
+  orderly-of : (cpu : Cpu) (commands : List Command) (rows : List CpuLine) → slice_get script.lists cpu.0 ≡ Some commands → slice_get report.cpus cpu.0 ≡ Some rows → AreOrderly commands rows
+  orderly-of cpu commands rows of_script of_report = let a = fit.answered cpu commands rows of_script of_report in record { in_place = a.in_place; each = a.each }
+
+  -- the answer of a wrong answer's command is that
+  told-is : (line : ℕ) (w : IsWrongAnswer script report line) → answer_of report (at_number w.cpu w.seq) ≡ Some w.answer
+  told-is line w =
+      let orderly = orderly-of w.cpu w.commands w.rows w.of_script w.of_report in
+      let number : w.seq ≡ count_by is_answer (take w.row w.rows) = (orderly.in_place w.row (lines.Answer w.seq w.answer) w.there).of_next in
+      let next = next_of w.commands w.rows w.row (lines.Answer w.seq w.answer) w.there (λ row shown less is. orderly.in_place row shown is) in
+      ap (λ (o : Option (List CpuLine)). answer_among (unwrap_or o []) w.seq) w.of_report ∙ ap (answer_among w.rows) number ∙ next.first w.answer (ap (λ (n : ℕ). lines.Answer n w.answer) number)
+
+  no-unnamed : (line : ℕ) (w : IsWrongAnswer script report line) → IsUnnamed report (at_number w.cpu w.seq) w.answer → ⊥
+  no-unnamed line w u = u.other (ap entry_named same ∙ named.3)
+    where
+      named : (answer : Answer) × (i : ℕ) × IsSomeAnd (slice_get report.cpus w.cpu.0) (λ (rows : List CpuLine). slice_get rows i ≡ Some (lines.Answer w.seq answer)) × (entry_named answer ≡ Some u.at)
+      named = subst
+          (λ (who : Who). (answer : Answer) × (i : ℕ) × IsSomeAnd (slice_get report.cpus who.cpu.0) (λ (rows : List CpuLine). slice_get rows i ≡ Some (lines.Answer who.seq answer)) × (entry_named answer ≡ Some u.at))
+          u.own (fit.named u.at u.entry u.there u.answering)
+
+      there : slice_get w.rows named.1 ≡ Some (lines.Answer w.seq named.0)
+      there = subst (λ (o : Option (List CpuLine)). IsSomeAnd o (λ (rows : List CpuLine). slice_get rows named.1 ≡ Some (lines.Answer w.seq named.0))) w.of_report named.2
+
+      same : w.answer ≡ named.0
+      same = one-answer w.commands w.rows w.row named.1 w.seq w.answer named.0 (orderly-of w.cpu w.commands w.rows w.of_script w.of_report) w.there there
+
+  no-outside : (line : ℕ) (w : IsWrongAnswer script report line) → IsOutside report (take w.row w.rows) (at_number w.cpu w.seq) w.answer → ⊥
+  no-outside line w o =
+      let window = fit.windows w.cpu w.rows w.row w.seq w.answer o.at w.of_report w.there o.names in
+      o.outside (record {
+        past_earlier = window.past_earlier;
+        not_below = λ i seq answer bt is low named page. window.not_below i seq answer bt (of-take w.rows w.row i (lines.Answer seq answer) is) low named page;
+        before_later = window.before_later;
+      })
+
+  no-revived : (line : ℕ) (w : IsWrongAnswer script report line) → IsRevived script report (at_number w.cpu w.seq) w.answer → ⊥
+  no-revived line w r = r.wrong (fit.endings r.who (at_number w.cpu w.seq) r.process w.answer r.ended r.before r.process_is (told-is line w))
+
+  pub line_breaks : (line : ℕ) → IsAnswerLine script report line → ⊥
+  line_breaks line (inl (inl u)) = u.lacks ((fit.answered u.cpu u.commands u.rows u.of_script u.of_report).each u.seq u.within)
+  line_breaks line (inl (inr m)) = m.out ((fit.answered (record { 0 = m.cpu }) m.commands m.rows m.of_script m.of_report).in_place m.row m.shown m.there)
+  line_breaks line (inr w) = elim w.wrong [
+    | inl wrong ↦ wrong ((fit.answered w.cpu w.commands w.rows w.of_script w.of_report).right w.row w.seq w.answer w.command w.there w.made)
+    | inr rest ↦ elim rest [
+      | inl unnamed ↦ no-unnamed line w unnamed
+      | inr more ↦ elim more [
+        | inl outside ↦ no-outside line w outside
+        | inr revived ↦ no-revived line w revived
+      ]
+    ]
+  ]

@@ -1,0 +1,175 @@
+-- Where each line is in place and nothing is wrong about any answer, the rule of answers holds but for the event lines.
+use Rattle.std.proofs.Common.{◌≡◌, ◌≢◌, ◌⊎◌, inl, inr, ℕ, suc, ◌<◌, ◌≤◌, ◌==◌, cond, Bool, true, false, List, [], ◌∷◌, Option, Some, None, IsSomeAnd, count_by, length, option_and_then, option_map, slice_get, take, unwrap_or, refl, sym, ap, ◌∙◌, subst, true≢false, arith}
+use Rattle.std.specs.List.{filter_map, find}
+use Rattle.std.proofs.lemmas.Bool.{cases_lt, eqb-true}
+use Rattle.std.proofs.lemmas.Option.{none-some, same_Some, slice_get_within}
+use Rattle.hwp_geom.specs.declared.Cpu.{Cpu}
+use Rattle.hwp_geom.specs.declared.Proc.{Proc}
+use Rattle.hwp_geom.specs.declared.Who.{Who}
+use Rattle.hwp_page.specs.declared.At.{At}
+use Rattle.hwp_page.specs.declared.Entry.{Entry}
+use Rattle.hwp_script.specs.Valid.{IsValid}
+use Rattle.hwp_script.specs.declared.Command.{Command}
+use Rattle.hwp_script.specs.declared.Script.{Script}
+use Rattle.hwp_report.specs.declared.Answer.{Answer}
+use Rattle.hwp_report.specs.declared.Answer.TheVariants as answers
+use Rattle.hwp_report.specs.declared.CpuLine.{CpuLine}
+use Rattle.hwp_report.specs.declared.CpuLine.TheVariants as lines
+use Rattle.hwp_report.specs.declared.Report.{Report}
+use Rattle.hwp_law.specs.Answers.{AreInWindows, AreNamed}
+use Rattle.hwp_law.specs.Commands.{process_at, process_of_thread, thread_of}
+use Rattle.hwp_law.specs.Endings.{EndingsStay, IsOver}
+use Rattle.hwp_law.specs.Lines.{AnswerLine, answer_among, answer_in}
+use Rattle.hwp_law.specs.Places.{command_at}
+use Rattle.hwp_law.specs.States.{IsInWindow, entry_named}
+use Rattle.hwp_evidence.specs.Named.{is_at}
+use Rattle.hwp_evidence.proofs.NamedLaws.{at-is, named-at}
+use Rattle.hwp_evidence.proofs.Reading.{item_at, item_of_take}
+use Rattle.hwp_check_rules.specs.Answered.{AreAnswered, is_answer}
+use Rattle.hwp_check_rules.specs.Verdicts.{Histories, HoldBelow, Shape}
+use Rattle.hwp_check_answers.specs.Disorders.{AreOrderly}
+use Rattle.hwp_check_answers.specs.Facts.{at_number}
+use Rattle.hwp_check_answers.specs.Judging.{IsGood}
+use Rattle.hwp_check_answers.specs.Sifting.{AreAllRight}
+use Rattle.hwp_check_answers.proofs.NextLaws.{count-rises}
+
+some-there : {A : Type 0} (o : Option A) (P : A → Type 0) → IsSomeAnd o P → (x : A) × (o ≡ Some x)
+some-there None P holds = absurd holds
+some-there (Some x) P holds = (x, refl)
+
+-- an answer is over, or it isn't
+over : (answer : Answer) → IsOver answer ⊎ (IsOver answer → ⊥)
+over (answers.Gone page) = inl (record {})
+over answers.Stopped = inl (record {})
+over answer = inr (λ o. o)
+
+-- the answer of a command stands in some line
+answer-line : (rows : List CpuLine) (seq : ℕ) (answer : Answer) → answer_among rows seq ≡ Some answer → (row : ℕ) × (slice_get rows row ≡ Some (lines.Answer seq answer))
+answer-line [] seq answer is = absurd (none-some answer is)
+answer-line (lines.Event s bank status addr misc graded acted ∷ rs) seq answer is = let r = answer-line rs seq answer is in (suc r.0, r.1)
+answer-line (lines.Answer s a ∷ rs) seq answer is = which (seq == s) refl is (λ more. answer-line rs seq answer more)
+  where
+    which : (b : Bool) → (seq == s) ≡ b → option_map (λ (l : AnswerLine). l.answer) (cond b (Some (record { seq = s; answer = a })) (find (λ (l : AnswerLine). seq == l.seq) (filter_map answer_in rs))) ≡ Some answer
+        → (answer_among rs seq ≡ Some answer → (row : ℕ) × (slice_get rs row ≡ Some (lines.Answer seq answer))) → (row : ℕ) × (slice_get (lines.Answer s a ∷ rs) row ≡ Some (lines.Answer seq answer))
+    which true here got more = (0, ap (λ (n : ℕ). Some (lines.Answer n a)) (sym (eqb-true seq s here)) ∙ ap (λ (x : Answer). Some (lines.Answer seq x)) (same_Some _ _ got))
+    which false here got more = let r = more got in (suc r.0, r.1)
+
+-- a window that isn't refused holds
+stable : (pages : List (List Entry)) (rows : List CpuLine) (who : Who) (at : At) → ((IsInWindow pages rows who at → ⊥) → ⊥) → IsInWindow pages rows who at
+stable pages rows who at not-out = record {
+  past_earlier = λ bt e is page own low. elim (cases_lt bt.entry at.entry) [
+    | inl before ↦ before
+    | inr after ↦ absurd (not-out (λ window. let less : bt.entry < at.entry = window.past_earlier bt e is page own low in omega (arith, after, less)))
+  ];
+  not_below = λ i seq answer bt is low named page. elim (cases_lt at.entry bt.entry) [
+    | inl above ↦ absurd (not-out (λ window. let less : bt.entry ≤ at.entry = window.not_below i seq answer bt is low named page in omega (arith, above, less)))
+    | inr fine ↦ fine
+  ];
+  before_later = λ bt e is page own high. elim (cases_lt bt.entry at.entry) [
+    | inl before ↦ absurd (not-out (λ window. let less : at.entry ≤ bt.entry = window.before_later bt e is page own high in omega (arith, before, less)))
+    | inr after ↦ after
+  ];
+}
+
+-- earlier answers stand before
+earlier-before : (commands : List Command) (rows : List CpuLine) (i j seq later : ℕ) (answer last : Answer) → AreOrderly commands rows → slice_get rows j ≡ Some (lines.Answer seq answer) → slice_get rows i ≡ Some (lines.Answer later last)
+    → seq < later → j < i
+earlier-before commands rows i j seq later answer last orderly one other low = elim (cases_lt j i) [
+  | inl before ↦ before
+  | inr after ↦
+      let first : seq ≡ count_by is_answer (take j rows) = (orderly.in_place j (lines.Answer seq answer) one).of_next in
+      let second : later ≡ count_by is_answer (take i rows) = (orderly.in_place i (lines.Answer later last) other).of_next in
+      elim (cases_lt i j) [
+        | inl rises ↦ absurd (let more : count_by is_answer (take i rows) < count_by is_answer (take j rows) = count-rises rows i j (lines.Answer later last) rises other refl in omega (arith, first, second, more, low))
+        | inr most ↦ absurd (let same : i ≡ j = omega (arith, after, most) in let counts : count_by is_answer (take i rows) ≡ count_by is_answer (take j rows) = ap (λ (n : ℕ). count_by is_answer (take n rows)) same in omega (arith, first, second, counts, low))
+      ]
+]
+
+module _ (script : Script) (report : Report) (valid : IsValid script) (below : HoldBelow 3 script report) where
+  many : length script.lists ≡ length report.cpus
+  many = valid.one_each ∙ sym (below Shape (omega arith)).cpus
+
+  -- a command that there is, with its list and its processor's lines
+  record Made (who : Who) (command : Command) : Type 0 where
+    list : List Command
+    rows : List CpuLine
+    of_script : slice_get script.lists who.cpu.0 ≡ Some list
+    of_report : slice_get report.cpus who.cpu.0 ≡ Some rows
+    there : slice_get list who.seq ≡ Some command
+
+  made : (who : Who) (command : Command) → command_at script who ≡ Some command → Made who command
+  made who command is = by (slice_get script.lists who.cpu.0) refl is
+    where
+      by : (o : Option (List Command)) → slice_get script.lists who.cpu.0 ≡ o → option_and_then (λ (list : List Command). slice_get list who.seq) o ≡ Some command → Made who command
+      by None of there = absurd (none-some command there)
+      by (Some list) of there =
+          let inside : who.cpu.0 < length script.lists = slice_get_within script.lists who.cpu.0 list of in
+          let same : length script.lists ≡ length report.cpus = many in
+          let rows = item_at report.cpus who.cpu.0 (omega (arith, inside, same)) in
+          record { list = list; rows = rows.0; of_script = of; of_report = rows.1; there = there }
+
+  -- the list of a processor that has lines
+  list-of : (cpu : Cpu) (rows : List CpuLine) → slice_get report.cpus cpu.0 ≡ Some rows → (list : List Command) × (slice_get script.lists cpu.0 ≡ Some list)
+  list-of cpu rows is = item_at script.lists cpu.0 (let inside : cpu.0 < length report.cpus = slice_get_within report.cpus cpu.0 rows is in let same : length script.lists ≡ length report.cpus = many in omega (arith, inside, same))
+
+  made-process : (who : Who) (process : Proc) → process_at script who ≡ Some process → (command : Command) × (command_at script who ≡ Some command)
+  made-process who process is = by (command_at script who) refl is
+    where
+      by : (o : Option Command) → command_at script who ≡ o → option_and_then (process_of_thread script.layout) (option_and_then thread_of o) ≡ Some process → (command : Command) × (command_at script who ≡ Some command)
+      by None at got = absurd (none-some process got)
+      by (Some command) at got = (command, at)
+
+  module _ (all : AreAllRight script report) where
+    good-at : (cpu : Cpu) (list : List Command) (rows : List CpuLine) (row seq : ℕ) (answer : Answer) (command : Command) → slice_get script.lists cpu.0 ≡ Some list → slice_get report.cpus cpu.0 ≡ Some rows
+        → slice_get rows row ≡ Some (lines.Answer seq answer) → slice_get list seq ≡ Some command → IsGood script report (take row rows) (at_number cpu seq) command answer
+    good-at cpu list rows row seq answer command of_script of_report there is =
+        all.good cpu list rows of_script of_report row (lines.Answer seq answer) (slice_get_within rows row (lines.Answer seq answer) there) there seq answer command refl is
+
+    pub all_answered : (cpu : Cpu) (list : List Command) (rows : List CpuLine) → slice_get script.lists cpu.0 ≡ Some list → slice_get report.cpus cpu.0 ≡ Some rows → AreAnswered script report cpu list rows
+    all_answered cpu list rows of_script of_report = record {
+      in_place = (all.orderly cpu.0 list rows of_script of_report).in_place;
+      each = (all.orderly cpu.0 list rows of_script of_report).each;
+      right = λ row seq answer command there is. (good-at cpu list rows row seq answer command of_script of_report there is).right;
+    }
+
+    pub all_named : AreNamed report.pages report.cpus
+    all_named at e there answering =
+        let command = some-there (command_at script e.who) _ ((below Histories (omega arith)).made at e there) in
+        let m = made e.who command.0 command.1 in
+        let has = (all.orderly e.who.cpu.0 m.list m.rows m.of_script m.of_report).each e.who.seq (slice_get_within m.list e.who.seq command.0 m.there) in
+        let good = good-at e.who.cpu m.list m.rows has.row e.who.seq has.answer command.0 m.of_script m.of_report has.there m.there in (
+          has.answer,
+          has.row,
+          subst (λ (o : Option (List CpuLine)). IsSomeAnd o (λ (rows : List CpuLine). slice_get rows has.row ≡ Some (lines.Answer e.who.seq has.answer))) (sym m.of_report) has.there,
+          named (is_at (entry_named has.answer) at) has.answer refl (λ other. good.named (record { at = at; entry = e; there = there; own = refl; answering = answering; other = other })),
+        )
+      where
+        named : (b : Bool) (answer : Answer) → is_at (entry_named answer) at ≡ b → ((entry_named answer ≢ Some at) → ⊥) → entry_named answer ≡ Some at
+        named true answer is not-other = at-is (entry_named answer) at is
+        named false answer is not-other = absurd (not-other (λ same. true≢false (sym (named-at (entry_named answer) at same) ∙ is)))
+
+    pub all_windows : AreInWindows report.pages report.cpus
+    all_windows cpu rows i seq answer at of_report there names =
+        let list = list-of cpu rows of_report in
+        let orderly = all.orderly cpu.0 list.0 rows list.1 of_report in
+        let inside : seq < length list.0 = (orderly.in_place i (lines.Answer seq answer) there).of_some in
+        let command = item_at list.0 seq inside in
+        let good = good-at cpu list.0 rows i seq answer command.0 list.1 of_report there command.1 in
+        let window : IsInWindow report.pages (take i rows) (at_number cpu seq) at = stable report.pages (take i rows) (at_number cpu seq) at (λ out. good.within (record { at = at; names = names; outside = out })) in
+        record {
+          past_earlier = window.past_earlier;
+          not_below = λ j s a bt is low named page. window.not_below j s a bt (item_of_take rows i j (earlier-before list.0 rows i j s seq a answer orderly is there low) ∙ is) low named page;
+          before_later = window.before_later;
+        }
+
+    pub all_endings : EndingsStay script report
+    all_endings who later process answer ended earlier process_is told = elim (over answer) [
+      | inl is ↦ is
+      | inr wrong ↦
+          let command = made-process later process process_is in
+          let m = made later command.0 command.1 in
+          let among : answer_among m.rows later.seq ≡ Some answer = sym (ap (λ (o : Option (List CpuLine)). answer_among (unwrap_or o []) later.seq) m.of_report) ∙ told in
+          let row = answer-line m.rows later.seq answer among in
+          let good = good-at later.cpu m.list m.rows row.0 later.seq answer command.0 m.of_script m.of_report row.1 m.there in
+          absurd (good.stays (record { who = who; process = process; ended = ended; before = earlier; process_is = process_is; wrong = wrong }))
+    ]

@@ -1,0 +1,73 @@
+-- What is known of the commands of one processor by their numbers.
+use Rattle.std.specs.Prelude.{◌≡◌, ◌<◌, ℕ, false, List, Some, None, length, replicate, slice_get, slice_index_or, take}
+use Rattle.hwp_geom.specs.declared.Cpu.{Cpu}
+use Rattle.hwp_geom.specs.declared.Who.{Who}
+use Rattle.hwp_script.specs.declared.Command.{Command}
+use Rattle.hwp_script.specs.declared.Script.{Script}
+use Rattle.hwp_report.specs.declared.Answer.{Answer}
+use Rattle.hwp_report.specs.declared.CpuLine.{CpuLine}
+use Rattle.hwp_report.specs.declared.CpuLine.TheVariants as lines
+use Rattle.hwp_report.specs.declared.Report.{Report}
+use Rattle.hwp_law.specs.Lines.{answer_among}
+use Rattle.hwp_evidence.specs.Counts.{AreCounts, AreFlags}
+use Rattle.hwp_evidence.specs.Firsts.{entry_of}
+use Rattle.hwp_evidence.specs.Named.{flagged_pages}
+use Rattle.hwp_check_rules.specs.AnswerFaults.{IsAnswerWrong}
+use Rattle.hwp_check_answers.specs.Befores.{AreBefore}
+use Rattle.hwp_check_answers.specs.Judging.{IsGood}
+use Rattle.hwp_check_answers.specs.Knowing.{IsKnown, IsOwn}
+use Rattle.hwp_check_answers.specs.declared.facts.Facts.{Facts}
+use Rattle.hwp_check_answers.specs.declared.judging.Naming.{Naming}
+use Rattle.hwp_check_answers.specs.declared.known.Known.{Known}
+use Rattle.hwp_check_answers.specs.declared.right.Own.{Own}
+
+-- the policies, the events and the ends of the commands
+pub record AreFacts (commands : List Command) (rows : List CpuLine) (facts : Facts) : Type 0 where
+  pub policies : AreBefore commands facts.policies.items
+  pub counts_many : length facts.counts.items ≡ length commands
+  pub counts : AreCounts rows facts.counts.items
+  pub ends_many : length facts.ends.items ≡ length commands
+  pub ends : AreFlags rows facts.ends.items
+
+-- the entries that the commands' answers name
+pub record AreNamings (report : Report) (cpu : Cpu) (commands : List Command) (rows : List CpuLine) (naming : Naming) : Type 0 where
+  pub named : (seq : ℕ) → seq < length commands → slice_index_or naming.named.items seq None ≡ entry_of (answer_among rows seq)
+  pub many : length naming.others.items ≡ length commands
+  pub others : naming.others.items ≡ flagged_pages naming.named.items cpu (replicate (length commands) false) 0 report.pages
+
+-- where the line is the answer of a command, nothing is wrong about it; or something is
+abbrev pub at_number : Cpu → ℕ → Who
+at_number cpu seq = record { cpu = cpu; seq = seq }
+
+abbrev pub IsGoodRow : Script → Report → Cpu → List Command → List CpuLine → CpuLine → Type 0
+IsGoodRow script report cpu commands before line =
+    (seq : ℕ) (answer : Answer) (command : Command) → line ≡ lines.Answer seq answer → slice_get commands seq ≡ Some command → IsGood script report before (at_number cpu seq) command answer
+
+pub record IsBadRow (script : Script) (report : Report) (cpu : Cpu) (commands : List Command) (before : List CpuLine) (line : CpuLine) : Type 0 where
+  pub seq : ℕ
+  pub answer : Answer
+  pub command : Command
+  pub line_is : line ≡ lines.Answer seq answer
+  pub made : slice_get commands seq ≡ Some command
+  pub wrong : IsAnswerWrong script report before (at_number cpu seq) command answer
+
+-- the first lines are good
+abbrev pub AreGoodRows : Script → Report → Cpu → List Command → List CpuLine → ℕ → Type 0
+AreGoodRows script report cpu commands rows n = (row : ℕ) (line : CpuLine) → row < n → slice_get rows row ≡ Some line → IsGoodRow script report cpu commands (take row rows) line
+
+-- this is the first that isn't
+pub record IsFirstBad (script : Script) (report : Report) (cpu : Cpu) (commands : List Command) (rows : List CpuLine) (end row : ℕ) : Type 0 where
+  pub line : CpuLine
+  pub within : row < end
+  pub there : slice_get rows row ≡ Some line
+  pub bad : IsBadRow script report cpu commands (take row rows) line
+  pub before : AreGoodRows script report cpu commands rows row
+
+-- all that is known of a processor, whose commands and lines these are
+pub record IsReady (script : Script) (report : Report) (cpu : Cpu) (commands : List Command) (rows : List CpuLine) (known : Known) (own : Own) (facts : Facts) (naming : Naming) : Type 0 where
+  pub of_script : slice_get script.lists cpu.0 ≡ Some commands
+  pub of_report : slice_get report.cpus cpu.0 ≡ Some rows
+  pub report_known : IsKnown script report known
+  pub own_known : IsOwn script report cpu own
+  pub are_facts : AreFacts commands rows facts
+  pub are_named : AreNamings report cpu commands rows naming

@@ -1,0 +1,36 @@
+-- The lines that break the rule of answers: those of answers and those of events.
+use Rattle.std.specs.Prelude.{◌≡◌, ◌⊎◌, ℕ, false, List, Some, slice_get}
+use Rattle.hwp_geom.specs.declared.Cpu.{Cpu}
+use Rattle.hwp_script.specs.declared.Command.{Command}
+use Rattle.hwp_script.specs.declared.Script.{Script}
+use Rattle.hwp_report.specs.declared.CpuLine.{CpuLine}
+use Rattle.hwp_report.specs.declared.Report.{Report}
+use Rattle.hwp_law.specs.Events.{AreEvents}
+use Rattle.hwp_check_rules.specs.AnswerFaults.{IsEventWrong, LacksEvents}
+use Rattle.hwp_check_rules.specs.Answered.{is_answer, seq_of}
+use Rattle.hwp_check_rules.specs.Standing.{row_line}
+use Rattle.hwp_check_answers.specs.Facts.{at_number}
+
+-- an event line that is not the one that its command's machine checks ask at its place
+pub record IsWrongEvent (script : Script) (report : Report) (line : ℕ) : Type 0 where
+  pub cpu : Cpu
+  pub commands : List Command
+  pub rows : List CpuLine
+  pub row : ℕ
+  pub shown : CpuLine
+  pub command : Command
+  pub of_script : slice_get script.lists cpu.0 ≡ Some commands
+  pub of_report : slice_get report.cpus cpu.0 ≡ Some rows
+  pub there : slice_get rows row ≡ Some shown
+  pub event : is_answer shown ≡ false
+  pub made : slice_get commands (seq_of shown) ≡ Some command
+  pub line_is : line ≡ row_line report cpu.0 row
+  pub wrong : IsEventWrong script report rows row (at_number cpu (seq_of shown)) command
+
+-- such a line, or the heading of a processor where a command has fewer event lines than its machine checks ask
+abbrev pub IsEventLine : Script → Report → ℕ → Type 0
+IsEventLine script report line = LacksEvents script report line ⊎ IsWrongEvent script report line
+
+-- such a line breaks the rule
+abbrev pub BreakEvents : Script → Report → Type 0
+BreakEvents script report = AreEvents script report → (line : ℕ) → IsEventLine script report line → ⊥

@@ -1,0 +1,55 @@
+ghost use Rattle.std.specs.Prelude.{◌<◌, ◌^◌, IfOk, MatchOption};
+ghost use Rattle.hwp_script.specs.Valid.{IsValid};
+ghost use Rattle.hwp_check_rules.specs.Firsts.{IsLeast};
+ghost use Rattle.hwp_check_rules.specs.Standing.{last_line};
+ghost use Rattle.hwp_check_rules.specs.Verdicts.{Answers, HoldBelow, Holds, IsBroken};
+ghost use Rattle.hwp_law.specs.Events.{AreEvents};
+ghost use Rattle.hwp_check_answers.specs.Joining.{BreakEvents, IsEventLine};
+ghost use Rattle.hwp_check_answers.specs.Sifting.{AreAllRight, IsAnswerLine};
+
+use crate::disorders::disorders;
+use crate::sifting::unsound_answers;
+use hwp_check_rules::soonest;
+use hwp_geom::OutOfMemory;
+use hwp_report::Report;
+use hwp_script::Script;
+use std::alloc::Global;
+
+/// The first line of a report that is out of place, where a command has no answer, or where an answer is wrong; its event lines
+/// are another matter.
+#[tactic(auto, using(crate::proofs::JoinLaws::joined))]
+pub fn answer_lines(
+    alloc: Global,
+    script: &Script,
+    report: &Report,
+) -> Result<Option<u64>, OutOfMemory>
+    requires valid { IsValid script.now }
+    requires room { last_line report.now < 2 ^ 64 }
+    requires below { HoldBelow 3 script.now report.now }
+    ensures { IfOk result (λ found. MatchOption found (AreAllRight script.now report.now) (IsLeast (IsAnswerLine script.now report.now))) }
+{
+    let disorder = disorders(alloc, script, report)?;
+    let wrong = unsound_answers(alloc, script, report)?;
+    Ok(soonest(disorder, wrong))
+}
+
+/// The first line of a report that breaks the rule of answers, by the first of those of its answers and the first of its event
+/// lines.
+#[tactic(auto, using(crate::proofs::RuleJoin::both_lines))]
+pub fn first_of_both(
+    script: &Script,
+    report: &Report,
+    lines: Option<u64>,
+    events: Option<u64>,
+) -> Option<u64>
+    requires valid { IsValid script.now }
+    requires below { HoldBelow 3 script.now report.now }
+    requires lines { MatchOption lines (AreAllRight script.now report.now) (IsLeast (IsAnswerLine script.now report.now)) }
+    requires events { MatchOption events (AreEvents script.now report.now) (IsLeast (IsEventLine script.now report.now)) }
+    requires breaks { BreakEvents script.now report.now }
+    ensures { MatchOption result (Holds Answers script.now report.now) (IsBroken Answers script.now report.now) }
+{
+    let _script = script;
+    let _report = report;
+    soonest(lines, events)
+}

@@ -1,0 +1,109 @@
+ghost use Rattle.std.specs.Prelude.{◌≡◌, ◌≤◌, IfOk, false, length, slice_index_or};
+ghost use Rattle.hwp_kill.specs.declared.Policy.TheVariants.{Default};
+ghost use Rattle.hwp_check_answers.specs.Facts.{AreFacts, AreNamings};
+
+use crate::befores::policies_before;
+use crate::judging::Naming;
+use crate::right::Told;
+use hwp_evidence::{entries_named, event_counts, event_ends, first_answers, others};
+use hwp_geom::{Cpu, OutOfMemory};
+use hwp_kill::Policy;
+use hwp_report::{CpuLine, Report};
+use hwp_script::Command;
+use std::alloc::Global;
+
+/// What is known of the commands of one processor by their numbers.
+#[derive(Drop)]
+pub struct Facts {
+    /// The policies of their threads before them.
+    pub policies: Vec<Policy>,
+    /// How many event lines they have.
+    pub counts: Vec<u64>,
+    /// Whether one of these stopped the machine, or was a panic.
+    pub ends: Vec<bool>,
+}
+
+/// What is known of the commands of a processor with these lines.
+pub(crate) fn facts_of(
+    alloc: Global,
+    commands: &[Command],
+    rows: &[CpuLine],
+) -> Result<Facts, OutOfMemory>
+    ensures { IfOk result (λ facts. AreFacts commands.now rows.now facts) }
+{
+    let policies = policies_before(alloc, commands)?;
+    let counts = event_counts(alloc, commands.len(), rows)?;
+    let ends = event_ends(alloc, commands.len(), rows)?;
+    Ok(Facts {
+        policies,
+        counts,
+        ends,
+    })
+}
+
+/// The entries that the commands' answers name.
+#[tactic(auto, using(crate::proofs::FactLaws::namings))]
+pub(crate) fn naming_of(
+    alloc: Global,
+    report: &Report,
+    cpu: Cpu,
+    commands: &[Command],
+    rows: &[CpuLine],
+) -> Result<Naming, OutOfMemory>
+    requires { length report.now.pages ≤ 256 }
+    ensures { IfOk result (λ naming. AreNamings report.now cpu commands.now rows.now naming) }
+{
+    let answers = first_answers(alloc, commands.len(), rows)?;
+    let named = entries_named(alloc, answers.as_slice())?;
+    let others = others(
+        alloc,
+        commands.len(),
+        named.as_slice(),
+        cpu,
+        report.pages.as_slice(),
+    )?;
+    Ok(Naming { named, others })
+}
+
+/// The policy at a number.
+fn policy_at(facts: &Facts, seq: u32) -> Policy
+    ensures { result ≡ slice_index_or facts.now.policies.items seq Default }
+{
+    match facts.policies.get(seq as usize) {
+        Some(policy) => *policy,
+        None => Policy::Default,
+    }
+}
+
+/// The count at a number.
+fn count_at(facts: &Facts, seq: u32) -> u64
+    ensures { result ≡ slice_index_or facts.now.counts.items seq 0 }
+{
+    match facts.counts.get(seq as usize) {
+        Some(count) => *count,
+        None => 0,
+    }
+}
+
+/// Whether the events of the command with the number ended the machine's run.
+fn ends_at(facts: &Facts, seq: u32) -> bool
+    ensures { result ≡ slice_index_or facts.now.ends.items seq false }
+{
+    match facts.ends.get(seq as usize) {
+        Some(ends) => *ends,
+        None => false,
+    }
+}
+
+/// What is known of the command with the number.
+pub(crate) fn told_at(facts: &Facts, seq: u32) -> Told
+    ensures old { result.old ≡ slice_index_or facts.now.policies.items seq Default }
+    ensures events { result.events ≡ slice_index_or facts.now.counts.items seq 0 }
+    ensures ends { result.ends ≡ slice_index_or facts.now.ends.items seq false }
+{
+    Told {
+        old: policy_at(facts, seq),
+        events: count_at(facts, seq),
+        ends: ends_at(facts, seq),
+    }
+}
