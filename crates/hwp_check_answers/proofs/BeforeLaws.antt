@@ -1,6 +1,6 @@
 -- The policies that the walk over a processor's commands meets are those that its threads had.
-use Rattle.std.proofs.Common.{◌≡◌, ◌≢◌, ◌⊎◌, inl, inr, ℕ, zero, suc, ◌<◌, ◌==◌, cond, Bool, true, false, List, [], ◌∷◌, Option, Some, None, fold, get_or, set, replicate, length, slice_get, take, refl, sym, ap, ◌∙◌, subst, arith}
-use Rattle.std.specs.List.{cons_option, filter_map}
+use Rattle.std.proofs.Common.{◌≡◌, inl, inr, ℕ, zero, suc, ◌<◌, ◌==◌, cond, Bool, List, [], ◌∷◌, Option, Some, None, fold, get_or, set, replicate, length, slice_get, take, refl, sym, ap, ◌∙◌, subst}
+use Rattle.std.specs.List.{cons_option}
 use Rattle.std.proofs.lemmas.Bool.{cases_eq, eq-eqb, eqb-true, false_from_ne_true}
 use Rattle.std.proofs.lemmas.List.{get_or-set_same, get_or-set_other, get_or-replicate, length-replicate, length-set}
 use Rattle.std.proofs.lemmas.Option.{none-some, same_Some}
@@ -11,7 +11,7 @@ use Rattle.hwp_kill.specs.Prctl.{policy_set}
 use Rattle.hwp_script.specs.declared.Command.{Command}
 use Rattle.hwp_script.specs.declared.Command.TheVariants as commands
 use Rattle.hwp_script.specs.declared.PrctlArgs.{PrctlArgs}
-use Rattle.hwp_law.specs.Policies.{arguments, last_policy, setting_of, settings}
+use Rattle.hwp_law.specs.Policies.{arguments, setting_of, settings}
 use Rattle.hwp_check_answers.specs.Befores.{AreBefore, policies_before, policy_of, set_by, set_to, thread_numbers}
 
 -- the last of some policies behind one

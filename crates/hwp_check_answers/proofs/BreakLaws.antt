@@ -1,5 +1,5 @@
 -- A line that is out of place, or a wrong answer, breaks the rule of answers.
-use Rattle.std.proofs.Common.{◌≡◌, ◌⊎◌, inl, inr, ℕ, ◌+◌, ◌<◌, ◌≤◌, List, [], Option, Some, None, IsSomeAnd, count_by, length, slice_get, take, unwrap_or, refl, sym, ap, ◌∙◌, subst, arith}
+use Rattle.std.proofs.Common.{◌≡◌, inl, inr, ℕ, ◌<◌, List, [], Option, Some, IsSomeAnd, count_by, slice_get, take, unwrap_or, refl, sym, ap, ◌∙◌, subst, arith}
 use Rattle.std.proofs.lemmas.Bool.{cases_lt}
 use Rattle.std.proofs.lemmas.Option.{none-some, same_Some}
 use Rattle.hwp_geom.specs.declared.Cpu.{Cpu}
@@ -11,12 +11,11 @@ use Rattle.hwp_report.specs.declared.Answer.TheVariants as answers
 use Rattle.hwp_report.specs.declared.CpuLine.{CpuLine}
 use Rattle.hwp_report.specs.declared.CpuLine.TheVariants as lines
 use Rattle.hwp_report.specs.declared.Report.{Report}
-use Rattle.hwp_law.specs.Answers.{IsNamed}
 use Rattle.hwp_law.specs.Lines.{answer_among, answer_of}
-use Rattle.hwp_law.specs.States.{IsInWindow, entry_named}
+use Rattle.hwp_law.specs.States.{entry_named}
 use Rattle.hwp_evidence.proofs.Reading.{item_of_take, none_of_take}
 use Rattle.hwp_check_rules.specs.AnswerFaults.{IsOutside, IsRevived, IsUnnamed}
-use Rattle.hwp_check_rules.specs.Answered.{AreAnswered, is_answer}
+use Rattle.hwp_check_rules.specs.Answered.{is_answer}
 use Rattle.hwp_check_rules.specs.Rules.{AnswersFit}
 use Rattle.hwp_check_answers.specs.Disorders.{AreOrderly}
 use Rattle.hwp_check_answers.specs.Facts.{at_number}

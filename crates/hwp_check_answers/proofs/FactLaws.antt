@@ -1,15 +1,11 @@
 -- What is known of commands by their numbers is what is known of each.
-use Rattle.std.proofs.Common.{◌≡◌, ◌<◌, ◌≤◌, ℕ, Bool, false, List, [], Some, None, get_or, length, map, option_map, replicate, slice_get, take, unwrap_or, Option, refl, sym, ap, ◌∙◌, subst, arith}
+use Rattle.std.proofs.Common.{◌≡◌, ◌<◌, ℕ, false, List, [], Some, None, get_or, length, map, option_map, replicate, slice_get, take, unwrap_or, Option, sym, ap, ◌∙◌, arith}
 use Rattle.std.specs.List.{list_any}
 use Rattle.std.proofs.lemmas.Option.{get_or_from_slice_get, slice_get-get_or, slice_get-map, slice_get_within}
 use Rattle.hwp_geom.specs.declared.Cpu.{Cpu}
-use Rattle.hwp_geom.specs.declared.Thread.{Thread}
-use Rattle.hwp_geom.specs.declared.Who.{Who}
 use Rattle.hwp_kill.specs.declared.Policy.TheVariants.{Default}
 use Rattle.hwp_page.specs.declared.At.{At}
 use Rattle.hwp_script.specs.declared.Command.{Command}
-use Rattle.hwp_script.specs.declared.Command.TheVariants as commands
-use Rattle.hwp_script.specs.declared.PrctlArgs.{PrctlArgs}
 use Rattle.hwp_script.specs.declared.Script.{Script}
 use Rattle.hwp_report.specs.declared.Answer.{Answer}
 use Rattle.hwp_report.specs.declared.CpuLine.{CpuLine}
@@ -17,13 +13,11 @@ use Rattle.hwp_report.specs.declared.Report.{Report}
 use Rattle.hwp_law.specs.Causes.{ends_machine}
 use Rattle.hwp_law.specs.Lines.{answer_among, events_among}
 use Rattle.hwp_law.specs.Policies.{last_policy, settings}
-use Rattle.hwp_law.specs.States.{entry_named}
 use Rattle.hwp_evidence.specs.Firsts.{AreAnswersOf, entry_of}
 use Rattle.hwp_evidence.specs.Named.{flagged_pages}
 use Rattle.hwp_check_answers.specs.declared.facts.Facts.{Facts}
 use Rattle.hwp_check_answers.specs.declared.judging.Naming.{Naming}
 use Rattle.hwp_check_answers.specs.declared.right.Told.{Told}
-use Rattle.hwp_check_answers.specs.Befores.{thread_numbers}
 use Rattle.hwp_check_answers.specs.Facts.{AreFacts, AreNamings, at_number}
 use Rattle.hwp_check_answers.specs.Judging.{IsNaming}
 use Rattle.hwp_check_answers.specs.Knowing.{IsTold}

@@ -1,5 +1,5 @@
 -- The first line that is out of place, and the first wrong answer as far as lines are in place, are the first of both.
-use Rattle.std.proofs.Common.{◌≡◌, ◌⊎◌, inl, inr, ℕ, ◌<◌, ◌≤◌, min, List, Option, Some, None, MatchOption, length, slice_get, take, refl, sym, ap, ◌∙◌, subst, arith}
+use Rattle.std.proofs.Common.{◌≡◌, ◌⊎◌, inl, inr, ℕ, ◌<◌, ◌≤◌, min, List, Option, Some, None, MatchOption, length, take, refl, subst, arith}
 use Rattle.std.proofs.lemmas.Bool.{cases_lt}
 use Rattle.std.proofs.lemmas.Option.{slice_get_within}
 use Rattle.hwp_geom.specs.declared.Cpu.{Cpu}
@@ -12,7 +12,7 @@ use Rattle.hwp_check_rules.specs.Firsts.{IsLeast, soonest}
 use Rattle.hwp_check_answers.specs.Disorders.{AreAllOrderly, AreOrderly, IsDisorder}
 use Rattle.hwp_check_answers.specs.Facts.{AreGoodRows, at_number}
 use Rattle.hwp_check_answers.proofs.SiftLaws.{behind, good-not-wrong}
-use Rattle.hwp_check_answers.specs.Sifting.{AreAllRight, AreAllSound, AreSound, IsAnswerLine, IsFirstAnswer, IsWrongAnswer}
+use Rattle.hwp_check_answers.specs.Sifting.{AreAllRight, AreAllSound, AreSound, IsAnswerLine, IsFirstAnswer}
 
 module _ (script : Script) (report : Report) where
   pub no_disorder : AreAllOrderly script report → (line : ℕ) → IsDisorder script report line → ⊥

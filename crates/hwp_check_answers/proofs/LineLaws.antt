@@ -1,5 +1,5 @@
 -- Bad lines of some frame, by all frames; and the ends of processes, by the command's thread.
-use Rattle.std.proofs.Common.{◌≡◌, ◌≢◌, ◌↔◌, ◌⊎◌, inl, inr, ℕ, ◌<◌, List, Option, Some, None, Any, IsTrue, true, bit_and, length, slice_get, slice_index_or, option_map, unwrap_or, refl, sym, ap, ◌∙◌, subst, arith}
+use Rattle.std.proofs.Common.{◌≡◌, ℕ, Option, Some, None, Any, true, slice_get, option_map, unwrap_or, refl, sym, ap, ◌∙◌, subst}
 use Rattle.std.specs.Int.Bits.{and_zero_r}
 use Rattle.std.proofs.lemmas.Option.{get_or_from_slice_get, slice_get-get_or, slice_get_within}
 use Rattle.hwp_geom.specs.declared.Mask.{Mask}

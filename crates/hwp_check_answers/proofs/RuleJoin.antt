@@ -1,7 +1,6 @@
 -- The first of the lines of answers and of events that are wrong is the first that breaks the rule of answers.
-use Rattle.std.proofs.Common.{◌≡◌, ◌⊎◌, inl, inr, ℕ, ◌<◌, ◌≤◌, min, true, false, List, Option, Some, None, MatchOption, slice_get, take, refl, sym, ap, ◌∙◌, subst, true≢false, arith}
+use Rattle.std.proofs.Common.{◌≡◌, ◌⊎◌, inl, inr, ℕ, ◌<◌, ◌≤◌, min, false, Option, Some, None, MatchOption, slice_get, refl, subst, true≢false, arith}
 use Rattle.std.proofs.lemmas.Bool.{cases_lt}
-use Rattle.hwp_geom.specs.declared.Cpu.{Cpu}
 use Rattle.hwp_script.specs.Valid.{IsValid}
 use Rattle.hwp_script.specs.declared.Command.{Command}
 use Rattle.hwp_script.specs.declared.Script.{Script}
@@ -9,8 +8,8 @@ use Rattle.hwp_report.specs.declared.CpuLine.{CpuLine}
 use Rattle.hwp_report.specs.declared.CpuLine.TheVariants as lines
 use Rattle.hwp_report.specs.declared.Report.{Report}
 use Rattle.hwp_law.specs.Events.{AreEvents}
-use Rattle.hwp_check_rules.specs.AnswerFaults.{IsAnswerFault, IsEventWrong, IsLineWrong, IsRowFault, LacksEvents}
-use Rattle.hwp_check_rules.specs.Answered.{IsInPlace, is_answer, seq_of}
+use Rattle.hwp_check_rules.specs.AnswerFaults.{IsAnswerFault, IsEventWrong, IsLineWrong, IsRowFault}
+use Rattle.hwp_check_rules.specs.Answered.{is_answer, seq_of}
 use Rattle.hwp_check_rules.specs.Firsts.{IsLeast, soonest}
 use Rattle.hwp_check_rules.specs.Rules.{AnswersFit}
 use Rattle.hwp_check_rules.specs.Verdicts.{Answers, HoldBelow, IsBroken}

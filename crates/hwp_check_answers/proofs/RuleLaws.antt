@@ -1,13 +1,11 @@
 -- Where each line is in place and nothing is wrong about any answer, the rule of answers holds but for the event lines.
-use Rattle.std.proofs.Common.{◌≡◌, ◌≢◌, ◌⊎◌, inl, inr, ℕ, zero, suc, ◌+◌, ◌<◌, ◌≤◌, ◌==◌, cond, Bool, true, false, List, [], ◌∷◌, Option, Some, None, IsSomeAnd, count_by, length, option_and_then, option_map, slice_get, take, unwrap_or, refl, sym, ap, ◌∙◌, subst, true≢false, arith}
+use Rattle.std.proofs.Common.{◌≡◌, ◌≢◌, ◌⊎◌, inl, inr, ℕ, suc, ◌<◌, ◌≤◌, ◌==◌, cond, Bool, true, false, List, [], ◌∷◌, Option, Some, None, IsSomeAnd, count_by, length, option_and_then, option_map, slice_get, take, unwrap_or, refl, sym, ap, ◌∙◌, subst, true≢false, arith}
 use Rattle.std.specs.List.{filter_map, find}
 use Rattle.std.proofs.lemmas.Bool.{cases_lt, eqb-true}
 use Rattle.std.proofs.lemmas.Option.{none-some, same_Some, slice_get_within}
 use Rattle.hwp_geom.specs.declared.Cpu.{Cpu}
-use Rattle.hwp_geom.specs.declared.Page.{Page}
 use Rattle.hwp_geom.specs.declared.Proc.{Proc}
 use Rattle.hwp_geom.specs.declared.Who.{Who}
-use Rattle.hwp_page.specs.Orders.{IsEarlier}
 use Rattle.hwp_page.specs.declared.At.{At}
 use Rattle.hwp_page.specs.declared.Entry.{Entry}
 use Rattle.hwp_script.specs.Valid.{IsValid}
@@ -18,16 +16,16 @@ use Rattle.hwp_report.specs.declared.Answer.TheVariants as answers
 use Rattle.hwp_report.specs.declared.CpuLine.{CpuLine}
 use Rattle.hwp_report.specs.declared.CpuLine.TheVariants as lines
 use Rattle.hwp_report.specs.declared.Report.{Report}
-use Rattle.hwp_law.specs.Answers.{AreInWindows, AreNamed, IsNamed, is_answering}
+use Rattle.hwp_law.specs.Answers.{AreInWindows, AreNamed}
 use Rattle.hwp_law.specs.Commands.{process_at, process_of_thread, thread_of}
-use Rattle.hwp_law.specs.Endings.{EndingsStay, HasEnded, IsOver, WasGone}
-use Rattle.hwp_law.specs.Lines.{AnswerLine, answer_among, answer_in, answer_of}
-use Rattle.hwp_law.specs.Places.{command_at, entry_at}
-use Rattle.hwp_law.specs.States.{IsInWindow, entry_named, place_named, state_named}
+use Rattle.hwp_law.specs.Endings.{EndingsStay, IsOver}
+use Rattle.hwp_law.specs.Lines.{AnswerLine, answer_among, answer_in}
+use Rattle.hwp_law.specs.Places.{command_at}
+use Rattle.hwp_law.specs.States.{IsInWindow, entry_named}
 use Rattle.hwp_evidence.specs.Named.{is_at}
 use Rattle.hwp_evidence.proofs.NamedLaws.{at-is, named-at}
-use Rattle.hwp_evidence.proofs.Reading.{item_at, item_of_take, none_of_take}
-use Rattle.hwp_check_rules.specs.Answered.{AreAnswered, HasAnswer, IsInPlace, IsRight, is_answer}
+use Rattle.hwp_evidence.proofs.Reading.{item_at, item_of_take}
+use Rattle.hwp_check_rules.specs.Answered.{AreAnswered, is_answer}
 use Rattle.hwp_check_rules.specs.Verdicts.{Histories, HoldBelow, Shape}
 use Rattle.hwp_check_answers.specs.Disorders.{AreOrderly}
 use Rattle.hwp_check_answers.specs.Facts.{at_number}

@@ -1,5 +1,5 @@
 -- The walk over a processor's lines.
-use Rattle.std.proofs.Common.{◌≡◌, ◌⊎◌, inl, inr, ℕ, zero, suc, ◌+◌, ◌<◌, ◌≤◌, Bool, true, false, List, [], ◌∷◌, Option, Some, None, MatchBool, count_by, length, slice_get, take, refl, sym, ap, ◌∙◌, subst, true≢false, arith}
+use Rattle.std.proofs.Common.{◌≡◌, inl, inr, ℕ, ◌+◌, Bool, true, false, List, Some, None, MatchBool, count_by, slice_get, take, refl, sym, ap, ◌∙◌, subst, true≢false, arith}
 use Rattle.std.proofs.lemmas.Bool.{cases_lt}
 use Rattle.std.proofs.lemmas.List.Sums.{count_by_more_no, count_by_more_yes}
 use Rattle.std.proofs.lemmas.Option.{get_or_from_slice_get, none-some, same_Some, slice_get_within}
@@ -13,7 +13,7 @@ use Rattle.hwp_report.specs.declared.CpuLine.TheVariants as lines
 use Rattle.hwp_report.specs.declared.Report.{Report}
 use Rattle.hwp_check_rules.specs.AnswerFaults.{IsAnswerWrong}
 use Rattle.hwp_check_rules.specs.Answered.{is_answer, seq_of}
-use Rattle.hwp_check_answers.specs.Facts.{AreGoodRows, IsBadRow, IsFirstBad, IsGoodRow, at_number}
+use Rattle.hwp_check_answers.specs.Facts.{AreGoodRows, IsBadRow, IsGoodRow, at_number}
 use Rattle.hwp_check_answers.specs.Judging.{IsGood, next_seq}
 
 abbrev answer_in_row : CpuLine → Answer

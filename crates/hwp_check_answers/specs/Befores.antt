@@ -1,5 +1,5 @@
 -- The policies of threads before the commands that ask for them or set them.
-use Rattle.std.specs.Prelude.{◌≡◌, ℕ, ◌<◌, List, [], ◌∷◌, Option, Some, None, replicate, slice_get, slice_index_or, slice_set, take}
+use Rattle.std.specs.Prelude.{◌≡◌, ℕ, ◌<◌, List, [], ◌∷◌, Option, Some, None, slice_get, slice_index_or, slice_set, take}
 use Rattle.hwp_geom.specs.declared.Thread.{Thread}
 use Rattle.hwp_kill.specs.declared.Policy.{Policy}
 use Rattle.hwp_kill.specs.declared.Policy.TheVariants.{Default}

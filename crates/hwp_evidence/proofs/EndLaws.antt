@@ -1,28 +1,24 @@
 -- The commands by which processes had ended tell which signals ended them.
-use Rattle.std.proofs.Common.{◌≡◌, ◌≢◌, ◌⊎◌, inl, inr, ℕ, zero, suc, ◌+◌, ◌<◌, ◌≤◌, ◌==◌, ◌&&◌, ◌||◌, not, min, cond, Bool, true, false, List, [], ◌∷◌, Option, Some, None, fold, get_or, set, replicate, length, slice_get, refl, sym, ap, ◌∙◌, subst, true≢false, arith}
+use Rattle.std.proofs.Common.{◌≡◌, ◌⊎◌, inl, inr, ℕ, zero, suc, ◌+◌, ◌<◌, ◌≤◌, ◌==◌, ◌&&◌, ◌||◌, not, min, cond, Bool, true, false, List, [], ◌∷◌, Option, Some, None, fold, get_or, set, length, slice_get, refl, sym, ap, ◌∙◌, subst, true≢false, arith}
 use Rattle.std.specs.List.{list_any}
-use Rattle.std.proofs.lemmas.Bool.{cases_eq, cases_lt, eq-eqb, eqb-true, false_from_ne_true}
+use Rattle.std.proofs.lemmas.Bool.{cases_eq, cases_lt, eq-eqb, eqb-true}
 use Rattle.std.proofs.lemmas.List.{get_or-set_same, get_or-set_other, get_or-replicate, length-replicate, length-set}
-use Rattle.std.proofs.lemmas.Option.{none-some, same_Some, get_or_from_slice_get, slice_get_within}
+use Rattle.std.proofs.lemmas.Option.{none-some, same_Some, slice_get_within}
 use Rattle.hwp_geom.specs.declared.Cpu.{Cpu}
 use Rattle.hwp_geom.specs.declared.Layout.{Layout}
 use Rattle.hwp_geom.specs.declared.Page.{Page}
 use Rattle.hwp_geom.specs.declared.Proc.{Proc}
-use Rattle.hwp_geom.specs.declared.Thread.{Thread}
 use Rattle.hwp_geom.specs.declared.ThreadDecl.{ThreadDecl}
 use Rattle.hwp_geom.specs.declared.Who.{Who}
 use Rattle.hwp_kill.specs.declared.Signal.{Signal}
 use Rattle.hwp_page.specs.Endings.{ends, is_ended_by, is_ending}
-use Rattle.hwp_page.specs.Orders.{IsEarlier, IsNotLater}
-use Rattle.hwp_page.specs.declared.At.{At}
 use Rattle.hwp_page.specs.declared.Entry.{Entry}
-use Rattle.hwp_page.specs.declared.Met.TheVariants.{Sigbus, Word}
+use Rattle.hwp_page.specs.declared.Met.TheVariants.{Sigbus}
 use Rattle.hwp_page.specs.declared.What.{What}
 use Rattle.hwp_page.specs.declared.What.TheVariants as entries
 use Rattle.hwp_report.specs.declared.Report.{Report}
 use Rattle.hwp_script.specs.declared.Script.{Script}
-use Rattle.hwp_law.specs.Endings.{HasEnded, HasEnding}
-use Rattle.hwp_law.specs.Places.{entry_at}
+use Rattle.hwp_law.specs.Endings.{HasEnding}
 use Rattle.hwp_evidence.specs.Ends.{ArePageEnds, HadEnded, any_ended, ended_by, ended_in, never, none_ended, own_ended, own_ends, own_page_ends, page_ends, process_numbers, signalled}
 use Rattle.hwp_evidence.proofs.Reading.{item_at}
 use Rattle.hwp_evidence.proofs.WindowLaws.{entry-is, is-entry}

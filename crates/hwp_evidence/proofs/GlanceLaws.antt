@@ -1,5 +1,5 @@
 -- What was to be seen of a page at a place tells which states it had there.
-use Rattle.std.proofs.Common.{◌≡◌, ◌≢◌, ◌↔◌, ◌⊎◌, inl, inr, ℕ, zero, suc, ◌+◌, ◌<◌, ◌≤◌, ◌&&◌, ◌||◌, not, Bool, true, false, List, [], ◌∷◌, ◌++◌, Option, Some, None, MatchOption, IsTrue, length, take, slice_get, option_and_then, refl, sym, ap, ◌∙◌, subst, true≢false, arith}
+use Rattle.std.proofs.Common.{◌≡◌, ◌≢◌, ◌↔◌, ◌⊎◌, inl, inr, ℕ, zero, suc, ◌<◌, ◌≤◌, ◌&&◌, ◌||◌, not, Bool, true, false, List, [], ◌∷◌, Option, Some, None, MatchOption, IsTrue, length, take, slice_get, option_and_then, refl, sym, ap, ◌∙◌, subst, true≢false, arith}
 use Rattle.std.proofs.lemmas.Bool.{cases_lt}
 use Rattle.std.proofs.lemmas.Option.{none-some, same_Some, slice_get_within}
 use Rattle.std.specs.Cmp.{nat_cmp_total}
@@ -21,7 +21,7 @@ use Rattle.hwp_page.specs.declared.PageState.{PageState}
 use Rattle.hwp_law.specs.States.{HadState}
 use Rattle.hwp_evidence.specs.declared.glances.Glance.{Glance}
 use Rattle.hwp_evidence.specs.Glances.{AreGlances, glance_at, glance_of, glances_from}
-use Rattle.hwp_evidence.proofs.Reading.{item_at, item_of_push}
+use Rattle.hwp_evidence.proofs.Reading.{item_at}
 
 glance-get : (s : PageState) (es : List Entry) (n : ℕ) → n ≤ length es → slice_get (glances_from s es) n ≡ Some (glance_of (state_after s (take n es)))
 glance-get s [] zero low = refl

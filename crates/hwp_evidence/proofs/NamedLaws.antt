@@ -1,6 +1,6 @@
 -- A command is flagged exactly where one of its entries that its answer has to name is elsewhere.
 use Rattle.std.proofs.Common.{◌≡◌, ◌≢◌, ◌⊎◌, inl, inr, ℕ, zero, suc, ◌+◌, ◌<◌, ◌==◌, ◌&&◌, not, Bool, true, false, cond, List, [], ◌∷◌, Option, Some, None, get_or, set, replicate, length, slice_get, refl, sym, ap, ◌∙◌, subst, true≢false, arith}
-use Rattle.std.proofs.lemmas.Bool.{cases_eq, eq-eqb, eqb-true, false_from_ne_true}
+use Rattle.std.proofs.lemmas.Bool.{cases_eq, eq-eqb, eqb-true}
 use Rattle.std.proofs.lemmas.List.{get_or-set_same, get_or-set_other, get_or-replicate, length-replicate, length-set}
 use Rattle.std.proofs.lemmas.Option.{none-some, same_Some}
 use Rattle.hwp_geom.specs.declared.Cpu.{Cpu}
@@ -9,7 +9,6 @@ use Rattle.hwp_geom.specs.declared.Who.{Who}
 use Rattle.hwp_page.specs.declared.At.{At}
 use Rattle.hwp_page.specs.declared.Entry.{Entry}
 use Rattle.hwp_law.specs.Answers.{is_answering}
-use Rattle.hwp_law.specs.Places.{entry_at}
 use Rattle.hwp_evidence.specs.Named.{HasOther, flagged, flagged_page, flagged_pages, is_at, is_other}
 use Rattle.hwp_evidence.proofs.WindowLaws.{entry-is, is-entry}
 

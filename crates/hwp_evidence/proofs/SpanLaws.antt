@@ -1,6 +1,6 @@
 -- The highest and the lowest command numbers of a processor in entries.
-use Rattle.std.proofs.Common.{◌≡◌, ◌↔◌, ◌⊎◌, inl, inr, ℕ, zero, suc, ◌+◌, ◌-◌, ◌<◌, ◌≤◌, ◌==◌, max, min, cond, Bool, true, false, List, [], ◌∷◌, ◌++◌, Some, None, fold, length, drop, take, slice_get, refl, sym, ap, ◌∙◌, subst, arith}
-use Rattle.std.proofs.lemmas.Bool.{cases_eq, cases_lt, eq-eqb, false_from_ne_true, eqb-true}
+use Rattle.std.proofs.Common.{◌≡◌, inl, inr, ℕ, zero, suc, ◌+◌, ◌-◌, ◌<◌, ◌≤◌, ◌==◌, max, min, cond, Bool, true, false, List, [], ◌∷◌, ◌++◌, Some, fold, length, drop, take, slice_get, refl, sym, ap, ◌∙◌, subst, arith}
+use Rattle.std.proofs.lemmas.Bool.{cases_eq, eq-eqb, false_from_ne_true, eqb-true}
 use Rattle.std.proofs.lemmas.Option.{none-some, same_Some}
 use Rattle.hwp_geom.specs.declared.Cpu.{Cpu}
 use Rattle.hwp_page.specs.declared.Entry.{Entry}

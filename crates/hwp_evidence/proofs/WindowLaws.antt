@@ -1,7 +1,7 @@
 -- The command numbers around a place of a page's history tell whether the place is in a command's window.
-use Rattle.std.proofs.Common.{◌≡◌, ◌↔◌, ◌⊎◌, inl, inr, ℕ, zero, suc, ◌+◌, ◌-◌, ◌<◌, ◌≤◌, min, Bool, true, false, List, [], ◌∷◌, Option, Some, None, fold, get_or, length, drop, take, slice_get, slice_index_or, option_and_then, refl, sym, ap, ◌∙◌, subst, arith}
+use Rattle.std.proofs.Common.{◌≡◌, inl, inr, ℕ, zero, suc, ◌+◌, ◌-◌, ◌<◌, ◌≤◌, min, List, [], ◌∷◌, Option, Some, None, fold, length, drop, take, slice_get, slice_index_or, option_and_then, refl, sym, ap, ◌∙◌, subst, arith}
 use Rattle.std.proofs.lemmas.Bool.{cases_lt}
-use Rattle.std.proofs.lemmas.Option.{get_or_from_slice_get, none-some, same_Some, slice_get_past, slice_get_within}
+use Rattle.std.proofs.lemmas.Option.{get_or_from_slice_get, none-some, same_Some, slice_get_within}
 use Rattle.hwp_geom.specs.declared.Cpu.{Cpu}
 use Rattle.hwp_geom.specs.declared.Page.{Page}
 use Rattle.hwp_geom.specs.declared.Who.{Who}
@@ -9,7 +9,7 @@ use Rattle.hwp_page.specs.declared.At.{At}
 use Rattle.hwp_page.specs.declared.Entry.{Entry}
 use Rattle.hwp_law.specs.Places.{entry_at}
 use Rattle.hwp_evidence.specs.declared.windows.Span.{Span}
-use Rattle.hwp_evidence.specs.Windows.{AreSpans, IsBeforeLater, IsPastEarlier, IsSpan, came_to, end_before, ends_from, none_number, start_from, start_of}
+use Rattle.hwp_evidence.specs.Windows.{AreSpans, IsBeforeLater, IsPastEarlier, IsSpan, came_to, end_before, none_number, start_from, start_of}
 use Rattle.hwp_evidence.proofs.Reading.{item_at, item_of_drop, item_of_take, none_of_take}
 use Rattle.hwp_evidence.proofs.SpanLaws.{AreBelow, AreFrom, end-get, end-many, fold-low, high-start, low-fold, start-high}
 

@@ -1,5 +1,5 @@
 -- By which command of a processor each process had ended at the latest.
-use Rattle.std.specs.Prelude.{◌≡◌, ℕ, ◌<◌, ◌^◌, ◌==◌, min, Bool, true, cond, List, [], ◌∷◌, Option, Some, None, fold, replicate, length, slice_get, slice_index_or, slice_set}
+use Rattle.std.specs.Prelude.{◌≡◌, ℕ, ◌^◌, ◌==◌, min, cond, List, Option, Some, None, fold, replicate, length, slice_get, slice_index_or, slice_set}
 use Rattle.hwp_geom.specs.declared.Cpu.{Cpu}
 use Rattle.hwp_geom.specs.declared.Layout.{Layout}
 use Rattle.hwp_geom.specs.declared.Proc.{Proc}
@@ -9,7 +9,7 @@ use Rattle.hwp_geom.specs.declared.Who.{Who}
 use Rattle.hwp_kill.specs.declared.Signal.{Signal}
 use Rattle.hwp_page.specs.Orders.{IsEarlier}
 use Rattle.hwp_page.specs.declared.Entry.{Entry}
-use Rattle.hwp_page.specs.declared.Met.TheVariants.{Sigbus, Word}
+use Rattle.hwp_page.specs.declared.Met.TheVariants.{Sigbus}
 use Rattle.hwp_page.specs.declared.What.{What}
 use Rattle.hwp_page.specs.declared.What.TheVariants as entries
 use Rattle.hwp_report.specs.declared.Report.{Report}

@@ -1,5 +1,5 @@
 -- The first answer of each command of a processor, and the entry that it names.
-use Rattle.std.specs.Prelude.{◌≡◌, ℕ, ◌<◌, List, [], ◌∷◌, Option, Some, None, length, map, option_and_then, slice_index_or, slice_set}
+use Rattle.std.specs.Prelude.{◌≡◌, ℕ, ◌<◌, List, Option, Some, None, length, option_and_then, slice_index_or, slice_set}
 use Rattle.std.specs.Option.{option_or}
 use Rattle.hwp_page.specs.declared.At.{At}
 use Rattle.hwp_report.specs.declared.Answer.{Answer}

@@ -1,5 +1,5 @@
 -- The states of pages at all places of their histories, as far as answers tell of them.
-use Rattle.std.specs.Prelude.{◌≡◌, ◌||◌, ℕ, Bool, List, [], ◌∷◌, Option, Some, None, length, slice_get, option_and_then}
+use Rattle.std.specs.Prelude.{◌≡◌, ◌||◌, ℕ, List, [], ◌∷◌, Option, Some, length, slice_get, option_and_then}
 use Rattle.std.specs.List.{All}
 use Rattle.std.specs.Option.{is_none}
 use Rattle.hwp_geom.specs.declared.Layout.{Layout}

@@ -1,5 +1,5 @@
 -- What the records of frames say of a command.
-use Rattle.std.specs.Prelude.{◌≡◌, ℕ, ◌^◌, ◌==◌, min, Bool, cond, List, Some, fold}
+use Rattle.std.specs.Prelude.{ℕ, ◌^◌, ◌==◌, min, cond, List, fold}
 use Rattle.hwp_geom.specs.declared.Cpu.{Cpu}
 use Rattle.hwp_report.specs.declared.FrameLine.{FrameLine}
 use Rattle.hwp_report.specs.declared.MarkLine.{MarkLine}

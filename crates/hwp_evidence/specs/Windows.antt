@@ -1,5 +1,5 @@
 -- The windows of a processor's commands: what its entries and answers before and behind a command leave of a page's places.
-use Rattle.std.specs.Prelude.{◌≡◌, ℕ, ◌+◌, ◌-◌, ◌<◌, ◌≤◌, ◌^◌, ◌==◌, max, min, cond, List, [], ◌∷◌, ◌++◌, Option, Some, None, fold, drop, length, slice_get, slice_index_or, slice_set, replicate}
+use Rattle.std.specs.Prelude.{◌≡◌, ℕ, ◌+◌, ◌-◌, ◌<◌, ◌≤◌, ◌^◌, ◌==◌, max, min, cond, List, [], ◌∷◌, Option, Some, None, fold, drop, length, slice_get, slice_index_or, slice_set, replicate}
 use Rattle.hwp_geom.specs.declared.Cpu.{Cpu}
 use Rattle.hwp_geom.specs.declared.Who.{Who}
 use Rattle.hwp_page.specs.declared.At.{At}

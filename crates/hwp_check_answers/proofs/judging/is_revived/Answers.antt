@@ -1,6 +1,5 @@
 use Rattle.std.proofs.Common.{◌≡◌, Some, ◌∙◌, sym, true≢false}
 use Rattle.hwp_law.specs.Commands.{process_at}
-use Rattle.hwp_law.specs.Endings.{IsOver}
 use Rattle.hwp_check_answers.proofs.JudgeLaws.{is_revived, revived_is}
 use Rattle.hwp_check_answers.proofs.judging.is_revived.Goals as goal
 

@@ -1,4 +1,4 @@
-use Rattle.std.proofs.Common.{◌≡◌, ◌+◌, ◌<◌, ◌≤◌, Some, length, slice_get, sym, ◌∙◌, arith}
+use Rattle.std.proofs.Common.{◌≡◌, ◌+◌, ◌<◌, ◌≤◌, Some, length, slice_get, sym, arith}
 use Rattle.hwp_check_rules.specs.Standing.{cpu_line, last_line}
 use Rattle.hwp_check_answers.proofs.OrderLaws.{next-line, none-of, within-report}
 use Rattle.hwp_check_answers.proofs.SiftLaws.{all_sound, cpus_fit, found_answer, list_there, none_sound, sound_more}

@@ -1,4 +1,4 @@
-use Rattle.std.proofs.Common.{◌≡◌, ℕ, ◌≤◌, Bool, List, [], false, drop, fold, length, replicate, ap, ◌∙◌, sym, subst, arith}
+use Rattle.std.proofs.Common.{◌≡◌, ◌≤◌, List, false, fold, length, replicate, ap, ◌∙◌, sym, subst, arith}
 use Rattle.hwp_report.specs.declared.CpuLine.{CpuLine}
 use Rattle.hwp_evidence.specs.Counts.{AreFlags, flagged_by}
 use Rattle.hwp_evidence.proofs.CountLaws.{flags_are}

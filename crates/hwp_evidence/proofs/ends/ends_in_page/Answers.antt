@@ -1,6 +1,6 @@
 use Rattle.std.proofs.Common.{◌≡◌, ℕ, List, fold, length, ap, ◌∙◌}
 use Rattle.std.proofs.lemmas.List.{length-replicate}
-use Rattle.hwp_evidence.specs.Ends.{any_ended, never, none_ended, own_page_ends, process_numbers}
+use Rattle.hwp_evidence.specs.Ends.{any_ended, never, none_ended, process_numbers}
 use Rattle.hwp_evidence.proofs.ends.ends_in_page.Goals as goal
 
 pub loop-entry-init : goal.loop-entry-init

@@ -1,4 +1,4 @@
-use Rattle.std.proofs.Common.{rules, ◌≡◌, ℕ, ◌<◌, ◌≤◌, List, Some, None, true, false, slice_get, get_or, ap, ◌∙◌, sym, subst, true≢false}
+use Rattle.std.proofs.Common.{rules, ◌≡◌, ℕ, ◌<◌, ◌≤◌, List, Some, None, slice_get, get_or, ap, ◌∙◌, sym, subst, true≢false}
 use Rattle.std.proofs.lemmas.Bool.{le-leb, leb-true}
 use Rattle.std.specs.Option.{option_copied}
 use Rattle.hwp_evidence.specs.Ends.{never, process_numbers}

@@ -1,4 +1,4 @@
-use Rattle.std.proofs.Common.{◌≡◌, ◌≤◌, List, None, drop, fold, length, replicate, ap, ◌∙◌, sym, subst, arith}
+use Rattle.std.proofs.Common.{◌≡◌, ◌≤◌, List, None, fold, length, replicate, ap, ◌∙◌, sym, subst, arith}
 use Rattle.hwp_report.specs.declared.CpuLine.{CpuLine}
 use Rattle.hwp_evidence.specs.Firsts.{AreAnswersOf, answered_by}
 use Rattle.hwp_evidence.proofs.FirstLaws.{answers_are}

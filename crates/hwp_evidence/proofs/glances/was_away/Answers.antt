@@ -1,8 +1,6 @@
-use Rattle.std.proofs.Common.{◌≡◌, ◌↔◌, ◌&&◌, not, Bool, true, IsTrue, ap, ◌∙◌, sym, subst}
-use Rattle.std.specs.FinSet as set
+use Rattle.std.proofs.Common.{not, ap, ◌∙◌, sym}
 use Rattle.std.specs.Option.{option_copied}
-use Rattle.hwp_page.specs.Refusals.{IsAway, IsDirty, IsUnused}
-use Rattle.hwp_law.specs.States.{HadState}
+use Rattle.hwp_page.specs.Refusals.{IsAway}
 use Rattle.hwp_evidence.specs.declared.glances.Glance.{Glance}
 use Rattle.hwp_evidence.proofs.GlanceLaws.{away-by, had-by, had-never}
 use Rattle.hwp_evidence.proofs.glances.was_away.Goals as goal

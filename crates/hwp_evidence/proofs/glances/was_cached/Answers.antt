@@ -1,8 +1,5 @@
-use Rattle.std.proofs.Common.{◌≡◌, ◌↔◌, ◌&&◌, not, Bool, true, IsTrue, ap, ◌∙◌, sym, subst}
-use Rattle.std.specs.FinSet as set
+use Rattle.std.proofs.Common.{◌≡◌, true, ap, ◌∙◌, sym}
 use Rattle.std.specs.Option.{option_copied}
-use Rattle.hwp_page.specs.Refusals.{IsAway, IsDirty, IsUnused}
-use Rattle.hwp_law.specs.States.{HadState}
 use Rattle.hwp_evidence.specs.declared.glances.Glance.{Glance}
 use Rattle.hwp_evidence.proofs.GlanceLaws.{cached-by, had-by, had-never}
 use Rattle.hwp_evidence.proofs.glances.was_cached.Goals as goal

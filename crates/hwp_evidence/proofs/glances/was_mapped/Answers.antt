@@ -1,4 +1,4 @@
-use Rattle.std.proofs.Common.{◌≡◌, ap, ◌∙◌, sym}
+use Rattle.std.proofs.Common.{ap, ◌∙◌, sym}
 use Rattle.std.specs.Option.{option_copied}
 use Rattle.hwp_page.specs.Refusals.{IsMapped}
 use Rattle.hwp_evidence.proofs.GlanceLaws.{had-never, mapped-is}

@@ -1,4 +1,4 @@
-use Rattle.std.proofs.Common.{◌≡◌, ◌≤◌, List, false, drop, length, replicate, ap, ◌∙◌, sym, arith}
+use Rattle.std.proofs.Common.{◌≡◌, ◌≤◌, List, false, length, replicate, ap, ◌∙◌, sym, arith}
 use Rattle.hwp_page.specs.declared.Entry.{Entry}
 use Rattle.hwp_evidence.specs.Named.{flagged_pages}
 use Rattle.hwp_evidence.proofs.NamedLaws.{others_many}
