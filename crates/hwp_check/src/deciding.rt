@@ -5,7 +5,7 @@ ghost use Rattle.hwp_check_rules.specs.Verdicts.{IsVerdict};
 
 use crate::early::early_verdict;
 use crate::late::late_verdict;
-use hwp_check_answers::answers_fault;
+use hwp_check_events::answers_fault;
 use hwp_check_rules::Verdict;
 use hwp_geom::OutOfMemory;
 use hwp_report::Report;

@@ -1,7 +1,7 @@
 mod InPlace
 mod TellLaws
 mod AskLaws
-mod OrderLaws
+pub mod OrderLaws
 mod PlainLaws
 mod CauseLaws
 mod LineLaws

@@ -12,11 +12,11 @@ mod ScrubLines
 mod ScrubFound
 mod ScrubForth
 mod ScrubBack
-mod Lowest
-mod Whole
+pub mod Lowest
+pub mod Whole
 mod Bounds
-mod Walks
-mod ValidLaws
+pub mod Walks
+pub mod ValidLaws
 mod JudgeLaws
 mod IndexLaws
 mod FirstAnswers
@@ -24,4 +24,4 @@ mod CheckCounts
 mod TableLaws
 mod WalkLaws
 mod WalkSteps
-mod Verdicts
+pub mod Verdicts

@@ -35,13 +35,13 @@ low-bit mask at small set = elim (cases_lt at 64) [
   | inr high ↦ absurd (let one : bit_at mask at ≡ 1 = sym (shr_and_one mask at) ∙ (bit_set_by_shift mask at).1 set in let none : bit_at mask at ≡ 0 = bit_at_above mask 64 at small high in omega (arith, one, none))
 ]
 
-abbrev Small : FrameLine → Type 0
+abbrev pub Small : FrameLine → Type 0
 Small l = (l.bad.0 < 2 ^ 64) × (l.weak.0 < 2 ^ 64)
 
 small-at : (frames : List FrameLine) (n : ℕ) (l : FrameLine) → All Small frames → slice_get frames n ≡ Some l → Small l
 small-at frames n l all there = subst Small (get_or_from_slice_get frames n l l there) (All-get_or Small frames n l (slice_get_within frames n l there) all)
 
-masks : (report : Report) → All Small report.frames → AreMasks report
+pub masks : (report : Report) → All Small report.frames → AreMasks report
 masks report all origin frame at damaged = by origin (slice_get report.frames frame) refl damaged
   where
     bad : (o : Option FrameLine) → slice_get report.frames frame ≡ o → IsBitSet (unwrap_or (option_map (λ (l : FrameLine). l.bad.0) o) 0) at → at < 64
@@ -72,7 +72,7 @@ module _ (script : Script) (report : Report) (cpu : Cpu) (list : List Command) (
   abbrev Law : Type 0
   Law = AreEventsFrom script report cpu 0 list empty_banks
 
-  both : AreTold script report cpu list ↔ Law
+  pub both : AreTold script report cpu list ↔ Law
   both = processor-law script report (masks report all) (has-lines script valid) cpu list of_script (fits script cpu.0 list valid of_script)
 
   none-lacks : (LacksSome script report cpu list rows (length list) → ⊥) → AllRight script report cpu list rows (length list) → AreTold script report cpu list

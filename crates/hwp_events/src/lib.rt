@@ -22,6 +22,6 @@ mod walk;
 pub use faults::Faults;
 pub use judge::{Known, command_faults};
 pub use misfits::Misfits;
-pub use processors::processor_faults;
+pub use processors::{processor_faults, small_masks};
 pub use records::was_poisoned;
 pub use shown::Shown;

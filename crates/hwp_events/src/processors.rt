@@ -19,8 +19,8 @@ fn small(mask: u64)
     let _mask = mask;
 }
 
-/// So have those of all frames.
-fn small_masks(report: &Report)
+/// The masks of all frames have 64 bits.
+pub fn small_masks(report: &Report)
     ensures { All (λ (l : FrameLine). (l.bad.0 < 2 ^ 64) × (l.weak.0 < 2 ^ 64)) report.now.frames }
 {
     for line in report.frames.as_slice() {
