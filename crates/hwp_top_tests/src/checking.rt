@@ -188,6 +188,11 @@ const FORGED_BAD_LINE: &[(u64, &str, &str)] = &[
     (2, "stop 0 3 panic 0", "not 2 8\n"),
     (10, "store 0 0 0 5 0 78", "not 10 2\n"),
     (12, "fail 0 2 anononly opt - 0 1", "not 12 2\n"),
+    (
+        18,
+        "2 event 0 bd80000000000134 140 86 S9 delayed",
+        "not 18 3\n",
+    ),
     (19, "2 sigbus 0 3", "not 19 3\n"),
     (20, "3 value 0 0 5", "not 20 3\n"),
 ];
