@@ -5,7 +5,6 @@
 #[cfg(test)]
 mod calls;
 #[cfg(test)]
-mod checking;
 #[cfg(test)]
 mod helpers;
 #[cfg(test)]
