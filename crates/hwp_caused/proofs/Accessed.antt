@@ -23,8 +23,9 @@ use Rattle.hwp_fault.specs.declared.AccessAnswer.{AccessAnswer}
 use Rattle.hwp_fault.specs.declared.AccessAnswer.TheVariants as answers
 use Rattle.hwp_fault.specs.declared.AccessKind.{AccessKind}
 use Rattle.hwp_fault.specs.declared.AccessKind.TheVariants as kinds
-use Rattle.hwp_fault.specs.Accesses.{Answered, HasReached, IsDeclared, begin, what_of}
+use Rattle.hwp_fault.specs.Accesses.{Answered, HasReached, HasRefusal, IsDeclared, begin, touch_of, what_of}
 use Rattle.hwp_fault.specs.Accesses as accesses
+use Rattle.hwp_fault.specs.Touches.{refusal}
 use Rattle.hwp_fault.proofs.Accessing as accessing
 use Rattle.hwp_job.specs.declared.Job.{Job}
 use Rattle.hwp_job.specs.declared.Job.TheVariants as jobs
@@ -89,6 +90,14 @@ module _ (layout : Layout) (list : List Command) (view : View) (who : Who) (thre
     made = subst (λ (p : Page). HasMade (BringsIn p slot) view who p place (what_of (begin who thread slot line kind page process).request has.mask word)) (sym same) has.made;
   }
 
+  refused : {own : Page} {place : ℕ} → own ≡ page → (has : HasRefusal (begin who thread slot line kind page process).request view place)
+      → Reached layout view who thread slot (record { page = own; entry = place }) (refusal slot (touch_of (begin who thread slot line kind page process).request))
+  refused {own} {place} same has = record {
+    going = going has.alive;
+    page = subst (λ (p : Page). IsOf layout p slot) (sym same) page-is;
+    made = subst (λ (p : Page). HasMade (BringsIn p slot) view who p place (refusal slot (touch_of (begin who thread slot line kind page process).request))) (sym same) has.made;
+  }
+
   no-frame : Answered layout view (begin who thread slot line kind page process).request answers.NoFrame → FoundNoFrame layout view who thread slot
   no-frame has = record { going = going has.0.alive; available = has.1; page = page; page_is = page-is; place = has.2; away = has.3; only = has.0.brings }
 
@@ -103,6 +112,7 @@ module _ (layout : Layout) (list : List Command) (view : View) (who : Who) (thre
     load : (x : AccessAnswer) → Answered layout view (begin who thread slot line kinds.Load page process).request x → IsCaused layout list view who (commands.Load thread slot line) (access_answer x)
     load (answers.Value word own place) has = (record { 0 = has.2.mask }, reached layout list view who thread slot line kinds.Load page process names has.1 has.2)
     load (answers.Stored own place) has = absurd (load-no-store has.0 has.1)
+    load (answers.Sigbus own place) has = refused layout list view who thread slot line kinds.Load page process names has.0 has.1
     load answers.NoFrame has = no-frame layout list view who thread slot line kinds.Load page process names has
     load (answers.Gone of) has = gone layout list view who thread slot line kinds.Load page process names of has
     load answers.Stopped has = stopped layout list view who thread slot line kinds.Load page process names has
@@ -110,6 +120,7 @@ module _ (layout : Layout) (list : List Command) (view : View) (who : Who) (thre
     fetch : (x : AccessAnswer) → Answered layout view (begin who thread slot line kinds.Load page process).request x → IsCaused layout list view who (commands.Fetch thread slot line) (access_answer x)
     fetch (answers.Value word own place) has = load (answers.Value word own place) has
     fetch (answers.Stored own place) has = load (answers.Stored own place) has
+    fetch (answers.Sigbus own place) has = load (answers.Sigbus own place) has
     fetch answers.NoFrame has = load answers.NoFrame has
     fetch (answers.Gone of) has = load (answers.Gone of) has
     fetch answers.Stopped has = load answers.Stopped has
@@ -117,6 +128,7 @@ module _ (layout : Layout) (list : List Command) (view : View) (who : Who) (thre
     kload : (x : AccessAnswer) → Answered layout view (begin who thread slot line kinds.Load page process).request x → IsCaused layout list view who (commands.KLoad thread slot line) (access_answer x)
     kload (answers.Value word own place) has = load (answers.Value word own place) has
     kload (answers.Stored own place) has = load (answers.Stored own place) has
+    kload (answers.Sigbus own place) has = load (answers.Sigbus own place) has
     kload answers.NoFrame has = load answers.NoFrame has
     kload (answers.Gone of) has = load (answers.Gone of) has
     kload answers.Stopped has = load answers.Stopped has
@@ -125,6 +137,7 @@ module _ (layout : Layout) (list : List Command) (view : View) (who : Who) (thre
       → IsCaused layout list view who (commands.Store thread slot line word) (access_answer x)
   store word names (answers.Value found own place) has = absurd (load-no-store word (sym has.0))
   store word names (answers.Stored own place) has = (record { 0 = has.3.mask }, reached layout list view who thread slot line (kinds.Store word) page process names has.2 has.3)
+  store word names (answers.Sigbus own place) has = refused layout list view who thread slot line (kinds.Store word) page process names has.0 has.1
   store word names answers.NoFrame has = no-frame layout list view who thread slot line (kinds.Store word) page process names has
   store word names (answers.Gone of) has = gone layout list view who thread slot line (kinds.Store word) page process names of has
   store word names answers.Stopped has = stopped layout list view who thread slot line (kinds.Store word) page process names has

@@ -3,3 +3,4 @@ mod Accessed
 mod Evicted
 mod Called
 pub mod Causing
+pub mod Accounted

@@ -35,6 +35,22 @@ page-named page small = ap (λ (b : Bool). cond b None (Some (record { 0 = (page
     number : (page.0 + 1 - 1) % 2 ^ 16 ≡ page.0
     number = omega arith
 
+-- the page that a frame's word names is one of the layout
+pub page-within : (layout : Layout) (s : State) → Holds layout s → (frame : Frame) (found : ℕ) → frame.0 < layout.frames → found ≡ slice_index s.words (index layout (places.Frame frame))
+    → (page : Page) → owner_in found ≡ Some page → page.0 < length layout.pages
+page-within layout s h frame found inside met page names = which (owner_of found == 0) refl
+  where
+    few : owner_of found ≤ length layout.pages
+    few = subst (λ (n : ℕ). owner_of found ≤ n) (shaped layout s h).caches (h.rule.pages.caches.within frame.0 found (frame-word layout s h frame found inside met))
+
+    which : (b : Bool) → (owner_of found == 0) ≡ b → page.0 < length layout.pages
+    which true none = absurd (none-some page (sym (ap (λ (c : Bool). cond c None (Some (record { 0 = (owner_of found - 1) % 2 ^ 16 }))) none) ∙ names))
+    which false some =
+        let number : (owner_of found - 1) % 2 ^ 16 ≡ page.0 = ap (λ (p : Page). p.0) (same_Some (record { 0 = (owner_of found - 1) % 2 ^ 16 }) page (sym (ap (λ (c : Bool). cond c None (Some (record { 0 = (owner_of found - 1) % 2 ^ 16 }))) some) ∙ names)) in
+        let other : owner_of found ≢ 0 = eqb-false (owner_of found) 0 some in
+        let pages : length layout.pages ≤ 256 = h.sound.pages in
+        omega (arith, few)
+
 module _ (layout : Layout) (s : State) (h : Holds layout s) (frame : Frame) (found : ℕ) (inside : frame.0 < layout.frames) (met : found ≡ slice_index s.words (index layout (places.Frame frame))) (free : lock_of found ≡ 0) where
   there : slice_get (words_of layout s.words).frames frame.0 ≡ Some found
   there = frame-word layout s h frame found inside met

@@ -16,6 +16,7 @@ use Rattle.hwp_rule.specs.declared.View.{View}
 use Rattle.hwp_rule.specs.Lists.{SomeMember}
 use Rattle.hwp_rule.specs.Opening.{opening_view}
 use Rattle.hwp_rule.specs.Rule.{Holds}
+use Rattle.hwp_rule.specs.Served.{IsMild}
 use Rattle.hwp_rule.specs.Steps.{place_of, word_after}
 use Rattle.hwp_rule.specs.Words.{Words, free_bit, index, put, read, sum_below}
 use Rattle.hwp_rule.specs.parts.Places.{in_hand}
@@ -34,7 +35,6 @@ use Rattle.hwp_claim.specs.declared.grab.Grab.{Grab}
 use Rattle.hwp_claim.specs.declared.grab.GrabAt.{GrabAt}
 use Rattle.hwp_claim.specs.declared.grab.GrabAt.TheVariants as at
 use Rattle.hwp_claim.specs.Grabs.{at_available, has_bit, plan, plan_at, next, next_at, turn, turn_at, Fits, held_at, class, class_at, aborts, aborts_at, is_idle, cost, cost_with}
-use Rattle.hwp_claim.proofs.Grabbing.{can}
 
 -- ---- where a frame is
 
@@ -154,7 +154,7 @@ falls-on w now g step found rest back few is met after goes = which g.at is goes
     which at.LookAgain e goes = absurd (none-some step e)
     which (at.Grabbed word) e goes = absurd (none-some step e)
 
-abbrev grab-member : Member Grab
+abbrev pub grab-member : Member Grab
 grab-member = member (λ g. g.who) plan (λ g. None) (λ g. g) (λ layout g found got after result. (after ≡ next g found) × (result ≡ turn g found)) Fits class cost aborts (λ g. None)
 
 -- ---- what a parent cites: whatever is left once the frame is grabbed, and whatever is left where its word is looked at again, as long
@@ -243,7 +243,7 @@ grab-small rest back g w = which g.at
 
 -- ---- the law
 
-class-within : (g : Grab) → (1 ≤ class g) × (class g ≤ 4)
+pub class-within : (g : Grab) → (1 ≤ class g) × (class g ≤ 4)
 class-within g = which g.at
   where
     which : (x : GrabAt) → (1 ≤ class_at x) × (class_at x ≤ 4)
@@ -268,6 +268,19 @@ grab-leaves g found = which g.at
     which at.LookAgain aborts = absurd (both_ways true (sym aborts) refl)
     which (at.Grabbed word) aborts = absurd (both_ways true (sym aborts) refl)
 
+-- none of its steps poisons a frame or takes its poison back
+pub mild : (s : Grab) (step : Step) → plan s ≡ Some step → IsMild step
+mild s step is = which s.at is
+  where
+    which : (x : GrabAt) → plan_at s.frame x ≡ Some step → IsMild step
+    which at.LoadAvailable e = subst IsMild (same_Some (steps.Load places.Available) step e) tt
+    which (at.Reserve seen) e = subst IsMild (same_Some (steps.Reserve seen) step e) tt
+    which at.TakeBit e = subst IsMild (same_Some (steps.TakeBit s.frame) step e) tt
+    which at.Unreserve e = subst IsMild (same_Some (steps.Unreserve) step e) tt
+    which at.Adopt e = subst IsMild (same_Some (steps.Adopt s.frame) step e) tt
+    which at.LookAgain e = absurd (none-some step e)
+    which (at.Grabbed word) e = absurd (none-some step e)
+
 pub ranked : IsRanked grab-member
 ranked = record {
   classes = class-within;
@@ -275,8 +288,8 @@ ranked = record {
   falls = λ layout seat a b s t turn made goes. inl (grab-falls made 0 0 (omega arith) goes);
   waits = λ layout seat a b s t turn made waits quiet. grab-waits made 0 0 (omega arith) waits quiet.frames;
   leaves = λ layout seat a b s t turn made aborts. inl (ap plan made.follows.0 ∙ ap (plan_at s.frame) (grab-leaves s made.found aborts));
-  owns = λ layout seat a b s t turn frame cycle made pending. inr (
-    pending-kept made (can layout (view_of a seat) s made.step made.fits made.planned).served frame cycle pending,
+  owns = λ layout seat a b s t turn frame cycle made going pending. inr (
+    pending-kept made (mild s made.step made.planned) frame cycle pending,
     λ claimed. none-some (frame, cycle) claimed,
   );
 }

@@ -18,7 +18,6 @@ use Rattle.hwp_rule.specs.declared.Step.TheVariants as steps
 use Rattle.hwp_rule.specs.declared.View.{View}
 use Rattle.hwp_rule.specs.Asks.{CanGoHome, CanPut, CanUnlockFrame}
 use Rattle.hwp_rule.specs.Logs.{log_of}
-use Rattle.hwp_rule.specs.Unfailed.{AddsNoFailure, HaveNoFailure}
 use Rattle.hwp_rule.specs.Views.{body_of, is_body_of, is_lock_of, knowing, lock_found, more_of, without}
 use Rattle.hwp_rule.specs.parts.Bodies.{content_name}
 use Rattle.hwp_rule.proofs.Lists.{same-number}
@@ -26,8 +25,16 @@ use Rattle.hwp_step.specs.Calls.{CanMake, FitsLayout, IsOnTurn, logs}
 use Rattle.hwp_step.specs.Hands.{Hand, hand_of, hand_after, body_in, putting, taking}
 use Rattle.hwp_step.proofs.Stepping.{can-put}
 use Rattle.hwp_hold.specs.Unlocks.{FitsFrame, holding}
-use Rattle.hwp_hold.proofs.Linking.{as-taken, none-more, none-fails}
-use Rattle.hwp_claim.specs.Meets.{paged, reference}
+use Rattle.hwp_hold.proofs.Linking.{as-taken, none-more}
+use Rattle.hwp_claim.specs.Meets.{AsTaken, paged, reference}
+
+-- a body that alone is in hand has the entries that it was taken with
+pub one-taken : (layout : Layout) (who : Who) (view : View) (from : Option Frame) (b : BodyValue) (seen : ℕ) → view.bodies ≡ body_in from (log_of b) seen ∷ [] → AsTaken view (Some b)
+one-taken layout who view from b seen alone x is = subst (λ (y : BodyValue). (i : InHand) × (body_of y.page view ≡ Some i) × (more_of i (log_of y) ≡ [])) (same_Some b x is) (
+  body_in from (log_of b) seen,
+  ap (find (is_body_of b.page)) alone ∙ ap (λ (c : Bool). cond c (Some (body_in from (log_of b) seen)) None) (same-number b.page.0 b.page.0 refl),
+  none-more layout who from (log_of b) seen,
+)
 
 -- the frame and its lock, as a step found the word
 module _ (layout : Layout) (who : Who) (view : View) (frame : Frame) (found seen : ℕ) where
@@ -68,11 +75,14 @@ module _ (layout : Layout) (who : Who) (view : View) (frame : Frame) (found seen
     hand_is = hand ∙ ap (λ (o : ℕ). record (holding frame b.page (taken b) (is_handled found) (is_poisoned found)) { locks = record { frame = frame; owner = o; handled = is_handled found; poisoned = is_poisoned found } ∷ [] }) (sym named);
     home = goes-home b (ap (λ (h : Hand). find (is_body_of b.page) h.bodies) hand ∙ ap (λ (c : Bool). cond c (Some (taken b)) None) (same-number b.page.0 b.page.0 refl))
         (λ l at own. absurd (none-some l (sym (ap (λ (h : Hand). slice_get h.pages 0) hand) ∙ at)));
-    sound = none-fails layout who (Some frame) (log_of b) seen;
     taken_is = refl;
     layout_is = fits b refl;
     within = inside;
   }
+
+  pub alone-taken : (g : Option BodyValue) → hand_of view ≡ alone (logs g) → AsTaken view g
+  alone-taken None hand = λ b is. absurd (none-some b is)
+  alone-taken (Some b) hand = one-taken layout who view (Some frame) b seen (ap (λ (h : Hand). h.bodies) hand)
 
   -- ---- with the lock of a page that isn't in the frame
 
@@ -126,26 +136,26 @@ module _ (layout : Layout) (who : Who) (view : View) (frame : Frame) (found seen
       page-at : (l : PageLock) → slice_get view.pages 0 ≡ Some l → l.page ≡ page
       page-at l at = both-pages (logs shelf) (logs g) l (sym (ap (λ (h : Hand). slice_get h.pages 0) hand) ∙ at)
 
-      home : (x : Option BodyValue) → g ≡ x → CanPut layout who view (logs x) × AddsNoFailure view (logs x)
-      home None is = (tt, tt)
-      home (Some b) is = (
-        goes-home b found-body (λ l at own. both_ways (page.0 == b.page.0) (other (log_of b) (ap logs is)).1 (same-number page.0 b.page.0 (ap (λ (p : Page). p.0) (sym (page-at l at) ∙ own)))),
-        λ body at. subst (λ (x : InHand). HaveNoFailure (more_of x (log_of b))) (same_Some (taken b) body (sym found-body ∙ at)) (none-fails layout who (Some frame) (log_of b) seen),
-      )
-        where
-          found-body : body_of b.page view ≡ Some (taken b)
-          found-body = ap (λ (h : Hand). find (is_body_of b.page) h.bodies) hand ∙ ap (λ (c : Option Log). find (is_body_of b.page) (both (logs shelf) c).bodies) (ap logs is) ∙ both-body (logs shelf) (log_of b) of (other (log_of b) (ap logs is)).1
+      found-body : (b : BodyValue) → g ≡ Some b → body_of b.page view ≡ Some (taken b)
+      found-body b is = ap (λ (h : Hand). find (is_body_of b.page) h.bodies) hand ∙ ap (λ (c : Option Log). find (is_body_of b.page) (both (logs shelf) c).bodies) (ap logs is) ∙ both-body (logs shelf) (log_of b) of (other (log_of b) (ap logs is)).1
+
+      pub both-taken : AsTaken view g
+      both-taken b is = (taken b, found-body b is, none-more layout who (Some frame) (log_of b) seen)
+
+      home : (x : Option BodyValue) → g ≡ x → CanPut layout who view (logs x)
+      home None is = tt
+      home (Some b) is = goes-home b (found-body b is) (λ l at own. both_ways (page.0 == b.page.0) (other (log_of b) (ap logs is)).1 (same-number page.0 b.page.0 (ap (λ (p : Page). p.0) (sym (page-at l at) ∙ own))))
 
       can-free : CanUnlockFrame layout who view frame (logs g)
       can-free = record {
         has = record { lock = lock; listed = (0, lock, ap (λ (h : Hand). slice_get h.locks 0) hand ∙ both-locks (logs shelf) (logs g), refl); frame_is = refl };
         named = named;
         cached = λ l at owner. absurd (elsewhere (owner ∙ ap (λ (p : Page). p.0 + 1) (page-at l at)));
-        put = (home g refl).0;
+        put = home g refl;
       }
 
       pub can-leave : CanMake layout who (steps.UnlockFrame frame) g view
-      can-leave = can-put on refl tt inside can-free fits tt (home g refl).1
+      can-leave = can-put on refl tt inside can-free fits tt
 
       pub left : hand_after layout (steps.UnlockFrame frame) 0 (logs g) 0 (hand_of view) ≡ held (logs shelf)
       left = ap (λ (h : Hand). record (putting (logs g) h) { locks = without (is_lock_of frame) h.locks }) hand ∙ both-left (logs shelf) (logs g) of other

@@ -4,3 +4,7 @@ pub mod FrameSlots
 pub mod Leaving
 pub mod Meeting
 pub mod MeetCosts
+pub mod Keeping
+pub mod Claiming
+pub mod ClaimCosts
+pub mod ClaimOwns

@@ -1,5 +1,5 @@
 -- Each turn of a `Meet` lowers its cost.
-use Rattle.std.proofs.Common.{◌≡◌, ℕ, ◌+◌, ◌*◌, ◌%◌, ◌^◌, ◌<◌, ◌≤◌, ◌==◌, ◌||◌, Bool, true, false, not, cond, Option, Some, None, is_some, slice_get, slice_index, refl, sym, ap, ◌∙◌, subst, arith}
+use Rattle.std.proofs.Common.{◌≡◌, ℕ, ◌+◌, ◌*◌, ◌%◌, ◌^◌, ◌<◌, ◌≤◌, ◌==◌, ◌||◌, min, Bool, true, false, not, cond, Option, Some, None, is_some, slice_get, slice_index, refl, sym, ap, ◌∙◌, subst, arith}
 use Rattle.std.proofs.lemmas.Bool.{both_ways, eqb-true}
 use Rattle.std.proofs.lemmas.Option.{get_or_from_slice_get, none-some, same_Some}
 use Rattle.hwp_geom.specs.declared.Frame.{Frame}
@@ -17,6 +17,7 @@ use Rattle.hwp_rule.specs.Rule.{Holds}
 use Rattle.hwp_rule.specs.Steps.{place_of, word_after}
 use Rattle.hwp_rule.specs.Words.{Words, index, put, words_of}
 use Rattle.hwp_rule.proofs.Lists.{same-number, set_here}
+use Rattle.hwp_rule.specs.Served.{IsMild}
 use Rattle.hwp_rule.proofs.Meeting.{frame-free, frame-word, held-word, page-free}
 use Rattle.hwp_rule.proofs.Moving.{shaped}
 use Rattle.hwp_rule.proofs.bounds.RefBounds.{count-fits}
@@ -31,12 +32,12 @@ use Rattle.hwp_hold.specs.declared.release.ReleaseAt.{ReleaseAt}
 use Rattle.hwp_hold.specs.declared.release.ReleaseAt.TheVariants as release_at
 use Rattle.hwp_hold.specs.Holds.{is_free}
 use Rattle.hwp_hold.specs.Releases as releases
-use Rattle.hwp_hold.proofs.Ranking.{met-own, release-class, release-falls, release-small, stale-most}
+use Rattle.hwp_hold.proofs.Ranking.{met-own, release-class, release-falls, release-mild, release-small, stale-most}
 use Rattle.hwp_claim.specs.declared.meet.Meet.{Meet}
 use Rattle.hwp_claim.specs.declared.meet.MeetAt.{MeetAt}
 use Rattle.hwp_claim.specs.declared.meet.MeetAt.TheVariants as at
 use Rattle.hwp_claim.specs.Meets.{is_ended, is_owner, is_page, is_taken, owner_in, plan, plan_at, put as given, bare, bare_at, referenced, free_at, owned_at, released, next, next_at, ShowsAt, turn, turn_at, Fits, FitsAt, class, class_at, cost, cost_with, end_cost, word_in}
-use Rattle.hwp_claim.proofs.Meeting.{both, can, paged-locks}
+use Rattle.hwp_claim.proofs.Meeting.{both, paged-locks}
 
 abbrev pub meet-member : Member Meet
 meet-member = member (λ m. m.who) plan given bare (λ layout m found got after result. (after ≡ next m found got) × (result ≡ turn m found)) Fits class cost (λ m. false) (λ m. None)
@@ -166,8 +167,8 @@ module _ {layout : Layout} {seat : ℕ} {a b : State} {s t : Meet} {turn : Turn}
         (falls-at s.at made.planned made.fits.at (both layout (view_of a seat) _ s made.step made.found made.got made.fits made.planned (steps-on made)).0 (sym (ap is_waits made.follows.1) ∙ goes))
 
   -- a lock is held by nobody, where nobody lists one
-  pub never-waits : is_waits turn ≡ true → Quiet (class s) layout a seat → ⊥
-  never-waits waits quiet = which s.at made.planned made.fits.at (sym (ap is_waits made.follows.1) ∙ waits) quiet
+  pub never-waits : is_waits turn ≡ true → (c : ℕ) → min (class s) 3 ≤ c → Quiet c layout a seat → ⊥
+  never-waits waits c least quiet = which s.at made.planned made.fits.at (sym (ap is_waits made.follows.1) ∙ waits) least
     where
       free : (word : ℕ) → lock_of word ≡ 0 → is_waits (cond (is_free word) Moved (Waits word)) ≡ true → ⊥
       free word unlocked = by (is_free word) refl
@@ -180,19 +181,19 @@ module _ {layout : Layout} {seat : ℕ} {a b : State} {s t : Meet} {turn : Turn}
       changed true = refl
       changed false = refl
 
-      which : (x : MeetAt) → plan_at s.frame x ≡ Some made.step → FitsAt layout (view_of a seat) s.who s.frame x → is_waits (turn_at (bare_at x) made.found) ≡ true → Quiet (class_at x) layout a seat → ⊥
-      which (at.GetRef seen) e has waits quiet = both_ways true (sym waits ∙ changed (made.found == seen)) refl
-      which at.LockFree e has waits quiet = free made.found (frame-free layout a made.rule s.frame made.found made.fits.frame (met-at e) (no-lock quiet (omega arith) (ap (λ (h : Hand). h.locks) has))) waits
-      which (at.LockPage page) e has waits quiet = free made.found (page-free layout a made.rule page made.found has.1 (met-at e) (no-page quiet (omega arith) (ap (λ (h : Hand). h.pages) has.0))) waits
-      which (at.LockOwned page shelf) e has waits quiet = free made.found (frame-free layout a made.rule s.frame made.found made.fits.frame (met-at e)
-          (no-lock quiet (omega arith) (ap (λ (h : Hand). h.locks) has.hand_is ∙ paged-locks layout page s.frame has.cache _ has.seen))) waits
-      which (at.Unlock body ended) e has waits quiet = both_ways true (sym waits) refl
-      which (at.UnlockFrame page shelf body ended) e has waits quiet = both_ways true (sym waits) refl
-      which (at.UnlockPage page shelf ended) e has waits quiet = both_ways true (sym waits) refl
-      which (at.Release r ended) e has waits quiet = both_ways true (sym waits) refl
-      which (at.Back ended) e has waits quiet = none-some made.step e
-      which at.Free e has waits quiet = none-some made.step e
-      which (at.Owned page body) e has waits quiet = none-some made.step e
+      which : (x : MeetAt) → plan_at s.frame x ≡ Some made.step → FitsAt layout (view_of a seat) s.who s.frame x → is_waits (turn_at (bare_at x) made.found) ≡ true → min (class_at x) 3 ≤ c → ⊥
+      which (at.GetRef seen) e has waits least = both_ways true (sym waits ∙ changed (made.found == seen)) refl
+      which at.LockFree e has waits least = free made.found (frame-free layout a made.rule s.frame made.found made.fits.frame (met-at e) (no-lock quiet (omega (arith, least)) (ap (λ (h : Hand). h.locks) has))) waits
+      which (at.LockPage page) e has waits least = free made.found (page-free layout a made.rule page made.found has.1 (met-at e) (no-page quiet (omega (arith, least)) (ap (λ (h : Hand). h.pages) has.0))) waits
+      which (at.LockOwned page shelf) e has waits least = free made.found (frame-free layout a made.rule s.frame made.found made.fits.frame (met-at e)
+          (no-lock quiet (omega (arith, least)) (ap (λ (h : Hand). h.locks) has.hand_is ∙ paged-locks layout page s.frame has.cache _ has.seen))) waits
+      which (at.Unlock body ended) e has waits least = both_ways true (sym waits) refl
+      which (at.UnlockFrame page shelf body ended) e has waits least = both_ways true (sym waits) refl
+      which (at.UnlockPage page shelf ended) e has waits least = both_ways true (sym waits) refl
+      which (at.Release r ended) e has waits least = both_ways true (sym waits) refl
+      which (at.Back ended) e has waits least = none-some made.step e
+      which at.Free e has waits least = none-some made.step e
+      which (at.Owned page body) e has waits least = none-some made.step e
 
 pub meet-class : (m : Meet) → (1 ≤ class m) × (class m ≤ 4)
 meet-class m = which m.at
@@ -231,8 +232,25 @@ meet-small rest again most few fewer frame x w = which x
     which at.Free = omega (arith, few)
     which (at.Owned page body) = omega (arith, few)
 
+-- none of its steps poisons a frame or takes its poison back
+pub meet-mild : (s : Meet) (step : Step) → plan s ≡ Some step → IsMild step
+meet-mild s step is = which s.at is
+  where
+    which : (x : MeetAt) → plan_at s.frame x ≡ Some step → IsMild step
+    which (at.GetRef seen) e = subst IsMild (same_Some (steps.GetRef s.frame seen 1) step e) tt
+    which at.LockFree e = subst IsMild (same_Some (steps.LockFrame s.frame) step e) tt
+    which (at.LockPage page) e = subst IsMild (same_Some (steps.LockPage page) step e) tt
+    which (at.LockOwned page shelf) e = subst IsMild (same_Some (steps.LockFrame s.frame) step e) tt
+    which (at.Unlock body ended) e = subst IsMild (same_Some (steps.UnlockFrame s.frame) step e) tt
+    which (at.UnlockFrame page shelf body ended) e = subst IsMild (same_Some (steps.UnlockFrame s.frame) step e) tt
+    which (at.UnlockPage page shelf ended) e = subst IsMild (same_Some (steps.UnlockPage page) step e) tt
+    which (at.Release r ended) e = release-mild r step e
+    which (at.Back ended) e = absurd (none-some step e)
+    which at.Free e = absurd (none-some step e)
+    which (at.Owned page body) e = absurd (none-some step e)
+
 pub meet-ranked : IsRanked meet-member
 meet-ranked = rank-of meet-member (λ s. refl) meet-class (λ layout a seat s rule fits. let small : cost s (words_at layout a) ≤ 0 + 4104 = meet-small 0 0 0 (omega arith) (omega arith) s.frame s.at (words_at layout a) in omega arith)
     (λ layout seat a b s t turn made goes. meet-falls made 0 0 (omega arith) goes)
-    (λ layout seat a b s t turn made waits quiet. absurd (never-waits made waits quiet))
-    (λ s. refl) (λ layout view s step fits is. (can layout view s step fits is).served)
+    (λ layout seat a b s t turn made waits quiet. absurd (never-waits made waits (class s) (omega arith) quiet))
+    (λ s. refl) meet-mild

@@ -1,7 +1,7 @@
 -- The laws of `Meet`.
 use Rattle.std.proofs.Common.{◌≡◌, ◌≢◌, ℕ, ◌+◌, ◌<◌, ◌≤◌, ◌==◌, ◌&&◌, ◌||◌, Bool, true, false, not, cond, List, [], ◌∷◌, ◌++◌, Option, Some, None, is_none, is_some, length, slice_get, refl, sym, ap, ◌∙◌, subst, arith}
 use Rattle.std.specs.List.{find}
-use Rattle.std.proofs.lemmas.Bool.{both_ways, ne_eqb}
+use Rattle.std.proofs.lemmas.Bool.{both_ways, eqb-true, ne_eqb}
 use Rattle.std.proofs.lemmas.Option.{none-some, same_Some}
 use Rattle.hwp_geom.specs.declared.Frame.{Frame}
 use Rattle.hwp_geom.specs.declared.Layout.{Layout}
@@ -20,15 +20,14 @@ use Rattle.hwp_rule.specs.Asks.{CanGoHome, CanLockFrame, CanUnlockPage, HasRefRo
 use Rattle.hwp_rule.specs.Lists.{EachMember}
 use Rattle.hwp_rule.specs.Logs.{log_of, state_of}
 use Rattle.hwp_rule.specs.Slots.{IsIn, frame_slot, shelf_slot, is_out, moved_out}
-use Rattle.hwp_rule.specs.Unfailed.{AddsNoFailure}
-use Rattle.hwp_rule.specs.Views.{is_body_of, is_lock_of, is_page_lock_of, knowing, lock_found, locks_on, refs_on, without}
+use Rattle.hwp_rule.specs.Steps.{goes}
+use Rattle.hwp_rule.specs.Views.{is_body_of, is_lock_of, is_page_lock_of, knowing, lock_found, locks_on, noted, refs_on, taken, without}
 use Rattle.hwp_rule.specs.parts.Bodies.{content_name}
 use Rattle.hwp_rule.proofs.Lists.{same-number}
 use Rattle.hwp_rule.proofs.Meeting.{free-word, lock-knows, named-body, on-shelf}
-use Rattle.hwp_rule.proofs.Unfailed.{adds-one}
 use Rattle.hwp_step.specs.declared.Turn.{Turn}
 use Rattle.hwp_step.specs.Calls.{CanMake, FitsLayout, IsOnTurn, Steps, logs}
-use Rattle.hwp_step.specs.Hands.{Hand, body_in, empty, hand_of, putting, taking}
+use Rattle.hwp_step.specs.Hands.{Hand, empty, hand_of, putting, taking}
 use Rattle.hwp_step.proofs.Stepping.{on-turn-after, content_of, brought, was-home, hand-planned, steps-planned, can-make, can-put}
 use Rattle.hwp_known.proofs.Seeing.{saw-log-frame}
 use Rattle.hwp_hold.specs.declared.release.Release.{Release}
@@ -40,7 +39,7 @@ use Rattle.hwp_hold.specs.Releases as releases
 use Rattle.hwp_hold.specs.Unholds as unholds
 use Rattle.hwp_hold.specs.Unlocks as unlocks
 use Rattle.hwp_hold.specs.Unlocks.{IsReleasing, empty_frame}
-use Rattle.hwp_hold.proofs.Linking.{held-ahead, held-unholds, none-fails}
+use Rattle.hwp_hold.proofs.Linking.{held-ahead, held-unholds}
 use Rattle.hwp_hold.proofs.Telling.{Tells, empty-tells, frame-tells, no-frame, no-page, page-tells, unlock-tells}
 use Rattle.hwp_hold.proofs.Unholding as unholding
 use Rattle.hwp_hold.proofs.Unlocking as unlocking
@@ -49,7 +48,7 @@ use Rattle.hwp_claim.specs.declared.meet.MeetAt.{MeetAt}
 use Rattle.hwp_claim.specs.declared.meet.MeetAt.TheVariants as at
 use Rattle.hwp_claim.specs.declared.meet.MeetAnswer.{MeetAnswer}
 use Rattle.hwp_claim.specs.declared.meet.MeetAnswer.TheVariants as answers
-use Rattle.hwp_claim.specs.Meets.{is_ended, is_owner, is_taken, owner_in, plan, plan_at, put, put_at, bare, bare_at, referenced, free_at, owned_at, released_at, next, next_at, ShowsAt, Shows, turn, paged, reference, IsInUse, IsPaged, IsLeaving, HoldsPoisoned, Fits, FitsAt, Met, MetAt, answer, answer_at, back, class, class_at, released_answer}
+use Rattle.hwp_claim.specs.Meets.{AsTaken, is_ended, is_owner, is_taken, owner_in, plan, plan_at, put, put_at, bare, bare_at, referenced, free_at, owned_at, released_at, next, next_at, ShowsAt, Shows, turn, paged, reference, IsPaged, IsLeaving, HoldsPoisoned, Fits, FitsAt, Met, MetAt, answer, answer_at, back, class, class_at, released_answer}
 use Rattle.hwp_claim.proofs.FrameSlots
 use Rattle.hwp_claim.proofs.Leaving
 
@@ -115,16 +114,16 @@ counted frame = let same = same-number frame.0 frame.0 refl in grind arith
 module _ (layout : Layout) (old new : View) (who : Who) (frame : Frame) (inside : frame.0 < layout.frames) (cycle found : ℕ) (got : Option BodyValue) (on : IsOnTurn new who) where
   -- ---- the reference
 
-  ref-got : (seen : ℕ) → Steps layout who (steps.GetRef frame seen 1) None old new found got → hand_of old ≡ empty → IsInUse layout seen → FitsAt layout new who frame (cond (found == seen) (referenced (owner_in seen)) (at.Back false))
-  ref-got seen made none used = which (found == seen) (hand-planned made refl none)
+  ref-got : (seen : ℕ) → Steps layout who (steps.GetRef frame seen 1) None old new found got → hand_of old ≡ empty → FitsAt layout new who frame (cond (found == seen) (referenced (owner_in seen)) (at.Back false))
+  ref-got seen made none = which (found == seen) refl (hand-planned made refl none)
     where
-      with-owner : (o : Option Page) → owner_in seen ≡ o → hand_of new ≡ reference frame → FitsAt layout new who frame (referenced o)
+      with-owner : (o : Option Page) → owner_in found ≡ o → hand_of new ≡ reference frame → FitsAt layout new who frame (referenced o)
       with-owner None is hand = hand
-      with-owner (Some page) is hand = (hand, used.within page is)
+      with-owner (Some page) is hand = (hand, FrameSlots.page-within layout made.told.board made.told.rule frame found inside made.told.met page is)
 
-      which : (b : Bool) → hand_of new ≡ cond b (reference frame) empty → FitsAt layout new who frame (cond b (referenced (owner_in seen)) (at.Back false))
-      which true hand = with-owner (owner_in seen) refl hand
-      which false hand = hand
+      which : (b : Bool) → (found == seen) ≡ b → hand_of new ≡ cond b (reference frame) empty → FitsAt layout new who frame (cond b (referenced (owner_in seen)) (at.Back false))
+      which true same hand = with-owner (owner_in seen) (ap owner_in (eqb-true found seen same)) hand
+      which false other hand = hand
 
   -- ---- the page's lock
 
@@ -199,6 +198,9 @@ module _ (layout : Layout) (old new : View) (who : Who) (frame : Frame) (inside 
         let-go : unlocks.FitsFrame layout new who frame got
         let-go = Leaving.frame-held layout who new frame found (length old.sights) got hand-free (named is) made.brings.layout_is inside
 
+        goes-as-taken : AsTaken new got
+        goes-as-taken = Leaving.alone-taken layout who new frame found (length old.sights) got hand-free
+
         bare-lock : is_ended cycle found ≡ false → is_taken found ≡ false → hand_of new ≡ empty_frame frame false true
         bare-lock lasts unused = hand-free ∙ ap (λ (c : Option Log). taking layout (Some frame) c (length old.sights) (record (reference frame) { locks = lock_found frame found ∷ [] })) (ap logs (unnamed got (named is ∙ zero)))
             ∙ ap (λ (o : ℕ). record (reference frame) { locks = record { frame = frame; owner = o; handled = is_handled found; poisoned = is_poisoned found } ∷ [] }) zero
@@ -212,8 +214,8 @@ module _ (layout : Layout) (old new : View) (who : Who) (frame : Frame) (inside 
       free-locked = which (is_free found) refl
         where
           choose : (e t : Bool) → is_free found ≡ true → is_ended cycle found ≡ e → is_taken found ≡ t → FitsAt layout new who frame (free_at got e t)
-          choose true t is ended taken = let-go is
-          choose false true is ended taken = let-go is
+          choose true t is ended taken = (let-go is, goes-as-taken is)
+          choose false true is ended taken = (let-go is, goes-as-taken is)
           choose false false is ended taken = bare-lock is ended taken
 
           which : (free : Bool) → is_free found ≡ free → FitsAt layout new who frame (cond free (free_at got (is_ended cycle found) (is_taken found)) at.LockFree)
@@ -237,6 +239,7 @@ module _ (layout : Layout) (old new : View) (who : Who) (frame : Frame) (inside 
           cache = has.cache;
           can = Leaving.can-leave layout who new frame found (length old.sights) page has.cache has.seen on inside shelf got hand-both of (named is) made.brings.layout_is elsewhere;
           left = Leaving.left layout who new frame found (length old.sights) page has.cache has.seen on inside shelf got hand-both of (named is) made.brings.layout_is elsewhere;
+          as_taken = Leaving.both-taken layout who new frame found (length old.sights) page has.cache has.seen on inside shelf got hand-both of (named is) made.brings.layout_is elsewhere;
           body_is = has.body_is;
           inside = has.inside;
         }
@@ -306,9 +309,19 @@ module _ (layout : Layout) (old new : View) (who : Who) (frame : Frame) (inside 
               left = ap (λ (h : Hand). record (putting (Some (log_of b)) h) { locks = without (is_lock_of frame) h.locks }) hand-full
                   ∙ own-left layout page frame (log_of b) (length old.sights) (is_handled found) (is_poisoned found) page-is
                   ∙ ap (λ (x : Option BodyValue). paged layout page frame (Some (frame.0 + 1)) (logs x) 0) (sym no-shelf);
+              as_taken = Leaving.one-taken layout who new (Some frame) b (length old.sights) (ap (λ (h : Hand). h.bodies) hand-full);
               body_is = has.body_is;
               inside = has.inside;
             }
+
+            -- nothing was seen meanwhile
+            same-sights : new.sights ≡ old.sights
+            same-sights = ap (λ (v : View). v.sights) made.told.next ∙ by (goes (steps.LockFrame frame) found) slot-content
+              where
+                by : (c : Bool) (content : Option Log) → (cond c (taken layout who (Some frame) content (record (noted who old) { locks = old.locks ++ lock_found frame found ∷ [] })) (noted who old)).sights ≡ old.sights
+                by true None = refl
+                by true (Some log) = refl
+                by false content = refl
 
             poisoned-met : is_ended cycle found ≡ false → HoldsPoisoned layout new who page frame b
             unfolding holds
@@ -316,6 +329,7 @@ module _ (layout : Layout) (old new : View) (who : Who) (frame : Frame) (inside 
               holds = holds;
               unhandled = FrameSlots.owner-unhandled layout made.told.board made.told.rule frame found inside made.told.met (free-word found is) page owner;
               poisoned = not-ended cycle found lasts;
+              few = let same : length new.sights ≡ length old.sights = ap (λ (l : List _). length l) same-sights in omega (arith, same);
               saw = saw-log-frame (subst (λ (g : Option BodyValue). Steps layout who (steps.LockFrame frame) None old new found g) brought-is made) is bare-lock-of
                   (ap (λ (h : Hand). slice_get h.pages 0) (has.hand_is ∙ ap (λ (x : Option BodyValue). paged layout page frame has.cache (logs x) has.seen) no-shelf)) (sym page-is);
               inside = has.inside;
@@ -374,11 +388,11 @@ both layout old new m step found got fits is made = let all = which m.at is fits
 
     which : (x : MeetAt) → plan_at m.frame x ≡ Some step → FitsAt layout old m.who m.frame x → Steps layout m.who step (logs (put_at x)) old new found got
         → ShowsAt m.cycle (bare_at x) found got × FitsAt layout new m.who m.frame (next_at m.who m.frame m.cycle (bare_at x) found got)
-    which (at.GetRef seen) e has made = (tt, ref-got layout old new m.who m.frame fits.frame m.cycle found got on seen (steps-planned e made) has.0 has.1)
+    which (at.GetRef seen) e has made = (tt, ref-got layout old new m.who m.frame fits.frame m.cycle found got on seen (steps-planned e made) has.0)
     which at.LockFree e has made = (tt, free-locked layout old new m.who m.frame fits.frame m.cycle found got on (steps-planned e made) has)
     which (at.LockPage page) e has made = (tt, page-locked layout old new m.who m.frame fits.frame m.cycle found got on page has.1 (steps-planned e made) has.0)
     which (at.LockOwned page shelf) e has made = owned-locked layout old new m.who m.frame fits.frame m.cycle found got on (steps-planned e made) page shelf has
-    which (at.Unlock body ended) e has made = (tt, (unlocking.moved layout old new (record { who = m.who; at = unlock_at.UnlockFrame m.frame body }) step found got (record { on_turn = fits.on_turn; at = has }) e made).at)
+    which (at.Unlock body ended) e has made = (tt, (unlocking.moved layout old new (record { who = m.who; at = unlock_at.UnlockFrame m.frame body }) step found got (record { on_turn = fits.on_turn; at = has.0 }) e made).at)
     which (at.UnlockFrame page shelf body ended) e has made = (tt, frame-let-go layout old new m.who m.frame fits.frame m.cycle found got on page shelf body has (steps-planned e made))
     which (at.UnlockPage page shelf ended) e has made =
         (tt, reference-left layout old new m.who m.frame fits.frame m.cycle found got on (page-let-go layout old new m.who m.frame fits.frame m.cycle found got on page shelf has (steps-planned e made)))
@@ -410,27 +424,21 @@ module _ (layout : Layout) (view : View) (who : Who) (frame : Frame) where
   }
 
   module _ (page : Page) where
-    can-free-page : (shelf : Option BodyValue) → IsPaged layout view page frame shelf → CanUnlockPage layout who view page (logs shelf) × AddsNoFailure view (logs shelf)
-    can-free-page None has = (
-      record {
-        has = record { lock = record { page = page; resident = true; cache = has.cache; trans = None }; listed = ap (λ (h : Hand). slice_get h.pages 0) has.hand_is; page_is = refl };
-        named = refl;
-        put_away = λ none. ap (λ (h : Hand). find (is_body_of page) h.bodies) has.hand_is;
-        no_frame = subst (λ (h : Hand). EachMember (λ (l : FrameLock). l.owner ≢ page.0 + 1) h.locks) (sym has.hand_is) (λ i x e. absurd (none-some x e));
-        put = tt;
-      },
-      tt,
-    )
-    can-free-page (Some b) has = (
-      record {
-        has = record { lock = page_lock page None (words_of layout None (log_of b)); listed = ap (λ (h : Hand). slice_get h.pages 0) has.hand_is; page_is = refl };
-        named = ap (λ (p : Page). p.0 + 1) (has.body_is b refl).page_is;
-        put_away = λ none. absurd (none-some (log_of b) (sym none));
-        no_frame = subst (λ (h : Hand). EachMember (λ (l : FrameLock). l.owner ≢ page.0 + 1) h.locks) (sym has.hand_is) (λ i x e. absurd (none-some x e));
-        put = home;
-      },
-      adds-one view (log_of b) (body_in None (log_of b) has.seen) (ap (λ (h : Hand). h.bodies) has.hand_is) (none-fails layout who None (log_of b) has.seen),
-    )
+    can-free-page : (shelf : Option BodyValue) → IsPaged layout view page frame shelf → CanUnlockPage layout who view page (logs shelf)
+    can-free-page None has = record {
+      has = record { lock = record { page = page; resident = true; cache = has.cache; trans = None }; listed = ap (λ (h : Hand). slice_get h.pages 0) has.hand_is; page_is = refl };
+      named = refl;
+      put_away = λ none. ap (λ (h : Hand). find (is_body_of page) h.bodies) has.hand_is;
+      no_frame = subst (λ (h : Hand). EachMember (λ (l : FrameLock). l.owner ≢ page.0 + 1) h.locks) (sym has.hand_is) (λ i x e. absurd (none-some x e));
+      put = tt;
+    }
+    can-free-page (Some b) has = record {
+      has = record { lock = page_lock page None (words_of layout None (log_of b)); listed = ap (λ (h : Hand). slice_get h.pages 0) has.hand_is; page_is = refl };
+      named = ap (λ (p : Page). p.0 + 1) (has.body_is b refl).page_is;
+      put_away = λ none. absurd (none-some (log_of b) (sym none));
+      no_frame = subst (λ (h : Hand). EachMember (λ (l : FrameLock). l.owner ≢ page.0 + 1) h.locks) (sym has.hand_is) (λ i x e. absurd (none-some x e));
+      put = home;
+    }
       where
         -- as if there were no reference
         ahead : unholds.HoldsAhead layout who (record view { refs = [] }) page None 1 (Some b)
@@ -462,9 +470,9 @@ can layout view m step fits is = which m.at fits.at is
     which (at.LockOwned page shelf) has e = can-make fits.on_turn e tt fits.frame (can-lock layout view m.who m.frame
         (ap (λ (h : Hand). h.refs) has.hand_is ∙ paged-refs layout page m.frame has.cache (logs shelf) has.seen)
         (ap (λ (h : Hand). h.locks) has.hand_is ∙ paged-locks layout page m.frame has.cache (logs shelf) has.seen))
-    which (at.Unlock body ended) has e = unlocking.can layout view (record { who = m.who; at = unlock_at.UnlockFrame m.frame body }) step (record { on_turn = fits.on_turn; at = has }) e
+    which (at.Unlock body ended) has e = unlocking.can layout view (record { who = m.who; at = unlock_at.UnlockFrame m.frame body }) step (record { on_turn = fits.on_turn; at = has.0 }) e
     which (at.UnlockFrame page shelf body ended) has e = subst (λ (s : Step). CanMake layout m.who s body view) (same_Some (steps.UnlockFrame m.frame) step e) has.can
-    which (at.UnlockPage page shelf ended) has e = can-put fits.on_turn e tt has.inside (can-free-page layout view m.who m.frame page shelf has).0 (shelf-layout layout view m.who m.frame page shelf has) tt (can-free-page layout view m.who m.frame page shelf has).1
+    which (at.UnlockPage page shelf ended) has e = can-put fits.on_turn e tt has.inside (can-free-page layout view m.who m.frame page shelf has) (shelf-layout layout view m.who m.frame page shelf has) tt
     which (at.Release r ended) has e = unlocking.can layout view (record { who = m.who; at = unlock_at.Release r }) step (record { on_turn = fits.on_turn; at = has }) e
     which (at.Back ended) has e = absurd (none-some step e)
     which at.Free has e = absurd (none-some step e)
@@ -524,3 +532,24 @@ meet-tells layout view m fits = which m.at fits.at
     which (at.Back ended) has = empty-tells view 4 has
     which at.Free has = frame-tells view
     which (at.Owned page body) has = frame-tells view
+
+-- the bodies that it puts home have the entries that they were taken with
+pub puts-as-taken : (layout : Layout) (view : View) (m : Meet) → Fits layout view m → AsTaken view (put m)
+puts-as-taken layout view m fits = which m.at fits.at
+  where
+    shelved : (page : Page) (shelf : Option BodyValue) → IsPaged layout view page m.frame shelf → AsTaken view shelf
+    shelved page None has = λ b is. absurd (none-some b is)
+    shelved page (Some b) has = Leaving.one-taken layout m.who view None b has.seen (ap (λ (h : Hand). h.bodies) has.hand_is)
+
+    which : (x : MeetAt) → FitsAt layout view m.who m.frame x → AsTaken view (put_at x)
+    which (at.GetRef seen) has = λ b is. absurd (none-some b is)
+    which at.LockFree has = λ b is. absurd (none-some b is)
+    which (at.LockPage page) has = λ b is. absurd (none-some b is)
+    which (at.LockOwned page shelf) has = λ b is. absurd (none-some b is)
+    which (at.Unlock body ended) has = has.1
+    which (at.UnlockFrame page shelf body ended) has = has.as_taken
+    which (at.UnlockPage page shelf ended) has = shelved page shelf has
+    which (at.Release r ended) has = λ b is. absurd (none-some b is)
+    which (at.Back ended) has = λ b is. absurd (none-some b is)
+    which at.Free has = λ b is. absurd (none-some b is)
+    which (at.Owned page body) has = λ b is. absurd (none-some b is)

@@ -1,5 +1,5 @@
 -- A poisoned frame in use, met under its locks: the task's states, its steps and what they come to.
-use Rattle.std.specs.Prelude.{◌≡◌, ℕ, ◌+◌, ◌<◌, ◌==◌, ◌&&◌, ◌||◌, Bool, true, false, not, cond, [], ◌∷◌, Option, Some, None, is_some, length, slice_index}
+use Rattle.std.specs.Prelude.{◌≡◌, ℕ, ◌+◌, ◌<◌, ◌≤◌, ◌==◌, ◌&&◌, ◌||◌, Bool, true, false, not, cond, [], ◌∷◌, Option, Some, None, is_some, length, slice_index}
 use Rattle.hwp_geom.specs.declared.Frame.{Frame}
 use Rattle.hwp_geom.specs.declared.Layout.{Layout}
 use Rattle.hwp_geom.specs.declared.Page.{Page}
@@ -7,11 +7,13 @@ use Rattle.hwp_geom.specs.declared.Who.{Who}
 use Rattle.hwp_page.specs.History.{BodyValue}
 use Rattle.hwp_words.specs.Frames.{count_of, cycle_of, owner_of, is_handled, is_poisoned}
 use Rattle.hwp_words.specs.Names.{page_named}
+use Rattle.hwp_rule.specs.declared.InHand.{InHand}
 use Rattle.hwp_rule.specs.declared.Log.{Log}
 use Rattle.hwp_rule.specs.declared.Step.{Step}
 use Rattle.hwp_rule.specs.declared.Step.TheVariants as steps
 use Rattle.hwp_rule.specs.declared.View.{View}
 use Rattle.hwp_rule.specs.Logs.{log_of}
+use Rattle.hwp_rule.specs.Views.{body_of, more_of}
 use Rattle.hwp_rule.specs.Words.{Words}
 use Rattle.hwp_step.specs.declared.Turn.{Turn}
 use Rattle.hwp_step.specs.declared.Turn.TheVariants.{Moved, Changed, Waits}
@@ -186,6 +188,10 @@ IsBodyAt _ result = ⊥
 abbrev pub IsBody : Meet → BodyValue → Type 0
 IsBody m result = IsBodyAt m.at result
 
+-- a body that goes home has the entries that it was taken with
+abbrev pub AsTaken : View → Option BodyValue → Type 0
+AsTaken view given = (b : BodyValue) → given ≡ Some b → (x : InHand) × (body_of b.page view ≡ Some x) × (more_of x (log_of b) ≡ [])
+
 -- one reference to the frame
 abbrev pub reference : Frame → Hand
 reference frame = record empty { refs = one_ref frame }
@@ -196,10 +202,9 @@ paged layout page frame cache None seen = record empty { pages = record { page =
 paged layout page frame cache (Some log) seen = record (locked layout page (Some log) seen) { refs = one_ref frame }
 
 -- the word that the parent loaded shows a frame in use whose failure wasn't handled
-pub record IsInUse (layout : Layout) (seen : ℕ) : Type 0 where
+pub record IsInUse (seen : ℕ) : Type 0 where
   pub counted : 0 < count_of seen
   pub unhandled : is_handled seen ≡ false
-  pub within : (page : Page) → owner_in seen ≡ Some page → page.0 < length layout.pages
 
 -- the page is locked, and what was on its shelf is the task's
 pub record IsPaged (layout : Layout) (view : View) (page : Page) (frame : Frame) (shelf : Option BodyValue) : Type 0 where
@@ -215,6 +220,7 @@ pub record IsLeaving (layout : Layout) (who : Who) (view : View) (page : Page) (
   pub cache : Option ℕ
   pub can : CanMake layout who (steps.UnlockFrame frame) body view
   pub left : hand_after layout (steps.UnlockFrame frame) 0 (logs body) 0 (hand_of view) ≡ paged layout page frame cache (logs shelf) seen
+  pub as_taken : AsTaken view body
   pub body_is : (b : BodyValue) → shelf ≡ Some b → IsBodyOf layout page None b
   pub inside : page.0 < length layout.pages
 
@@ -223,15 +229,16 @@ pub record HoldsPoisoned (layout : Layout) (view : View) (who : Who) (page : Pag
   pub holds : HoldsPage layout view page (Some frame) body
   pub unhandled : holds.handled ≡ false
   pub poisoned : holds.poisoned ≡ true
+  pub few : holds.seen ≤ length view.sights
   pub saw : SawLog view who (log_of body)
   pub inside : page.0 < length layout.pages
 
 abbrev pub FitsAt : Layout → View → Who → Frame → MeetAt → Type 0
-FitsAt layout view who frame (at.GetRef seen) = (hand_of view ≡ empty) × IsInUse layout seen
+FitsAt layout view who frame (at.GetRef seen) = (hand_of view ≡ empty) × IsInUse seen
 FitsAt layout view who frame at.LockFree = hand_of view ≡ reference frame
 FitsAt layout view who frame (at.LockPage page) = (hand_of view ≡ reference frame) × (page.0 < length layout.pages)
 FitsAt layout view who frame (at.LockOwned page shelf) = IsPaged layout view page frame shelf
-FitsAt layout view who frame (at.Unlock body ended) = FitsFrame layout view who frame body
+FitsAt layout view who frame (at.Unlock body ended) = FitsFrame layout view who frame body × AsTaken view body
 FitsAt layout view who frame (at.UnlockFrame page shelf body ended) = IsLeaving layout who view page frame shelf body
 FitsAt layout view who frame (at.UnlockPage page shelf ended) = IsPaged layout view page frame shelf
 FitsAt layout view who frame (at.Release r ended) = IsReleasing layout view who r

@@ -2,8 +2,10 @@
 //! the free ones, and one in use is met under its locks.
 #![tactic(auto)]
 
+mod claim;
 mod grab;
 mod meet;
 
+pub use claim::{Claim, ClaimAnswer};
 pub use grab::{Grab, GrabAnswer};
 pub use meet::{Meet, MeetAnswer};

@@ -168,7 +168,7 @@ fn is_free(word: u64) -> bool
     word & 1 == 0
 }
 
-fn is_ended(cycle: u32, word: u64) -> bool
+pub(crate) fn is_ended(cycle: u32, word: u64) -> bool
     ensures { result ≡ is_ended cycle word }
 {
     let frame = FrameWord::unpack(word);

@@ -26,6 +26,7 @@ use Rattle.hwp_rule.specs.declared.Step.{Step}
 use Rattle.hwp_rule.specs.declared.Step.TheVariants as steps
 use Rattle.hwp_rule.specs.declared.View.{View}
 use Rattle.hwp_rule.specs.Rule.{Holds}
+use Rattle.hwp_rule.specs.Served.{IsMild}
 use Rattle.hwp_rule.specs.Steps.{policy_at}
 use Rattle.hwp_rule.specs.Views.{noted, stamp_of}
 use Rattle.hwp_rule.specs.Words.{index, words_of}
@@ -266,6 +267,17 @@ small p = which p.at
     which (at.SetPolicy policy settings) = omega arith
     which (at.Over answer) = omega arith
 
+-- none of its steps poisons a frame or takes its poison back
+pub mild : (s : Prctl) (step : Step) → plan s ≡ Some step → IsMild step
+mild s step is = which s.at is
+  where
+    which : (x : PrctlAt) → plan_at s.thread s.process x ≡ Some step → IsMild step
+    which at.LoadStop e = subst IsMild (same_Some (steps.Load places.Stop) step e) tt
+    which at.LoadProcess e = subst IsMild (same_Some (steps.Load (places.Process s.process)) step e) tt
+    which at.LoadPolicy e = subst IsMild (same_Some (steps.Load (places.Policy s.thread)) step e) tt
+    which (at.SetPolicy policy settings) e = subst IsMild (same_Some (steps.SetPolicy s.thread policy settings) step e) tt
+    which (at.Over answer) e = absurd (none-some step e)
+
 abbrev pub the-member : Member Prctl
 the-member = member (λ p. p.who) plan (λ p. None) (λ p. p) (λ layout p found got after result. (after ≡ next p found) × (result ≡ Moved)) Fits (λ p. 4) (λ p words. cost p) (λ p. false) (λ p. None)
 
@@ -273,7 +285,7 @@ pub ranked : IsRanked the-member
 ranked = rank-of the-member (λ s. refl) (λ s. (omega arith, omega arith)) (λ layout a seat s rule fits. let few : cost s ≤ 4 = small s in omega arith)
     (λ layout seat a b s t turn made goes. subst (λ (x : Prctl). cost x < cost s) (sym made.follows.0) (falls s made.step made.found made.planned))
     (λ layout seat a b s t turn made is quiet. absurd (both_ways true (sym is ∙ ap is_waits made.follows.1) refl))
-    (λ s. refl) (λ layout view s step fits is. (can layout view s step fits is).served)
+    (λ s. refl) mild
 
 pub tells : TellsClass the-member
 tells = record {

@@ -1,7 +1,7 @@
 -- The laws of `Nested`.
 use Rattle.std.proofs.Common.{◌≡◌, ℕ, ◌<◌, ◌≤◌, ◌==◌, Bool, true, false, cond, ◌∷◌, ◌++◌, [], Option, Some, None, refl, sym, ap, ◌∙◌, subst, arith}
 use Rattle.std.proofs.lemmas.Bool.{both_ways}
-use Rattle.std.proofs.lemmas.Option.{none-some}
+use Rattle.std.proofs.lemmas.Option.{none-some, same_Some}
 use Rattle.hwp_geom.specs.declared.Layout.{Layout}
 use Rattle.hwp_geom.specs.declared.Who.{Who}
 use Rattle.hwp_page.specs.History.{BodyValue}
@@ -11,6 +11,7 @@ use Rattle.hwp_rule.specs.declared.Step.{Step}
 use Rattle.hwp_rule.specs.declared.Step.TheVariants as steps
 use Rattle.hwp_rule.specs.declared.View.{View}
 use Rattle.hwp_rule.specs.Lists.{SomeMember}
+use Rattle.hwp_rule.specs.Served.{IsMild}
 use Rattle.hwp_rule.specs.Views.{noted, sighted, stamp_of}
 use Rattle.hwp_rule.proofs.Lists.{some-last}
 use Rattle.hwp_step.specs.declared.Turn.{Turn}
@@ -116,6 +117,15 @@ goes n found = which n.at
     which at.Stop = by (found == 0) (is_stopped found)
     which (at.Over answer) = refl
 
+-- none of its steps poisons a frame or takes its poison back
+pub mild : (s : Nested) (step : Step) → plan s ≡ Some step → IsMild step
+mild s step is = which s.at is
+  where
+    which : (x : NestedAt) → plan_at s.who x ≡ Some step → IsMild step
+    which at.LoadStop e = subst IsMild (same_Some (steps.Load places.Stop) step e) tt
+    which at.Stop e = subst IsMild (same_Some (steps.Stop s.who.cpu) step e) tt
+    which (at.Over answer) e = absurd (none-some step e)
+
 abbrev pub the-member : Member Nested
 the-member = member (λ n. n.who) plan (λ n. None) (λ n. n) (λ layout n found got after result. (after ≡ next n found) × (result ≡ turn n found)) Fits (λ n. 4) (λ n words. cost n) (λ n. false) (λ n. None)
 
@@ -123,7 +133,7 @@ pub ranked : IsRanked the-member
 ranked = rank-of the-member (λ s. refl) (λ s. (omega arith, omega arith)) (λ layout a seat s rule fits. let few : cost s ≤ 2 = small s in omega arith)
     (λ layout seat a b s t turn made goes. subst (λ (x : Nested). cost x < cost s) (sym made.follows.0) (falls s made.step made.found made.planned))
     (λ layout seat a b s t turn made is quiet. absurd (both_ways true (sym is ∙ ap is_waits made.follows.1 ∙ goes s made.found) refl))
-    (λ s. refl) (λ layout view s step fits is. (can layout view s step fits is).served)
+    (λ s. refl) mild
 
 pub tells : TellsClass the-member
 tells = record {

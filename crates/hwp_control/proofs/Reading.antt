@@ -1,12 +1,15 @@
 -- The laws of `ReadStop`.
 use Rattle.std.proofs.Common.{◌≡◌, ℕ, ◌<◌, ◌≤◌, Bool, true, false, cond, Option, Some, None, refl, sym, ap, ◌∙◌, subst, arith}
 use Rattle.std.proofs.lemmas.Bool.{both_ways}
-use Rattle.std.proofs.lemmas.Option.{none-some}
+use Rattle.std.proofs.lemmas.Option.{none-some, same_Some}
 use Rattle.hwp_geom.specs.declared.Layout.{Layout}
 use Rattle.hwp_page.specs.History.{BodyValue}
 use Rattle.hwp_words.specs.Stops.{is_stopped}
+use Rattle.hwp_rule.specs.declared.Place.TheVariants as places
 use Rattle.hwp_rule.specs.declared.Step.{Step}
+use Rattle.hwp_rule.specs.declared.Step.TheVariants as steps
 use Rattle.hwp_rule.specs.declared.View.{View}
+use Rattle.hwp_rule.specs.Served.{IsMild}
 use Rattle.hwp_step.specs.declared.Turn.{Turn}
 use Rattle.hwp_step.specs.declared.Turn.TheVariants.{Moved}
 use Rattle.hwp_step.specs.Calls.{CanMake, Steps}
@@ -64,6 +67,14 @@ small r = which r.at
     which at.LoadStop = omega arith
     which (at.Over answer) = omega arith
 
+-- none of its steps poisons a frame or takes its poison back
+pub mild : (s : ReadStop) (step : Step) → plan s ≡ Some step → IsMild step
+mild s step is = which s.at is
+  where
+    which : (x : ReadStopAt) → plan_at x ≡ Some step → IsMild step
+    which at.LoadStop e = subst IsMild (same_Some (steps.Load places.Stop) step e) tt
+    which (at.Over answer) e = absurd (none-some step e)
+
 abbrev pub the-member : Member ReadStop
 the-member = member (λ r. r.who) plan (λ r. None) (λ r. r) (λ layout r found got after result. (after ≡ next r found) × (result ≡ Moved)) Fits (λ r. 4) (λ r words. cost r) (λ r. false) (λ r. None)
 
@@ -71,7 +82,7 @@ pub ranked : IsRanked the-member
 ranked = rank-of the-member (λ s. refl) (λ s. (omega arith, omega arith)) (λ layout a seat s rule fits. let few : cost s ≤ 1 = small s in omega arith)
     (λ layout seat a b s t turn made goes. subst (λ (x : ReadStop). cost x < cost s) (sym made.follows.0) (falls s made.step made.found made.planned))
     (λ layout seat a b s t turn made is quiet. absurd (both_ways true (sym is ∙ ap is_waits made.follows.1) refl))
-    (λ s. refl) (λ layout view s step fits is. (can layout view s step fits is).served)
+    (λ s. refl) mild
 
 pub tells : TellsClass the-member
 tells = record {

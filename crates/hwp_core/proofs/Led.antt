@@ -8,19 +8,24 @@ use Rattle.hwp_report.specs.declared.CpuLine.{CpuLine}
 use Rattle.hwp_sched.specs.Order.{running}
 use Rattle.hwp_runs.specs.Turns.{Leads}
 use Rattle.hwp_runs.proofs.Leading.{leads-hold, leads-ordered}
-use Rattle.hwp_served.proofs.Unmarked.{run-unmarked}
+use Rattle.hwp_served.specs.Accounts.{Note}
+use Rattle.hwp_served.proofs.Gathering.{AreNoted}
 use Rattle.hwp_core.specs.Closing.{IsEnded}
 use Rattle.hwp_core.specs.Runs.{IsPlayed, own_seat, processors}
-use Rattle.hwp_core.proofs.Closable.{ended-of}
+use Rattle.hwp_core.proofs.Closable.{are-noted, ended-of}
 
-module _ (script : Script) (board : Board) (cpus : List (List CpuLine)) (lists : length script.lists ≡ script.layout.cpus) (played : IsPlayed script board cpus) where
+module _ (script : Script) (board : Board) (cpus : List (List CpuLine)) (notes : List (List Note)) (lists : length script.lists ≡ script.layout.cpus) (played : IsPlayed script board cpus notes) where
   -- the turns lead from the opening to the board
   pub board-led : Leads script.layout (opening script.layout) played.turns board.state
   board-led = subst (Leads script.layout (opening script.layout) played.turns) played.state_is
       (leads-ordered processors script.go (running script.layout own_seat played.tasks (opening script.layout)) played.last played.turns played.order)
 
-  board-holds : Holds script.layout board.state
+  pub board-holds : Holds script.layout board.state
   board-holds = leads-hold script.layout (opening script.layout) board.state played.turns played.rule board-led
 
-  pub board-ended : IsEnded board.state.views cpus
-  board-ended = ended-of script own_seat board.state cpus board-holds played.seated_last lists played.count played.served (run-unmarked script.layout played.turns board.state played.rule board-led)
+  -- what the processors noted is of their marks
+  pub board-noted : AreNoted script.layout own_seat board.state notes
+  board-noted = are-noted script own_seat board.state cpus notes board-holds played.seated_last lists played.count played.noted played.served
+
+  pub board-ended : IsEnded script.layout script.lists board.state.views cpus notes
+  board-ended = ended-of script own_seat board.state cpus notes board-holds played.seated_last lists played.count played.noted played.served

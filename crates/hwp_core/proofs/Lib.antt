@@ -1,5 +1,8 @@
 pub mod Ended
 mod Tables
+mod RecordLaws
+mod LineLaws
+pub mod Noted
 pub mod Closable
 pub mod Crews
 pub mod Led

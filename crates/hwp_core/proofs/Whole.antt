@@ -6,43 +6,48 @@ use Rattle.hwp_script.specs.declared.Script.{Script}
 use Rattle.hwp_report.specs.declared.CpuLine.{CpuLine}
 use Rattle.hwp_report.specs.declared.Report.{Report}
 use Rattle.hwp_law.specs.Law.{IsLawful}
-use Rattle.hwp_law.specs.Report.{IsReport}
 use Rattle.hwp_law.specs.Runs.{IsOfRun}
 use Rattle.hwp_rule.specs.declared.State.{State}
 use Rattle.hwp_rule.specs.Opening.{opening}
 use Rattle.hwp_runs.specs.Ends.{EndsWith}
 use Rattle.hwp_runs.specs.Turns.{Leads}
-use Rattle.hwp_served.specs.Runs.{AreServed, IsRunOf}
-use Rattle.hwp_served.proofs.Holding.{report-holds, report-of-run}
+use Rattle.hwp_served.specs.Accounts.{Note}
+use Rattle.hwp_served.specs.Runs.{AreServed, IsRecord, IsRunOf}
+use Rattle.hwp_served.proofs.Gathering.{gathered}
+use Rattle.hwp_served.proofs.Holding.{report-of-run}
 use Rattle.hwp_served.proofs.Lawful.{law-holds}
 use Rattle.hwp_served.proofs.Showing.{report-shown, scrubs-shown}
 use Rattle.hwp_core.specs.Closing.{IsClosing}
 use Rattle.hwp_core.specs.Runs.{IsCoreRun, IsPlayed, own_seat}
-use Rattle.hwp_core.proofs.Led.{board-led}
+use Rattle.hwp_core.proofs.Led.{board-holds, board-led, board-noted}
 
-module _ (script : Script) (board : Board) (cpus : List (List CpuLine)) (lists : length script.lists ≡ script.layout.cpus) (played : IsPlayed script board cpus)
-    (report : Report) (closing : IsClosing board.layout board.state cpus report) where
-  closed : IsClosing script.layout board.state cpus report
-  closed = subst (λ (l : Layout). IsClosing l board.state cpus report) played.layout_is closing
+module _ (script : Script) (board : Board) (cpus : List (List CpuLine)) (notes : List (List Note)) (lists : length script.lists ≡ script.layout.cpus) (played : IsPlayed script board cpus notes)
+    (report : Report) (closing : IsClosing board.layout board.state script.lists cpus notes report) where
+  closed : IsClosing script.layout board.state script.lists cpus notes report
+  closed = subst (λ (l : Layout). IsClosing l board.state script.lists cpus notes report) played.layout_is closing
 
   run-of : IsRunOf script own_seat played.turns board.state report
   run-of = record {
     rule = played.rule;
-    moves = board-led script board cpus lists played;
+    moves = board-led script board cpus notes lists played;
     seated = played.seated_last;
-    served = subst (AreServed script own_seat board.state) (sym closed.lines) played.served;
+    settled = played.settled;
+    notes = notes;
+    served = subst (λ (c : List (List CpuLine)). AreServed script own_seat board.state c notes) (sym closed.lines) played.served;
+    records = λ frame line there.
+        let on = closed.ends.frames frame line there in
+        subst (IsRecord notes frame) (sym (closed.marks frame line there))
+        (gathered script.layout own_seat board.state (board-holds script board cpus notes lists played) played.seated_last notes (board-noted script board cpus notes lists played) frame on.word on.there);
     ends = closed.ends;
     lengths = record {
       lists = lists;
       cpus = ap (λ (c : List (List CpuLine)). length c) closed.lines ∙ played.count;
+      noted = played.noted;
       frames = closed.frames;
       pages = closed.pages;
     };
     cause = closed.cause;
   }
-
-  pub run-report : IsReport script report
-  run-report = report-holds script own_seat played.turns board.state report run-of
 
   pub run-of-run : IsOfRun script report
   run-of-run = report-of-run script own_seat played.turns board.state report run-of
@@ -59,11 +64,12 @@ module _ (script : Script) (board : Board) (cpus : List (List CpuLine)) (lists :
       last = played.last;
       rule = played.rule;
       seated = played.seated;
-      moves = subst (λ (s : State). Leads script.layout (opening script.layout) played.turns s) (sym played.state_is) (board-led script board cpus lists played);
+      moves = subst (λ (s : State). Leads script.layout (opening script.layout) played.turns s) (sym played.state_is) (board-led script board cpus notes lists played);
       order = played.order;
       ends = subst (λ (s : State). EndsWith script.layout s report) (sym played.state_is) closed.ends;
       shown = report-shown script own_seat played.turns board.state report run-of;
       scrubs = scrubs-shown script own_seat played.turns board.state report run-of;
     };
-    served = subst (λ (s : State). AreServed script own_seat s report.cpus) (sym played.state_is) (subst (AreServed script own_seat board.state) (sym closed.lines) played.served);
+    notes = notes;
+    served = subst (λ (s : State). AreServed script own_seat s report.cpus notes) (sym played.state_is) (subst (λ (c : List (List CpuLine)). AreServed script own_seat board.state c notes) (sym closed.lines) played.served);
   }

@@ -3,37 +3,44 @@ ghost use Rattle.std.specs.List.{sum_by};
 ghost use Rattle.hwp_words.specs.Frames.{poison_of};
 ghost use Rattle.hwp_rule.specs.Words.{words_of};
 ghost use Rattle.hwp_runs.specs.Ends.{place_in};
-ghost use Rattle.hwp_core.specs.Closing.{line_by, lines_by};
+ghost use Rattle.hwp_core.specs.Closing.{line_with, lines_by};
 
+use crate::records::gather;
 use hwp_geom::{Frame, List, Mask, OutOfMemory};
 use hwp_plain::PlainBoard;
-use hwp_report::{FrameLine, Place};
+use hwp_report::{FrameLine, MarkLine, Place};
 use hwp_rule::Place as At;
 use hwp_step::Ops;
 use hwp_words::FrameWord;
 use std::alloc::Global;
 
-/// The lines of all frames. Nothing marked any of them.
-pub fn frame_lines(alloc: Global, board: &PlainBoard) -> Result<List<FrameLine>, OutOfMemory>
-    ensures { IfOk result (λ lines. lines ≡ lines_by (words_of board.now.layout board.now.state.words) board.now.layout.frames) }
+/// The lines of all frames, each with what processors noted of it.
+pub fn frame_lines(
+    alloc: Global,
+    board: &PlainBoard,
+    notes: &[List<(Frame, MarkLine)>],
+) -> Result<List<FrameLine>, OutOfMemory>
+    ensures { IfOk result (λ lines. lines ≡ lines_by (words_of board.now.layout board.now.state.words) notes.now board.now.layout.frames) }
 {
+    let records = gather(alloc, usize::from(board.layout().frames), notes)?;
     let mut lines = Vec::new(alloc);
     for frame in 0..board.layout().frames {
-        lines.push(frame_line(alloc, board, Frame(frame)))?;
+        let marks = records[usize::from(frame)].copy(alloc)?;
+        lines.push(frame_line(board, Frame(frame), marks))?;
     }
     Ok(List::from_vec(lines))
 }
 
-/// The line of a frame, without marks.
-fn frame_line(alloc: Global, board: &PlainBoard, frame: Frame) -> FrameLine
+/// The line of a frame, with its record.
+fn frame_line(board: &PlainBoard, frame: Frame, marks: List<MarkLine>) -> FrameLine
     requires inside { frame.0 < board.now.layout.frames }
-    ensures { result ≡ line_by (words_of board.now.layout board.now.state.words) frame.0 }
+    ensures { result ≡ line_with (words_of board.now.layout board.now.state.words) frame.0 marks }
 {
     FrameLine {
         place: place_in(board.word(At::Frame(frame))),
         bad: Mask(board.word(At::Bad(frame))),
         weak: Mask(board.word(At::Weak(frame))),
-        marks: List::new(alloc),
+        marks,
     }
 }
 

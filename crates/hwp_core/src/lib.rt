@@ -4,6 +4,7 @@
 
 mod closing;
 mod frames;
+mod records;
 mod running;
 mod stopping;
 

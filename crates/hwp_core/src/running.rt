@@ -1,19 +1,22 @@
 ghost use Rattle.std.specs.Prelude.{IfOk};
 ghost use Rattle.hwp_law.specs.Law.{IsLawful};
-ghost use Rattle.hwp_law.specs.Report.{IsReport};
 ghost use Rattle.hwp_law.specs.Runs.{IsOfRun};
 ghost use Rattle.hwp_script.specs.Valid.{IsValid};
 ghost use Rattle.hwp_core.specs.Runs.{AreAtBeginning, AreFinished, AreSupported, IsCoreRun, IsPlayed};
 
 use crate::closing::report;
-use hwp_geom::{Cpu, List, OutOfMemory};
+use hwp_geom::{Cpu, Frame, List, OutOfMemory};
 use hwp_plain::PlainBoard;
 use hwp_processor::Processor;
-use hwp_report::{CpuLine, Report};
+use hwp_report::{CpuLine, MarkLine, Report};
 use hwp_sched::step_all;
 use hwp_script::Script;
 use std::alloc::Global;
 use std::sync::Arc;
+
+type Lines = List<List<CpuLine>>;
+
+type Notes = List<List<(Frame, MarkLine)>>;
 
 /// A processor for each list of the script, at the beginning of its first command.
 fn crew_of(alloc: Global, script: &Script) -> Result<Vec<Processor>, OutOfMemory>
@@ -31,33 +34,37 @@ fn crew_of(alloc: Global, script: &Script) -> Result<Vec<Processor>, OutOfMemory
     Ok(crew)
 }
 
-/// The lines of each processor.
+/// The lines and the notes of each processor.
 ///
 /// # Errors
 /// `OutOfMemory` where a command was not answered, because memory ran out.
-fn lines_of(alloc: Global, crew: Vec<Processor>) -> Result<List<List<CpuLine>>, OutOfMemory>
-    ensures { IfOk result (λ cpus. AreFinished crew.items cpus) }
+fn lines_of(alloc: Global, crew: Vec<Processor>) -> Result<(Lines, Notes), OutOfMemory>
+    ensures { IfOk result (λ end. AreFinished crew.items end.0 end.1) }
 {
     let mut cpus = Vec::with_capacity(alloc, crew.len())?;
+    let mut notes = Vec::with_capacity(alloc, crew.len())?;
     for processor in crew {
-        cpus.push(processor.finish()?)?;
+        let (rows, own) = processor.finish()?;
+        cpus.push(rows)?;
+        notes.push(own)?;
     }
-    Ok(List::from_vec(cpus))
+    Ok((List::from_vec(cpus), List::from_vec(notes)))
 }
 
-/// All turns of a script's processors, in the order of its schedule: the board to which they lead, and the lines of each processor.
-fn play(alloc: Global, script: &Script) -> Result<(PlainBoard, List<List<CpuLine>>), OutOfMemory>
+/// All turns of a script's processors, in the order of its schedule: the board to which they lead, and the lines and the notes of
+/// each processor.
+fn play(alloc: Global, script: &Script) -> Result<(PlainBoard, Lines, Notes), OutOfMemory>
     requires valid { IsValid script.now }
     requires supported { AreSupported script.now }
-    ensures { IfOk result (λ end. IsPlayed script.now end.0 end.1) }
+    ensures { IfOk result (λ end. IsPlayed script.now end.0 end.1 end.2) }
 {
     let mut board = PlainBoard::new(alloc, &script.layout)?;
     board.reached();
     let mut crew = crew_of(alloc, script)?;
     step_all(&mut board, &mut crew, script.go.as_slice())?;
     board.reached();
-    let cpus = lines_of(alloc, crew)?;
-    Ok((board, cpus))
+    let (cpus, notes) = lines_of(alloc, crew)?;
+    Ok((board, cpus, notes))
 }
 
 /// The run of a script: its processors make their turns in the order of the schedule, and then in the finishing order, until
@@ -65,11 +72,11 @@ fn play(alloc: Global, script: &Script) -> Result<(PlainBoard, List<List<CpuLine
 pub fn run(alloc: Global, script: &Script) -> Result<Report, OutOfMemory>
     requires valid { IsValid script.now }
     requires supported { AreSupported script.now }
-    ensures law { IfOk result (IsReport script.now) }
     ensures of_run { IfOk result (IsOfRun script.now) }
     ensures lawful { IfOk result (IsLawful script.now) }
     ensures core { IfOk result (IsCoreRun script.now) }
 {
-    let (board, cpus) = play(alloc, script)?;
-    report(alloc, board, cpus)
+    let (board, cpus, notes) = play(alloc, script)?;
+    let lists = script.lists.as_slice();
+    report(alloc, lists, board, cpus, notes.as_slice())
 }

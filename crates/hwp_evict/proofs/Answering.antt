@@ -1,6 +1,6 @@
 -- Why a command answers so: it stays so, and it comes to be so when the body goes home.
 use Rattle.std.proofs.Common.{◌≡◌, ℕ, List, [], ◌∷◌, ◌++◌, Option, Some, None, length, refl, sym, ◌∙◌, subst}
-use Rattle.std.proofs.lemmas.Option.{none-some}
+use Rattle.std.proofs.lemmas.Option.{none-some, same_Some}
 use Rattle.hwp_geom.specs.declared.Frame.{Frame}
 use Rattle.hwp_geom.specs.declared.Layout.{Layout}
 use Rattle.hwp_geom.specs.declared.Page.{Page}
@@ -16,12 +16,11 @@ use Rattle.hwp_rule.specs.declared.Step.TheVariants as steps
 use Rattle.hwp_rule.specs.declared.View.{View}
 use Rattle.hwp_rule.specs.Lists.{EachMember}
 use Rattle.hwp_rule.specs.Logs.{log_of}
-use Rattle.hwp_rule.specs.Served.{IsServed}
 use Rattle.hwp_rule.specs.Views.{is_body_of}
 use Rattle.std.specs.List.{find}
 use Rattle.hwp_step.specs.Calls.{Steps, logs}
 use Rattle.hwp_known.specs.Known.{HasMade, IsAt, deeds}
-use Rattle.hwp_known.proofs.Listing.{Lists, deeds-none, deeds-one, deeds-same, frame-lists, has-made, has-made-stays, page-lists}
+use Rattle.hwp_known.proofs.Listing.{Lists, ListsNone, deeds-none, deeds-one, deeds-same, frame-lists, has-made, has-made-stays, page-lists}
 use Rattle.hwp_known.proofs.Seeing.{saw-stays, saw-state-stays}
 use Rattle.hwp_hold.specs.declared.release.Release.{Release}
 use Rattle.hwp_hold.specs.declared.release.ReleaseAt.{ReleaseAt}
@@ -32,6 +31,7 @@ use Rattle.hwp_hold.specs.declared.unhold.UnholdAt.TheVariants as unhold_at
 use Rattle.hwp_hold.specs.Unholds as unholds
 use Rattle.hwp_hold.specs.Releases as releases
 use Rattle.hwp_step.proofs.Stepping.{steps-planned}
+use Rattle.hwp_hold.proofs.Ranking.{release-lists}
 use Rattle.hwp_evict.specs.declared.evict.EvictAnswer.{EvictAnswer}
 use Rattle.hwp_evict.specs.declared.evict.EvictAnswer.TheVariants as answers
 use Rattle.hwp_evict.specs.declared.evict.Eviction.{Eviction}
@@ -121,14 +121,14 @@ home-after u found = which u.at
     which unhold_at.Over = refl
 
 -- a step by which a page is let go leaves the answer caused, or causes it
-pub unhold-causes : {layout : Layout} {old new : View} (page : Page) (what : Eviction) (u : Unhold) {step : Step} {found : ℕ} {got : Option BodyValue} (answer : EvictAnswer) → unholds.plan u ≡ Some step → IsServed step
+pub unhold-causes : {layout : Layout} {old new : View} (page : Page) (what : Eviction) (u : Unhold) {step : Step} {found : ℕ} {got : Option BodyValue} (answer : EvictAnswer) → unholds.plan u ≡ Some step
     → Steps layout u.who step (logs (unholds.put u)) old new found got → KnowsPut layout old u.who page what answer (unholds.put u) → IsCaused layout new u.who page what answer
-unhold-causes {layout} {old} {new} page what u {step} {found} {got} answer is served made knows = which u.at is made knows
+unhold-causes {layout} {old} {new} page what u {step} {found} {got} answer is made knows = which u.at is made knows
   where
     which : (x : UnholdAt) → unholds.plan_at u.page x ≡ Some step → Steps layout u.who step (logs (unholds.put_at x)) old new found got → KnowsPut layout old u.who page what answer (unholds.put_at x) → IsCaused layout new u.who page what answer
-    which (unhold_at.UnlockFrame frame count None) e made knows = caused-stays made u.who page what answer (deeds-same u.who served made) knows
+    which (unhold_at.UnlockFrame frame count None) e made knows = caused-stays made u.who page what answer (deeds-same u.who (subst ListsNone (same_Some (steps.UnlockFrame frame) step e) tt) made) knows
     which (unhold_at.UnlockFrame frame count (Some body)) e made knows = home-by-frame knows (steps-planned e made)
-    which (unhold_at.Release r) e made knows = caused-stays made u.who page what answer (deeds-same u.who served made) knows
-    which (unhold_at.UnlockPage None) e made knows = caused-stays made u.who page what answer (deeds-same u.who served made) knows
+    which (unhold_at.Release r) e made knows = caused-stays made u.who page what answer (deeds-same u.who (release-lists r step e) made) knows
+    which (unhold_at.UnlockPage None) e made knows = caused-stays made u.who page what answer (deeds-same u.who (subst ListsNone (same_Some (steps.UnlockPage u.page) step e) tt) made) knows
     which (unhold_at.UnlockPage (Some body)) e made knows = home-by-page knows (steps-planned e made)
     which unhold_at.Over e made knows = absurd (none-some step e)

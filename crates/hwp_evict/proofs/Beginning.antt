@@ -33,7 +33,7 @@ use Rattle.hwp_evict.specs.declared.evict.Refusal.{Refusal}
 use Rattle.hwp_evict.specs.Evictions.{entry_of, IsOfKind, IsWhy, Passes, SawLines}
 use Rattle.hwp_evict.specs.Evicts.{HasEntry, IsAhead, KnowsPut, FitsAt, given_up, place, refused, with_entry}
 use Rattle.hwp_evict.specs.Vacates as vacates
-use Rattle.hwp_evict.proofs.Entering.{extends, goes-home, kills-none, none-fails, one-more, words}
+use Rattle.hwp_evict.proofs.Entering.{extends, goes-home, kills-none, one-more, words}
 use Rattle.hwp_evict.proofs.Judging.{allows, is-cached, replay-is}
 
 -- the body that is in hand is the page's
@@ -118,7 +118,6 @@ module _ {layout : Layout} {view : View} {who : Who} {page : Page} (what : Evict
           poisoned = has.poisoned;
           hand_is = has.hand_is;
           home = goes-home entry frame has.seen view (Some frame) (words (has-entry 0) frame has.seen) pages bodies fits saw;
-          sound = none-fails entry frame has.seen;
           page_is = ap (λ (l : Log). l.page) entry.log_is ∙ entry.page_is;
           taken_is = entry.page_is;
           layout_is = entry.layout_is;
@@ -153,7 +152,6 @@ module _ {layout : Layout} {view : View} {who : Who} {page : Page} (what : Evict
               layout_is = entry.layout_is;
               from = few;
               extends = extends entry frame has.seen view.sights saw;
-              sound = none-fails entry frame has.seen;
               killed = kills-none entry frame has.seen;
               fits = fits;
               unmapped = unmapped;

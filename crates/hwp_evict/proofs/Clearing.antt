@@ -20,6 +20,7 @@ use Rattle.hwp_rule.specs.declared.Step.TheVariants as steps
 use Rattle.hwp_rule.specs.declared.View.{View}
 use Rattle.hwp_rule.specs.Asks.{CanFree, CanSetPte, frame_of}
 use Rattle.hwp_rule.specs.Logs.{state_of}
+use Rattle.hwp_rule.specs.Served.{IsMild}
 use Rattle.hwp_rule.specs.Views.{frame_in, is_body_of, less_named, refs_on, with_named}
 use Rattle.hwp_rule.specs.Words.{Words}
 use Rattle.hwp_rule.proofs.Lists.{same-number, same-or, set_here, set_else}
@@ -32,6 +33,7 @@ use Rattle.hwp_step.specs.Ranks.{Member, member, IsRanked, is_waits, words_at}
 use Rattle.hwp_step.specs.Boards.{view_of}
 use Rattle.hwp_step.proofs.Ranking.{rank-of, steps-on}
 use Rattle.hwp_step.proofs.Stepping.{on-turn-after, hand-planned, steps-planned, can-make}
+use Rattle.hwp_known.proofs.Listing.{ListsNone}
 use Rattle.hwp_hold.specs.Holds.{page_lock}
 use Rattle.hwp_evict.specs.declared.clear.Clear.{Clear}
 use Rattle.hwp_evict.specs.Clears.{pte_of, IsNextFrom, plan, plan_at, Follows, FollowsAt, Shows, ShowsAt, is_done, word_now, IsCounted, IsClearing, Fits, cost, cost_at}
@@ -240,6 +242,22 @@ clear-small w c = which c.next
     which None = omega arith
     which (Some slot) = omega arith
 
+-- none of its steps poisons a frame or takes its poison back
+pub clear-mild : (c : Clear) (step : Step) → plan c ≡ Some step → IsMild step
+clear-mild c step is = which c.next is
+  where
+    which : (n : Option VSlot) → plan_at c.barred n ≡ Some step → IsMild step
+    which (Some slot) e = subst IsMild (same_Some (steps.SetPte slot (pte_of c.barred)) step e) tt
+    which None e = absurd (none-some step e)
+
+-- none of its steps lists an entry by itself
+pub clear-lists : (c : Clear) (step : Step) → plan c ≡ Some step → ListsNone step
+clear-lists c step is = which c.next is
+  where
+    which : (n : Option VSlot) → plan_at c.barred n ≡ Some step → ListsNone step
+    which (Some slot) e = subst ListsNone (same_Some (steps.SetPte slot (pte_of c.barred)) step e) tt
+    which None e = absurd (none-some step e)
+
 abbrev clear-member : Member Clear
 clear-member = member (λ c. c.who) plan (λ c. None) (λ c. c) (λ layout c found got after result. Follows c after × (result ≡ Moved)) Fits (λ c. 1) cost (λ c. false) (λ c. None)
 
@@ -247,4 +265,4 @@ pub clear-ranked : IsRanked clear-member
 clear-ranked = rank-of clear-member (λ s. refl) (λ s. (omega arith, omega arith)) (λ layout a seat s rule fits. let few : _ = clear-small (words_at layout a) s in omega (arith, few))
     (λ layout seat a b s t turn made goes. clears-fall s t (words_at layout a) (words_at layout b) made.planned made.follows.0 (both layout (view_of a seat) _ s made.step made.found made.got made.fits made.planned (steps-on made)).0)
     (λ layout seat a b s t turn made is quiet. absurd (both_ways true (sym is ∙ ap is_waits made.follows.1) refl))
-    (λ s. refl) (λ layout view s step fits is. (can layout view s step fits is).served)
+    (λ s. refl) clear-mild

@@ -33,7 +33,6 @@ use Rattle.hwp_rule.specs.Logs.{log_of, opening_at, state_of, fitting, fitting_w
 use Rattle.hwp_rule.specs.Views.{is_body_of, more_of, page_locks_on}
 use Rattle.hwp_rule.specs.parts.Entries.{HasSeen}
 use Rattle.hwp_rule.specs.parts.Fits.{FitsWords}
-use Rattle.hwp_rule.specs.Unfailed.{is_failure, HaveNoFailure}
 use Rattle.hwp_rule.proofs.FittingWords.{fitting-at}
 use Rattle.hwp_rule.proofs.Lists.{same-number}
 use Rattle.hwp_step.specs.Hands.{body_in}
@@ -51,18 +50,12 @@ only-member P l a one here i x e = which i (sym (ap (λ m. slice_get m i) one) �
     which zero at = subst P (same_Some a x at) here
     which (suc j) at = absurd (none-some x at)
 
--- the entries of these commands end no process, and are no failures
+-- the entries of these commands end no process
 ends-none : (layout : Layout) (process : Proc) (who : Who) (w : Eviction) → has_ending layout process (record { who = who; what = entry_of w } ∷ []) ≡ false
 ends-none layout process who (evictions.Free slot) = refl
 ends-none layout process who evictions.Sync = refl
 ends-none layout process who evictions.Drop = refl
 ends-none layout process who evictions.Out = refl
-
-fails-none : (w : Eviction) → is_failure (entry_of w) ≡ false
-fails-none (evictions.Free slot) = refl
-fails-none evictions.Sync = refl
-fails-none evictions.Drop = refl
-fails-none evictions.Out = refl
 
 -- the page's lock is in the first place, and what it lists fits
 pub put-fits-of : {layout : Layout} {view : View} {page : Page} (frame : Option Frame) (trans : List ℕ) (taken : InHand) (log : Log) → log.page ≡ page → view.pages ≡ page_lock page frame (Some trans) ∷ [] → FitsWords layout log (frame_name frame) trans
@@ -119,9 +112,6 @@ module _ {layout : Layout} {who : Who} {page : Page} {what : Eviction} {log : Lo
     own = of-entry (λ (e : Entry). e.who ≡ who) refl;
     seen = of-entry (λ (e : Entry). HasSeen (drop seen sights) who (Some frame) e.what) saw;
   })
-
-  pub none-fails : HaveNoFailure (more_of taken (log_of body))
-  none-fails = subst (λ (l : Log). HaveNoFailure (more_of taken l)) (sym has.log_is) (of-entry (λ (e : Entry). is_failure e.what ≡ false) (fails-none what))
 
   pub kills-none : (process : Proc) → has_ending layout process (drop taken.since body.log) ≡ true → SomeMember (λ (p : Proc). p ≡ process) taken.killed
   kills-none process ended = absurd (both_ways true (sym ended ∙ ap (λ (l : Log). has_ending layout process (drop (length log.entries) l.entries)) has.log_is ∙ ap (has_ending layout process) longer-more ∙ ends-none layout process who what) refl)

@@ -1,7 +1,7 @@
 -- Each turn of `Evict` that doesn't wait lowers its cost, and its class tells what it holds.
 use Rattle.std.proofs.Common.{◌≡◌, ◌≢◌, ◌⊎◌, inl, inr, ℕ, ◌+◌, ◌<◌, ◌≤◌, ◌==◌, Bool, true, false, cond, Option, Some, None, is_none, MatchBool, refl, sym, ap, ◌∙◌, subst, arith}
 use Rattle.std.proofs.lemmas.Bool.{both_ways}
-use Rattle.std.proofs.lemmas.Option.{none-some}
+use Rattle.std.proofs.lemmas.Option.{none-some, same_Some}
 use Rattle.std.specs.FinSet as set
 use Rattle.std.specs.Ordering.{nat_cmp}
 use Rattle.hwp_geom.specs.declared.Frame.{Frame}
@@ -10,10 +10,14 @@ use Rattle.hwp_geom.specs.declared.Page.{Page}
 use Rattle.hwp_geom.specs.declared.Who.{Who}
 use Rattle.hwp_page.specs.declared.At.{At}
 use Rattle.hwp_page.specs.History.{BodyValue}
+use Rattle.hwp_words.specs.declared.Pte.TheVariants as ptes
 use Rattle.hwp_words.specs.Stops.{is_stopped}
+use Rattle.hwp_rule.specs.declared.Place.TheVariants as places
 use Rattle.hwp_rule.specs.declared.State.{State}
 use Rattle.hwp_rule.specs.declared.Step.{Step}
+use Rattle.hwp_rule.specs.declared.Step.TheVariants as steps
 use Rattle.hwp_rule.specs.declared.View.{View}
+use Rattle.hwp_rule.specs.Served.{IsMild}
 use Rattle.hwp_rule.specs.Steps.{place_of, word_after}
 use Rattle.hwp_rule.specs.Words.{Words, read}
 use Rattle.hwp_step.specs.declared.Turn.{Turn}
@@ -35,9 +39,9 @@ use Rattle.hwp_hold.specs.GiveUps as give_ups
 use Rattle.hwp_hold.specs.Holds as holds
 use Rattle.hwp_hold.specs.Unholds as unholds
 use Rattle.hwp_hold.specs.Unlocks as unlocks
-use Rattle.hwp_hold.proofs.FillCosts.{give-up-falls, give-up-ranked}
+use Rattle.hwp_hold.proofs.FillCosts.{give-up-falls, give-up-mild, give-up-ranked}
 use Rattle.hwp_hold.proofs.Unlocking.{unlock-small}
-use Rattle.hwp_hold.proofs.Ranking.{hold-falls, hold-small, hold-class, hold-ranked, unhold-falls, unhold-small, unhold-class}
+use Rattle.hwp_hold.proofs.Ranking.{hold-falls, hold-mild, hold-small, hold-class, hold-ranked, unhold-falls, unhold-mild, unhold-small, unhold-class}
 use Rattle.hwp_hold.proofs.Telling.{Tells, hold-tells, unhold-tells, give-up-tells, frame-tells, no-frame, no-page}
 use Rattle.hwp_evict.specs.declared.clear.Clear.{Clear}
 use Rattle.hwp_evict.specs.declared.evict.Evict.{Evict}
@@ -54,10 +58,9 @@ use Rattle.hwp_evict.specs.Evictions.{copies, absence}
 use Rattle.hwp_evict.specs.Evicts.{AfterBad, AfterHeld, AfterHold, AfterHoldAt, Enters, Fits, FitsAt, Follows, FollowsAt, Shows, ShowsAt, after_clear, after_stop, after_unhold, after_vacate, bare, bare_at, class, class_at, cost, cost_at, GoesOut, place, plan, plan_at, put, refused, turn_after}
 use Rattle.hwp_evict.specs.Clears as clears
 use Rattle.hwp_evict.specs.Vacates as vacates
-use Rattle.hwp_evict.proofs.Clearing.{clear-small, clears-fall}
-use Rattle.hwp_evict.proofs.Evicting as evicting
+use Rattle.hwp_evict.proofs.Clearing.{clear-mild, clear-small, clears-fall}
 use Rattle.hwp_evict.proofs.Evicting.{both}
-use Rattle.hwp_evict.proofs.VacateCosts.{vacate-falls, vacate-small, vacate-class, vacate-tells}
+use Rattle.hwp_evict.proofs.VacateCosts.{vacate-falls, vacate-mild, vacate-small, vacate-class, vacate-tells}
 
 -- ---- what the next states cost
 
@@ -264,10 +267,25 @@ module _ {layout : Layout} {seat : ℕ} {a b : State} {s t : Evict} {turn : Turn
       which (at.GiveUp g) m quiet = never m.follows.1.1 (give-up-goes (give_ups.bare g))
       which (at.Over answer) m quiet = never m.follows.1.1 refl
 
+-- none of its steps poisons a frame or takes its poison back
+pub evict-mild : (s : Evict) (step : Step) → plan s ≡ Some step → IsMild step
+evict-mild s step is = which s.at is
+  where
+    which : (x : EvictAt) → plan_at x ≡ Some step → IsMild step
+    which at.LoadStop e = subst IsMild (same_Some (steps.Load places.Stop) step e) tt
+    which (at.Hold h) e = hold-mild h step e
+    which (at.LoadBad frame body) e = subst IsMild (same_Some (steps.Load (places.Bad frame)) step e) tt
+    which (at.SetPte slot frame body done) e = subst IsMild (same_Some (steps.SetPte slot ptes.Empty) step e) tt
+    which (at.Clear c body done) e = clear-mild c step e
+    which (at.Vacate v done) e = vacate-mild v step e
+    which (at.Unhold u answer) e = unhold-mild u step e
+    which (at.GiveUp g) e = give-up-mild g step e
+    which (at.Over answer) e = absurd (none-some step e)
+
 pub evict-ranked : IsRanked evict-member
 evict-ranked = rank-of evict-member (λ s. refl) evict-class (λ layout a seat s rule fits. let few : _ = evict-below (words_at layout a) s in omega (arith, few))
     (λ layout seat a b s t turn made goes. cost-falls made goes) (λ layout seat a b s t turn made is quiet. waits-falls made is quiet)
-    (λ s. refl) (λ layout view s step fits is. (evicting.can layout view s step fits is).served)
+    (λ s. refl) evict-mild
 
 -- ---- the class
 

@@ -15,13 +15,12 @@ use Rattle.hwp_rule.specs.declared.Place.TheVariants as places
 use Rattle.hwp_rule.specs.declared.Step.{Step}
 use Rattle.hwp_rule.specs.declared.Step.TheVariants as steps
 use Rattle.hwp_rule.specs.declared.View.{View}
-use Rattle.hwp_rule.specs.Served.{IsServed}
 use Rattle.hwp_step.specs.declared.Turn.{Turn}
 use Rattle.hwp_step.specs.Calls.{CanMake, IsOnTurn, Steps, logs}
 use Rattle.hwp_step.specs.Hands.{hand_of, empty}
 use Rattle.hwp_step.proofs.Stepping.{on-turn-after, hand-planned, steps-planned, can-make}
 use Rattle.hwp_known.specs.Known.{HasMadeNone}
-use Rattle.hwp_known.proofs.Listing.{deeds-same}
+use Rattle.hwp_known.proofs.Listing.{ListsNone, deeds-same}
 use Rattle.hwp_known.proofs.Seeing.{saw-load}
 use Rattle.hwp_hold.specs.declared.release.Release.{Release}
 use Rattle.hwp_hold.specs.declared.release.ReleaseAt.{ReleaseAt}
@@ -34,6 +33,7 @@ use Rattle.hwp_hold.specs.Unholds as unholds
 use Rattle.hwp_hold.proofs.GivingUp as giving_up
 use Rattle.hwp_hold.proofs.Holding as holding_laws
 use Rattle.hwp_hold.proofs.Linking.{nothing-left}
+use Rattle.hwp_hold.proofs.Ranking.{hold-lists}
 use Rattle.hwp_hold.proofs.Unholding as unholding
 use Rattle.hwp_evict.specs.declared.evict.Evict.{Evict}
 use Rattle.hwp_evict.specs.declared.evict.EvictAnswer.{EvictAnswer}
@@ -53,6 +53,7 @@ use Rattle.hwp_evict.proofs.Freeing.{can-write, declared-of, freed}
 use Rattle.hwp_evict.proofs.Judging.{can-enter, copying-passes}
 use Rattle.hwp_evict.proofs.Clearing as clearing
 use Rattle.hwp_evict.proofs.Outing.{clear-fits, clear-shows}
+use Rattle.hwp_evict.proofs.VacateCosts.{vacate-lists}
 use Rattle.hwp_evict.proofs.Vacating as vacating
 
 -- ---- the steps can be made
@@ -114,7 +115,7 @@ module _ {layout : Layout} {old new : View} {who : Who} {page : Page} {what : Ev
 
       caused : IsCaused layout new who page what answer
       caused = subst (λ (w : Who). IsCaused layout new w page what answer) has.own
-          (unhold-causes page what u answer is (unholding.can layout old u step has.unhold is).served own (subst (λ (w : Who). KnowsPut layout old w page what answer (unholds.put u)) (sym has.own) has.knows))
+          (unhold-causes page what u answer is own (subst (λ (w : Who). KnowsPut layout old w page what answer (unholds.put u)) (sym has.own) has.knows))
 
       which : (b : Bool) → is_none (unholds.plan (unholds.next (unholds.bare u) found)) ≡ b → FitsAt layout new who page what (cond b (at.Over answer) (at.Unhold (unholds.next (unholds.bare u) found) answer))
       which true over = (nothing-left layout new (unholds.next (unholds.bare u) found) over fits, caused)
@@ -137,9 +138,9 @@ Ends layout view page what answer body v found x =
     (is_none (vacates.plan_at v.page v.frame (vacates.next_at v.who v.frame v.count x found)) ≡ true → IsCaused layout view v.who page what answer)
     × (is_none (vacates.plan_at v.page v.frame (vacates.next_at v.who v.frame v.count x found)) ≡ false → (vacates.left_at v.body x ≡ Some body) × IsAhead layout view v.who page what answer body)
 
-module _ {layout : Layout} {old new : View} {page : Page} {what : Eviction} {answer : EvictAnswer} {body : BodyValue} (v : Vacate) {step : Step} {found : ℕ} {got : Option BodyValue} (ahead : IsAhead layout old v.who page what answer body) (given : v.body ≡ Some body) (served : IsServed step) where
+module _ {layout : Layout} {old new : View} {page : Page} {what : Eviction} {answer : EvictAnswer} {body : BodyValue} (v : Vacate) {step : Step} {found : ℕ} {got : Option BodyValue} (ahead : IsAhead layout old v.who page what answer body) (given : v.body ≡ Some body) (lists : ListsNone step) where
   stays-ahead : Steps layout v.who step None old new found got → new.bodies ≡ old.bodies → IsAhead layout new v.who page what answer body
-  stays-ahead made bodies = ahead-stays made (deeds-same v.who served made) bodies ahead
+  stays-ahead made bodies = ahead-stays made (deeds-same v.who lists made) bodies ahead
 
   release-bodies : (r : Release) → releases.plan r ≡ Some step → Steps layout v.who step None old new found got → new.bodies ≡ old.bodies
   release-bodies r is made = which r.at is
@@ -186,7 +187,7 @@ module _ {layout : Layout} {old new : View} {who : Who} {page : Page} {what : Ev
 
       ends : (is_none (vacates.plan (vacates.next (vacates.bare v) found)) ≡ true → IsCaused layout new v.who page what (answers.Done done))
           × (is_none (vacates.plan (vacates.next (vacates.bare v) found)) ≡ false → (vacates.left_at v.body v.at ≡ Some has.body) × IsAhead layout new v.who page what (answers.Done done) has.body)
-      ends = vacate-ends v (subst (λ (w : Who). IsAhead layout old w page what (answers.Done done) has.body) (sym has.own) has.ahead) has.body_is (vacating.can layout old v step has.vacate is).served v.at is own
+      ends = vacate-ends v (subst (λ (w : Who). IsAhead layout old w page what (answers.Done done) has.body) (sym has.own) has.ahead) has.body_is (vacate-lists v step is) v.at is own
 
       which : (b : Bool) → is_none (vacates.plan (vacates.next (vacates.bare v) found)) ≡ b → FitsAt layout new who page what (cond b (at.Over (answers.Done done)) (at.Vacate (vacates.next (vacates.bare v) found) done))
       which true over = (vacate-left layout new (vacates.next (vacates.bare v) found) over fits, subst (λ (w : Who). IsCaused layout new w page what (answers.Done done)) has.own (ends.0 over))
@@ -226,7 +227,7 @@ both layout old new e step found got fits is made = which e.at is fits.at made
         all = holding_laws.both layout old new h step found got has.hold p own
 
         none : HasMadeNone new e.who
-        none = deeds-same e.who (holding_laws.can layout old h step has.hold p).served made ∙ has.made_none
+        none = deeds-same e.who (hold-lists h step p) made ∙ has.made_none
     which (at.LoadBad frame body) p has made = (can-enter e.what has.page_held.body_is fits.kind (copying-passes e.what body.state has.copying), λ y turn follows. bad-fits on fits.page fits.kind has (steps-planned p made) y follows.0)
     which (at.SetPte slot frame body done) p has made = (
       tt,

@@ -45,7 +45,7 @@ use Rattle.hwp_evict.specs.declared.evict.EvictAnswer.TheVariants as answers
 use Rattle.hwp_evict.specs.declared.evict.EvictAt.TheVariants as at
 use Rattle.hwp_evict.specs.declared.evict.Eviction.TheVariants as evictions
 use Rattle.hwp_evict.specs.Evicts.{IsFreeing, FitsAt}
-use Rattle.hwp_evict.proofs.Entering.{goes-home, none-fails, one-more, state-after, word-is, words}
+use Rattle.hwp_evict.proofs.Entering.{goes-home, one-more, state-after, word-is, words}
 use Rattle.hwp_evict.proofs.Judging.{has-less, replay-apart}
 use Rattle.hwp_evict.proofs.Vacating.{lock-held, refs-are}
 
@@ -163,7 +163,6 @@ module _ {layout : Layout} {old : View} {who : Who} {page : Page} {slot : VSlot}
         poisoned = has.poisoned;
         hand_is = hand;
         home = goes-home has.entry frame has.seen new (Some frame) now (ap (λ (h : Hand). h.pages) hand) (ap (λ (h : Hand). h.bodies) hand) fits-now tt;
-        sound = none-fails has.entry frame has.seen;
         page_is = its-page;
         taken_is = has.entry.page_is;
         layout_is = has.entry.layout_is;

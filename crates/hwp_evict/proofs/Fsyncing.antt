@@ -1,13 +1,15 @@
 -- The laws of `Fsync`.
 use Rattle.std.proofs.Common.{◌≡◌, ◌≢◌, ℕ, ◌<◌, ◌≤◌, ◌==◌, Bool, true, false, cond, Option, Some, None, refl, sym, ap, ◌∙◌, subst, arith}
 use Rattle.std.proofs.lemmas.Bool.{both_ways, eqb-true, eqb-false}
-use Rattle.std.proofs.lemmas.Option.{none-some}
+use Rattle.std.proofs.lemmas.Option.{none-some, same_Some}
 use Rattle.hwp_geom.specs.declared.Layout.{Layout}
 use Rattle.hwp_page.specs.History.{BodyValue}
 use Rattle.hwp_words.specs.Stops.{is_stopped}
 use Rattle.hwp_rule.specs.declared.Place.TheVariants as places
 use Rattle.hwp_rule.specs.declared.Step.{Step}
+use Rattle.hwp_rule.specs.declared.Step.TheVariants as steps
 use Rattle.hwp_rule.specs.declared.View.{View}
+use Rattle.hwp_rule.specs.Served.{IsMild}
 use Rattle.hwp_rule.specs.Words.{Words}
 use Rattle.hwp_step.specs.declared.Turn.{Turn}
 use Rattle.hwp_step.specs.declared.Turn.TheVariants.{Moved, Answered}
@@ -106,11 +108,20 @@ goes-on f found = which f.at
     which at.Report = refl
     which (at.Over answer) = refl
 
+-- none of its steps poisons a frame or takes its poison back
+pub fsync-mild : (s : Fsync) (step : Step) → plan s ≡ Some step → IsMild step
+fsync-mild s step is = which s.at is
+  where
+    which : (x : FsyncAt) → plan_at s.file x ≡ Some step → IsMild step
+    which at.LoadStop e = subst IsMild (same_Some (steps.Load places.Stop) step e) tt
+    which at.Report e = subst IsMild (same_Some (steps.ReportLost s.file) step e) tt
+    which (at.Over answer) e = absurd (none-some step e)
+
 pub fsync-ranked : IsRanked fsync-member
 fsync-ranked = rank-of fsync-member (λ s. refl) (λ s. (omega arith, omega arith)) (λ layout a seat s rule fits. let few : cost s (words_at layout a) ≤ 5 = fsync-below s (words_at layout a) in omega (arith, few))
     (λ layout seat a b s t turn made goes. subst (λ (x : Fsync). cost x (words_at layout b) < cost s (words_at layout a)) (sym made.follows.0) (falls s made.step made.found (words_at layout a) (words_at layout b) made.planned))
     (λ layout seat a b s t turn made is quiet. absurd (both_ways true (sym is ∙ ap is_waits made.follows.1 ∙ goes-on s made.found) refl))
-    (λ s. refl) (λ layout view s step fits is. (can layout view s step fits is).served)
+    (λ s. refl) fsync-mild
 
 -- ---- the class
 

@@ -48,7 +48,7 @@ use Rattle.hwp_evict.specs.Evicts.{FitsAt, HasEntry, IsAhead, IsClearingOut, IsC
 use Rattle.hwp_evict.specs.Vacates as vacates
 use Rattle.hwp_evict.specs.Vacates.{page_held, with_frame}
 use Rattle.hwp_evict.proofs.Clearing as clearing
-use Rattle.hwp_evict.proofs.Entering.{body-page, extends, kills-none, none-fails, one-more, state-after, words}
+use Rattle.hwp_evict.proofs.Entering.{body-page, extends, kills-none, one-more, state-after, words}
 use Rattle.hwp_evict.proofs.Freeing.{declared-of}
 use Rattle.hwp_evict.proofs.Judging.{replay-apart, replay-own, state-is}
 
@@ -123,7 +123,6 @@ module _ {layout : Layout} {view : View} {who : Who} {page : Page} {log : Log} {
             layout_is = entry.layout_is;
             from = few;
             extends = extends entry c.frame seen view.sights saw;
-            sound = none-fails entry c.frame seen;
             killed = kills-none entry c.frame seen;
             fits = fits;
             unmapped = ap (λ (s : PageState). s.maps) (state-after entry c.frame seen);
@@ -258,7 +257,7 @@ module _ {layout : Layout} {old new : View} {who : Who} {page : Page} {what : Ev
       (subst (λ (l : List Sight). has.seen ≤ length l) (sym sights-same) has.few)
       (subst (λ (l : List Sight). HasSeen (drop has.seen l) who (Some follows.after.frame) entries.Out) (sym sights-same) (subst (λ (f : Frame). HasSeen (drop has.seen old.sights) who (Some f) entries.Out) (sym same.frame)
       (subst (λ (w : Eviction). HasSeen (drop has.seen old.sights) who (Some c.frame) (entry_of w)) has.out has.saw)))
-      (deeds-same who (clearing.can layout old c step has.clear is).served made ∙ has.made_none)))
+      (deeds-same who (clearing.clear-lists c step is) made ∙ has.made_none)))
     where
       same : IsSame c follows.after
       same = same-clear c follows.after follows.follows

@@ -1,23 +1,25 @@
 -- Each turn of `Vacate` lowers its cost, and its class tells what it holds.
 use Rattle.std.proofs.Common.{◌≡◌, ℕ, ◌+◌, ◌<◌, ◌≤◌, min, true, false, List, Some, None, is_none, refl, sym, ap, ◌∙◌, subst, arith}
 use Rattle.std.proofs.lemmas.Bool.{both_ways}
-use Rattle.std.proofs.lemmas.Option.{none-some}
+use Rattle.std.proofs.lemmas.Option.{none-some, same_Some}
 use Rattle.hwp_geom.specs.declared.Layout.{Layout}
 use Rattle.hwp_rule.specs.declared.Step.{Step}
+use Rattle.hwp_rule.specs.declared.Step.TheVariants as steps
 use Rattle.hwp_rule.specs.declared.View.{View}
+use Rattle.hwp_rule.specs.Served.{IsMild}
 use Rattle.hwp_rule.specs.Words.{Words}
 use Rattle.hwp_step.specs.declared.Turn.TheVariants.{Moved}
 use Rattle.hwp_rule.specs.declared.InHand.{InHand}
 use Rattle.hwp_step.specs.Hands.{hand_of}
 use Rattle.hwp_step.specs.Ranks.{Member, member, IsRanked, is_waits, words_at}
 use Rattle.hwp_step.proofs.Ranking.{rank-of}
+use Rattle.hwp_known.proofs.Listing.{ListsNone}
 use Rattle.hwp_hold.specs.declared.release.Release.{Release}
 use Rattle.hwp_hold.specs.declared.release.ReleaseAt.{ReleaseAt}
 use Rattle.hwp_hold.specs.declared.release.ReleaseAt.TheVariants as release_at
 use Rattle.hwp_hold.specs.Releases as releases
-use Rattle.hwp_hold.proofs.Ranking.{release-falls, release-small}
+use Rattle.hwp_hold.proofs.Ranking.{release-falls, release-lists, release-mild, release-small}
 use Rattle.hwp_hold.proofs.Telling.{Tells, frame-tells, page-tells}
-use Rattle.hwp_evict.proofs.Vacating as vacating
 use Rattle.hwp_evict.specs.declared.vacate.Vacate.{Vacate}
 use Rattle.hwp_evict.specs.declared.vacate.VacateAt.{VacateAt}
 use Rattle.hwp_evict.specs.declared.vacate.VacateAt.TheVariants as at
@@ -79,6 +81,30 @@ vacate-class v = which v.at
     which at.UnlockPage = (omega arith, omega arith)
     which at.Over = (omega arith, omega arith)
 
+-- none of its steps poisons a frame or takes its poison back
+pub vacate-mild : (s : Vacate) (step : Step) → plan s ≡ Some step → IsMild step
+vacate-mild s step is = which s.at is
+  where
+    which : (x : VacateAt) → plan_at s.page s.frame x ≡ Some step → IsMild step
+    which at.SetCache e = subst IsMild (same_Some (steps.SetCache s.page None) step e) tt
+    which at.SetOwner e = subst IsMild (same_Some (steps.SetOwner s.frame s.page false) step e) tt
+    which at.UnlockFrame e = subst IsMild (same_Some (steps.UnlockFrame s.frame) step e) tt
+    which (at.Release r) e = release-mild r step e
+    which at.UnlockPage e = subst IsMild (same_Some (steps.UnlockPage s.page) step e) tt
+    which at.Over e = absurd (none-some step e)
+
+-- none of its steps lists an entry by itself
+pub vacate-lists : (s : Vacate) (step : Step) → plan s ≡ Some step → ListsNone step
+vacate-lists s step is = which s.at is
+  where
+    which : (x : VacateAt) → plan_at s.page s.frame x ≡ Some step → ListsNone step
+    which at.SetCache e = subst ListsNone (same_Some (steps.SetCache s.page None) step e) tt
+    which at.SetOwner e = subst ListsNone (same_Some (steps.SetOwner s.frame s.page false) step e) tt
+    which at.UnlockFrame e = subst ListsNone (same_Some (steps.UnlockFrame s.frame) step e) tt
+    which (at.Release r) e = release-lists r step e
+    which at.UnlockPage e = subst ListsNone (same_Some (steps.UnlockPage s.page) step e) tt
+    which at.Over e = absurd (none-some step e)
+
 abbrev vacate-member : Member Vacate
 vacate-member = member (λ v. v.who) plan put bare (λ layout v found got after result. (after ≡ next v found) × (result ≡ Moved)) Fits class cost (λ v. false) (λ v. None)
 
@@ -87,7 +113,7 @@ vacate-ranked = rank-of vacate-member (λ s. refl) vacate-class (λ layout a sea
     (λ layout seat a b s t turn made goes. subst (λ (x : Vacate). cost x (words_at layout b) < cost s (words_at layout a)) (sym made.follows.0)
     (vacate-falls (words_at layout a) (words_at layout b) s made.step made.found made.planned))
     (λ layout seat a b s t turn made is quiet. absurd (both_ways true (sym is ∙ ap is_waits made.follows.1) refl))
-    (λ s. refl) (λ layout view s step fits is. (vacating.can layout view s step fits is).served)
+    (λ s. refl) vacate-mild
 
 -- ---- the class
 

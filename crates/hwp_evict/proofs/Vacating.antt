@@ -27,13 +27,11 @@ use Rattle.hwp_rule.specs.declared.View.{View}
 use Rattle.hwp_rule.specs.Asks.{HasLock, HasPage, CanFree, CanGoHome, CanUnlockPage, PutFits}
 use Rattle.hwp_rule.specs.Logs.{log_of, state_of, fitting_word}
 use Rattle.hwp_rule.specs.Steps.{is_last}
-use Rattle.hwp_rule.specs.Unfailed.{AddsNoFailure}
 use Rattle.hwp_rule.specs.Views.{refs_on, locks_on, is_body_of, is_page_lock_of, without, frame_in, with_named, less_refs, page_locks_on}
 use Rattle.hwp_rule.specs.parts.Fits.{FitsWords}
 use Rattle.hwp_rule.proofs.Lists.{same-number}
 use Rattle.hwp_rule.proofs.Meeting.{cache-word, frame-named, lock-knows}
 use Rattle.hwp_rule.proofs.Refs.{refs-cons}
-use Rattle.hwp_rule.proofs.Unfailed.{adds-one}
 use Rattle.hwp_step.specs.declared.Turn.{Turn}
 use Rattle.hwp_step.specs.declared.Turn.TheVariants.{Moved}
 use Rattle.hwp_step.specs.Calls.{CanMake, FitsLayout, Steps, IsOnTurn, logs}
@@ -150,9 +148,6 @@ module _ {layout : Layout} {who : Who} {view : View} {page : Page} {given : Opti
       killed = goes.killed;
     }
 
-    adds-sound : AddsNoFailure view (logs given)
-    adds-sound = subst (λ (b : Option BodyValue). AddsNoFailure view (logs b)) (sym goes.given_is) (adds-one view (log_of goes.body) taken bodies goes.sound)
-
     can-shelve : CanUnlockPage layout who view page (logs given)
     can-shelve = subst (λ (b : Option BodyValue). CanUnlockPage layout who view page (logs b)) (sym goes.given_is) (record {
       has = record { lock = lock; listed = ap (λ l. slice_get l 0) pages; page_is = refl };
@@ -201,7 +196,6 @@ can layout view v step fits is = which v.at fits.at is
     which (at.Release r) has e = subst (λ (w : Who). CanMake layout w step None view) has.own (releasing_laws.can layout view r step has.release e)
     which at.UnlockPage has e = can-put fits.on_turn e tt fits.page
         (can-shelve has.goes (ap (λ (h : Hand). h.pages) has.hand_is) (ap (λ (h : Hand). h.bodies) has.hand_is) (ap (λ (h : Hand). h.locks) has.hand_is)) (body-fits has.goes) tt
-        (adds-sound has.goes (ap (λ (h : Hand). h.pages) has.hand_is) (ap (λ (h : Hand). h.bodies) has.hand_is) (ap (λ (h : Hand). h.locks) has.hand_is))
     which at.Over has e = absurd (none-some step e)
 
 -- ---- what follows fits
@@ -216,7 +210,6 @@ goes-on more goes = record {
   layout_is = goes.layout_is;
   from = length-grown more goes.from;
   extends = extends-grown more goes.from goes.extends;
-  sound = goes.sound;
   killed = goes.killed;
   fits = goes.fits;
   unmapped = goes.unmapped;

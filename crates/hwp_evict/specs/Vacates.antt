@@ -16,8 +16,7 @@ use Rattle.hwp_rule.specs.declared.View.{View}
 use Rattle.hwp_rule.specs.Asks.{Extends}
 use Rattle.hwp_rule.specs.Lists.{SomeMember}
 use Rattle.hwp_rule.specs.Logs.{log_of, state_of}
-use Rattle.hwp_rule.specs.Unfailed.{HaveNoFailure}
-use Rattle.hwp_rule.specs.Views.{more_of, unpoisoned}
+use Rattle.hwp_rule.specs.Views.{unpoisoned}
 use Rattle.hwp_rule.specs.Words.{Words}
 use Rattle.hwp_rule.specs.parts.Fits.{FitsWords}
 use Rattle.hwp_step.specs.Calls.{IsOnTurn}
@@ -96,8 +95,7 @@ releasing frame count release_at.Adopt h = record h { hands = record { frame = f
 releasing frame count release_at.Retire h = record h { refs = one_ref frame; locks = releases.poisoned_lock frame ∷ [] }
 releasing frame count release_at.Back h = h
 
--- the body, with the entries that it has now, can go onto its page's shelf: the page's words, which are these, fit it there;
--- none of the entries is a failure
+-- the body, with the entries that it has now, can go onto its page's shelf: the page's words, which are these, fit it there
 pub record GoesToShelf (layout : Layout) (who : Who) (view : View) (page : Page) (given : Option BodyValue) (trans : List ℕ) (taken : InHand) : Type 0 where
   pub body : BodyValue
   pub given_is : given ≡ Some body
@@ -106,7 +104,6 @@ pub record GoesToShelf (layout : Layout) (who : Who) (view : View) (page : Page)
   pub layout_is : body.layout ≡ layout
   pub from : taken.from ≤ length view.sights
   pub extends : Extends layout who view.sights taken (log_of body)
-  pub sound : HaveNoFailure (more_of taken (log_of body))
   pub killed : (process : Proc) → has_ending layout process (drop taken.since body.log) ≡ true → SomeMember (λ (p : Proc). p ≡ process) taken.killed
   pub fits : FitsWords layout (log_of body) 0 trans
   pub unmapped : (state_of layout (log_of body)).maps ≡ set.empty

@@ -20,6 +20,7 @@ use Rattle.hwp_rule.specs.declared.Step.TheVariants as steps
 use Rattle.hwp_rule.specs.declared.View.{View}
 use Rattle.hwp_rule.specs.Moves.{Move}
 use Rattle.hwp_rule.specs.Rule.{Holds}
+use Rattle.hwp_rule.specs.Served.{IsMild}
 use Rattle.hwp_rule.specs.Steps.{place_of, word_after}
 use Rattle.hwp_rule.specs.Views.{frame_in}
 use Rattle.hwp_rule.specs.Words.{Words, read, put as put_word, index, free_words}
@@ -52,10 +53,10 @@ use Rattle.hwp_hold.specs.Pins.{is_gone}
 use Rattle.hwp_hold.specs.Releases as releases
 use Rattle.hwp_hold.specs.Unholds as unholds
 use Rattle.hwp_hold.specs.Unlocks as unlocks
-use Rattle.hwp_hold.proofs.FillCosts.{give-up-falls, give-up-ranked}
+use Rattle.hwp_hold.proofs.FillCosts.{give-up-falls, give-up-mild, give-up-ranked}
 use Rattle.hwp_hold.proofs.Pinning as pinning
-use Rattle.hwp_hold.proofs.Ranking.{met-own, left-own, pin-falls, pin-small, pin-goes, stale-most, unhold-small}
-use Rattle.hwp_hold.proofs.Unlocking.{unlock-falls, unlock-small, unlock-class}
+use Rattle.hwp_hold.proofs.Ranking.{met-own, left-own, pin-falls, pin-mild, pin-small, pin-goes, stale-most, unhold-small}
+use Rattle.hwp_hold.proofs.Unlocking.{mild as unlock-mild, unlock-falls, unlock-small, unlock-class}
 use Rattle.hwp_fault.specs.declared.access.Access.{Access}
 use Rattle.hwp_fault.specs.declared.access.Request.{Request}
 use Rattle.hwp_fault.specs.declared.access.AccessAt.{AccessAt}
@@ -68,9 +69,8 @@ use Rattle.hwp_fault.specs.declared.fault.FaultAt.TheVariants as fault_at
 use Rattle.hwp_fault.specs.declared.fault.FaultAnswer.TheVariants as fault_answers
 use Rattle.hwp_fault.specs.Accesses.{plan, plan_at, put, put_at, bare, bare_at, at_start, after_process, at_process, leading, at_translation, pinned, ended, unlocked, after_fault, is_frame, leads_to, Prepares, LooksOf, LooksAgain, Next, NextAt, FaultStepped, IsPinned, IsFaulting, IsOfFrame, Fits, FitsAt, class, class_at, moved_away, then_cost, cost, cost_at}
 use Rattle.hwp_fault.specs.Faults as faults
-use Rattle.hwp_fault.proofs.Accessing as accessing
 use Rattle.hwp_fault.proofs.Accessing.{slot-within}
-use Rattle.hwp_fault.proofs.FaultCosts.{fault-ranked, fault-below, fault-class}
+use Rattle.hwp_fault.proofs.FaultCosts.{fault-mild, fault-ranked, fault-below, fault-class}
 use Rattle.hwp_fault.proofs.Faulting as faulting
 use Rattle.hwp_fault.proofs.Translating.{named-referenced}
 
@@ -192,15 +192,17 @@ unlocked-cost slot u then w = by (is_none (unlocks.plan u)) then
     by false then = omega arith
 
 -- a fault that is over costs what follows it
-fault-ended : (g : Fault) (w : Words) → cost_at g.slot (after_fault g) w ≤ faults.cost g w
-fault-ended g w = which g.at
+fault-ended : (page : Page) (g : Fault) (w : Words) → cost_at g.slot (after_fault page g) w ≤ faults.cost g w
+fault-ended page g w = which g.at
   where
-    which : (x : FaultAt) → cost_at g.slot (after_fault (record g { at = x })) w ≤ faults.cost_at g.slot x w
+    which : (x : FaultAt) → cost_at g.slot (after_fault page (record g { at = x })) w ≤ faults.cost_at g.slot x w
     which (fault_at.Over None) = omega arith
     which (fault_at.Over (Some fault_answers.Again)) = omega arith
     which (fault_at.Over (Some (fault_answers.NoFrame place))) = omega arith
+    which (fault_at.Over (Some (fault_answers.Sigbus place))) = omega arith
     which (fault_at.Hold h) = omega arith
     which (fault_at.LoadPte frame body) = omega arith
+    which (fault_at.Kill frame body place) = omega arith
     which (fault_at.Fill f) = omega arith
     which (fault_at.MapIn m) = omega arith
     which (fault_at.Unhold u answer) = omega arith
@@ -384,11 +386,11 @@ module _ {layout : Layout} {seat : ℕ} {a b : State} {s t : Access} {turn : Tur
     follows = follows;
   }
 
-  after-step : (f : Fault) (y : AccessAt) → IsFaulting layout (view_of a seat) r f → (next : FaultStepped layout (faults.bare f) made.found made.got y turn) → faults.cost next.after now < faults.cost f w → cost_at r.slot y now < faults.cost f w
+  after-step : (f : Fault) (y : AccessAt) → IsFaulting layout (view_of a seat) r f → (next : FaultStepped layout r.page (faults.bare f) made.found made.got y turn) → faults.cost next.after now < faults.cost f w → cost_at r.slot y now < faults.cost f w
   after-step f y has next less =
       let most : cost_at r.slot y now ≤ faults.cost next.after now =
       subst (λ (x : AccessAt). cost_at r.slot x now ≤ faults.cost next.after now) (sym next.next_is)
-      (subst (λ (slot : VSlot). cost_at slot (after_fault next.after) now ≤ faults.cost next.after now) (ap (λ (x : Fault). x.slot) next.follows.after_is ∙ has.slot_is) (fault-ended next.after now)) in
+      (subst (λ (slot : VSlot). cost_at slot (after_fault r.page next.after) now ≤ faults.cost next.after now) (ap (λ (x : Fault). x.slot) next.follows.after_is ∙ has.slot_is) (fault-ended r.page next.after now)) in
       omega (arith, less, most)
 
   falls-at : (x y : AccessAt) → plan_at r x ≡ Some made.step → FitsAt layout (view_of a seat) r x → Move layout seat (rec_of layout r.who made.step (logs (put_at x)) made.found made.got) a b
@@ -455,11 +457,28 @@ module _ {layout : Layout} {seat : ℕ} {a b : State} {s t : Access} {turn : Tur
   pub cost-waits : is_waits turn ≡ true → Quiet (class s) layout a seat → CostFalls access-member layout a b s t
   cost-waits waits quiet = subst (λ (q : Request). cost_at q.slot t.at now < cost s w) (sym request-is) (waits-at s.at t.at made.planned made.fits.at made.move made.follows.at waits quiet)
 
+-- none of its steps poisons a frame or takes its poison back
+pub access-mild : (a : Access) (step : Step) → plan a ≡ Some step → IsMild step
+access-mild a step is = which a.at is
+  where
+    which : (x : AccessAt) → plan_at a.request x ≡ Some step → IsMild step
+    which at.LoadStop e = subst IsMild (same_Some (steps.Load places.Stop) step e) tt
+    which at.LoadProcess e = subst IsMild (same_Some (steps.Load (places.Process a.request.process)) step e) tt
+    which at.LoadTranslation e = subst IsMild (same_Some (steps.Load (places.Trans a.request.slot)) step e) tt
+    which (at.Pin p) e = pin-mild p step e
+    which (at.LockFrame frame) e = subst IsMild (same_Some (steps.LockFrame frame) step e) tt
+    which (at.LoadAgain frame body) e = subst IsMild (same_Some (steps.Load (places.Trans a.request.slot)) step e) tt
+    which (at.LoadBad frame body) e = subst IsMild (same_Some (steps.Load (places.Bad frame)) step e) tt
+    which (at.Unlock u then) e = unlock-mild u step e
+    which (at.Fault f) e = fault-mild f step e
+    which (at.GiveUp g) e = give-up-mild g step e
+    which (at.Over answer) e = absurd (none-some step e)
+
 pub access-ranked : IsRanked access-member
 access-ranked = rank-failing access-member (λ s. refl) access-class (λ layout a seat s rule fits. let few : cost s (words_at layout a) < 32768 = access-below (words_at layout a) s (few-frees layout a rule) in omega arith)
     (λ layout seat a b s t turn made goes. cost-falls made goes)
     (λ layout seat a b s t turn made waits quiet. cost-waits made waits quiet)
-    (λ s. refl) (λ layout view s step fits is. (accessing.can layout view s step fits is).served)
+    (λ s. refl) access-mild
 
 -- ---- the class
 

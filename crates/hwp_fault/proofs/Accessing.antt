@@ -29,7 +29,6 @@ use Rattle.hwp_rule.specs.declared.Step.TheVariants as steps
 use Rattle.hwp_rule.specs.declared.View.{View}
 use Rattle.hwp_rule.specs.Lists.{EachMember}
 use Rattle.hwp_rule.specs.Logs.{log_of}
-use Rattle.hwp_rule.specs.Served.{IsServed}
 use Rattle.hwp_rule.specs.Slots.{frame_slot, is_out, moved_out}
 use Rattle.hwp_rule.specs.Steps.{goes}
 use Rattle.hwp_rule.specs.Views.{frame_in, refs_on, locks_on, lock_found, noted, taken}
@@ -43,7 +42,7 @@ use Rattle.hwp_step.specs.Calls.{CanMake, FitsLayout, Steps, IsOnTurn, logs}
 use Rattle.hwp_step.specs.Hands.{Hand, hand_of, empty, taking, body_in}
 use Rattle.hwp_step.proofs.Stepping.{on-turn-after, content_of, brought, was-home, hand-planned, steps-planned, can-make}
 use Rattle.hwp_known.specs.Known.{Saw, HasMadeNone, BringsIn, HasOnly, HasMade, IsAt, deeds}
-use Rattle.hwp_known.proofs.Listing.{deeds-same, frame-lists, deeds-none, deeds-one, has-made, has-made-stays, has-only-stays}
+use Rattle.hwp_known.proofs.Listing.{ListsNone, deeds-same, frame-lists, deeds-none, deeds-one, has-made, has-made-stays, has-only-stays}
 use Rattle.hwp_known.specs.Pages.{SawState}
 use Rattle.hwp_known.proofs.Seeing.{saw-stays, saw-load, saw-state-stays}
 use Rattle.hwp_hold.specs.declared.GiveUp.{GiveUp}
@@ -67,6 +66,7 @@ use Rattle.hwp_hold.specs.Unlocks as unlocks
 use Rattle.hwp_hold.proofs.Bringing.{replay-state}
 use Rattle.hwp_hold.proofs.GivingUp as giving_up
 use Rattle.hwp_hold.proofs.Pinning as pinning
+use Rattle.hwp_hold.proofs.Ranking.{pin-lists, release-lists}
 use Rattle.hwp_hold.proofs.Unlocking as unlocking
 use Rattle.hwp_fault.specs.declared.access.Access.{Access}
 use Rattle.hwp_fault.specs.declared.access.Request.{Request}
@@ -74,15 +74,17 @@ use Rattle.hwp_fault.specs.declared.access.AccessAt.{AccessAt}
 use Rattle.hwp_fault.specs.declared.access.AccessAt.TheVariants as at
 use Rattle.hwp_fault.specs.declared.access.AccessAnswer.{AccessAnswer}
 use Rattle.hwp_fault.specs.declared.access.AccessAnswer.TheVariants as answers
-use Rattle.hwp_fault.specs.declared.access.AccessKind.{AccessKind}
-use Rattle.hwp_fault.specs.declared.access.AccessKind.TheVariants as kinds
+use Rattle.hwp_fault.specs.declared.touch.AccessKind.{AccessKind}
+use Rattle.hwp_fault.specs.declared.touch.AccessKind.TheVariants as kinds
 use Rattle.hwp_fault.specs.declared.fault.Fault.{Fault}
 use Rattle.hwp_fault.specs.declared.fault.FaultAt.{FaultAt}
 use Rattle.hwp_fault.specs.declared.fault.FaultAt.TheVariants as fault_at
 use Rattle.hwp_fault.specs.declared.fault.FaultAnswer.{FaultAnswer}
 use Rattle.hwp_fault.specs.declared.fault.FaultAnswer.TheVariants as fault_answers
-use Rattle.hwp_fault.specs.Accesses.{begin, answer, answer_at, plan, plan_at, put, put_at, bare, bare_at, at_start, after_process, at_process, leading, at_translation, pinned, ended, unlocked, after_fault_at, after_fault, is_frame, leads_to, what_by, what_of, word_in, reply, reply_by, reached, Reaches, Prepares, LooksOf, LooksAgain, FaultStepped, Next, NextAt, Shows, ShowsAt, GoesOn, HasReached, Answered, HasTaken, HasLocked, HasToList, IsReady, FitsThen, IsBegun, IsLooking, IsPinning, IsPinned, IsLocked, IsUnlocking, IsFaulting, IsOfFrame, IsAnswered, IsDeclared, Fits, FitsAt}
+use Rattle.hwp_fault.specs.Accesses.{begin, answer, answer_at, plan, plan_at, put, put_at, bare, bare_at, at_start, after_process, at_process, leading, at_translation, pinned, ended, unlocked, touch_of, after_fault_at, after_fault, is_frame, leads_to, what_by, what_of, word_in, reply, reply_by, reached, Reaches, Prepares, LooksOf, LooksAgain, FaultStepped, Next, NextAt, Shows, ShowsAt, GoesOn, HasReached, Answered, HasTaken, HasLocked, HasToList, IsReady, FitsThen, IsBegun, IsLooking, IsPinning, IsPinned, IsLocked, IsUnlocking, IsFaulting, IsOfFrame, IsAnswered, IsDeclared, Fits, FitsAt}
+use Rattle.hwp_fault.specs.declared.touch.Touch.{Touch}
 use Rattle.hwp_fault.specs.Faults as faults
+use Rattle.hwp_fault.specs.Touches.{IsTouch}
 use Rattle.hwp_fault.proofs.Faulting as faulting
 use Rattle.hwp_fault.proofs.Reaching.{in-hand, still-held, still-more, one-more, reached-held, taken-still, bad-shown}
 use Rattle.hwp_fault.proofs.Translating.{trans-word, ending-named, line-good, names-own, lock-owner, in-use, owner-in-slot}
@@ -97,6 +99,17 @@ slot-within layout a names = slice_get_within layout.trans a.slot.0 names.decl n
 
 is-of : (layout : Layout) (a : Request) → IsDeclared layout a → IsOf layout a.page a.slot
 is-of layout a names = subst (λ (t : Option TransDecl). IsSomeAnd t (λ (d : TransDecl). d.page ≡ a.page)) (sym names.declared) names.page_is
+
+touches : (layout : Layout) (a : Request) → IsDeclared layout a → IsTouch layout a.slot (touch_of a)
+touches layout a names = record {
+  decl = names.decl;
+  declared = names.declared;
+  process_is = names.process_is;
+  thread = names.thread;
+  thread_declared = names.thread_declared;
+  thread_of = names.thread_of;
+  process = names.process;
+}
 
 pub can : (layout : Layout) (view : View) (a : Access) (step : Step) → Fits layout view a → plan a ≡ Some step → CanMake layout a.request.who step (put a) view
 can layout view a step fits is = which a.at fits.at is
@@ -131,19 +144,20 @@ none-named found none = which (found == 0) refl
 none-only : (Such : Made → Type 0) (view : View) (who : Who) → HasMadeNone view who → HasOnly Such view who
 none-only Such view who none = subst (EachMember Such) (sym none) (λ i x e. absurd (none-some x e))
 
-module _ (a : Request) {layout : Layout} {old new : View} {step : Step} {found : ℕ} {got : Option BodyValue} (served : IsServed step) (made : Steps layout a.who step None old new found got) where
+module _ (a : Request) {layout : Layout} {old new : View} {step : Step} {found : ℕ} {got : Option BodyValue} (lists : ListsNone step) (made : Steps layout a.who step None old new found got) where
   goes-on : GoesOn a old → GoesOn a new
-  goes-on on = record { alive = saw-stays made on.alive; brings = has-only-stays a.who old new (deeds-same a.who served made) on.brings }
+  goes-on on = record { alive = saw-stays made on.alive; brings = has-only-stays a.who old new (deeds-same a.who lists made) on.brings }
 
   none-stays : HasMadeNone old a.who → HasMadeNone new a.who
-  none-stays none = deeds-same a.who served made ∙ none
+  none-stays none = deeds-same a.who lists made ∙ none
 
   reached-stays : {word place : ℕ} → HasReached a old word place → HasReached a new word place
-  reached-stays has = record { alive = saw-stays made has.alive; mask = has.mask; good = has.good; made = has-made-stays a.who old new (deeds-same a.who served made) has.made }
+  reached-stays has = record { alive = saw-stays made has.alive; mask = has.mask; good = has.good; made = has-made-stays a.who old new (deeds-same a.who lists made) has.made }
 
   answer-stays : (answer : AccessAnswer) → Answered layout old a answer → Answered layout new a answer
   answer-stays (answers.Value word page place) has = (has.0, has.1, reached-stays has.2)
   answer-stays (answers.Stored page place) has = (has.0, has.1, has.2, reached-stays has.3)
+  answer-stays (answers.Sigbus page place) has = (has.0, record { alive = saw-stays made has.1.alive; made = has-made-stays a.who old new (deeds-same a.who lists made) has.1.made })
   answer-stays answers.NoFrame has = (goes-on has.0, saw-stays made has.1, has.2, saw-state-stays made has.3)
   answer-stays (answers.Gone page) has = (saw-stays made has.0, none-stays has.1)
   answer-stays answers.Stopped has = (record { word = has.0.word; stopped = has.0.stopped; saw = saw-stays made has.0.saw }, none-stays has.1)
@@ -188,7 +202,7 @@ module _ {layout : Layout} {a : Request} {old new : View} {found : ℕ} {got : O
       on = goes-on a tt made has.on
 
       which : (f : Option Frame) → frame_in found ≡ f → FitsAt layout new a (leading a f)
-      which None is = record { fault = faulting.begins on_turn names.page (is-of layout a names) hand on.brings; own = refl; page_is = refl; slot_is = refl; unanswered = refl; alive = on.alive }
+      which None is = record { fault = faulting.begins on_turn names.page (is-of layout a names) (touches layout a names) hand on.brings; own = refl; page_is = refl; slot_is = refl; touch_is = refl; unanswered = refl; alive = on.alive }
       which (Some frame) is = record {
         hand_is = hand;
         pin = record {
@@ -216,7 +230,7 @@ module _ {layout : Layout} {a : Request} {old new : View} {found : ℕ} {got : O
       hand = pinning.held-after p empty is has.hand_is own
 
       on : GoesOn a new
-      on = goes-on a (pinning.can layout old p step has.pin is).served made has.on
+      on = goes-on a (pin-lists p step is) made has.on
 
       shown : (gone : Bool) → hand_of new ≡ empty → pins.Fits layout new (record p { at = cond gone (pin_at.Gone found) (pin_at.Get found) }) → FitsAt layout new a (pinned (record p { at = cond gone (pin_at.Gone found) (pin_at.Get found) }))
       shown true hand fits = record { hand_is = hand; on = on }
@@ -440,13 +454,18 @@ module _ (layout : Layout) (a : Request) (new : View) where
       by : (w : ℕ) → what_of a mask w ≡ what_by (kinds.Store stored) a.slot a.line (record { 0 = mask }) w
       by w = ap (λ (k : AccessKind). what_by k a.slot a.line (record { 0 = mask }) w) is
 
+-- what a fault that is over has made
+abbrev MadeBy : View → FaultAnswer → Who → Page → VSlot → Touch → Type 0
+MadeBy view x who page slot touch = faults.MadeAt view who page slot touch (fault_at.Over (Some x))
+
 -- a fault that has its answer is over
 over-of : (g : Fault) (x : FaultAnswer) → faults.answer g ≡ Some x → is_none (faults.plan g) ≡ true
 over-of g x is = which g.at is
   where
-    which : (y : FaultAt) → faults.answer_at y ≡ Some x → is_none (faults.plan_at g.slot y) ≡ true
+    which : (y : FaultAt) → faults.answer_at y ≡ Some x → is_none (faults.plan_at g.page g.slot g.touch y) ≡ true
     which (fault_at.Hold h) none = absurd (none-some x none)
     which (fault_at.LoadPte frame body) none = absurd (none-some x none)
+    which (fault_at.Kill frame body place) none = absurd (none-some x none)
     which (fault_at.Fill f) none = absurd (none-some x none)
     which (fault_at.MapIn m) none = absurd (none-some x none)
     which (fault_at.Unhold u answer) none = absurd (none-some x none)
@@ -472,11 +491,11 @@ module _ (layout : Layout) (a : Request) (old new : View) (found : ℕ) (got : O
   unchanged frame None has on made = goes-on a tt made on
   unchanged frame (Some b) has on made = record { alive = saw-stays made on.alive; brings = has-only-stays a.who old new (deeds-none a.who (frame-lists (in-hand has) made) (still-more has a.who)) on.brings }
 
-  then-moved : (x : UnlockAt) (step : Step) (then : Option AccessAnswer) → unlocks.plan_at x ≡ Some step → IsServed step → FitsThen layout old a x then → Steps layout a.who step (logs (unlocks.put_at x)) old new found got
+  then-moved : (x : UnlockAt) (step : Step) (then : Option AccessAnswer) → unlocks.plan_at x ≡ Some step → FitsThen layout old a x then → Steps layout a.who step (logs (unlocks.put_at x)) old new found got
       → FitsThen layout new a (unlocks.next_at a.who (unlocks.bare_at x) found) then
-  then-moved (unlock_at.UnlockFrame frame body) step None is served has made = (unchanged frame body has.1 has.0 (steps-planned is made), tt)
-  then-moved (unlock_at.UnlockFrame frame body) step (Some answer) is served has made = listed frame body answer has (steps-planned is made)
-  then-moved (unlock_at.Release r) step None is served has made = let-by r (releases.next_at r.count r.at found) (goes-on a served made has.0)
+  then-moved (unlock_at.UnlockFrame frame body) step None is has made = (unchanged frame body has.1 has.0 (steps-planned is made), tt)
+  then-moved (unlock_at.UnlockFrame frame body) step (Some answer) is has made = listed frame body answer has (steps-planned is made)
+  then-moved (unlock_at.Release r) step None is has made = let-by r (releases.next_at r.count r.at found) (goes-on a (release-lists r step is) made has.0)
     where
       let-by : (r : Release) (x : ReleaseAt) → GoesOn a new → FitsThen layout new a (unlocks.after_release (record r { at = x })) None
       let-by r release_at.Put on = (on, tt)
@@ -485,7 +504,7 @@ module _ (layout : Layout) (a : Request) (old new : View) (found : ℕ) (got : O
       let-by r release_at.Adopt on = (on, tt)
       let-by r release_at.Retire on = (on, tt)
       let-by r release_at.Back on = (on, tt)
-  then-moved (unlock_at.Release r) step (Some answer) is served has made = let-by r (releases.next_at r.count r.at found) (answer-stays a served made answer has)
+  then-moved (unlock_at.Release r) step (Some answer) is has made = let-by r (releases.next_at r.count r.at found) (answer-stays a (release-lists r step is) made answer has)
     where
       let-by : (r : Release) (x : ReleaseAt) → Answered layout new a answer → FitsThen layout new a (unlocks.after_release (record r { at = x })) (Some answer)
       let-by r release_at.Put on = on
@@ -494,7 +513,7 @@ module _ (layout : Layout) (a : Request) (old new : View) (found : ℕ) (got : O
       let-by r release_at.Adopt on = on
       let-by r release_at.Retire on = on
       let-by r release_at.Back on = on
-  then-moved unlock_at.Over step then is served has made = absurd (none-some step is)
+  then-moved unlock_at.Over step then is has made = absurd (none-some step is)
 
   -- once nothing of the frame is held, the command has its answer, or looks again
   then-over : (x : UnlockAt) (then : Option AccessAnswer) → is_none (unlocks.plan_at x) ≡ true → hand_of new ≡ empty → FitsThen layout new a x then → FitsAt layout new a (ended then)
@@ -515,7 +534,7 @@ module _ (layout : Layout) (a : Request) (old new : View) (found : ℕ) (got : O
 
       then-is : FitsThen layout new a next.at then
       then-is = subst (λ (w : Who). FitsThen layout new a (unlocks.next_at w (unlocks.bare_at u.at) found) then) (sym has.own)
-          (then-moved u.at step then is (unlocking.can layout old u step has.unlock is).served has.goal made)
+          (then-moved u.at step then is has.goal made)
 
       by : (over : Bool) → is_none (unlocks.plan next) ≡ over → FitsAt layout new a (cond over (ended then) (at.Unlock next then))
       by true over = then-over next.at then over (unlocking.let-go layout new next fits over) then-is
@@ -527,7 +546,7 @@ module _ (layout : Layout) (a : Request) (old new : View) (found : ℕ) (got : O
   over-known g x fits is = subst (faults.FitsOver layout new g.who g.page) is (faulting.over-fits g (over-of g x is) fits)
 
   fault-moved : (f : Fault) (step : Step) → faults.plan f ≡ Some step → IsFaulting layout old a f → Steps layout a.who step (logs (faults.put f)) old new found got
-      → faults.Shows (faults.bare f) found got × ((y : AccessAt) (turn : Turn) → FaultStepped layout (faults.bare f) found got y turn → FitsAt layout new a y)
+      → faults.Shows (faults.bare f) found got × ((y : AccessAt) (turn : Turn) → FaultStepped layout a.page (faults.bare f) found got y turn → FitsAt layout new a y)
   fault-moved f step is has made = (child.0, λ y turn stepped. subst (FitsAt layout new a) (sym stepped.next_is) (then stepped.after turn stepped.follows))
     where
       child : faults.Shows (faults.bare f) found got × ((after : Fault) (turn : Turn) → faults.Follows layout (faults.bare f) found got after turn → faults.Fits layout new after × (after.who.cpu ≡ f.who.cpu))
@@ -536,7 +555,7 @@ module _ (layout : Layout) (a : Request) (old new : View) (found : ℕ) (got : O
       alive : Saw new a.who (places.Process a.process) 0
       alive = saw-stays made has.alive
 
-      then : (g : Fault) (turn : Turn) → faults.Follows layout (faults.bare f) found got g turn → FitsAt layout new a (after_fault g)
+      then : (g : Fault) (turn : Turn) → faults.Follows layout (faults.bare f) found got g turn → FitsAt layout new a (after_fault a.page g)
       then g turn follows = which (faults.answer g) refl
         where
           fits : faults.Fits layout new g
@@ -551,14 +570,27 @@ module _ (layout : Layout) (a : Request) (old new : View) (found : ℕ) (got : O
           slot-is : g.slot ≡ a.slot
           slot-is = ap (λ (x : Fault). x.slot) follows.after_is ∙ has.slot_is
 
-          on : GoesOn a new
-          on = record { alive = alive; brings = subst (λ (w : Who). HasOnly (BringsIn a.page a.slot) new w) own (subst (λ (p : Page). HasOnly (BringsIn p a.slot) new g.who) page-is (subst (λ (s : VSlot). HasOnly (BringsIn g.page s) new g.who) slot-is fits.only)) }
+          touch-is : g.touch ≡ touch_of a
+          touch-is = ap (λ (x : Fault). x.touch) follows.after_is ∙ has.touch_is
 
-          which : (answer : Option FaultAnswer) → faults.answer g ≡ answer → FitsAt layout new a (after_fault_at g answer)
-          which None is = record { fault = fits; own = own; page_is = page-is; slot_is = slot-is; unanswered = is; alive = alive }
-          which (Some fault_answers.Again) is = record { hand_is = (over-known g fault_answers.Again fits is).0; on = on }
+          made-by : (x : FaultAnswer) → faults.answer g ≡ Some x → MadeBy new x a.who a.page a.slot (touch_of a)
+          made-by x is = subst (λ (w : Who). MadeBy new x w a.page a.slot (touch_of a)) own (subst (λ (p : Page). MadeBy new x g.who p a.slot (touch_of a)) page-is
+              (subst (λ (s : VSlot). MadeBy new x g.who g.page s (touch_of a)) slot-is (subst (λ (t : Touch). MadeBy new x g.who g.page g.slot t) touch-is (faulting.over-made g x is fits))))
+
+          which : (answer : Option FaultAnswer) → faults.answer g ≡ answer → FitsAt layout new a (after_fault_at a.page g answer)
+          which None is = record { fault = fits; own = own; page_is = page-is; slot_is = slot-is; touch_is = touch-is; unanswered = is; alive = alive }
+          which (Some fault_answers.Again) is = record { hand_is = (over-known g fault_answers.Again fits is).0; on = record { alive = alive; brings = made-by fault_answers.Again is } }
           which (Some (fault_answers.NoFrame place)) is = let over = over-known g (fault_answers.NoFrame place) fits is in let why : Saw new g.who places.Available 0 × SawState layout new g.who g.page place IsAway = over.1 in
-              record { hand_is = over.0; answered = (on, subst (λ (w : Who). Saw new w places.Available 0) own why.0, place, subst (λ (w : Who). SawState layout new w a.page place IsAway) own (subst (λ (p : Page). SawState layout new g.who p place IsAway) page-is why.1)) }
+              record {
+                hand_is = over.0;
+                answered = (
+                  record { alive = alive; brings = made-by (fault_answers.NoFrame place) is },
+                  subst (λ (w : Who). Saw new w places.Available 0) own why.0,
+                  place,
+                  subst (λ (w : Who). SawState layout new w a.page place IsAway) own (subst (λ (p : Page). SawState layout new g.who p place IsAway) page-is why.1),
+                );
+              }
+          which (Some (fault_answers.Sigbus place)) is = record { hand_is = (over-known g (fault_answers.Sigbus place) fits is).0; answered = (refl, record { alive = alive; made = made-by (fault_answers.Sigbus place) is }) }
 
 -- ---- the command given up
 

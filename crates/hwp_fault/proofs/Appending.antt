@@ -1,9 +1,9 @@
 -- A body in hand that goes on with the entries of a fault can go home.
-use Rattle.std.proofs.Common.{◌≡◌, ◌≢◌, ◌⊎◌, inl, inr, ℕ, suc, ◌+◌, ◌<◌, ◌==◌, ◌||◌, Bool, true, false, cond, List, [], ◌∷◌, ◌++◌, Option, Some, None, length, drop, set, slice_get, refl, sym, ap, ◌∙◌, subst, arith}
+use Rattle.std.proofs.Common.{◌≡◌, ◌≢◌, ◌⊎◌, inl, inr, ℕ, zero, suc, ◌+◌, ◌<◌, ◌==◌, ◌||◌, Bool, true, false, cond, List, [], ◌∷◌, ◌++◌, Option, Some, None, length, drop, set, slice_get, refl, sym, ap, ◌∙◌, subst, arith}
 use Rattle.std.proofs.lemmas.Bool.{both_ways, ne_eqb}
 use Rattle.std.proofs.lemmas.List.{append_assoc, drop-append-le, length-append}
 use Rattle.std.proofs.lemmas.List.Sums.{fold-append, sum_by-cons}
-use Rattle.std.proofs.lemmas.Option.{same_Some}
+use Rattle.std.proofs.lemmas.Option.{none-some, same_Some}
 use Rattle.std.specs.Cmp.{nat_cmp_total, unsigned_tied}
 use Rattle.std.specs.FinSet as sets
 use Rattle.std.specs.Int.{from_bool}
@@ -35,23 +35,23 @@ use Rattle.hwp_rule.specs.Logs.{log_of, opening_at, state_of, fitting_word}
 use Rattle.hwp_rule.specs.Views.{is_body_of, page_locks_on}
 use Rattle.hwp_rule.specs.parts.Entries.{HasSeen}
 use Rattle.hwp_rule.specs.parts.Fits.{FitsWords}
-use Rattle.hwp_rule.specs.Unfailed.{is_failure}
 use Rattle.hwp_rule.proofs.Lists.{at_set, each-push, same-number}
 use Rattle.hwp_step.specs.Hands.{Hand, body_in}
 use Rattle.hwp_hold.specs.Holds.{page_lock}
 use Rattle.hwp_hold.specs.Unholds.{holding, HoldsAhead}
 use Rattle.hwp_fault.specs.MapIns.{IsBringing, added, BringsOn, HoldsWithFrame}
 
+-- a list of one
+pub each-one : {A : Type 0} (P : A → Type 0) (a : A) → P a → EachMember P (a ∷ [])
+each-one P a here zero x e = subst P (same_Some a x e) here
+each-one P a here (suc i) x e = absurd (none-some x e)
+
 -- ---- the entries of a fault
 
--- they rest on nothing that was seen, end no process and are no failures
+-- they rest on nothing that was seen, and end no process
 bringing-seen : (sights : List Sight) (who : Who) (frame : Option Frame) (slot : VSlot) (what : What) → (what ≡ entries.FaultIn) ⊎ (what ≡ entries.Map slot) → HasSeen sights who frame what
 bringing-seen sights who frame slot what (inl is) = subst (HasSeen sights who frame) (sym is) tt
 bringing-seen sights who frame slot what (inr is) = subst (HasSeen sights who frame) (sym is) tt
-
-bringing-sound : (slot : VSlot) (what : What) → (what ≡ entries.FaultIn) ⊎ (what ≡ entries.Map slot) → is_failure what ≡ false
-bringing-sound slot what (inl is) = ap is_failure is
-bringing-sound slot what (inr is) = ap is_failure is
 
 bringing-ends : (layout : Layout) (process : Proc) (slot : VSlot) (what : What) → (what ≡ entries.FaultIn) ⊎ (what ≡ entries.Map slot) → is_ending layout process what ≡ false
 bringing-ends layout process slot what (inl is) = ap (is_ending layout process) is
@@ -179,7 +179,6 @@ module _ {layout : Layout} {view : View} {who : Who} {page : Page} {slot : VSlot
     poisoned = has.poisoned;
     hand_is = has.hand_is;
     home = goes-home;
-    sound = λ i e at. bringing-sound slot e.what (has.brings.only i e at);
     page_is = has.page_is;
     taken_is = sym has.brings.page_is ∙ has.page_is;
     layout_is = has.layout_is;

@@ -7,6 +7,7 @@ use Rattle.hwp_geom.specs.declared.Layout.{Layout}
 use Rattle.hwp_geom.specs.declared.Page.{Page}
 use Rattle.hwp_geom.specs.declared.VSlot.{VSlot}
 use Rattle.hwp_geom.specs.declared.Who.{Who}
+use Rattle.hwp_page.specs.Endings.{ends}
 use Rattle.hwp_page.specs.History.{BodyValue}
 use Rattle.hwp_page.specs.Step.{IsOf}
 use Rattle.hwp_words.specs.declared.Pte.{Pte}
@@ -19,6 +20,7 @@ use Rattle.hwp_rule.specs.declared.Step.{Step}
 use Rattle.hwp_rule.specs.declared.Step.TheVariants as steps
 use Rattle.hwp_rule.specs.Moves.{Move}
 use Rattle.hwp_rule.specs.Rule.{Holds}
+use Rattle.hwp_rule.specs.Served.{IsMild}
 use Rattle.hwp_rule.specs.Steps.{place_of, word_after}
 use Rattle.hwp_rule.specs.Views.{frame_in}
 use Rattle.hwp_rule.specs.Words.{Words, free_bit, free_words, index, put as put_word}
@@ -58,8 +60,8 @@ use Rattle.hwp_hold.specs.Refers as refers
 use Rattle.hwp_hold.specs.Releases as releases
 use Rattle.hwp_hold.specs.Takes as takes
 use Rattle.hwp_hold.specs.Unholds as unholds
-use Rattle.hwp_hold.proofs.FillCosts.{fill-ranked, give-up-ranked}
-use Rattle.hwp_hold.proofs.Ranking.{left-own, met-own, hold-ranked, hold-small, stale-most, unhold-ranked, unhold-small}
+use Rattle.hwp_hold.proofs.FillCosts.{fill-mild, fill-ranked, give-up-mild, give-up-ranked}
+use Rattle.hwp_hold.proofs.Ranking.{left-own, met-own, hold-mild, hold-ranked, hold-small, stale-most, unhold-mild, unhold-ranked, unhold-small}
 use Rattle.hwp_hold.proofs.Unlocking.{unlock-small}
 use Rattle.hwp_fault.specs.declared.fault.Fault.{Fault}
 use Rattle.hwp_fault.specs.declared.fault.FaultAt.{FaultAt}
@@ -69,11 +71,12 @@ use Rattle.hwp_fault.specs.declared.fault.FaultAnswer.TheVariants as answers
 use Rattle.hwp_fault.specs.declared.map_in.MapIn.{MapIn}
 use Rattle.hwp_fault.specs.declared.map_in.MapInAt.{MapInAt}
 use Rattle.hwp_fault.specs.declared.map_in.MapInAt.TheVariants as map_in_at
+use Rattle.hwp_fault.specs.declared.touch.Touch.{Touch}
 use Rattle.hwp_fault.specs.MapIns as map_ins
-use Rattle.hwp_fault.specs.Faults.{plan, plan_at, put, put_at, bare, bare_at, with_room, after_hold, after_pte, after_fill, after_map_in, after_unhold, after_give_up, next_at, turn_at, Follows, Fits, FitsAt, class, class_at, again, owed, rest, cost, cost_at}
-use Rattle.hwp_fault.proofs.Faulting as faulting
-use Rattle.hwp_fault.proofs.Loading.{pte-met, reads-frame}
-use Rattle.hwp_fault.proofs.MapInCosts.{map-in-ranked, map-in-small}
+use Rattle.hwp_fault.specs.Faults.{plan, plan_at, put, put_at, bare, bare_at, let_go, refuse, with_room, after_hold, after_pte, after_fill, after_map_in, after_unhold, after_give_up, next_at, turn_at, Follows, Fits, FitsAt, class, class_at, again, owed, rest, cost, cost_at}
+use Rattle.hwp_fault.specs.Touches.{as_snapshot, refused}
+use Rattle.hwp_fault.proofs.Loading.{pte-met, reads-frame, reads-poison}
+use Rattle.hwp_fault.proofs.MapInCosts.{map-in-mild, map-in-ranked, map-in-small}
 use Rattle.hwp_fault.proofs.MappingIn.{declared}
 
 -- ---- a part that runs
@@ -175,6 +178,22 @@ frame-room-cost : (who : Who) (page : Page) (slot : VSlot) (frame : Frame) (body
 frame-room-cost who page slot frame body None w = omega arith
 frame-room-cost who page slot frame body (Some n) w = omega arith
 
+-- a refusal is six steps at most
+refuse-cost : (layout : Layout) (who : Who) (page : Page) (slot : VSlot) (touch : Touch) (frame : Option Frame) (body : BodyValue) (spare : Option ℕ) (w : Words) → cost_at slot (refuse layout who page slot touch frame body spare) w ≤ 6
+refuse-cost layout who page slot touch frame body None w = let few : unholds.cost (unholds.begin who page frame 1 body) w ≤ 5 = unhold-begins who page frame body w in omega (arith, few)
+refuse-cost layout who page slot touch frame body (Some n) w = by (ends layout touch.process touch.thread)
+  where
+    by : (ended : Bool) → cost_at slot (cond ended (at.Kill frame (refused who slot touch (record body { spare = n })) (length body.log)) (let_go who page frame (refused who slot touch (record body { spare = n })) (answers.Sigbus (length body.log)))) w ≤ 6
+    by true = omega arith
+    by false = let few : unholds.cost (unholds.begin who page frame 1 (refused who slot touch (record body { spare = n }))) w ≤ 5 = unhold-begins who page frame (refused who slot touch (record body { spare = n })) w in omega (arith, few)
+
+empty-cost : (layout : Layout) (who : Who) (page : Page) (slot : VSlot) (touch : Touch) (frame : Option Frame) (body : BodyValue) (spare : Option ℕ) (w : Words) → cost_at slot (after_pte layout who page slot touch frame body ptes.Empty spare) w ≤ length w.frees + 13 + 4096
+empty-cost layout who page slot touch frame body spare w = by body.state.lost
+  where
+    by : (lost : Bool) → cost_at slot (cond lost (refuse layout who page slot touch frame body spare) (with_room who page slot frame body spare)) w ≤ length w.frees + 13 + 4096
+    by true = let few : cost_at slot (refuse layout who page slot touch frame body spare) w ≤ 6 = refuse-cost layout who page slot touch frame body spare w in omega (arith, few)
+    by false = room-cost who page slot frame body spare w
+
 hold-cost : (slot : VSlot) (h : Hold) (w : Words) → cost_at slot (after_hold h) w ≡ holds.cost h w + length w.frees + 14 + owed
 hold-cost slot h w = which h.at
   where
@@ -232,12 +251,14 @@ module _ {layout : Layout} {seat : ℕ} {a b : State} {f t : Fault} {turned : Tu
   move-by put who own move = subst (λ (x : Who). Move layout seat (rec_of layout x made.step (logs put) made.found made.got) a b) (sym own) move
 
   -- a word that was loaded
-  pte-falls : (frame : Option Frame) (body : BodyValue) (spare : Option ℕ) → FitsAt layout (view_of a seat) f.who f.page f.slot (at.LoadPte frame body) → Some (steps.Load (places.Trans f.slot)) ≡ Some made.step
-      → cost_at f.slot (after_pte f.who f.page f.slot frame body (pte_reading made.found) spare) now < length w.frees + 14 + owed
+  pte-falls : (frame : Option Frame) (body : BodyValue) (spare : Option ℕ) → FitsAt layout (view_of a seat) f.who f.page f.slot f.touch (at.LoadPte frame body) → Some (steps.Load (places.Trans f.slot)) ≡ Some made.step
+      → cost_at f.slot (after_pte layout f.who f.page f.slot f.touch frame body (pte_reading made.found) spare) now < length w.frees + 14 + owed
   pte-falls frame body spare has e = elim (pte-met f.slot has.held made.fits.slot a made.rule seat (me made) made.found at-met) [
-    | inl nowhere ↦ subst (λ (p : Pte). cost_at f.slot (after_pte f.who f.page f.slot frame body p spare) now < length w.frees + 14 + owed) (sym (ap pte_reading nowhere.zero))
-        (let less : cost_at f.slot (with_room f.who f.page f.slot frame body spare) now ≤ length now.frees + 13 + 4096 = room-cost f.who f.page f.slot frame body spare now in omega (arith, less, same-number-of))
-    | inr leads ↦ subst (λ (p : Pte). cost_at f.slot (after_pte f.who f.page f.slot frame body p spare) now < length w.frees + 14 + owed) (sym (ap pte_reading leads.named ∙ reads-frame leads.frame leads.small))
+    | inl nowhere ↦ subst (λ (p : Pte). cost_at f.slot (after_pte layout f.who f.page f.slot f.touch frame body p spare) now < length w.frees + 14 + owed) (sym (ap pte_reading nowhere.zero))
+        (let less : cost_at f.slot (after_pte layout f.who f.page f.slot f.touch frame body ptes.Empty spare) now ≤ length now.frees + 13 + 4096 = empty-cost layout f.who f.page f.slot f.touch frame body spare now in omega (arith, less, same-number-of))
+    | inr (inl barred) ↦ subst (λ (p : Pte). cost_at f.slot (after_pte layout f.who f.page f.slot f.touch frame body p spare) now < length w.frees + 14 + owed) (sym (ap pte_reading barred.poison ∙ reads-poison))
+        (let less : cost_at f.slot (refuse layout f.who f.page f.slot f.touch frame body spare) now ≤ 6 = refuse-cost layout f.who f.page f.slot f.touch frame body spare now in omega (arith, less))
+    | inr (inr leads) ↦ subst (λ (p : Pte). cost_at f.slot (after_pte layout f.who f.page f.slot f.touch frame body p spare) now < length w.frees + 14 + owed) (sym (ap pte_reading leads.named ∙ reads-frame leads.frame leads.small))
         (let less : unholds.cost (unholds.begin f.who f.page frame 1 body) now ≤ 5 = unhold-begins f.who f.page frame body now in
         let over : again f.slot now ≡ length now.frees + 20 = again-led f.slot now leads.frame leads.small (stands ∙ leads.named) in
         omega (arith, less, over, same-number-of))
@@ -250,7 +271,7 @@ module _ {layout : Layout} {seat : ℕ} {a b : State} {f t : Fault} {turned : Tu
       stands = ap (λ (x : Words). slice_index x.trans f.slot.0) (left-own w now made.found e (words-kept made) refl) ∙ met-own w made.found e (met made)
 
   -- a translation that came into use
-  module _ (m : MapIn) (has : FitsAt layout (view_of a seat) f.who f.page f.slot (at.MapIn m)) where
+  module _ (m : MapIn) (has : FitsAt layout (view_of a seat) f.who f.page f.slot f.touch (at.MapIn m)) where
     written : Some (steps.SetPte m.slot (ptes.At m.frame)) ≡ Some made.step → slice_index now.trans m.slot.0 ≡ m.frame.0 + 1
     written e = ap (λ (x : Words). slice_index x.trans m.slot.0) after ∙ get_or_from_slice_get (set w.trans m.slot.0 (pte_word (ptes.At m.frame))) m.slot.0 (pte_word (ptes.At m.frame)) 0 here ∙ word
       where
@@ -288,11 +309,12 @@ module _ {layout : Layout} {seat : ℕ} {a b : State} {f t : Fault} {turned : Tu
       ap (λ (l : List ℕ). stale (is_some (frame_in (slice_index l f.slot.0)))) (ap (λ (x : Words). x.trans) (words-after made) ∙ trans-kept (place_of made.step) (word_after made.step made.found) w (unhold-place u made.step e)) in
       omega (arith, same, same-number-of)
   rest-stays u (answers.NoFrame place) e = refl
+  rest-stays u (answers.Sigbus place) e = refl
 
   -- a turn lowers the cost
-  which-falls : (x : FaultAt) (spare : Option ℕ) → FitsAt layout (view_of a seat) f.who f.page f.slot x → plan_at f.slot x ≡ Some made.step → Move layout seat (rec_of layout f.who made.step (logs (put_at x)) made.found made.got) a b
+  which-falls : (x : FaultAt) (spare : Option ℕ) → FitsAt layout (view_of a seat) f.who f.page f.slot f.touch x → plan_at f.page f.slot f.touch x ≡ Some made.step → Move layout seat (rec_of layout f.who made.step (logs (put_at x)) made.found made.got) a b
       → Lowers (turn_at (bare_at x) made.found) (class_at x) layout a seat
-      → Lowered (turn_at (bare_at x) made.found) layout a b (cost_at f.slot (next_at layout f.who f.page f.slot (bare_at x) made.found made.got spare) now) (cost_at f.slot x w)
+      → Lowered (turn_at (bare_at x) made.found) layout a b (cost_at f.slot (next_at layout f.who f.page f.slot f.touch (bare_at x) made.found made.got spare) now) (cost_at f.slot x w)
   which-falls (at.Hold h) spare has e move lowers =
       let part : Lowered (turn_at (bare_at (at.Hold h)) made.found) layout a b (holds.cost (holds.next h made.found made.got) now) (holds.cost h w) = part-falls hold-ranked refl (record {
         step = made.step;
@@ -309,6 +331,8 @@ module _ {layout : Layout} {seat : ℕ} {a b : State} {f t : Fault} {turned : Tu
       let more : cost_at f.slot (after_hold (holds.next h made.found made.got)) now ≡ holds.cost (holds.next h made.found made.got) now + length now.frees + 14 + owed = hold-cost f.slot (holds.next h made.found made.got) now in
       whole part (λ (less : holds.cost (holds.next h made.found made.got) now < holds.cost h w). omega (arith, less, more, same-number-of))
   which-falls (at.LoadPte frame body) spare has e move lowers = inl (pte-falls frame body spare has e)
+  which-falls (at.Kill frame body place) spare has e move lowers =
+      inl (let few : unholds.cost (unholds.begin f.who f.page frame 1 body) now ≤ 5 = unhold-begins f.who f.page frame body now in omega (arith, few))
   which-falls (at.Fill g) spare has e move lowers =
       let part : Lowered (turn_at (bare_at (at.Fill g)) made.found) layout a b (fills.cost (fills.next layout g made.found) now) (fills.cost g w) = part-falls fill-ranked refl (record {
         step = made.step;
@@ -423,6 +447,7 @@ give-up-few g w = which g.at
 rest-few : (slot : VSlot) (answer : FaultAnswer) (w : Words) → length w.frees ≤ 4 → rest slot answer w ≤ 4120
 rest-few slot answers.Again w few = let some : stale (is_some (frame_in (slice_index w.trans slot.0))) ≤ 4096 = stale-most (is_some (frame_in (slice_index w.trans slot.0))) in omega (arith, few, some)
 rest-few slot (answers.NoFrame place) w few = omega arith
+rest-few slot (answers.Sigbus place) w few = omega arith
 
 pub fault-small : (w : Words) (f : Fault) → length w.frees ≤ 4 → cost f w ≤ 12307
 fault-small w f few = which f.at
@@ -430,6 +455,7 @@ fault-small w f few = which f.at
     which : (x : FaultAt) → cost_at f.slot x w ≤ 12307
     which (at.Hold h) = let some : holds.cost h w ≤ 4098 = hold-small w h in omega (arith, few, some)
     which (at.LoadPte frame body) = omega (arith, few)
+    which (at.Kill frame body place) = omega arith
     which (at.Fill g) = let some : fills.cost g w ≤ 8208 = fill-few g w few in omega (arith, some)
     which (at.MapIn m) = let some : map_ins.cost m w ≤ 4098 = map-in-small w m in omega (arith, some)
     which (at.Unhold u answer) = let some : unholds.cost u w ≤ 5 = unhold-small w u in let more : rest f.slot answer w ≤ 4120 = rest-few f.slot answer w few in omega (arith, some, more)
@@ -447,6 +473,8 @@ fault-class f = which f.at
     which (at.Hold h) = hold-ranked.classes h
     which (at.LoadPte None body) = (omega arith, omega arith)
     which (at.LoadPte (Some frame) body) = (omega arith, omega arith)
+    which (at.Kill None body place) = (omega arith, omega arith)
+    which (at.Kill (Some frame) body place) = (omega arith, omega arith)
     which (at.Fill g) = fill-ranked.classes g
     which (at.MapIn m) = (omega arith, omega arith)
     which (at.Unhold u answer) = unhold-ranked.classes u
@@ -466,7 +494,21 @@ module _ {layout : Layout} {seat : ℕ} {a b : State} {f t : Fault} {turned : Tu
     | inr fails ↦ absurd (both_ways true (sym is ∙ fails.0) refl)
   ]
 
+-- none of its steps poisons a frame or takes its poison back
+pub fault-mild : (f : Fault) (step : Step) → plan f ≡ Some step → IsMild step
+fault-mild f step is = which f.at is
+  where
+    which : (x : FaultAt) → plan_at f.page f.slot f.touch x ≡ Some step → IsMild step
+    which (at.Hold h) e = hold-mild h step e
+    which (at.LoadPte frame body) e = subst IsMild (same_Some (steps.Load (places.Trans f.slot)) step e) tt
+    which (at.Kill frame body place) e = subst IsMild (same_Some (steps.Kill f.touch.process f.page (as_snapshot body)) step e) tt
+    which (at.Fill g) e = fill-mild g step e
+    which (at.MapIn m) e = map-in-mild m step e
+    which (at.Unhold u answer) e = unhold-mild u step e
+    which (at.GiveUp g) e = give-up-mild g step e
+    which (at.Over answer) e = absurd (none-some step e)
+
 pub fault-ranked : IsRanked fault-member
 fault-ranked = rank-failing fault-member (λ s. refl) fault-class (λ layout a seat s rule fits. let some : cost s (words_at layout a) ≤ 12307 = fault-small (words_at layout a) s (few-words layout a rule).1 in omega (arith, some))
     (λ layout seat a b s t turned made goes. fault-goes made goes) (λ layout seat a b s t turned made is quiet. fault-waits made is quiet)
-    (λ s. refl) (λ layout view s step fits is. (faulting.can layout view s step fits is).served)
+    (λ s. refl) fault-mild

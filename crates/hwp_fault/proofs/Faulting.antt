@@ -1,42 +1,42 @@
 -- The laws of `Fault`, and what stands before it and after it.
-use Rattle.std.proofs.Common.{◌≡◌, ◌≢◌, inl, inr, ℕ, zero, suc, ◌+◌, ◌<◌, ◌≤◌, ◌==◌, Bool, true, false, not, cond, List, [], ◌∷◌, Option, Some, None, is_none, filter, length, refl, sym, ap, ◌∙◌, subst, arith}
+use Rattle.std.proofs.Common.{◌≡◌, ◌≢◌, ◌⊎◌, inl, inr, ℕ, ◌+◌, ◌<◌, ◌≤◌, ◌==◌, Bool, true, false, not, cond, [], ◌∷◌, Option, Some, None, is_none, length, slice_get, IsSomeAnd, refl, sym, ap, ◌∙◌, subst, arith}
 use Rattle.std.proofs.Math.Seq.{drop-append_seam}
 use Rattle.std.proofs.lemmas.Bool.{both_ways, ne_eqb}
 use Rattle.std.proofs.lemmas.List.{drop_all}
-use Rattle.std.proofs.lemmas.List.Elements.{filter-append}
 use Rattle.std.proofs.lemmas.Option.{none-some, same_Some}
+use Rattle.std.specs.FinSet as set
 use Rattle.hwp_geom.specs.declared.Frame.{Frame}
 use Rattle.hwp_geom.specs.declared.Layout.{Layout}
 use Rattle.hwp_geom.specs.declared.Page.{Page}
+use Rattle.hwp_geom.specs.declared.ThreadDecl.{ThreadDecl}
+use Rattle.hwp_geom.specs.declared.TransDecl.{TransDecl}
 use Rattle.hwp_geom.specs.declared.VSlot.{VSlot}
 use Rattle.hwp_geom.specs.declared.Who.{Who}
 use Rattle.hwp_page.specs.declared.PageState.{PageState}
 use Rattle.hwp_page.specs.declared.What.TheVariants as entries
+use Rattle.hwp_page.specs.Endings.{ends}
 use Rattle.hwp_page.specs.History.{BodyValue, IsReplay}
-use Rattle.hwp_page.specs.Step.{IsOf, after}
+use Rattle.hwp_page.specs.Step.{IsOf, IsRefused, IsThreadOf, after}
 use Rattle.hwp_words.specs.declared.Pte.{Pte}
+use Rattle.hwp_words.specs.declared.Pte.TheVariants as ptes
 use Rattle.hwp_words.specs.Names.{frame_name}
 use Rattle.hwp_words.specs.Translations.{pte_reading}
 use Rattle.hwp_rule.specs.declared.InHand.{InHand}
 use Rattle.hwp_rule.specs.declared.Log.{Log}
-use Rattle.hwp_rule.specs.declared.Made.{Made}
 use Rattle.hwp_rule.specs.declared.Place.TheVariants as places
-use Rattle.hwp_rule.specs.declared.Stamp.{Stamp}
 use Rattle.hwp_rule.specs.declared.Step.{Step}
 use Rattle.hwp_rule.specs.declared.Step.TheVariants as steps
 use Rattle.hwp_rule.specs.declared.View.{View}
+use Rattle.hwp_rule.specs.Asks.{CanKill}
 use Rattle.hwp_rule.specs.Lists.{EachMember}
 use Rattle.hwp_rule.specs.Logs.{log_of}
-use Rattle.hwp_rule.specs.Views.{body_of, is_body_of, made_from, more_of}
-use Rattle.hwp_rule.proofs.MoreEntries.{each-append, made-each}
-use Rattle.hwp_rule.proofs.Without.{find-is}
+use Rattle.hwp_rule.specs.Views.{more_of}
 use Rattle.hwp_step.specs.declared.Turn.{Turn}
 use Rattle.hwp_step.specs.Calls.{CanMake, Steps, IsOnTurn, logs}
 use Rattle.hwp_step.specs.Hands.{Hand, hand_of, body_in, empty}
 use Rattle.hwp_step.proofs.Stepping.{on-turn-after, hand-planned, steps-planned, can-make}
 use Rattle.hwp_step.specs.Ranks.{HasFrame, HasPage}
-use Rattle.hwp_known.specs.Known.{SawLog, HasOnly, BringsIn, deeds, is_by}
-use Rattle.hwp_known.proofs.Listing.{Lists, deeds-same, frame-lists, page-lists, made-kept, has-only-stays}
+use Rattle.hwp_known.specs.Known.{SawLog, HasOnly, BringsIn}
 use Rattle.hwp_known.proofs.Seeing.{saw-stays, saw-log-stays, saw-state-stays}
 use Rattle.hwp_hold.specs.declared.Fill.{Fill}
 use Rattle.hwp_hold.specs.declared.fill.FillAt.{FillAt}
@@ -50,25 +50,16 @@ use Rattle.hwp_hold.specs.declared.hold.HoldAt.TheVariants as hold_at
 use Rattle.hwp_hold.specs.declared.Refer.{Refer}
 use Rattle.hwp_hold.specs.declared.refer.ReferAt.{ReferAt}
 use Rattle.hwp_hold.specs.declared.refer.ReferAt.TheVariants as refer_at
-use Rattle.hwp_hold.specs.declared.Release.{Release}
-use Rattle.hwp_hold.specs.declared.release.ReleaseAt.{ReleaseAt}
-use Rattle.hwp_hold.specs.declared.release.ReleaseAt.TheVariants as release_at
 use Rattle.hwp_hold.specs.declared.Take.{Take}
 use Rattle.hwp_hold.specs.declared.take.TakeAt.{TakeAt}
 use Rattle.hwp_hold.specs.declared.take.TakeAt.TheVariants as take_at
 use Rattle.hwp_hold.specs.declared.Unhold.{Unhold}
-use Rattle.hwp_hold.specs.declared.unhold.UnholdAt.{UnholdAt}
-use Rattle.hwp_hold.specs.declared.unhold.UnholdAt.TheVariants as unhold_at
-use Rattle.hwp_hold.specs.declared.Unlock.{Unlock}
-use Rattle.hwp_hold.specs.declared.unlock.UnlockAt.{UnlockAt}
-use Rattle.hwp_hold.specs.declared.unlock.UnlockAt.TheVariants as unlock_at
 use Rattle.hwp_hold.specs.Fills as fills
 use Rattle.hwp_hold.specs.Fills.{CanBring, brought}
 use Rattle.hwp_hold.specs.GiveUps as give_ups
 use Rattle.hwp_hold.specs.Holds as holds
 use Rattle.hwp_hold.specs.Holds.{HoldsPage, IsBodyOf}
 use Rattle.hwp_hold.specs.Refers as refers
-use Rattle.hwp_hold.specs.Releases as releases
 use Rattle.hwp_hold.specs.Takes as takes
 use Rattle.hwp_hold.specs.Unholds as unholds
 use Rattle.hwp_hold.specs.Unholds.{HoldsAhead}
@@ -88,71 +79,27 @@ use Rattle.hwp_fault.specs.declared.fault.FaultAnswer.TheVariants as answers
 use Rattle.hwp_fault.specs.declared.map_in.MapIn.{MapIn}
 use Rattle.hwp_fault.specs.declared.map_in.MapInAt.{MapInAt}
 use Rattle.hwp_fault.specs.declared.map_in.MapInAt.TheVariants as map_in_at
+use Rattle.hwp_fault.specs.declared.touch.Touch.{Touch}
 use Rattle.hwp_fault.specs.MapIns as map_ins
 use Rattle.hwp_fault.specs.MapIns.{IsBringing, HoldsWithFrame, CanMapIn, added}
-use Rattle.hwp_fault.specs.Faults.{begin, plan, plan_at, put, put_at, bare, bare_at, answer, answer_at, let_go, with_room, after_hold, after_pte, is_poison, after_fill, after_map_in, after_unhold, after_give_up, next, next_at, IsRoom, Follows, Shows, ShowsAt, AddsOnly, IsFree, IsHeld, IsWhy, FitsOver, Fits, FitsAt, class, class_at}
-use Rattle.hwp_fault.proofs.Appending.{state-more, ahead-with-frame}
-use Rattle.hwp_fault.proofs.Loading.{bodies, state-is, unlost, inside, pte-met, reads-frame}
+use Rattle.hwp_fault.specs.Faults.{begin, plan, plan_at, put, put_at, bare, bare_at, answer, answer_at, let_go, refuse, with_room, after_hold, after_pte, is_refused, after_fill, after_map_in, after_unhold, after_give_up, next, next_at, IsRoom, Follows, Shows, ShowsAt, AddsOnly, IsEnding, IsFree, IsHeld, IsWhy, FitsOver, Fits, FitsAt, MadeAt, class, class_at}
+use Rattle.hwp_fault.specs.Touches.{IsTouch, as_snapshot, refused}
+use Rattle.hwp_fault.proofs.Appending.{each-one, state-more, ahead-with-frame}
+use Rattle.hwp_fault.proofs.Deeds.{give-up-bare, made-next, page-still, unhold-bare}
+use Rattle.hwp_fault.proofs.Loading.{bodies, state-is, inside, pte-met, reads-frame, reads-poison}
 use Rattle.hwp_fault.proofs.MappingIn as mapping
-
--- ---- lists
-
-each-one : {A : Type 0} (P : A → Type 0) (a : A) → P a → EachMember P (a ∷ [])
-each-one P a here zero x e = subst P (same_Some a x e) here
-each-one P a here (suc i) x e = absurd (none-some x e)
-
-each-cons : {A : Type 0} (P : A → Type 0) (a : A) (l : List A) → P a → EachMember P l → EachMember P (a ∷ l)
-each-cons P a l here each zero x e = subst P (same_Some a x e) here
-each-cons P a l here each (suc i) x e = each i x e
-
-each-chosen : {A : Type 0} (P : A → Type 0) (b : Bool) (x : A) (l : List A) → P x → EachMember P l → EachMember P (cond b (x ∷ l) l)
-each-chosen P true x l here each = each-cons P x l here each
-each-chosen P false x l here each = each
-
-each-filter : {A : Type 0} (P : A → Type 0) (test : A → Bool) (l : List A) → EachMember P l → EachMember P (filter test l)
-each-filter P test [] each = each
-each-filter P test (x ∷ xs) each = each-chosen P (test x) x (filter test xs) (each 0 x refl) (each-filter P test xs (λ i y e. each (suc i) y e))
-
--- ---- the entries that the command made
-
-module _ (who : Who) (page : Page) (slot : VSlot) {old new : View} (only : HasOnly (BringsIn page slot) old who) where
-  listed : (body : BodyValue) (b : InHand) {stamp : Stamp} → body_of body.page old ≡ Some b → Lists old new stamp b (log_of body) → AddsOnly old page slot body → HasOnly (BringsIn page slot) new who
-  listed body b {stamp} there lists adds = subst (EachMember (BringsIn page slot)) (sym (ap (filter (is_by who)) lists.made_is ∙ filter-append (is_by who) old.made more))
-      (each-append (BringsIn page slot) (deeds who old) (filter (is_by who) more) only
-      (each-filter (BringsIn page slot) (is_by who) more (made-each (BringsIn page slot) stamp body.page b.frame (length b.log.entries) (more_of b (log_of body)) (λ i e listed n. (adds.of, each i e listed)))))
-    where
-      more : List Made
-      more = made_from stamp body.page b.frame (length b.log.entries) (more_of b (log_of body))
-
-      each : EachMember (IsBringing slot) (more_of b (log_of body))
-      each = let in-hand = find-is (is_body_of body.page) old.bodies b there in adds.only in-hand.0 b in-hand.1
-
-module _ {layout : Layout} {who : Who} {page : Page} {slot : VSlot} {old new : View} {found : ℕ} {got : Option BodyValue} (only : HasOnly (BringsIn page slot) old who) where
-  frame-puts : {frame : Frame} (body : Option BodyValue) → CanMake layout who (steps.UnlockFrame frame) body old → Steps layout who (steps.UnlockFrame frame) (logs body) old new found got → ((b : BodyValue) → body ≡ Some b → AddsOnly old page slot b)
-      → HasOnly (BringsIn page slot) new who
-  frame-puts None can made adds = has-only-stays who old new (deeds-same who tt made) only
-  frame-puts (Some b) can made adds = listed who page slot only b can.asks.kind.put.body can.asks.kind.put.body_is (frame-lists can.asks.kind.put.body_is made) (adds b refl)
-
-  page-puts : {freed : Page} (body : Option BodyValue) → CanMake layout who (steps.UnlockPage freed) body old → Steps layout who (steps.UnlockPage freed) (logs body) old new found got → ((b : BodyValue) → body ≡ Some b → AddsOnly old page slot b)
-      → HasOnly (BringsIn page slot) new who
-  page-puts None can made adds = has-only-stays who old new (deeds-same who tt made) only
-  page-puts (Some b) can made adds = listed who page slot only b can.asks.kind.put.body can.asks.kind.put.body_is (page-lists can.asks.kind.put.body_is made) (adds b refl)
-
-  only-by : (step : Step) (body : Option BodyValue) → CanMake layout who step body old → Steps layout who step (logs body) old new found got → ((b : BodyValue) → body ≡ Some b → AddsOnly old page slot b) → HasOnly (BringsIn page slot) new who
-  only-by (steps.UnlockFrame frame) body can made adds = frame-puts body can made adds
-  only-by (steps.UnlockPage freed) body can made adds = page-puts body can made adds
-  only-by (steps.Kill process killed taken) body can made adds = absurd can.served
-  only-by (steps.Lose file taken) body can made adds = absurd can.served
-  only-by step body can made adds = has-only-stays who old new (ap (filter (is_by who)) (made-kept made tt)) only
+use Rattle.hwp_fault.proofs.Refusing.{can-kill, lets-go-at-once, lets-go-killed}
 
 -- ---- the steps can be made
 
 pub can : (layout : Layout) (view : View) (f : Fault) (step : Step) → Fits layout view f → plan f ≡ Some step → CanMake layout f.who step (put f) view
 can layout view f step fits is = which f.at fits.at is
   where
-    which : (x : FaultAt) → FitsAt layout view f.who f.page f.slot x → plan_at f.slot x ≡ Some step → CanMake layout f.who step (put_at x) view
+    which : (x : FaultAt) → FitsAt layout view f.who f.page f.slot f.touch x → plan_at f.page f.slot f.touch x ≡ Some step → CanMake layout f.who step (put_at x) view
     which (at.Hold h) has e = subst (λ (w : Who). CanMake layout w step None view) has.own (holding.can layout view h step has.hold e)
     which (at.LoadPte frame body) has e = can-make fits.on_turn e tt (inside f.slot has.held fits.slot) tt
+    which (at.Kill frame body place) has e = can-make fits.on_turn e tt fits.touch.process
+        (subst (λ (b : BodyValue). CanKill layout f.who view f.touch.process f.page (log_of b)) (sym has.body_is) (can-kill f.who f.slot f.touch has.held has.allowed has.ending fits.page))
     which (at.Fill g) has e = subst (λ (w : Who). CanMake layout w step None view) has.own (filling.can layout view g step has.fill e)
     which (at.MapIn m) has e = subst (λ (w : Who). CanMake layout w step None view) has.own (mapping.can layout view m step has.map_in e)
     which (at.Unhold u answer) has e = subst (λ (w : Who). CanMake layout w step (unholds.put u) view) has.own (unholding.can layout view u step has.unhold e)
@@ -192,9 +139,10 @@ respared-frame n has = record {
 ne-zero : (frame : Frame) → (frame_name (Some frame) == 0) ≡ false
 ne-zero frame = ne_eqb (frame.0 + 1) 0 (λ e. omega (arith, e))
 
--- what follows a translation that was loaded fits
-abbrev Leads : Layout → View → Who → Page → VSlot → Option Frame → BodyValue → Pte → Type 0
-Leads layout new who page slot frame body pte = (is_poison pte ≡ false) × ((spare : Option ℕ) → IsRoom spare → FitsAt layout new who page slot (after_pte who page slot frame body pte spare))
+-- what follows a translation that was loaded fits, and a refusal is allowed
+abbrev Leads : Layout → View → Who → Page → VSlot → Touch → Option Frame → BodyValue → Pte → Type 0
+Leads layout new who page slot touch frame body pte = (is_refused pte body.state ≡ true → IsRefused body.layout body.page body.state touch.thread slot)
+    × ((spare : Option ℕ) → IsRoom spare → FitsAt layout new who page slot touch (after_pte layout who page slot touch frame body pte spare))
 
 -- a history has no entry more than itself
 none-added : (slot : VSlot) (log : Log) → EachMember (IsBringing slot) (added log log)
@@ -209,27 +157,47 @@ adds-one {new} {page} {slot} taken body one of more = record {
 held-adds : {layout : Layout} {new : View} {page : Page} {slot : VSlot} {frame : Option Frame} {body : BodyValue} → HoldsPage layout new page frame body → AddsOnly new page slot body
 held-adds {layout} {new} {page} {slot} {frame} {body} has = adds-one (body_in frame (log_of body) has.seen) body (bodies has) has.body_is.page_is (none-added slot (log_of body))
 
-module _ {layout : Layout} {new : View} {who : Who} {page : Page} {slot : VSlot} where
-  given-up : (frame : Option Frame) (body : BodyValue) → unholds.Fits layout new (unholds.begin who page frame 1 body) → AddsOnly new page slot body → FitsAt layout new who page slot (at.GiveUp (give_ups.with_page who page frame 1 body))
+module _ (touch : Touch) {layout : Layout} {new : View} {who : Who} {page : Page} {slot : VSlot} where
+  given-up : (frame : Option Frame) (body : BodyValue) → unholds.Fits layout new (unholds.begin who page frame 1 body) → AddsOnly new page slot body → FitsAt layout new who page slot touch (at.GiveUp (give_ups.with_page who page frame 1 body))
   given-up None body fits adds = record { give_up = giving_up.page-given-up layout new who page None 1 body fits; own = refl; under_way = refl; adds = λ b e. subst (AddsOnly new page slot) (same_Some body b e) adds }
   given-up (Some frame) body fits adds = record { give_up = giving_up.page-given-up layout new who page (Some frame) 1 body fits; own = refl; under_way = refl; adds = λ b e. subst (AddsOnly new page slot) (same_Some body b e) adds }
 
   goes-on : (frame : Option Frame) (body : BodyValue) (answer : FaultAnswer) → unholds.Fits layout new (unholds.begin who page frame 1 body) → AddsOnly new page slot body → IsWhy layout new who page answer
-      → FitsAt layout new who page slot (let_go who page frame body answer)
-  goes-on None body answer fits adds why = record { unhold = fits; own = refl; under_way = refl; adds = λ b e. subst (AddsOnly new page slot) (same_Some body b e) adds; why = why }
-  goes-on (Some frame) body answer fits adds why = record { unhold = fits; own = refl; under_way = refl; adds = λ b e. subst (AddsOnly new page slot) (same_Some body b e) adds; why = why }
+      → FitsAt layout new who page slot touch (let_go who page frame body answer)
+  goes-on None body then fits adds why = record { unhold = fits; own = refl; under_way = refl; adds = λ other b e. subst (AddsOnly new page slot) (same_Some body b e) adds; why = why }
+  goes-on (Some frame) body then fits adds why = record { unhold = fits; own = refl; under_way = refl; adds = λ other b e. subst (AddsOnly new page slot) (same_Some body b e) adds; why = why }
+
+  -- the access was refused, and the page is let go with the entry of it
+  refused-goes : (frame : Option Frame) (body : BodyValue) (place : ℕ) → unholds.Fits layout new (unholds.begin who page frame 1 body) → FitsAt layout new who page slot touch (let_go who page frame body (answers.Sigbus place))
+  refused-goes None body place fits = record { unhold = fits; own = refl; under_way = refl; adds = λ other b e. absurd (both_ways true other refl); why = tt }
+  refused-goes (Some frame) body place fits = record { unhold = fits; own = refl; under_way = refl; adds = λ other b e. absurd (both_ways true other refl); why = tt }
 
 of-body : (slot : VSlot) {layout : Layout} {page : Page} {frame : Option Frame} {body : BodyValue} → IsOf layout page slot → IsBodyOf layout page frame body → IsOf body.layout body.page slot
 of-body slot {layout} {page} {frame} {body} of is = subst (λ (l : Layout). IsOf l body.page slot) (sym is.layout_is) (subst (λ (p : Page). IsOf layout p slot) (sym is.page_is) of)
 
+refused-of : {layout : Layout} {page : Page} {frame : Option Frame} {body : BodyValue} (slot : VSlot) (touch : Touch) → IsBodyOf layout page frame body → IsRefused layout page body.state touch.thread slot → IsRefused body.layout body.page body.state touch.thread slot
+refused-of {layout} {page} {frame} {body} slot touch is allowed = subst (λ (l : Layout). IsRefused l body.page body.state touch.thread slot) (sym is.layout_is)
+    (subst (λ (p : Page). IsRefused layout p body.state touch.thread slot) (sym is.page_is) allowed)
+
 cached-as : {layout : Layout} {new : View} {page : Page} {frame : Option Frame} {body : BodyValue} → HoldsPage layout new page frame body → body.state.cached ≡ not (frame_name frame == 0)
 cached-as has = ap (λ (s : PageState). s.cached) (sym (state-is has)) ∙ sym has.body_is.cached
 
-module _ (slot : VSlot) {layout : Layout} {new : View} {who : Who} {page : Page} (on : IsOnTurn new who) (within : page.0 < length layout.pages) (of : IsOf layout page slot) where
+-- a page that the names of a touch are of refuses it, where the translation is barred or the content is lost
+refuses : (layout : Layout) (page : Page) (s : PageState) (slot : VSlot) (touch : Touch) → IsOf layout page slot → IsTouch layout slot touch → (set.contains s.bar slot.0 ≡ true) ⊎ (s.lost ≡ true) → IsRefused layout page s touch.thread slot
+refuses layout page s slot touch of names why = (of, thread-of, why)
+  where
+    same : names.thread.process ≡ names.decl.process
+    same = names.thread_of ∙ sym names.process_is
+
+    thread-of : IsThreadOf layout touch.thread slot
+    thread-of = subst (λ (o : Option ThreadDecl). IsSomeAnd o (λ (t : ThreadDecl). IsSomeAnd (slice_get layout.trans slot.0) (λ (v : TransDecl). t.process ≡ v.process))) (sym names.thread_declared)
+        (subst (λ (o : Option TransDecl). IsSomeAnd o (λ (v : TransDecl). names.thread.process ≡ v.process)) (sym names.declared) same)
+
+module _ (slot : VSlot) (touch : Touch) {layout : Layout} {new : View} {who : Who} {page : Page} (on : IsOnTurn new who) (within : page.0 < length layout.pages) (of : IsOf layout page slot) where
   -- room was made for the entry, or it was refused
   roomed : (frame : Option Frame) (body : BodyValue) (spare : Option ℕ) → IsHeld layout new who page frame body → IsFree slot body.state → body.state.lost ≡ false → IsRoom spare
-      → FitsAt layout new who page slot (with_room who page slot frame body spare)
-  roomed frame body None has free sound room = given-up frame body (held-unholds layout new who page frame body on within has.held) (held-adds has.held)
+      → FitsAt layout new who page slot touch (with_room who page slot frame body spare)
+  roomed frame body None has free sound room = given-up touch frame body (held-unholds layout new who page frame body on within has.held) (held-adds has.held)
   roomed None body (Some n) has free sound room = record {
     fill = filling.held-fills layout new who page (record body { spare = n }) on within (respared-page n has.held) (record { spare = room; allowed = (cached-as has.held, sound) });
     own = refl;
@@ -250,24 +218,51 @@ module _ (slot : VSlot) {layout : Layout} {new : View} {who : Who} {page : Page}
         room = record { spare = room; allowed = (cached-as held ∙ ap not (ne-zero frame), of-body slot of held.body_is, free.0, free.1) };
       }
 
+  -- room was made for the entry of a refusal, or it was refused
+  refused-on : IsTouch layout slot touch → (frame : Option Frame) (body : BodyValue) (spare : Option ℕ) → HoldsPage layout new page frame body → IsRefused layout page body.state touch.thread slot → IsRoom spare
+      → FitsAt layout new who page slot touch (refuse layout who page slot touch frame body spare)
+  refused-on names frame body None has allowed room = given-up touch frame body (held-unholds layout new who page frame body on within has) (held-adds has)
+  refused-on names frame body (Some n) has allowed room = which (ends layout touch.process touch.thread) refl
+    where
+      held : HoldsPage layout new page frame (record body { spare = n })
+      held = respared-page n has
+
+      which : (ended : Bool) → ends layout touch.process touch.thread ≡ ended
+          → FitsAt layout new who page slot touch (cond ended (at.Kill frame (refused who slot touch (record body { spare = n })) (length body.log)) (let_go who page frame (refused who slot touch (record body { spare = n })) (answers.Sigbus (length body.log))))
+      which true is = record { before = record body { spare = n }; held = held; allowed = allowed; body_is = refl; place_is = refl; ending = is }
+      which false is = refused-goes touch frame (refused who slot touch (record body { spare = n })) (length body.log) (lets-go-at-once who slot touch held allowed names is on within)
+
+  -- a word that leads nowhere brings the page in, unless its content is lost
+  nowhere-on : IsTouch layout slot touch → (frame : Option Frame) (body : BodyValue) → IsHeld layout new who page frame body → IsFree slot body.state → Leads layout new who page slot touch frame body ptes.Empty
+  nowhere-on names frame body has free = which body.state.lost refl
+    where
+      which : (lost : Bool) → body.state.lost ≡ lost
+          → (lost ≡ true → IsRefused body.layout body.page body.state touch.thread slot)
+          × ((spare : Option ℕ) → IsRoom spare → FitsAt layout new who page slot touch (cond lost (refuse layout who page slot touch frame body spare) (with_room who page slot frame body spare)))
+      which true is = let allowed : IsRefused layout page body.state touch.thread slot = refuses layout page body.state slot touch of names (inr is) in
+          (λ lost. refused-of slot touch has.held.body_is allowed, λ spare room. refused-on names frame body spare has.held allowed room)
+      which false is = (λ lost. absurd (both_ways true (sym lost) refl), λ spare room. roomed frame body spare has free is room)
+
   -- the translation's word is loaded
-  pte-loaded : {old : View} {found : ℕ} {got : Option BodyValue} (frame : Option Frame) (body : BodyValue) → IsHeld layout old who page frame body → Steps layout who (steps.Load (places.Trans slot)) None old new found got
-      → (is_poison (pte_reading found) ≡ false) × ((spare : Option ℕ) → IsRoom spare → FitsAt layout new who page slot (after_pte who page slot frame body (pte_reading found) spare))
-  pte-loaded {old} {found} {got} frame body has made = elim (pte-met slot has.held of made.told.board made.told.rule made.told.seat made.told.me found made.told.met) [
-    | inl nowhere ↦ subst (Leads layout new who page slot frame body) (sym (ap pte_reading nowhere.zero)) (refl, λ spare room. roomed frame body spare still nowhere.free (unlost has.held made.told.board made.told.rule made.told.seat made.told.me) room)
-    | inr leads ↦ subst (Leads layout new who page slot frame body) (sym (ap pte_reading leads.named ∙ reads-frame leads.frame leads.small))
-        (refl, λ spare room. goes-on frame body answers.Again (held-unholds layout new who page frame body on within still.held) (held-adds still.held) tt)
+  pte-loaded : IsTouch layout slot touch → {old : View} {found : ℕ} {got : Option BodyValue} (frame : Option Frame) (body : BodyValue) → IsHeld layout old who page frame body → Steps layout who (steps.Load (places.Trans slot)) None old new found got
+      → Leads layout new who page slot touch frame body (pte_reading found)
+  pte-loaded names {old} {found} {got} frame body has made = elim (pte-met slot has.held of made.told.board made.told.rule made.told.seat made.told.me found made.told.met) [
+    | inl nowhere ↦ subst (Leads layout new who page slot touch frame body) (sym (ap pte_reading nowhere.zero)) (nowhere-on names frame body still nowhere.free)
+    | inr other ↦ elim other [
+      | inl barred ↦
+          let allowed : IsRefused layout page body.state touch.thread slot = refuses layout page body.state slot touch of names (inl barred.barred) in
+          subst (Leads layout new who page slot touch frame body) (sym (ap pte_reading barred.poison ∙ reads-poison)) (λ poison. refused-of slot touch has.held.body_is allowed, λ spare room. refused-on names frame body spare still.held allowed room)
+      | inr leads ↦ subst (Leads layout new who page slot touch frame body) (sym (ap pte_reading leads.named ∙ reads-frame leads.frame leads.small))
+          (λ poison. absurd (both_ways true (sym poison) refl), λ spare room. goes-on touch frame body answers.Again (held-unholds layout new who page frame body on within still.held) (held-adds still.held) tt)
+    ]
   ]
     where
       still : IsHeld layout new who page frame body
-      still = record {
-        held = record { seen = has.held.seen; handled = has.held.handled; poisoned = has.held.poisoned; hand_is = hand-planned made refl has.held.hand_is; within = has.held.within; body_is = has.held.body_is };
-        saw = saw-log-stays made has.saw;
-      }
+      still = record { held = page-still (hand-planned made refl refl) has.held; saw = saw-log-stays made has.saw }
 
   -- the page is in a frame
   filled : (body : BodyValue) (frame : Frame) (seen : ℕ) (spare : Option ℕ) → HoldsAhead layout who new page (Some frame) 1 (Some (brought who body)) → frame.0 < layout.frames → new.bodies ≡ body_in None (log_of body) seen ∷ []
-      → CanBring layout page body → IsFree slot body.state → IsRoom spare → FitsAt layout new who page slot (with_room who page slot (Some frame) (brought who body) spare)
+      → CanBring layout page body → IsFree slot body.state → IsRoom spare → FitsAt layout new who page slot touch (with_room who page slot (Some frame) (brought who body) spare)
   filled body frame seen spare ahead small one entry free room = which spare room
     where
       only : EachMember (IsBringing slot) (added (log_of body) (log_of (brought who body)))
@@ -276,8 +271,8 @@ module _ (slot : VSlot) {layout : Layout} {new : View} {who : Who} {page : Page}
       replay : IsReplay layout body.page body.log body.state
       replay = subst (λ (p : Page). IsReplay layout p body.log body.state) (sym entry.body_is.page_is) entry.body_is.replay
 
-      which : (spare : Option ℕ) → IsRoom spare → FitsAt layout new who page slot (with_room who page slot (Some frame) (brought who body) spare)
-      which None room = given-up (Some frame) (brought who body)
+      which : (spare : Option ℕ) → IsRoom spare → FitsAt layout new who page slot touch (with_room who page slot (Some frame) (brought who body) spare)
+      which None room = given-up touch (Some frame) (brought who body)
           (ahead-unholds layout new who page (Some frame) 1 (brought who body) on within ahead (omega arith) (λ f is. subst (λ (g : Frame). g.0 < layout.frames) (same_Some frame f is) small))
           (adds-one (body_in None (log_of body) seen) (brought who body) one entry.body_is.page_is only)
       which (Some n) room = record { map_in = mapping.begins on within ready; own = refl; of = refl; slot_is = refl; under_way = refl }
@@ -317,15 +312,15 @@ given-all layout new g (give_up_at.Unlock u) has over = absurd (both_ways (is_no
 given-all layout new g give_up_at.GiveUp has over = absurd (both_ways true (sym over) refl)
 given-all layout new g give_up_at.Over has over = has
 
-module _ {layout : Layout} {new : View} where
-  map-on : (m : MapIn) (z : MapInAt) → map_ins.Fits layout new (record m { at = z }) → FitsAt layout new m.who m.page m.slot (after_map_in m.who m.page (record m { at = z }))
+module _ (touch : Touch) {layout : Layout} {new : View} where
+  map-on : (m : MapIn) (z : MapInAt) → map_ins.Fits layout new (record m { at = z }) → FitsAt layout new m.who m.page m.slot touch (after_map_in m.who m.page (record m { at = z }))
   map-on m (map_in_at.Refer r) fits = record { map_in = fits; own = refl; of = refl; slot_is = refl; under_way = fits.at.under_way }
   map-on m map_in_at.SetPte fits = record { map_in = fits; own = refl; of = refl; slot_is = refl; under_way = refl }
-  map-on m map_in_at.Over fits = goes-on (Some m.frame) m.body answers.Again (mapping.unholds-with-frame fits.on_turn fits.page fits.at)
+  map-on m map_in_at.Over fits = goes-on touch (Some m.frame) m.body answers.Again (mapping.unholds-with-frame fits.on_turn fits.page fits.at)
       (adds-one (body_in fits.at.from fits.at.was fits.at.seen) m.body (ap (λ (h : Hand). h.bodies) fits.at.hand_is) fits.at.page_is fits.at.brings.only) tt
 
-module _ (slot : VSlot) {layout : Layout} {new : View} where
-  hold-on : (h : Hold) (z : HoldAt) → holds.Fits layout new (record h { at = z }) → FitsAt layout new h.who h.page slot (after_hold (record h { at = z }))
+module _ (slot : VSlot) (touch : Touch) {layout : Layout} {new : View} where
+  hold-on : (h : Hold) (z : HoldAt) → holds.Fits layout new (record h { at = z }) → FitsAt layout new h.who h.page slot touch (after_hold (record h { at = z }))
   hold-on h hold_at.LockPage fits = record { hold = fits; own = refl; of = refl; under_way = refl }
   hold-on h (hold_at.LoadCache body) fits = record { hold = fits; own = refl; of = refl; under_way = refl }
   hold-on h (hold_at.Pin p) fits = record { hold = fits; own = refl; of = refl; under_way = fits.at.under_way }
@@ -334,88 +329,37 @@ module _ (slot : VSlot) {layout : Layout} {new : View} where
 
   -- until the page is in a frame
   fill-on : (f : Fill) (z : FillAt) (spare : Option ℕ) → is-filled z ≡ false → fills.Fits layout new (record f { at = z }) → SawLog new f.who (log_of f.body) → IsFree slot f.body.state
-      → FitsAt layout new f.who f.page slot (after_fill f.who f.page slot (record f { at = z }) spare)
+      → FitsAt layout new f.who f.page slot touch (after_fill f.who f.page slot (record f { at = z }) spare)
   fill-on f (fill_at.Take t) spare unfilled fits saw free = record { fill = fits; own = refl; of = refl; under_way = fits.at.under_way; saw = saw; free = free }
   fill-on f (fill_at.SetOwner frame) spare unfilled fits saw free = record { fill = fits; own = refl; of = refl; under_way = refl; saw = saw; free = free }
   fill-on f (fill_at.Refer r) spare unfilled fits saw free = record { fill = fits; own = refl; of = refl; under_way = fits.at.under_way; saw = saw; free = free }
   fill-on f (fill_at.SetCache frame) spare unfilled fits saw free = record { fill = fits; own = refl; of = refl; under_way = refl; saw = saw; free = free }
-  fill-on f (fill_at.Over None) spare unfilled fits saw free = goes-on None f.body (answers.NoFrame (length f.body.log)) (held-unholds layout new f.who f.page None f.body fits.on_turn fits.page fits.at.0)
+  fill-on f (fill_at.Over None) spare unfilled fits saw free = goes-on touch None f.body (answers.NoFrame (length f.body.log)) (held-unholds layout new f.who f.page None f.body fits.on_turn fits.page fits.at.0)
       (held-adds fits.at.0)
       (fits.at.1, record { log = log_of f.body; saw = saw; page_is = fits.at.0.body_is.page_is; place_is = refl; such = sym fits.at.0.body_is.cached })
   fill-on f (fill_at.Over (Some frame)) spare unfilled fits saw free = absurd (both_ways true unfilled refl)
 
-  unhold-on : (u : Unhold) (page : Page) (answer : FaultAnswer) → unholds.Fits layout new u → unholds.put u ≡ None → IsWhy layout new u.who page answer → FitsAt layout new u.who page slot (after_unhold u answer)
+  unhold-on : (u : Unhold) (page : Page) (answer : FaultAnswer) → unholds.Fits layout new u → unholds.put u ≡ None → IsWhy layout new u.who page answer → FitsAt layout new u.who page slot touch (after_unhold u answer)
   unhold-on u page answer fits none why = by (is_none (unholds.plan u)) refl
     where
-      by : (over : Bool) → is_none (unholds.plan u) ≡ over → FitsAt layout new u.who page slot (cond over (at.Over (Some answer)) (at.Unhold u answer))
+      by : (over : Bool) → is_none (unholds.plan u) ≡ over → FitsAt layout new u.who page slot touch (cond over (at.Over (Some answer)) (at.Unhold u answer))
       by true over = (nothing-left layout new u over fits, why)
-      by false on = record { unhold = fits; own = refl; under_way = on; adds = λ b e. absurd (none-some b (sym none ∙ e)); why = why }
+      by false on = record { unhold = fits; own = refl; under_way = on; adds = λ other b e. absurd (none-some b (sym none ∙ e)); why = why }
 
-  give-up-on : (g : GiveUp) (page : Page) → give_ups.Fits layout new g → give_ups.put g ≡ None → FitsAt layout new g.who page slot (after_give_up g)
+  give-up-on : (g : GiveUp) (page : Page) → give_ups.Fits layout new g → give_ups.put g ≡ None → FitsAt layout new g.who page slot touch (after_give_up g)
   give-up-on g page fits none = by (is_none (give_ups.plan g)) refl
     where
-      by : (over : Bool) → is_none (give_ups.plan g) ≡ over → FitsAt layout new g.who page slot (cond over (at.Over None) (at.GiveUp g))
+      by : (over : Bool) → is_none (give_ups.plan g) ≡ over → FitsAt layout new g.who page slot touch (cond over (at.Over None) (at.GiveUp g))
       by true over = given-all layout new g g.at fits.at over
       by false on = record { give_up = fits; own = refl; under_way = on; adds = λ b e. absurd (none-some b (sym none ∙ e)) }
 
--- a body goes home with the first step alone
-unhold-bare : (u : Unhold) (found : ℕ) → unholds.put (unholds.next (unholds.bare u) found) ≡ None
-unhold-bare u found = which u.at
-  where
-    after-release : (r : Release) (y : ReleaseAt) → unholds.put_at (unholds.after_release_at r y) ≡ None
-    after-release r release_at.Put = refl
-    after-release r release_at.Give = refl
-    after-release r release_at.Unreserve = refl
-    after-release r release_at.Adopt = refl
-    after-release r release_at.Retire = refl
-    after-release r release_at.Back = refl
-
-    which : (x : UnholdAt) → unholds.put_at (unholds.next_at u.who (unholds.bare_at x) found) ≡ None
-    which (unhold_at.UnlockFrame frame count body) = refl
-    which (unhold_at.Release r) = after-release (releases.next r found) (releases.next_at r.count r.at found)
-    which (unhold_at.UnlockPage body) = refl
-    which unhold_at.Over = refl
-
-unlock-bare : (u : Unlock) (found : ℕ) → unlocks.put (unlocks.next (unlocks.bare u) found) ≡ None
-unlock-bare u found = which u.at
-  where
-    after-release : (r : Release) (y : ReleaseAt) → unlocks.put_at (unlocks.after_release_at r y) ≡ None
-    after-release r release_at.Put = refl
-    after-release r release_at.Give = refl
-    after-release r release_at.Unreserve = refl
-    after-release r release_at.Adopt = refl
-    after-release r release_at.Retire = refl
-    after-release r release_at.Back = refl
-
-    which : (x : UnlockAt) → unlocks.put_at (unlocks.next_at u.who (unlocks.bare_at x) found) ≡ None
-    which (unlock_at.UnlockFrame frame body) = refl
-    which (unlock_at.Release r) = after-release (releases.next r found) (releases.next_at r.count r.at found)
-    which unlock_at.Over = refl
-
-give-up-bare : (g : GiveUp) (found : ℕ) → give_ups.put (give_ups.next (give_ups.bare g) found) ≡ None
-give-up-bare g found = which g.at
-  where
-    after-unhold : (u : Unhold) (over : Bool) → unholds.put u ≡ None → give_ups.put_at (cond over give_up_at.GiveUp (give_up_at.Unhold u)) ≡ None
-    after-unhold u true none = refl
-    after-unhold u false none = none
-
-    after-unlock : (u : Unlock) (over : Bool) → unlocks.put u ≡ None → give_ups.put_at (cond over give_up_at.GiveUp (give_up_at.Unlock u)) ≡ None
-    after-unlock u true none = refl
-    after-unlock u false none = none
-
-    which : (x : GiveUpAt) → give_ups.put_at (give_ups.next_at (give_ups.bare_at x) found) ≡ None
-    which (give_up_at.Unhold u) = after-unhold (unholds.next (unholds.bare u) found) (is_none (unholds.plan (unholds.next (unholds.bare u) found))) (unhold-bare u found)
-    which (give_up_at.Unlock u) = after-unlock (unlocks.next (unlocks.bare u) found) (is_none (unlocks.plan (unlocks.next (unlocks.bare u) found))) (unlock-bare u found)
-    which give_up_at.GiveUp = refl
-    which give_up_at.Over = refl
-
-module _ (slot : VSlot) {layout : Layout} {old new : View} {step : Step} {found : ℕ} {got : Option BodyValue} (f : Fill) (of : IsOf layout f.page slot) (spare : Option ℕ) (room : IsRoom spare) where
+module _ (slot : VSlot) (touch : Touch) {layout : Layout} {old new : View} {step : Step} {found : ℕ} {got : Option BodyValue} (f : Fill) (of : IsOf layout f.page slot) (spare : Option ℕ) (room : IsRoom spare) where
   fill-moved : (x : FillAt) → fills.plan_at f.page x ≡ Some step → fills.FitsAt layout old f.who f.page f.body x → Steps layout f.who step None old new found got → SawLog new f.who (log_of f.body) → IsFree slot f.body.state
-      → fills.Fits layout new (fills.next layout (record f { at = x }) found) → FitsAt layout new f.who f.page slot (after_fill f.who f.page slot (fills.next layout (record f { at = x }) found) spare)
-  fill-moved (fill_at.Take t) e has made saw free fits = fill-on slot f (fills.after_take (takes.next layout t found)) spare (take-unfilled (takes.next layout t found) (takes.next_at layout t.at found)) fits saw free
-  fill-moved (fill_at.SetOwner frame) e has made saw free fits = fill-on slot f (fill_at.Refer (refers.begin f.who frame 1)) spare refl fits saw free
-  fill-moved (fill_at.Refer r) e has made saw free fits = fill-on slot f (fills.after_refer (refers.next r found)) spare (refer-unfilled (refers.next r found) (refers.next_at r.at found)) fits saw free
-  fill-moved (fill_at.SetCache frame) e has made saw free fits = filled slot fits.on_turn fits.page of f.body frame has.seen spare fits.at.0 fits.at.1
+      → fills.Fits layout new (fills.next layout (record f { at = x }) found) → FitsAt layout new f.who f.page slot touch (after_fill f.who f.page slot (fills.next layout (record f { at = x }) found) spare)
+  fill-moved (fill_at.Take t) e has made saw free fits = fill-on slot touch f (fills.after_take (takes.next layout t found)) spare (take-unfilled (takes.next layout t found) (takes.next_at layout t.at found)) fits saw free
+  fill-moved (fill_at.SetOwner frame) e has made saw free fits = fill-on slot touch f (fill_at.Refer (refers.begin f.who frame 1)) spare refl fits saw free
+  fill-moved (fill_at.Refer r) e has made saw free fits = fill-on slot touch f (fills.after_refer (refers.next r found)) spare (refer-unfilled (refers.next r found) (refers.next_at r.at found)) fits saw free
+  fill-moved (fill_at.SetCache frame) e has made saw free fits = filled slot touch fits.on_turn fits.page of f.body frame has.seen spare fits.at.0 fits.at.1
       (ap (λ (h : Hand). h.bodies) (hand-planned made e has.hand_is)) has.entry free room
   fill-moved (fill_at.Over frame) e has made saw free fits = absurd (none-some step e)
 
@@ -424,6 +368,7 @@ why-stays : (by : Who) {layout : Layout} {who : Who} {step : Step} {put : Option
     → IsWhy layout old by page answer → IsWhy layout new by page answer
 why-stays by page answers.Again made why = tt
 why-stays by page (answers.NoFrame place) made why = (saw-stays made why.0, saw-state-stays made why.1)
+why-stays by page (answers.Sigbus place) made why = tt
 
 -- a step shows what is needed, and what follows fits again
 module _ (layout : Layout) (old new : View) (f : Fault) (step : Step) (found : ℕ) (got : Option BodyValue) (fits : Fits layout old f) (is : plan f ≡ Some step) (made : Steps layout f.who step (logs (put f)) old new found got) where
@@ -432,59 +377,57 @@ module _ (layout : Layout) (old new : View) (f : Fault) (step : Step) (found : �
 
   -- what follows, of the command and the page
   abbrev After : FaultAt → Type 0
-  After x = FitsAt layout new f.who f.page f.slot x
+  After x = FitsAt layout new f.who f.page f.slot f.touch x
 
   abbrev Given : FaultAt → Type 0
-  Given x = ShowsAt (bare_at x) found got × ((spare : Option ℕ) → IsRoom spare → After (next_at layout f.who f.page f.slot (bare_at x) found got spare))
+  Given x = ShowsAt f.slot f.touch (bare_at x) found got × ((spare : Option ℕ) → IsRoom spare → After (next_at layout f.who f.page f.slot f.touch (bare_at x) found got spare))
+
+  -- the process was ended
+  killed-on : (frame : Option Frame) (body : BodyValue) (place : ℕ) → IsEnding layout old f.who f.page f.slot f.touch frame body place → Steps layout f.who (steps.Kill f.touch.process f.page (as_snapshot body)) None old new found got
+      → After (let_go f.who f.page frame body (answers.Sigbus place))
+  killed-on frame body place has made = subst (λ (b : BodyValue). After (let_go f.who f.page frame b (answers.Sigbus place))) (sym has.body_is)
+      (refused-goes f.touch frame (refused f.who f.slot f.touch has.before) place (lets-go-killed f.who f.slot f.touch has.held has.allowed has.ending
+      (subst (λ (b : BodyValue). Steps layout f.who (steps.Kill f.touch.process f.page (as_snapshot b)) None old new found got) has.body_is made) fits.touch on fits.page))
 
   steps-by : (who : Who) → who ≡ f.who → {given : Option Log} → Steps layout f.who step given old new found got → Steps layout who step given old new found got
   steps-by who own {given} made = subst (λ (w : Who). Steps layout w step given old new found got) (sym own) made
 
-  which : (x : FaultAt) → FitsAt layout old f.who f.page f.slot x → plan_at f.slot x ≡ Some step → Steps layout f.who step (logs (put_at x)) old new found got → Given x
+  which : (x : FaultAt) → FitsAt layout old f.who f.page f.slot f.touch x → plan_at f.page f.slot f.touch x ≡ Some step → Steps layout f.who step (logs (put_at x)) old new found got → Given x
   which (at.Hold h) has e made =
       let child = holding.both layout old new h step found got has.hold e (steps-by h.who has.own made) in (
         child.0,
-        λ spare room. subst (λ (p : Page). FitsAt layout new f.who p f.slot (after_hold (holds.next h found got))) has.of
-            (subst (λ (w : Who). FitsAt layout new w h.page f.slot (after_hold (holds.next h found got))) has.own (hold-on f.slot (holds.next h found got) (holds.next_at h.who h.at found got) child.1)),
+        λ spare room. subst (λ (p : Page). FitsAt layout new f.who p f.slot f.touch (after_hold (holds.next h found got))) has.of
+            (subst (λ (w : Who). FitsAt layout new w h.page f.slot f.touch (after_hold (holds.next h found got))) has.own (hold-on f.slot f.touch (holds.next h found got) (holds.next_at h.who h.at found got) child.1)),
       )
-  which (at.LoadPte frame body) has e made = pte-loaded f.slot on fits.page fits.slot frame body has (steps-planned e made)
+  which (at.LoadPte frame body) has e made = pte-loaded f.slot f.touch on fits.page fits.slot fits.touch frame body has (steps-planned e made)
+  which (at.Kill frame body place) has e made = (tt, λ spare room. killed-on frame body place has (steps-planned e made))
   which (at.Fill g) has e made =
       let child = filling.both layout old new g step found got has.fill e (steps-by g.who has.own made) in
       let saw : SawLog new g.who (log_of g.body) = subst (λ (w : Who). SawLog new w (log_of g.body)) (sym has.own) (saw-log-stays made has.saw) in (
         child.0,
-        λ spare room. subst (λ (p : Page). FitsAt layout new f.who p f.slot (after_fill f.who p f.slot (fills.next layout g found) spare)) has.of
-            (subst (λ (w : Who). FitsAt layout new w g.page f.slot (after_fill w g.page f.slot (fills.next layout g found) spare)) has.own
-            (fill-moved f.slot g (subst (λ (p : Page). IsOf layout p f.slot) (sym has.of) fits.slot) spare room g.at e has.fill.at (steps-by g.who has.own made) saw has.free child.1)),
+        λ spare room. subst (λ (p : Page). FitsAt layout new f.who p f.slot f.touch (after_fill f.who p f.slot (fills.next layout g found) spare)) has.of
+            (subst (λ (w : Who). FitsAt layout new w g.page f.slot f.touch (after_fill w g.page f.slot (fills.next layout g found) spare)) has.own
+            (fill-moved f.slot f.touch g (subst (λ (p : Page). IsOf layout p f.slot) (sym has.of) fits.slot) spare room g.at e has.fill.at (steps-by g.who has.own made) saw has.free child.1)),
       )
   which (at.MapIn m) has e made =
       let child = mapping.both layout old new m step found got has.map_in e (steps-by m.who has.own made) in (
         child.0,
-        λ spare room. subst (λ (s : VSlot). FitsAt layout new f.who f.page s (after_map_in f.who f.page (map_ins.next m found))) has.slot_is
-            (subst (λ (p : Page). FitsAt layout new f.who p m.slot (after_map_in f.who p (map_ins.next m found))) has.of
-            (subst (λ (w : Who). FitsAt layout new w m.page m.slot (after_map_in w m.page (map_ins.next m found))) has.own (map-on (map_ins.next m found) (map_ins.next_at m.at found) child.1))),
+        λ spare room. subst (λ (s : VSlot). FitsAt layout new f.who f.page s f.touch (after_map_in f.who f.page (map_ins.next m found))) has.slot_is
+            (subst (λ (p : Page). FitsAt layout new f.who p m.slot f.touch (after_map_in f.who p (map_ins.next m found))) has.of
+            (subst (λ (w : Who). FitsAt layout new w m.page m.slot f.touch (after_map_in w m.page (map_ins.next m found))) has.own (map-on f.touch (map_ins.next m found) (map_ins.next_at m.at found) child.1))),
       )
   which (at.Unhold u answer) has e made = (
     tt,
-    λ spare room. subst (λ (w : Who). FitsAt layout new w f.page f.slot (after_unhold (unholds.next (unholds.bare u) found) answer)) has.own
-        (unhold-on f.slot (unholds.next (unholds.bare u) found) f.page answer (unholding.moved layout old new u step found got has.unhold e (steps-by u.who has.own made)) (unhold-bare u found)
+    λ spare room. subst (λ (w : Who). FitsAt layout new w f.page f.slot f.touch (after_unhold (unholds.next (unholds.bare u) found) answer)) has.own
+        (unhold-on f.slot f.touch (unholds.next (unholds.bare u) found) f.page answer (unholding.moved layout old new u step found got has.unhold e (steps-by u.who has.own made)) (unhold-bare u found)
         (subst (λ (w : Who). IsWhy layout new w f.page answer) (sym has.own) (why-stays f.who f.page answer made has.why))),
   )
   which (at.GiveUp g) has e made = (
     tt,
-    λ spare room. subst (λ (w : Who). FitsAt layout new w f.page f.slot (after_give_up (give_ups.next (give_ups.bare g) found))) has.own
-        (give-up-on f.slot (give_ups.next (give_ups.bare g) found) f.page (giving_up.moved layout old new g step found got has.give_up e (steps-by g.who has.own made)) (give-up-bare g found)),
+    λ spare room. subst (λ (w : Who). FitsAt layout new w f.page f.slot f.touch (after_give_up (give_ups.next (give_ups.bare g) found))) has.own
+        (give-up-on f.slot f.touch (give_ups.next (give_ups.bare g) found) f.page (giving_up.moved layout old new g step found got has.give_up e (steps-by g.who has.own made)) (give-up-bare g found)),
   )
   which (at.Over answer) has e made = absurd (none-some step e)
-
-  -- the entries of the body that goes home
-  adds : (x : FaultAt) → FitsAt layout old f.who f.page f.slot x → (b : BodyValue) → put_at x ≡ Some b → AddsOnly old f.page f.slot b
-  adds (at.Hold h) has b e = absurd (none-some b e)
-  adds (at.LoadPte frame body) has b e = absurd (none-some b e)
-  adds (at.Fill g) has b e = absurd (none-some b e)
-  adds (at.MapIn m) has b e = absurd (none-some b e)
-  adds (at.Unhold u answer) has b e = has.adds b e
-  adds (at.GiveUp g) has b e = has.adds b e
-  adds (at.Over answer) has b e = absurd (none-some b e)
 
   pub both : Shows (bare f) found got × ((spare : Option ℕ) → IsRoom spare → Fits layout new (next layout (bare f) found got spare))
   both =
@@ -494,7 +437,8 @@ module _ (layout : Layout) (old new : View) (f : Fault) (step : Step) (found : �
           on_turn = on;
           page = fits.page;
           slot = fits.slot;
-          only = only-by fits.only step (put f) (can layout old f step fits is) made (adds f.at fits.at);
+          touch = fits.touch;
+          made = made-next layout f.who f.page f.slot f.touch old new step found got f.at spare fits.made fits.at is (can layout old f step fits is) made;
           at = all.1 spare room;
         },
       )
@@ -507,12 +451,14 @@ stays layout old new f step found got fits is made =
 
 -- ---- before it and after it
 
-pub begins : {layout : Layout} {view : View} {who : Who} {page : Page} {slot : VSlot} → IsOnTurn view who → page.0 < length layout.pages → IsOf layout page slot → hand_of view ≡ empty → HasOnly (BringsIn page slot) view who → Fits layout view (begin who page slot)
-begins on inside of none only = record {
+pub begins : {layout : Layout} {view : View} {who : Who} {page : Page} {slot : VSlot} {touch : Touch} → IsOnTurn view who → page.0 < length layout.pages → IsOf layout page slot → IsTouch layout slot touch → hand_of view ≡ empty
+    → HasOnly (BringsIn page slot) view who → Fits layout view (begin who page slot touch)
+begins on inside of names none only = record {
   on_turn = on;
   page = inside;
   slot = of;
-  only = only;
+  touch = names;
+  made = only;
   at = record { hold = record { on_turn = on; page = inside; at = none }; own = refl; of = refl; under_way = refl };
 }
 
@@ -520,14 +466,29 @@ begins on inside of none only = record {
 pub over-fits : {layout : Layout} {view : View} (f : Fault) → is_none (plan f) ≡ true → Fits layout view f → FitsOver layout view f.who f.page (answer f)
 over-fits {layout} {view} f over fits = which f.at over fits.at
   where
-    which : (x : FaultAt) → is_none (plan_at f.slot x) ≡ true → FitsAt layout view f.who f.page f.slot x → FitsOver layout view f.who f.page (answer_at x)
+    which : (x : FaultAt) → is_none (plan_at f.page f.slot f.touch x) ≡ true → FitsAt layout view f.who f.page f.slot f.touch x → FitsOver layout view f.who f.page (answer_at x)
     which (at.Hold h) over has = absurd (both_ways (is_none (holds.plan h)) has.under_way over)
     which (at.LoadPte frame body) over has = absurd (both_ways true (sym over) refl)
+    which (at.Kill frame body place) over has = absurd (both_ways true (sym over) refl)
     which (at.Fill g) over has = absurd (both_ways (is_none (fills.plan g)) has.under_way over)
     which (at.MapIn m) over has = absurd (both_ways (is_none (map_ins.plan m)) has.under_way over)
     which (at.Unhold u answer) over has = absurd (both_ways (is_none (unholds.plan u)) has.under_way over)
     which (at.GiveUp g) over has = absurd (both_ways (is_none (give_ups.plan g)) has.under_way over)
     which (at.Over answer) over has = has
+
+-- and what it has made
+pub over-made : {layout : Layout} {view : View} (f : Fault) (x : FaultAnswer) → answer f ≡ Some x → Fits layout view f → MadeAt view f.who f.page f.slot f.touch (at.Over (Some x))
+over-made {layout} {view} f x is fits = which f.at is fits.made
+  where
+    which : (y : FaultAt) → answer_at y ≡ Some x → MadeAt view f.who f.page f.slot f.touch y → MadeAt view f.who f.page f.slot f.touch (at.Over (Some x))
+    which (at.Over a) e made = subst (λ (o : Option FaultAnswer). MadeAt view f.who f.page f.slot f.touch (at.Over o)) e made
+    which (at.Hold h) e made = absurd (none-some x e)
+    which (at.LoadPte frame body) e made = absurd (none-some x e)
+    which (at.Kill frame body place) e made = absurd (none-some x e)
+    which (at.Fill g) e made = absurd (none-some x e)
+    which (at.MapIn m) e made = absurd (none-some x e)
+    which (at.Unhold u other) e made = absurd (none-some x e)
+    which (at.GiveUp g) e made = absurd (none-some x e)
 
 -- ---- what its class tells
 
@@ -563,10 +524,12 @@ tells layout view f fits = which f.at fits.at
     nothing : hand_of view ≡ empty → (class : ℕ) (planned : Option Step) → (HasFrame view → (class ≡ 1) × (planned ≢ None)) × (HasPage view → (class ≤ 2) × (planned ≢ None))
     nothing is class planned = ((λ some. absurd (no-frame view is refl refl refl some)), (λ some. absurd (no-page view is refl some)))
 
-    which : (x : FaultAt) → FitsAt layout view f.who f.page f.slot x → (HasFrame view → (class_at x ≡ 1) × (plan_at f.slot x ≢ None)) × (HasPage view → (class_at x ≤ 2) × (plan_at f.slot x ≢ None))
+    which : (x : FaultAt) → FitsAt layout view f.who f.page f.slot f.touch x → (HasFrame view → (class_at x ≡ 1) × (plan_at f.page f.slot f.touch x ≢ None)) × (HasPage view → (class_at x ≤ 2) × (plan_at f.page f.slot f.touch x ≢ None))
     which (at.Hold h) has = under-way view (holds.class h) (holds.plan h) (hold-tells layout view h has.hold has.under_way) has.under_way
     which (at.LoadPte None body) has = under-way view 2 (Some (steps.Load (places.Trans f.slot))) (page-tells view has.held.hand_is 2 refl refl refl (omega arith)) refl
     which (at.LoadPte (Some frame) body) has = under-way view 1 (Some (steps.Load (places.Trans f.slot))) (frame-tells view) refl
+    which (at.Kill None body place) has = under-way view 2 (Some (steps.Kill f.touch.process f.page (as_snapshot body))) (page-tells view has.held.hand_is 2 refl refl refl (omega arith)) refl
+    which (at.Kill (Some frame) body place) has = under-way view 1 (Some (steps.Kill f.touch.process f.page (as_snapshot body))) (frame-tells view) refl
     which (at.Fill g) has = under-way view (fills.class g) (fills.plan g) (fill-tells layout view g has.fill has.under_way) has.under_way
     which (at.MapIn m) has = under-way view 1 (map_ins.plan m) (frame-tells view) has.under_way
     which (at.Unhold u answer) has = under-way view (unholds.class u) (unholds.plan u) (unhold-tells layout view u has.unhold has.under_way) has.under_way

@@ -1,8 +1,9 @@
 pub mod Appending
 pub mod MappingIn
 pub mod MapInCosts
-mod Unfailed
 pub mod Loading
+pub mod Refusing
+pub mod Deeds
 pub mod Faulting
 pub mod FaultCosts
 pub mod Translating

@@ -3,14 +3,13 @@ use Rattle.std.proofs.Common.{◌≡◌, ◌⊎◌, inl, inr, ℕ, ◌+◌, ◌%
 use Rattle.std.proofs.lemmas.Bool.{both_ways, ne_eqb}
 use Rattle.std.proofs.lemmas.Option.{same_Some, slice_get_within, slice_get-get_or}
 use Rattle.std.specs.FinSet as sets
-use Rattle.std.specs.List.{list_any}
+use Rattle.std.specs.List.{find}
 use Rattle.std.specs.Ordering.{nat_cmp}
 use Rattle.hwp_geom.specs.declared.Frame.{Frame}
 use Rattle.hwp_geom.specs.declared.Layout.{Layout}
 use Rattle.hwp_geom.specs.declared.Page.{Page}
 use Rattle.hwp_geom.specs.declared.TransDecl.{TransDecl}
 use Rattle.hwp_geom.specs.declared.VSlot.{VSlot}
-use Rattle.hwp_page.specs.declared.Entry.{Entry}
 use Rattle.hwp_page.specs.declared.PageState.{PageState}
 use Rattle.hwp_page.specs.History.{BodyValue, IsReplay}
 use Rattle.hwp_page.specs.Step.{IsOf}
@@ -24,12 +23,11 @@ use Rattle.hwp_rule.specs.declared.State.{State}
 use Rattle.hwp_rule.specs.declared.View.{View}
 use Rattle.hwp_rule.specs.Logs.{log_of, state_of, fitting, fitting_word}
 use Rattle.hwp_rule.specs.Rule.{Holds}
+use Rattle.hwp_rule.specs.Views.{body_of, is_body_of}
 use Rattle.hwp_rule.specs.Words.{index, words_of}
-use Rattle.hwp_rule.specs.Unfailed.{is_failure}
 use Rattle.hwp_rule.proofs.FittingWords.{fitting-at}
-use Rattle.hwp_rule.proofs.Lists.{at_map}
+use Rattle.hwp_rule.proofs.Lists.{same-number}
 use Rattle.hwp_rule.proofs.Meeting.{frame-named, lock-knows}
-use Rattle.hwp_rule.proofs.Unfailed.{nothing-poisoned}
 use Rattle.hwp_rule.proofs.Moving.{shaped}
 use Rattle.hwp_rule.proofs.WordsByKind.{words-read}
 use Rattle.hwp_step.specs.Hands.{Hand, body_in}
@@ -38,7 +36,6 @@ use Rattle.hwp_hold.specs.Holds.{HoldsPage, held, page_lock}
 use Rattle.hwp_hold.proofs.Bringing.{replay-state, replay-unused}
 use Rattle.hwp_fault.specs.Faults.{IsFree}
 use Rattle.hwp_fault.proofs.MappingIn.{declared}
-use Rattle.hwp_fault.proofs.Unfailed.{unfailed}
 
 -- the word that leads to a frame says so
 pub reads-frame : (f : Frame) → f.0 < 2 ^ 16 → pte_reading (f.0 + 1) ≡ ptes.At f
@@ -50,10 +47,19 @@ reads-frame f less = ap (λ (b : Bool). if b then ptes.Poison else leading (fram
     low : field pte_frame_field (f.0 + 1) ≡ (f.0 + 1) % 2 ^ 20
     low = omega arith
 
--- what the word met says: the translation leads nowhere and is free, or it leads to the frame that the page is in
+-- a poison entry says so
+pub reads-poison : pte_reading (pte_word ptes.Poison) ≡ ptes.Poison
+reads-poison = refl
+
+-- what the word met says: the translation leads nowhere and is free, or it is barred, or it leads to the frame that the page
+-- is in
 pub record IsNowhere (slot : VSlot) (state : PageState) (found : ℕ) : Type 0 where
   pub zero : found ≡ 0
   pub free : IsFree slot state
+
+pub record IsBarred (slot : VSlot) (state : PageState) (found : ℕ) : Type 0 where
+  pub poison : found ≡ pte_word ptes.Poison
+  pub barred : sets.contains state.bar slot.0 ≡ true
 
 pub record LeadsTo (found : ℕ) : Type 0 where
   pub frame : Frame
@@ -68,7 +74,10 @@ module _ {layout : Layout} {view : View} {page : Page} {frame : Option Frame} {b
       which None = refl
       which (Some f) = refl
 
-  pages : slice_get view.pages 0 ≡ Some (page_lock page frame (holds.words_of layout frame (log_of body)))
+  pub in-hand : body_of body.page view ≡ Some (body_in frame (log_of body) has.seen)
+  in-hand = ap (λ (l : List InHand). find (is_body_of body.page) l) bodies ∙ ap (λ (b : Bool). cond b (Some (body_in frame (log_of body) has.seen)) None) (same-number body.page.0 body.page.0 refl)
+
+  pub pages : slice_get view.pages 0 ≡ Some (page_lock page frame (holds.words_of layout frame (log_of body)))
   pages = ap (λ (h : Hand). slice_get h.pages 0) has.hand_is ∙ which frame
     where
       which : (f : Option Frame) → slice_get (held layout page f (log_of body) has.seen has.handled has.poisoned).pages 0 ≡ Some (page_lock page f (holds.words_of layout f (log_of body)))
@@ -92,17 +101,6 @@ module _ {layout : Layout} {view : View} {page : Page} {frame : Option Frame} {b
           uncached : body.state.cached ≡ false
           uncached = ap (λ (s : PageState). s.cached) (sym state-is) ∙ sym has.body_is.cached ∙ ap (λ (o : Option Frame). not (frame_name o == 0)) is
 
-  module _ (board : State) (rule : Holds layout board) (seat : ℕ) (me : slice_get board.views seat ≡ Some view) where
-    sound : list_any (λ (e : Entry). is_failure e.what) body.log ≡ false
-    sound = (nothing-poisoned layout board rule).no_failure.in_hand seat view.bodies (at_map (λ (v : View). v.bodies) board.views seat view me) 0 (body_in frame (log_of body) has.seen)
-        (ap (λ (l : List InHand). slice_get l 0) bodies)
-
-    unbarred : (v : ℕ) → sets.contains (state_of layout (log_of body)).bar v ≡ false
-    unbarred = (unfailed layout (log_of body) sound).0
-
-    pub unlost : body.state.lost ≡ false
-    unlost = ap (λ (s : PageState). s.lost) (sym state-is) ∙ (unfailed layout (log_of body) sound).1
-
 -- the word that a step on it meets
 module _ (slot : VSlot) {layout : Layout} {view : View} {page : Page} {frame : Option Frame} {body : BodyValue} (has : HoldsPage layout view page frame body) (of : IsOf layout page slot) where
   decl : (t : TransDecl) × (slice_get layout.trans slot.0 ≡ Some t) × (t.page ≡ page)
@@ -125,19 +123,26 @@ module _ (slot : VSlot) {layout : Layout} {view : View} {page : Page} {frame : O
         fits : slice_get (fitting layout body.page (state_of layout (log_of body)) (frame_name frame)) slot.0 ≡ Some (fitting_word (state_of layout (log_of body)) (frame_name frame) slot.0)
         fits = fitting-at body.page (state_of layout (log_of body)) (frame_name frame) 0 layout.trans slot.0 decl.0 decl.1 (decl.2 ∙ sym has.body_is.page_is) ∙ ap (λ (n : ℕ). Some (fitting_word (state_of layout (log_of body)) (frame_name frame) n)) (let first : 0 + slot.0 ≡ slot.0 = omega arith in first)
 
-    pub pte-met : (found : ℕ) → found ≡ slice_index board.words (index layout (places.Trans slot)) → IsNowhere slot body.state found ⊎ LeadsTo found
+    pub pte-met : (found : ℕ) → found ≡ slice_index board.words (index layout (places.Trans slot)) → IsNowhere slot body.state found ⊎ (IsBarred slot body.state found ⊎ LeadsTo found)
     pte-met found met = which (sets.contains (state_of layout (log_of body)).maps slot.0) refl
       where
-        fits-as : (used : Bool) → sets.contains (state_of layout (log_of body)).maps slot.0 ≡ used → found ≡ cond used (frame_name frame) 0
-        fits-as used is = met-fits found met ∙ ap (λ (b : Bool). cond (sets.contains (state_of layout (log_of body)).maps slot.0) (frame_name frame) (cond b (pte_word ptes.Poison) 0)) (unbarred has board rule seat me slot.0) ∙ ap (λ (b : Bool). cond b (frame_name frame) 0) is
+        fits-as : (used : Bool) → sets.contains (state_of layout (log_of body)).maps slot.0 ≡ used → found ≡ cond used (frame_name frame) (cond (sets.contains (state_of layout (log_of body)).bar slot.0) (pte_word ptes.Poison) 0)
+        fits-as used is = met-fits found met ∙ ap (λ (b : Bool). cond b (frame_name frame) (cond (sets.contains (state_of layout (log_of body)).bar slot.0) (pte_word ptes.Poison) 0)) is
 
-        which : (used : Bool) → sets.contains (state_of layout (log_of body)).maps slot.0 ≡ used → IsNowhere slot body.state found ⊎ LeadsTo found
-        which false is = inl (record {
-          zero = fits-as false is;
-          free = subst (IsFree slot) (state-is has) (is, unbarred has board rule seat me slot.0);
+        unused : sets.contains (state_of layout (log_of body)).maps slot.0 ≡ false → (barred : Bool) → sets.contains (state_of layout (log_of body)).bar slot.0 ≡ barred → IsNowhere slot body.state found ⊎ (IsBarred slot body.state found ⊎ LeadsTo found)
+        unused is false free = inl (record {
+          zero = fits-as false is ∙ ap (λ (b : Bool). cond b (pte_word ptes.Poison) 0) free;
+          free = subst (IsFree slot) (state-is has) (is, free);
         })
-        which true is = let cached = used-cached has slot is in inr (record {
+        unused is true barred = inr (inl (record {
+          poison = fits-as false is ∙ ap (λ (b : Bool). cond b (pte_word ptes.Poison) 0) barred;
+          barred = subst (λ (s : PageState). sets.contains s.bar slot.0 ≡ true) (state-is has) barred;
+        }))
+
+        which : (used : Bool) → sets.contains (state_of layout (log_of body)).maps slot.0 ≡ used → IsNowhere slot body.state found ⊎ (IsBarred slot body.state found ⊎ LeadsTo found)
+        which false is = unused is (sets.contains (state_of layout (log_of body)).bar slot.0) refl
+        which true is = let cached = used-cached has slot is in inr (inr (record {
           frame = cached.0;
           small = let few : layout.frames ≤ 256 = rule.sound.frames in let within : cached.0.0 < layout.frames = has.within cached.0 cached.1 in omega (arith, few, within);
           named = fits-as true is ∙ ap frame_name cached.1;
-        })
+        }))

@@ -1,8 +1,11 @@
 -- The cost of a translation's coming into use falls.
 use Rattle.std.proofs.Common.{◌≡◌, ℕ, ◌+◌, ◌<◌, ◌≤◌, ◌==◌, Bool, true, false, cond, Some, None, slice_index, refl, sym, ap, ◌∙◌, subst, arith}
 use Rattle.std.proofs.lemmas.Bool.{both_ways}
-use Rattle.std.proofs.lemmas.Option.{none-some}
+use Rattle.std.proofs.lemmas.Option.{none-some, same_Some}
+use Rattle.hwp_words.specs.declared.Pte.TheVariants as ptes
 use Rattle.hwp_rule.specs.declared.Step.{Step}
+use Rattle.hwp_rule.specs.declared.Step.TheVariants as steps
+use Rattle.hwp_rule.specs.Served.{IsMild}
 use Rattle.hwp_rule.specs.Steps.{place_of, word_after}
 use Rattle.hwp_rule.specs.Words.{Words, read}
 use Rattle.hwp_step.specs.declared.Turn.TheVariants.{Moved, Changed}
@@ -12,9 +15,8 @@ use Rattle.hwp_hold.specs.declared.Refer.{Refer}
 use Rattle.hwp_hold.specs.declared.refer.ReferAt.{ReferAt}
 use Rattle.hwp_hold.specs.declared.refer.ReferAt.TheVariants as refer_at
 use Rattle.hwp_hold.specs.Refers as refers
-use Rattle.hwp_hold.proofs.FillCosts.{refer-falls}
+use Rattle.hwp_hold.proofs.FillCosts.{refer-falls, refer-mild}
 use Rattle.hwp_hold.proofs.Ranking.{stale-most}
-use Rattle.hwp_fault.proofs.MappingIn as mapping_in
 use Rattle.hwp_fault.specs.declared.map_in.MapIn.{MapIn}
 use Rattle.hwp_fault.specs.declared.map_in.MapInAt.{MapInAt}
 use Rattle.hwp_fault.specs.declared.map_in.MapInAt.TheVariants as at
@@ -74,6 +76,15 @@ map-in-goes m found = which m.at
     which at.SetPte = refl
     which at.Over = refl
 
+-- none of its steps poisons a frame or takes its poison back
+pub map-in-mild : (m : MapIn) (step : Step) → plan m ≡ Some step → IsMild step
+map-in-mild m step is = which m.at is
+  where
+    which : (x : MapInAt) → plan_at m.slot m.frame x ≡ Some step → IsMild step
+    which (at.Refer r) e = refer-mild r step e
+    which at.SetPte e = subst IsMild (same_Some (steps.SetPte m.slot (ptes.At m.frame)) step e) tt
+    which at.Over e = absurd (none-some step e)
+
 abbrev pub map-in-member : Member MapIn
 map-in-member = member (λ m. m.who) plan (λ m. None) (λ m. m) (λ layout m found got after result. (after ≡ next m found) × (result ≡ turn m found)) Fits (λ m. 1) cost (λ m. false) (λ m. None)
 
@@ -82,4 +93,4 @@ map-in-ranked = rank-of map-in-member (λ s. refl) (λ s. (omega arith, omega ar
     (λ layout seat a b s t turned made goes. subst (λ (x : MapIn). cost x (words_at layout b) < cost s (words_at layout a)) (sym made.follows.0)
     (map-in-falls (words_at layout a) (words_at layout b) s made.step made.found made.planned (met made) (words-kept made)))
     (λ layout seat a b s t turned made is quiet. absurd (both_ways true (sym is ∙ ap is_waits made.follows.1 ∙ map-in-goes s made.found) refl))
-    (λ s. refl) (λ layout view s step fits is. (mapping_in.can layout view s step fits is).served)
+    (λ s. refl) map-in-mild

@@ -29,16 +29,15 @@ use Rattle.hwp_rule.specs.Lists.{EachMember, SomeMember}
 use Rattle.hwp_rule.specs.Logs.{log_of, opening_at, state_of}
 use Rattle.hwp_rule.specs.Views.{is_body_of, body_of, more_of, noted, stamp_of}
 use Rattle.hwp_rule.specs.parts.Entries.{HasSeen, Shows}
-use Rattle.hwp_rule.specs.Unfailed.{is_failure}
 use Rattle.hwp_rule.proofs.Lists.{same-number, some-last}
 use Rattle.hwp_step.specs.Calls.{Steps}
 use Rattle.hwp_step.specs.Hands.{Hand, hand_of, body_in}
 use Rattle.hwp_rule.specs.declared.Step.TheVariants as steps
 use Rattle.hwp_hold.specs.Unlocks.{HoldsFrame}
 use Rattle.hwp_hold.proofs.Bringing.{replay-state}
-use Rattle.hwp_hold.proofs.Linking.{as-taken, none-fails, none-more}
-use Rattle.hwp_fault.specs.declared.access.AccessKind.{AccessKind}
-use Rattle.hwp_fault.specs.declared.access.AccessKind.TheVariants as kinds
+use Rattle.hwp_hold.proofs.Linking.{as-taken, none-more}
+use Rattle.hwp_fault.specs.declared.touch.AccessKind.{AccessKind}
+use Rattle.hwp_fault.specs.declared.touch.AccessKind.TheVariants as kinds
 use Rattle.hwp_fault.specs.declared.access.Request.{Request}
 use Rattle.hwp_fault.specs.Accesses.{what_by, what_of, word_in, reached, HasTaken}
 
@@ -82,7 +81,6 @@ module _ {layout : Layout} {view : View} {frame : Frame} {body : BodyValue} (has
     hand_is = has.hand_is;
     home = home-with who body.log (as-taken layout who (Some frame) (log_of body) has.seen view.sights) (record { cached = refl; maps = refl; bar = refl })
         (λ process. ap (has_ending layout process) (none-more layout who (Some frame) (log_of body) has.seen));
-    sound = none-fails layout who (Some frame) (log_of body) has.seen;
     taken_is = refl;
     layout_is = has.layout_is;
     within = has.within;
@@ -120,10 +118,6 @@ module _ {layout : Layout} {view : View} {frame : Frame} {body : BodyValue} (has
       seen-by kinds.Load sights some = some
       seen-by (kinds.Store stored) sights some = some
 
-      sound-by : (kind : AccessKind) → is_failure (what_by kind a.slot a.line (record { 0 = mask }) (word_in a body)) ≡ false
-      sound-by kinds.Load = refl
-      sound-by (kinds.Store stored) = refl
-
       same-by : (kind : AccessKind) (s : PageState) → HasSameWords (after s (what_by kind a.slot a.line (record { 0 = mask }) (word_in a body))) s
       same-by kinds.Load s = record { cached = refl; maps = refl; bar = refl }
       same-by (kinds.Store stored) s = record { cached = refl; maps = refl; bar = refl }
@@ -149,7 +143,6 @@ module _ {layout : Layout} {view : View} {frame : Frame} {body : BodyValue} (has
         })
             (subst (λ (s : PageState). HasSameWords s (state_of layout (log_of body))) state-is (same-by a.kind (state_of layout (log_of body))))
             (λ process. ap (has_ending layout process) one-more ∙ ends-by a.kind process);
-        sound = of-entry (λ (e : Entry). is_failure e.what ≡ false) (sound-by a.kind);
         taken_is = refl;
         layout_is = has.layout_is;
         within = has.within;

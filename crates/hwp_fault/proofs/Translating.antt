@@ -45,7 +45,7 @@ use Rattle.hwp_rule.proofs.FittingWords.{same-page}
 use Rattle.hwp_rule.proofs.Lists.{at_map, term-le, same-number, sum-zero, each-weaken}
 use Rattle.hwp_rule.proofs.Meeting.{frame-word, frame-named}
 use Rattle.hwp_rule.proofs.Moving.{shaped}
-use Rattle.hwp_rule.proofs.Unfailed.{nothing-poisoned}
+use Rattle.hwp_rule.proofs.Undamaged.{nothing-damaged}
 use Rattle.hwp_rule.proofs.WordsByKind.{words-read}
 
 -- a name is of one frame
@@ -92,7 +92,7 @@ module _ (layout : Layout) (s : State) (h : Holds layout s) where
   line-good frame found line inside within met set =
       let bit : bit_at found line ≡ min (sum_all (λ (x : Spoiled). from_bool (is_spoil frame.0 line true x)) (map (λ (v : View). v.spoiled) s.views)) 1 = h.rule.failures.damage.bad frame.0 found (bad-word frame found inside met) line within in
       let none : sum_all (λ (x : Spoiled). from_bool (is_spoil frame.0 line true x)) (map (λ (v : View). v.spoiled) s.views) ≡ 0 = sum-zero (sum_by (λ (x : Spoiled). from_bool (is_spoil frame.0 line true x))) (map (λ (v : View). v.spoiled) s.views)
-      (each-weaken (λ (l : List Spoiled). length l ≡ 0) (λ (l : List Spoiled). sum_by (λ (x : Spoiled). from_bool (is_spoil frame.0 line true x)) l ≡ 0) (map (λ (v : View). v.spoiled) s.views) empty (nothing-poisoned layout s h).unspoiled) in
+      (each-weaken (λ (l : List Spoiled). length l ≡ 0) (λ (l : List Spoiled). sum_by (λ (x : Spoiled). from_bool (is_spoil frame.0 line true x)) l ≡ 0) (map (λ (v : View). v.spoiled) s.views) empty (nothing-damaged layout s h).unspoiled) in
       let one : bit_and (found / 2 ^ line) 1 ≡ 1 = (bit_set_by_shift found line).1 set in
       let same : bit_and (found / 2 ^ line) 1 ≡ bit_at found line = shr_and_one found line in
       omega (arith, bit, none, one, same)

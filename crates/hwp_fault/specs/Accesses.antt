@@ -55,12 +55,14 @@ use Rattle.hwp_fault.specs.declared.access.AccessAt.{AccessAt}
 use Rattle.hwp_fault.specs.declared.access.AccessAt.TheVariants as at
 use Rattle.hwp_fault.specs.declared.access.AccessAnswer.{AccessAnswer}
 use Rattle.hwp_fault.specs.declared.access.AccessAnswer.TheVariants as answers
-use Rattle.hwp_fault.specs.declared.access.AccessKind.{AccessKind}
-use Rattle.hwp_fault.specs.declared.access.AccessKind.TheVariants as kinds
+use Rattle.hwp_fault.specs.declared.touch.AccessKind.{AccessKind}
+use Rattle.hwp_fault.specs.declared.touch.AccessKind.TheVariants as kinds
 use Rattle.hwp_fault.specs.declared.fault.Fault.{Fault}
 use Rattle.hwp_fault.specs.declared.fault.FaultAnswer.{FaultAnswer}
 use Rattle.hwp_fault.specs.declared.fault.FaultAnswer.TheVariants as fault_answers
+use Rattle.hwp_fault.specs.declared.touch.Touch.{Touch}
 use Rattle.hwp_fault.specs.Faults as faults
+use Rattle.hwp_fault.specs.Touches.{refusal}
 
 abbrev pub begin : Who → Thread → VSlot → ℕ → AccessKind → Page → Proc → Access
 begin who thread slot line kind page process = record { request = record { who = who; thread = thread; slot = slot; line = line; kind = kind; page = page; process = process }; at = at.LoadStop }
@@ -111,10 +113,13 @@ after_process (Some page) = at.Over (answers.Gone page)
 abbrev pub at_process : ℕ → AccessAt
 at_process found = after_process (page_named found)
 
+abbrev pub touch_of : Request → Touch
+touch_of a = record { thread = a.thread; process = a.process; line = a.line; kind = a.kind }
+
 -- what follows a translation that leads to a frame, or to none
 abbrev pub leading : Request → Option Frame → AccessAt
 leading a (Some frame) = at.Pin (pins.begin a.who frame)
-leading a None = at.Fault (faults.begin a.who a.page a.slot)
+leading a None = at.Fault (faults.begin a.who a.page a.slot (touch_of a))
 
 abbrev pub at_translation : Request → ℕ → AccessAt
 at_translation a found = leading a (frame_in found)
@@ -137,13 +142,14 @@ abbrev pub unlocked : Unlock → Option AccessAnswer → AccessAt
 unlocked u then = cond (is_none (unlocks.plan u)) (ended then) (at.Unlock u then)
 
 -- once the page was brought in, or another has done so, the translation is read anew
-abbrev pub after_fault_at : Fault → Option FaultAnswer → AccessAt
-after_fault_at f None = at.Fault f
-after_fault_at f (Some fault_answers.Again) = at.LoadTranslation
-after_fault_at f (Some (fault_answers.NoFrame place)) = at.Over answers.NoFrame
+abbrev pub after_fault_at : Page → Fault → Option FaultAnswer → AccessAt
+after_fault_at page f None = at.Fault f
+after_fault_at page f (Some fault_answers.Again) = at.LoadTranslation
+after_fault_at page f (Some (fault_answers.NoFrame place)) = at.Over answers.NoFrame
+after_fault_at page f (Some (fault_answers.Sigbus place)) = at.Over (answers.Sigbus page place)
 
-abbrev pub after_fault : Fault → AccessAt
-after_fault f = after_fault_at f (faults.answer f)
+abbrev pub after_fault : Page → Fault → AccessAt
+after_fault page f = after_fault_at page f (faults.answer f)
 
 -- the word names this frame
 abbrev pub is_frame : Frame → Option Frame → Bool
@@ -205,10 +211,10 @@ abbrev pub LooksAgain : Request → Frame → Option BodyValue → ℕ → Acces
 LooksAgain a frame body found next = LooksOf (leads_to frame found) a frame body next
 
 -- what follows a step of the fault
-pub record FaultStepped (layout : Layout) (f : Fault) (found : ℕ) (got : Option BodyValue) (next : AccessAt) (turn : Turn) : Type 0 where
+pub record FaultStepped (layout : Layout) (page : Page) (f : Fault) (found : ℕ) (got : Option BodyValue) (next : AccessAt) (turn : Turn) : Type 0 where
   pub after : Fault
   pub follows : faults.Follows layout f found got after turn
-  pub next_is : next ≡ after_fault after
+  pub next_is : next ≡ after_fault page after
 
 abbrev pub NextAt : Layout → Request → AccessAt → ℕ → Option BodyValue → AccessAt → Turn → Type 0
 NextAt layout a at.LoadStop found got next turn = (next ≡ at_start found) × (turn ≡ Moved)
@@ -220,7 +226,7 @@ NextAt layout a (at.LockFrame frame) found got next turn =
 NextAt layout a (at.LoadAgain frame body) found got next turn = LooksAgain a frame body found next × (turn ≡ Moved)
 NextAt layout a (at.LoadBad frame body) found got next turn = (next ≡ at.Unlock (unlocks.begin a.who frame (Some (reached a found body))) (Some (reply a body))) × (turn ≡ Moved)
 NextAt layout a (at.Unlock u then) found got next turn = (next ≡ unlocked (unlocks.next u found) then) × (turn ≡ Moved)
-NextAt layout a (at.Fault f) found got next turn = FaultStepped layout f found got next turn
+NextAt layout a (at.Fault f) found got next turn = FaultStepped layout a.page f found got next turn
 NextAt layout a (at.GiveUp g) found got next turn = (next ≡ at.GiveUp (give_ups.next g found)) × (turn ≡ give_ups.turn g)
 NextAt layout a (at.Over answer) found got next turn = (next ≡ at.Over answer) × (turn ≡ Moved)
 
@@ -259,10 +265,16 @@ pub record HasReached (a : Request) (view : View) (word place : ℕ) : Type 0 wh
   pub good : ¬ IsBitSet mask a.line
   pub made : HasMade (BringsIn a.page a.slot) view a.who a.page place (what_of a mask word)
 
+-- the entry that the access was answered by SIGBUS is the last one that the command made
+pub record HasRefusal (a : Request) (view : View) (place : ℕ) : Type 0 where
+  pub alive : Saw view a.who (places.Process a.process) 0
+  pub made : HasMade (BringsIn a.page a.slot) view a.who a.page place (refusal a.slot (touch_of a))
+
 -- each answer rests on what the command was shown, and on the entry that it made
 abbrev pub Answered : Layout → View → Request → AccessAnswer → Type 0
 Answered layout view a (answers.Value word page place) = (a.kind ≡ kinds.Load) × (page ≡ a.page) × HasReached a view word place
 Answered layout view a (answers.Stored page place) = (stored : ℕ) × (a.kind ≡ kinds.Store stored) × (page ≡ a.page) × HasReached a view stored place
+Answered layout view a (answers.Sigbus page place) = (page ≡ a.page) × HasRefusal a view place
 Answered layout view a answers.NoFrame = GoesOn a view × Saw view a.who places.Available 0 × (place : ℕ) × SawState layout view a.who a.page place IsAway
 Answered layout view a (answers.Gone page) = Saw view a.who (places.Process a.process) (page.0 + 1) × HasMadeNone view a.who
 Answered layout view a answers.Stopped = SawStop view a.who × HasMadeNone view a.who
@@ -364,6 +376,7 @@ pub record IsFaulting (layout : Layout) (view : View) (a : Request) (f : Fault) 
   pub own : f.who ≡ a.who
   pub page_is : f.page ≡ a.page
   pub slot_is : f.slot ≡ a.slot
+  pub touch_is : f.touch ≡ touch_of a
   pub unanswered : faults.answer f ≡ None
   pub alive : Saw view a.who (places.Process a.process) 0
 

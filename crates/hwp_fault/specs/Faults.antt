@@ -1,5 +1,6 @@
--- A page brought in, and a translation of it into use: the task's states, its steps and what they come to.
-use Rattle.std.specs.Prelude.{◌≡◌, ℕ, ◌+◌, ◌<◌, ◌≤◌, Bool, true, false, cond, Option, Some, None, is_some, is_none, length, slice_index}
+-- A page brought in, and a translation of it into use, or the access refused: the task's states, its steps and what they
+-- come to.
+use Rattle.std.specs.Prelude.{◌≡◌, ◌⊎◌, ℕ, ◌+◌, ◌<◌, ◌≤◌, Bool, true, false, cond, [], ◌∷◌, Option, Some, None, is_some, is_none, length, slice_index}
 use Rattle.std.specs.FinSet as set
 use Rattle.hwp_geom.specs.declared.Frame.{Frame}
 use Rattle.hwp_geom.specs.declared.Layout.{Layout}
@@ -7,9 +8,10 @@ use Rattle.hwp_geom.specs.declared.Page.{Page}
 use Rattle.hwp_geom.specs.declared.VSlot.{VSlot}
 use Rattle.hwp_geom.specs.declared.Who.{Who}
 use Rattle.hwp_page.specs.declared.PageState.{PageState}
+use Rattle.hwp_page.specs.Endings.{ends}
 use Rattle.hwp_page.specs.History.{BodyValue}
 use Rattle.hwp_page.specs.Refusals.{IsAway}
-use Rattle.hwp_page.specs.Step.{IsOf}
+use Rattle.hwp_page.specs.Step.{IsOf, IsRefused}
 use Rattle.hwp_words.specs.declared.Pte.{Pte}
 use Rattle.hwp_words.specs.declared.Pte.TheVariants as ptes
 use Rattle.hwp_words.specs.Translations.{pte_reading}
@@ -20,14 +22,14 @@ use Rattle.hwp_rule.specs.declared.Step.TheVariants as steps
 use Rattle.hwp_rule.specs.declared.View.{View}
 use Rattle.hwp_rule.specs.Lists.{EachMember}
 use Rattle.hwp_rule.specs.Logs.{log_of}
-use Rattle.hwp_rule.specs.Views.{frame_in, more_of}
+use Rattle.hwp_rule.specs.Views.{body_of, frame_in, more_of}
 use Rattle.hwp_rule.specs.Words.{Words}
 use Rattle.hwp_step.specs.declared.Turn.{Turn}
 use Rattle.hwp_step.specs.declared.Turn.TheVariants.{Moved}
 use Rattle.hwp_step.specs.Calls.{IsOnTurn}
 use Rattle.hwp_step.specs.Hands.{hand_of, empty}
 use Rattle.hwp_step.specs.Ranks.{stale}
-use Rattle.hwp_known.specs.Known.{Saw, SawLog, HasOnly, BringsIn}
+use Rattle.hwp_known.specs.Known.{Saw, SawLog, HasOnly, HasMade, BringsIn}
 use Rattle.hwp_known.specs.Pages.{SawState}
 use Rattle.hwp_hold.specs.declared.Fill.{Fill}
 use Rattle.hwp_hold.specs.declared.fill.FillAt.{FillAt}
@@ -50,23 +52,26 @@ use Rattle.hwp_fault.specs.declared.fault.FaultAnswer.TheVariants as answers
 use Rattle.hwp_fault.specs.declared.map_in.MapIn.{MapIn}
 use Rattle.hwp_fault.specs.declared.map_in.MapInAt.{MapInAt}
 use Rattle.hwp_fault.specs.declared.map_in.MapInAt.TheVariants as map_in_at
+use Rattle.hwp_fault.specs.declared.touch.Touch.{Touch}
 use Rattle.hwp_fault.specs.MapIns as map_ins
 use Rattle.hwp_fault.specs.MapIns.{IsBringing}
+use Rattle.hwp_fault.specs.Touches.{IsTouch, as_snapshot, refusal, refusal_entry, refused}
 
-abbrev pub begin : Who → Page → VSlot → Fault
-begin who page slot = record { who = who; page = page; slot = slot; at = at.Hold (holds.begin who page) }
+abbrev pub begin : Who → Page → VSlot → Touch → Fault
+begin who page slot touch = record { who = who; page = page; slot = slot; touch = touch; at = at.Hold (holds.begin who page) }
 
-abbrev pub plan_at : VSlot → FaultAt → Option Step
-plan_at slot (at.Hold h) = holds.plan h
-plan_at slot (at.LoadPte frame body) = Some (steps.Load (places.Trans slot))
-plan_at slot (at.Fill f) = fills.plan f
-plan_at slot (at.MapIn m) = map_ins.plan m
-plan_at slot (at.Unhold u answer) = unholds.plan u
-plan_at slot (at.GiveUp g) = give_ups.plan g
-plan_at slot (at.Over answer) = None
+abbrev pub plan_at : Page → VSlot → Touch → FaultAt → Option Step
+plan_at page slot touch (at.Hold h) = holds.plan h
+plan_at page slot touch (at.LoadPte frame body) = Some (steps.Load (places.Trans slot))
+plan_at page slot touch (at.Kill frame body place) = Some (steps.Kill touch.process page (as_snapshot body))
+plan_at page slot touch (at.Fill f) = fills.plan f
+plan_at page slot touch (at.MapIn m) = map_ins.plan m
+plan_at page slot touch (at.Unhold u answer) = unholds.plan u
+plan_at page slot touch (at.GiveUp g) = give_ups.plan g
+plan_at page slot touch (at.Over answer) = None
 
 abbrev pub plan : Fault → Option Step
-plan f = plan_at f.slot f.at
+plan f = plan_at f.page f.slot f.touch f.at
 
 abbrev pub put_at : FaultAt → Option BodyValue
 put_at (at.Unhold u answer) = unholds.put u
@@ -79,6 +84,7 @@ put f = put_at f.at
 abbrev pub bare_at : FaultAt → FaultAt
 bare_at (at.Hold h) = at.Hold h
 bare_at (at.LoadPte frame body) = at.LoadPte frame body
+bare_at (at.Kill frame body place) = at.Kill frame body place
 bare_at (at.Fill f) = at.Fill f
 bare_at (at.MapIn m) = at.MapIn m
 bare_at (at.Unhold u answer) = at.Unhold (unholds.bare u) answer
@@ -117,15 +123,34 @@ after_hold_at h _ = at.Hold h
 abbrev pub after_hold : Hold → FaultAt
 after_hold h = after_hold_at h h.at
 
--- where it leads to a frame there is nothing to do; and no page has failed yet
-abbrev pub after_pte : Who → Page → VSlot → Option Frame → BodyValue → Pte → Option ℕ → FaultAt
-after_pte who page slot frame body ptes.Empty spare = with_room who page slot frame body spare
-after_pte who page slot frame body (ptes.At other) spare = let_go who page frame body answers.Again
-after_pte who page slot frame body ptes.Poison spare = at.LoadPte frame body
+-- once the entry that the access is refused is appended, the process is ended where its thread has no handler
+abbrev pub after_refusal : Layout → Who → Page → Touch → Option Frame → BodyValue → ℕ → FaultAt
+after_refusal layout who page touch frame body place =
+    cond (ends layout touch.process touch.thread) (at.Kill frame body place) (let_go who page frame body (answers.Sigbus place))
 
-abbrev pub is_poison : Pte → Bool
-is_poison ptes.Poison = true
-is_poison _ = false
+-- the access is refused, where room for so many entries was made; or that was refused, and the command is given up
+abbrev pub refuse : Layout → Who → Page → VSlot → Touch → Option Frame → BodyValue → Option ℕ → FaultAt
+refuse layout who page slot touch frame body None = at.GiveUp (give_ups.with_page who page frame 1 body)
+refuse layout who page slot touch frame body (Some spare) =
+    after_refusal layout who page touch frame (refused who slot touch (record body { spare = spare })) (length body.log)
+
+-- where the translation leads to a frame there is nothing to do; a poison entry refuses the access, and so does a page whose
+-- content is lost
+abbrev pub after_pte : Layout → Who → Page → VSlot → Touch → Option Frame → BodyValue → Pte → Option ℕ → FaultAt
+after_pte layout who page slot touch frame body ptes.Empty spare =
+    cond body.state.lost (refuse layout who page slot touch frame body spare) (with_room who page slot frame body spare)
+after_pte layout who page slot touch frame body (ptes.At other) spare = let_go who page frame body answers.Again
+after_pte layout who page slot touch frame body ptes.Poison spare = refuse layout who page slot touch frame body spare
+
+abbrev pub is_refused : Pte → PageState → Bool
+is_refused ptes.Empty s = s.lost
+is_refused (ptes.At other) s = false
+is_refused ptes.Poison s = true
+
+-- there is room for the entry that the access is refused, and the state allows it
+pub record CanRefuse (slot : VSlot) (touch : Touch) (body : BodyValue) : Type 0 where
+  pub spare : 0 < body.spare
+  pub allowed : IsRefused body.layout body.page body.state touch.thread slot
 
 -- once the page is in a frame, the translation comes into use; or no frame was available
 abbrev pub after_fill_at : Who → Page → VSlot → Fill → FillAt → Option ℕ → FaultAt
@@ -151,17 +176,18 @@ abbrev pub after_give_up : GiveUp → FaultAt
 after_give_up g = cond (is_none (give_ups.plan g)) (at.Over None) (at.GiveUp g)
 
 -- what follows a step, where room for so many entries was made, or was refused, if it was asked for
-abbrev pub next_at : Layout → Who → Page → VSlot → FaultAt → ℕ → Option BodyValue → Option ℕ → FaultAt
-next_at layout who page slot (at.Hold h) found got spare = after_hold (holds.next h found got)
-next_at layout who page slot (at.LoadPte frame body) found got spare = after_pte who page slot frame body (pte_reading found) spare
-next_at layout who page slot (at.Fill f) found got spare = after_fill who page slot (fills.next layout f found) spare
-next_at layout who page slot (at.MapIn m) found got spare = after_map_in who page (map_ins.next m found)
-next_at layout who page slot (at.Unhold u answer) found got spare = after_unhold (unholds.next u found) answer
-next_at layout who page slot (at.GiveUp g) found got spare = after_give_up (give_ups.next g found)
-next_at layout who page slot (at.Over answer) found got spare = at.Over answer
+abbrev pub next_at : Layout → Who → Page → VSlot → Touch → FaultAt → ℕ → Option BodyValue → Option ℕ → FaultAt
+next_at layout who page slot touch (at.Hold h) found got spare = after_hold (holds.next h found got)
+next_at layout who page slot touch (at.LoadPte frame body) found got spare = after_pte layout who page slot touch frame body (pte_reading found) spare
+next_at layout who page slot touch (at.Kill frame body place) found got spare = let_go who page frame body (answers.Sigbus place)
+next_at layout who page slot touch (at.Fill f) found got spare = after_fill who page slot (fills.next layout f found) spare
+next_at layout who page slot touch (at.MapIn m) found got spare = after_map_in who page (map_ins.next m found)
+next_at layout who page slot touch (at.Unhold u answer) found got spare = after_unhold (unholds.next u found) answer
+next_at layout who page slot touch (at.GiveUp g) found got spare = after_give_up (give_ups.next g found)
+next_at layout who page slot touch (at.Over answer) found got spare = at.Over answer
 
 abbrev pub next : Layout → Fault → ℕ → Option BodyValue → Option ℕ → Fault
-next layout f found got spare = record f { at = next_at layout f.who f.page f.slot f.at found got spare }
+next layout f found got spare = record f { at = next_at layout f.who f.page f.slot f.touch f.at found got spare }
 
 abbrev pub turn_at : FaultAt → ℕ → Turn
 turn_at (at.Hold h) found = holds.turn h found
@@ -187,8 +213,11 @@ pub record Roomed (state : Option ℕ → FaultAt) (result : FaultAt) : Type 0 w
 abbrev pub IsRoomed : Who → Page → VSlot → Option Frame → BodyValue → FaultAt → Type 0
 IsRoomed who page slot frame body result = Roomed (with_room who page slot frame body) result
 
-abbrev pub IsLoaded : Who → Page → VSlot → Option Frame → BodyValue → Pte → FaultAt → Type 0
-IsLoaded who page slot frame body pte result = Roomed (after_pte who page slot frame body pte) result
+abbrev pub IsLoaded : Layout → Who → Page → VSlot → Touch → Option Frame → BodyValue → Pte → FaultAt → Type 0
+IsLoaded layout who page slot touch frame body pte result = Roomed (after_pte layout who page slot touch frame body pte) result
+
+abbrev pub IsRefusal : Layout → Who → Page → VSlot → Touch → Option Frame → BodyValue → FaultAt → Type 0
+IsRefusal layout who page slot touch frame body result = Roomed (refuse layout who page slot touch frame body) result
 
 abbrev pub IsFilled : Who → Page → VSlot → Fill → FaultAt → Type 0
 IsFilled who page slot f result = Roomed (after_fill who page slot f) result
@@ -200,15 +229,16 @@ pub record Follows (layout : Layout) (f : Fault) (found : ℕ) (got : Option Bod
   pub after_is : after ≡ next layout f found got spare
   pub turn_is : result ≡ turn f found
 
-abbrev pub ShowsAt : FaultAt → ℕ → Option BodyValue → Type 0
-ShowsAt (at.Hold h) found got = holds.Shows h found got
-ShowsAt (at.LoadPte frame body) found got = is_poison (pte_reading found) ≡ false
-ShowsAt (at.Fill f) found got = fills.Shows f found got
-ShowsAt (at.MapIn m) found got = map_ins.Shows m
-ShowsAt _ found got = Unit {0}
+-- where the word that was loaded refuses the access, the entry of it is allowed
+abbrev pub ShowsAt : VSlot → Touch → FaultAt → ℕ → Option BodyValue → Type 0
+ShowsAt slot touch (at.Hold h) found got = holds.Shows h found got
+ShowsAt slot touch (at.LoadPte frame body) found got = is_refused (pte_reading found) body.state ≡ true → IsRefused body.layout body.page body.state touch.thread slot
+ShowsAt slot touch (at.Fill f) found got = fills.Shows f found got
+ShowsAt slot touch (at.MapIn m) found got = map_ins.Shows m
+ShowsAt slot touch _ found got = Unit {0}
 
 abbrev pub Shows : Fault → ℕ → Option BodyValue → Type 0
-Shows f found got = ShowsAt f.at found got
+Shows f found got = ShowsAt f.slot f.touch f.at found got
 
 -- the body is the page's, and all entries that it has more than it was taken with bring the page in, or the translation into use
 pub record AddsOnly (view : View) (page : Page) (slot : VSlot) (body : BodyValue) : Type 0 where
@@ -248,17 +278,33 @@ pub record IsMapping (layout : Layout) (view : View) (who : Who) (page : Page) (
   pub slot_is : m.slot ≡ slot
   pub under_way : is_none (map_ins.plan m) ≡ false
 
+-- the access is refused, and its process is to be ended: the page is held, and its body has the entry more that it was taken
+-- with
+pub record IsEnding (layout : Layout) (view : View) (who : Who) (page : Page) (slot : VSlot) (touch : Touch) (frame : Option Frame) (body : BodyValue) (place : ℕ) : Type 0 where
+  pub before : BodyValue
+  pub held : HoldsPage layout view page frame before
+  pub allowed : IsRefused layout page before.state touch.thread slot
+  pub body_is : body ≡ refused who slot touch before
+  pub place_is : place ≡ length before.log
+  pub ending : ends layout touch.process touch.thread ≡ true
+
 -- the command saw why no frame is answered: none was available, and the page was in none after so many entries
 abbrev pub IsWhy : Layout → View → Who → Page → FaultAnswer → Type 0
 IsWhy layout view who page answers.Again = Unit {0}
 IsWhy layout view who page (answers.NoFrame place) = Saw view who places.Available 0 × SawState layout view who page place IsAway
+IsWhy layout view who page (answers.Sigbus place) = Unit {0}
+
+abbrev pub is_sigbus : FaultAnswer → Bool
+is_sigbus answers.Again = false
+is_sigbus (answers.NoFrame place) = false
+is_sigbus (answers.Sigbus place) = true
 
 -- the page is being let go
 pub record IsLettingGo (layout : Layout) (view : View) (who : Who) (page : Page) (slot : VSlot) (u : Unhold) (answer : FaultAnswer) : Type 0 where
   pub unhold : unholds.Fits layout view u
   pub own : u.who ≡ who
   pub under_way : is_none (unholds.plan u) ≡ false
-  pub adds : (body : BodyValue) → unholds.put u ≡ Some body → AddsOnly view page slot body
+  pub adds : is_sigbus answer ≡ false → (body : BodyValue) → unholds.put u ≡ Some body → AddsOnly view page slot body
   pub why : IsWhy layout view who page answer
 
 -- the command is being given up
@@ -272,28 +318,54 @@ abbrev pub FitsOver : Layout → View → Who → Page → Option FaultAnswer �
 FitsOver layout view who page None = hand_of view ≡ empty
 FitsOver layout view who page (Some answer) = (hand_of view ≡ empty) × IsWhy layout view who page answer
 
-abbrev pub FitsAt : Layout → View → Who → Page → VSlot → FaultAt → Type 0
-FitsAt layout view who page slot (at.Hold h) = IsHolding layout view who page h
-FitsAt layout view who page slot (at.LoadPte frame body) = IsHeld layout view who page frame body
-FitsAt layout view who page slot (at.Fill f) = IsFilling layout view who page slot f
-FitsAt layout view who page slot (at.MapIn m) = IsMapping layout view who page slot m
-FitsAt layout view who page slot (at.Unhold u answer) = IsLettingGo layout view who page slot u answer
-FitsAt layout view who page slot (at.GiveUp g) = IsGivingUp layout view who page slot g
-FitsAt layout view who page slot (at.Over answer) = FitsOver layout view who page answer
+abbrev pub FitsAt : Layout → View → Who → Page → VSlot → Touch → FaultAt → Type 0
+FitsAt layout view who page slot touch (at.Hold h) = IsHolding layout view who page h
+FitsAt layout view who page slot touch (at.LoadPte frame body) = IsHeld layout view who page frame body
+FitsAt layout view who page slot touch (at.Kill frame body place) = IsEnding layout view who page slot touch frame body place
+FitsAt layout view who page slot touch (at.Fill f) = IsFilling layout view who page slot f
+FitsAt layout view who page slot touch (at.MapIn m) = IsMapping layout view who page slot m
+FitsAt layout view who page slot touch (at.Unhold u answer) = IsLettingGo layout view who page slot u answer
+FitsAt layout view who page slot touch (at.GiveUp g) = IsGivingUp layout view who page slot g
+FitsAt layout view who page slot touch (at.Over answer) = FitsOver layout view who page answer
 
--- The processor holds nothing at first and in the end. The translation is one of the page, and the command has made no
--- entries but those that bring both in.
+-- the command has made no entries but those that bring the page in; and the body that goes home has that of the refusal more
+pub record HasToList (view : View) (who : Who) (page : Page) (slot : VSlot) (touch : Touch) (put : Option BodyValue) (place : ℕ) : Type 0 where
+  pub only : HasOnly (BringsIn page slot) view who
+  pub body : BodyValue
+  pub put_is : put ≡ Some body
+  pub taken : InHand
+  pub taken_is : body_of body.page view ≡ Some taken
+  pub page_is : body.page ≡ page
+  pub more : more_of taken (log_of body) ≡ refusal_entry who slot touch ∷ []
+  pub place_is : length taken.log.entries ≡ place
+
+-- the command has made the entry of the refusal, and a body that goes home has none more
+pub record HasListed (view : View) (who : Who) (page : Page) (slot : VSlot) (touch : Touch) (put : Option BodyValue) (place : ℕ) : Type 0 where
+  pub made : HasMade (BringsIn page slot) view who page place (refusal slot touch)
+  pub rest : (body : BodyValue) → put ≡ Some body → (taken : InHand) × (body_of body.page view ≡ Some taken) × (more_of taken (log_of body) ≡ [])
+
+-- what the command has made: entries that bring the page in, or the translation into use; and then, where the access was
+-- refused, the one that it was
+abbrev pub MadeAt : View → Who → Page → VSlot → Touch → FaultAt → Type 0
+MadeAt view who page slot touch (at.Unhold u (answers.Sigbus place)) = HasToList view who page slot touch (unholds.put u) place ⊎ HasListed view who page slot touch (unholds.put u) place
+MadeAt view who page slot touch (at.Over (Some (answers.Sigbus place))) = HasMade (BringsIn page slot) view who page place (refusal slot touch)
+MadeAt view who page slot touch _ = HasOnly (BringsIn page slot) view who
+
+-- The processor holds nothing at first and in the end. The translation is one of the page, and the names are of the layout.
 pub record Fits (layout : Layout) (view : View) (f : Fault) : Type 0 where
   pub on_turn : IsOnTurn view f.who
   pub page : f.page.0 < length layout.pages
   pub slot : IsOf layout f.page f.slot
-  pub only : HasOnly (BringsIn f.page f.slot) view f.who
-  pub at : FitsAt layout view f.who f.page f.slot f.at
+  pub touch : IsTouch layout f.slot f.touch
+  pub made : MadeAt view f.who f.page f.slot f.touch f.at
+  pub at : FitsAt layout view f.who f.page f.slot f.touch f.at
 
 abbrev pub class_at : FaultAt → ℕ
 class_at (at.Hold h) = holds.class h
 class_at (at.LoadPte (Some frame) body) = 1
 class_at (at.LoadPte None body) = 2
+class_at (at.Kill (Some frame) body place) = 1
+class_at (at.Kill None body place) = 2
 class_at (at.Fill f) = fills.class f
 class_at (at.MapIn m) = 1
 class_at (at.Unhold u answer) = unholds.class u
@@ -315,6 +387,7 @@ owed = 4096
 abbrev pub rest : VSlot → FaultAnswer → Words → ℕ
 rest slot answers.Again words = again slot words
 rest slot (answers.NoFrame place) words = 0
+rest slot (answers.Sigbus place) words = 0
 
 abbrev pub rest_of : VSlot → Option FaultAnswer → Words → ℕ
 rest_of slot None words = 0
@@ -324,6 +397,7 @@ rest_of slot (Some answer) words = rest slot answer words
 abbrev pub cost_at : VSlot → FaultAt → Words → ℕ
 cost_at slot (at.Hold h) words = holds.cost h words + length words.frees + 14 + owed
 cost_at slot (at.LoadPte frame body) words = length words.frees + 14 + owed
+cost_at slot (at.Kill frame body place) words = 6
 cost_at slot (at.Fill f) words = fills.cost f words + 3 + owed
 cost_at slot (at.MapIn m) words = map_ins.cost m words + owed
 cost_at slot (at.Unhold u answer) words = unholds.cost u words + rest slot answer words

@@ -1,3 +1,4 @@
+pub mod Touches
 pub mod MapIns
 pub mod Faults
 pub mod Accesses

@@ -1,6 +1,7 @@
 ghost use Rattle.std.specs.Prelude.{◌≡◌, Option, is_none};
 
 use crate::fault::{Fault, FaultAnswer};
+use crate::touch::{AccessKind, Touch};
 use hwp_geom::{Frame, Layout, Line, Mask, Page, Proc, Thread, VSlot, Who};
 use hwp_hold::{GiveUp, Pin, PinAnswer, Unlock};
 use hwp_page::{Body, Entry, Met, What};
@@ -29,15 +30,6 @@ struct Request {
     process: Proc,
 }
 
-/// What an access does.
-#[derive(Clone, Copy, Debug, PartialEq, Eq)]
-pub enum AccessKind {
-    /// It reads the word of the line.
-    Load,
-    /// It writes this word to the line.
-    Store { word: u64 },
-}
-
 /// What an `Access` came to. A place is the number of an entry in the page's history, from 0 (this project's rule).
 #[derive(Clone, Copy, Debug, PartialEq, Eq)]
 pub enum AccessAnswer {
@@ -45,6 +37,9 @@ pub enum AccessAnswer {
     Value { word: u64, page: Page, place: u64 },
     /// The word was written: the entry at the place.
     Stored { page: Page, place: u64 },
+    /// The access was answered by SIGBUS, because the translation has a poison entry or the page's content is lost: the
+    /// entry at the place.
+    Sigbus { page: Page, place: u64 },
     /// No frame was available for the page.
     NoFrame,
     /// The thread's process has ended, by a signal in the history of this page.
@@ -182,13 +177,16 @@ impl Access {
         }
     }
 
-    fn after_fault(fault: Fault) -> AccessAt
-        ensures { result ≡ after_fault fault }
+    fn after_fault(page: Page, fault: Fault) -> AccessAt
+        ensures { result ≡ after_fault page fault }
     {
         match fault.answer() {
             Some(FaultAnswer::Again) => AccessAt::LoadTranslation,
             Some(FaultAnswer::NoFrame { .. }) => AccessAt::Over {
                 answer: AccessAnswer::NoFrame,
+            },
+            Some(FaultAnswer::Sigbus { place }) => AccessAt::Over {
+                answer: AccessAnswer::Sigbus { page, place },
             },
             None => AccessAt::Fault { fault },
         }
@@ -197,7 +195,7 @@ impl Access {
 
 impl Request {
     ghost use Rattle.std.specs.Prelude.{is_some, true};
-    ghost use Rattle.hwp_fault.specs.Accesses.{at_translation, LooksAgain, Prepares, Reaches, reached, reply, entry_of, leads_to};
+    ghost use Rattle.hwp_fault.specs.Accesses.{at_translation, LooksAgain, Prepares, Reaches, reached, reply, entry_of, leads_to, touch_of};
 
     fn at_translation(&self, found: u64) -> AccessAt
         ensures { result ≡ at_translation self.now found }
@@ -207,8 +205,19 @@ impl Request {
                 pin: Pin::new(self.who, frame),
             },
             None => AccessAt::Fault {
-                fault: Fault::new(self.who, self.page, self.slot),
+                fault: Fault::new(self.who, self.page, self.slot, self.touch()),
             },
+        }
+    }
+
+    fn touch(&self) -> Touch
+        ensures { result ≡ touch_of self.now }
+    {
+        Touch {
+            thread: self.thread,
+            process: self.process,
+            line: self.line,
+            kind: self.kind,
         }
     }
 
@@ -408,7 +417,7 @@ impl Machine for Access {
             }
             AccessAt::Fault { mut fault } => {
                 let turn = fault.settle(layout, found, body);
-                self.at = Access::after_fault(fault);
+                self.at = Access::after_fault(self.request.page, fault);
                 turn
             }
             AccessAt::GiveUp { mut give_up } => {

@@ -1,33 +1,58 @@
 ghost use Rattle.std.specs.Prelude.{◌≡◌, false, is_none};
 
 use crate::map_in::MapIn;
+use crate::touch::Touch;
 use hwp_geom::{Frame, Layout, Page, VSlot, Who};
 use hwp_hold::{Fill, FillAnswer, GiveUp, Hold, Unhold};
-use hwp_page::Body;
+use hwp_page::{Body, Entry};
 use hwp_rule::{Place, Step};
 use hwp_step::{Machine, Ranked, Turn};
 use hwp_words::Pte;
 use std::mem;
+use std::snapshot::Snapshot;
 
-/// Brings a page into a frame, where it is in none, and a translation of it into use (Linux handle_mm_fault). Where memory
-/// for an entry is refused the command is given up.
+/// Brings a page into a frame, where it is in none, and a translation of it into use (Linux handle_mm_fault). Where the
+/// translation has a poison entry or the page's content is lost, the access is answered by SIGBUS (Linux hwpoison.rst), which
+/// ends a process whose thread has no handler. Where memory for an entry is refused the command is given up.
 #[derive(Drop)]
 pub struct Fault {
     who: Who,
     page: Page,
     slot: VSlot,
+    touch: Touch,
     at: FaultAt,
 }
 
 #[derive(Drop)]
 enum FaultAt {
-    Hold { hold: Hold },
-    LoadPte { frame: Option<Frame>, body: Body },
-    Fill { fill: Fill },
-    MapIn { map_in: MapIn },
-    Unhold { unhold: Unhold, answer: FaultAnswer },
-    GiveUp { give_up: GiveUp },
-    Over { answer: Option<FaultAnswer> },
+    Hold {
+        hold: Hold,
+    },
+    LoadPte {
+        frame: Option<Frame>,
+        body: Body,
+    },
+    Kill {
+        frame: Option<Frame>,
+        body: Body,
+        place: u64,
+    },
+    Fill {
+        fill: Fill,
+    },
+    MapIn {
+        map_in: MapIn,
+    },
+    Unhold {
+        unhold: Unhold,
+        answer: FaultAnswer,
+    },
+    GiveUp {
+        give_up: GiveUp,
+    },
+    Over {
+        answer: Option<FaultAnswer>,
+    },
 }
 
 /// What a `Fault` came to (this project's rule).
@@ -37,19 +62,26 @@ pub enum FaultAnswer {
     Again,
     /// No frame was available for the page, which after so many entries was in none.
     NoFrame { place: u64 },
+    /// The access was answered by SIGBUS: the entry at the place of the page's history.
+    Sigbus { place: u64 },
 }
 
 impl Fault {
-    ghost use Rattle.hwp_fault.specs.Faults.{begin, plan, answer, let_go, IsRoomed, after_hold, after_map_in, after_unhold, after_give_up, is_poison, IsLoaded, IsFilled};
+    ghost use Rattle.std.specs.Prelude.{true};
+    ghost use Rattle.hwp_page.specs.Step.{IsRefused};
+    ghost use Rattle.hwp_fault.specs.Touches.{refused};
+    ghost use Rattle.hwp_fault.specs.Faults.{begin, plan, answer, let_go, CanRefuse, IsRoomed, after_hold, after_map_in, after_refusal, after_unhold, after_give_up, is_refused, IsLoaded, IsRefusal, IsFilled};
 
-    /// The command brings the page in, and the translation, which is one of the page, into use.
-    pub fn new(who: Who, page: Page, slot: VSlot) -> Fault
-        ensures { result ≡ begin who page slot }
+    /// The command brings the page in, and the translation, which is one of the page, into use; or else the touch, by a
+    /// process of the translation, is refused.
+    pub fn new(who: Who, page: Page, slot: VSlot, touch: Touch) -> Fault
+        ensures { result ≡ begin who page slot touch }
     {
         Fault {
             who,
             page,
             slot,
+            touch,
             at: FaultAt::Hold {
                 hold: Hold::new(who, page),
             },
@@ -71,6 +103,7 @@ impl Fault {
             FaultAt::Over { answer } => answer,
             FaultAt::Hold { .. }
             | FaultAt::LoadPte { .. }
+            | FaultAt::Kill { .. }
             | FaultAt::Fill { .. }
             | FaultAt::MapIn { .. }
             | FaultAt::Unhold { .. }
@@ -124,21 +157,71 @@ impl Fault {
         }
     }
 
-    fn after_pte(
-        who: Who,
-        page: Page,
-        slot: VSlot,
-        frame: Option<Frame>,
-        body: Body,
-        pte: Pte,
-    ) -> FaultAt
-        requires sound { is_poison pte ≡ false }
-        ensures { IsLoaded who page slot frame body pte result }
+    fn after_pte(&self, layout: &Layout, frame: Option<Frame>, body: Body, pte: Pte) -> FaultAt
+        requires allowed { is_refused pte body.state ≡ true → IsRefused body.layout body.page body.state self.now.touch.thread self.now.slot }
+        ensures { IsLoaded layout.now self.now.who self.now.page self.now.slot self.now.touch frame body pte result }
     {
         match pte {
-            Pte::Empty => Fault::with_room(who, page, slot, frame, body),
-            Pte::At(_) => Fault::let_go(who, page, frame, body, FaultAnswer::Again),
-            Pte::Poison => unreachable!(),
+            Pte::At(_) => Fault::let_go(self.who, self.page, frame, body, FaultAnswer::Again),
+            Pte::Poison => self.refuse(layout, frame, body),
+            Pte::Empty => {
+                if body.state().lost {
+                    self.refuse(layout, frame, body)
+                } else {
+                    Fault::with_room(self.who, self.page, self.slot, frame, body)
+                }
+            }
+        }
+    }
+
+    /// Makes room for the entry that the access is answered by SIGBUS, and appends it; or gives up.
+    fn refuse(&self, layout: &Layout, frame: Option<Frame>, mut body: Body) -> FaultAt
+        requires allowed { IsRefused body.layout body.page body.state self.now.touch.thread self.now.slot }
+        ensures { IsRefusal layout.now self.now.who self.now.page self.now.slot self.now.touch frame body result }
+    {
+        match body.room() {
+            Ok(()) => {
+                let place = body.len();
+                self.enter(&mut body);
+                self.after_refusal(layout, frame, body, place)
+            }
+            Err(_) => FaultAt::GiveUp {
+                give_up: GiveUp::with_page(self.who, self.page, frame, 1, body),
+            },
+        }
+    }
+
+    /// Appends the entry that the access is answered by SIGBUS.
+    fn enter(&self, body: &mut Body)
+        requires { CanRefuse self.now.slot self.now.touch body.old }
+        ensures { body.new ≡ refused self.now.who self.now.slot self.now.touch body.old }
+    {
+        body.append(Entry {
+            who: self.who,
+            what: self.touch.refusal(self.slot),
+        });
+    }
+
+    /// Ends the process where its thread has no handler; or lets the page go at once.
+    fn after_refusal(
+        &self,
+        layout: &Layout,
+        frame: Option<Frame>,
+        body: Body,
+        place: u64,
+    ) -> FaultAt
+        ensures { result ≡ after_refusal layout.now self.now.who self.now.page self.now.touch frame body place }
+    {
+        if self.touch.ends(layout) {
+            FaultAt::Kill { frame, body, place }
+        } else {
+            Fault::let_go(
+                self.who,
+                self.page,
+                frame,
+                body,
+                FaultAnswer::Sigbus { place },
+            )
         }
     }
 
@@ -220,6 +303,11 @@ impl Machine for Fault {
             FaultAt::LoadPte { .. } => Some(Step::Load {
                 place: Place::Trans(self.slot),
             }),
+            FaultAt::Kill { body, .. } => Some(Step::Kill {
+                process: self.touch.process,
+                page: self.page,
+                body: Snapshot::of(body),
+            }),
             FaultAt::Fill { fill } => fill.plan(),
             FaultAt::MapIn { map_in } => map_in.plan(),
             FaultAt::Unhold { unhold, .. } => unhold.plan(),
@@ -234,6 +322,7 @@ impl Machine for Fault {
             FaultAt::GiveUp { give_up } => give_up.give(),
             FaultAt::Hold { .. }
             | FaultAt::LoadPte { .. }
+            | FaultAt::Kill { .. }
             | FaultAt::Fill { .. }
             | FaultAt::MapIn { .. }
             | FaultAt::Over { .. } => None,
@@ -249,7 +338,12 @@ impl Machine for Fault {
             }
             FaultAt::LoadPte { frame, body } => {
                 let pte = Pte::unpack(found);
-                self.at = Fault::after_pte(self.who, self.page, self.slot, frame, body, pte);
+                self.at = self.after_pte(layout, frame, body, pte);
+                Turn::Moved
+            }
+            FaultAt::Kill { frame, body, place } => {
+                let answer = FaultAnswer::Sigbus { place };
+                self.at = Fault::let_go(self.who, self.page, frame, body, answer);
                 Turn::Moved
             }
             FaultAt::Fill { mut fill } => {
@@ -295,7 +389,11 @@ impl Ranked for Fault {
     fn class(&self) -> u8 {
         match &self.at {
             FaultAt::Hold { hold } => hold.class(),
-            FaultAt::LoadPte { frame, .. } => if frame.is_some() { 1 } else { 2 },
+            FaultAt::LoadPte { frame, .. } | FaultAt::Kill { frame, .. } => if frame.is_some() {
+                1
+            } else {
+                2
+            },
             FaultAt::Fill { fill } => fill.class(),
             FaultAt::MapIn { map_in } => map_in.class(),
             FaultAt::Unhold { unhold, .. } => unhold.class(),

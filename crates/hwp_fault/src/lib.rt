@@ -5,7 +5,9 @@
 mod access;
 mod fault;
 mod map_in;
+mod touch;
 
-pub use access::{Access, AccessAnswer, AccessKind};
+pub use access::{Access, AccessAnswer};
 pub use fault::{Fault, FaultAnswer};
 pub use map_in::MapIn;
+pub use touch::{AccessKind, Touch};

@@ -40,7 +40,6 @@ use Rattle.hwp_rule.specs.Logs.{log_of, opening_at, state_of, fitting, fitting_w
 use Rattle.hwp_rule.specs.Views.{is_body_of, more_of, page_locks_on}
 use Rattle.hwp_rule.specs.parts.Entries.{HasSeen}
 use Rattle.hwp_rule.specs.parts.Fits.{FitsWords}
-use Rattle.hwp_rule.specs.Unfailed.{is_failure, HaveNoFailure}
 use Rattle.hwp_rule.proofs.FittingWords.{fitting-at}
 use Rattle.hwp_rule.proofs.Lists.{same-number}
 use Rattle.hwp_step.specs.Hands.{Hand, hand_of, body_in}
@@ -138,9 +137,6 @@ module _ {layout : Layout} {page : Page} {body : BodyValue} (who : Who) (frame :
     own = of-entry (λ (e : Entry). e.who ≡ who) refl;
     seen = of-entry (λ (e : Entry). HasSeen (drop seen sights) who None e.what) tt;
   }
-
-  pub none-fails : HaveNoFailure (more_of taken more)
-  none-fails = of-entry (λ (e : Entry). is_failure e.what ≡ false) refl
 
   -- no translation is in use, so none names the frame
   same-word : (slot : ℕ) → fitting_word state 0 slot ≡ fitting_word (state_of layout more) (frame.0 + 1) slot

@@ -1,13 +1,16 @@
 -- The costs of more references, of a fill and of a command given up fall.
 use Rattle.std.proofs.Common.{◌≡◌, ℕ, ◌+◌, ◌*◌, ◌%◌, ◌^◌, ◌<◌, ◌≤◌, ◌==◌, ◌⊎◌, inl, inr, Bool, true, false, cond, Some, None, is_none, slice_index, refl, sym, ap, ◌∙◌, subst, arith}
 use Rattle.std.proofs.lemmas.Bool.{both_ways}
-use Rattle.std.proofs.lemmas.Option.{none-some}
+use Rattle.std.proofs.lemmas.Option.{none-some, same_Some}
 use Rattle.hwp_geom.specs.declared.Frame.{Frame}
 use Rattle.hwp_geom.specs.declared.Layout.{Layout}
 use Rattle.hwp_rule.specs.declared.State.{State}
+use Rattle.hwp_rule.specs.declared.Place.TheVariants as places
 use Rattle.hwp_rule.specs.declared.Step.{Step}
+use Rattle.hwp_rule.specs.declared.Step.TheVariants as steps
 use Rattle.hwp_rule.specs.declared.View.{View}
 use Rattle.hwp_rule.specs.Rule.{Holds}
+use Rattle.hwp_rule.specs.Served.{IsMild}
 use Rattle.hwp_rule.specs.Steps.{place_of, word_after}
 use Rattle.hwp_rule.specs.Words.{Words, read}
 use Rattle.hwp_rule.proofs.Lists.{same-number}
@@ -37,12 +40,10 @@ use Rattle.hwp_hold.specs.Takes as takes
 use Rattle.hwp_hold.specs.Unholds as unholds
 use Rattle.hwp_hold.specs.Unlocks as unlocks
 use Rattle.hwp_hold.proofs.Making.{IsMet, words_then, is-met}
-use Rattle.hwp_hold.proofs.Ranking.{met-own, left-own, stale-most, unhold-falls, unhold-small, unhold-class}
+use Rattle.hwp_hold.proofs.Ranking.{met-own, left-own, stale-most, unhold-falls, unhold-small, unhold-class, unhold-mild}
 use Rattle.hwp_hold.proofs.Unlocking.{unlock-falls, unlock-small, unlock-class}
+use Rattle.hwp_hold.proofs.Unlocking as unlocking
 use Rattle.hwp_hold.proofs.TakeCosts as taking
-use Rattle.hwp_hold.proofs.Filling as filling
-use Rattle.hwp_hold.proofs.GivingUp as giving_up
-use Rattle.hwp_hold.proofs.Referring as referring
 
 -- ---- more references
 
@@ -89,6 +90,15 @@ refer-goes r found = which r.at
     which (refer_at.Get seen) = by (found == seen)
     which refer_at.Over = refl
 
+-- none of its steps poisons a frame or takes its poison back
+pub refer-mild : (s : Refer) (step : Step) → refers.plan s ≡ Some step → IsMild step
+refer-mild s step is = which s.at is
+  where
+    which : (x : ReferAt) → refers.plan_at s.frame s.count x ≡ Some step → IsMild step
+    which refer_at.Load e = subst IsMild (same_Some (steps.Load (places.Frame s.frame)) step e) tt
+    which (refer_at.Get seen) e = subst IsMild (same_Some (steps.GetRef s.frame seen s.count) step e) tt
+    which refer_at.Over e = absurd (none-some step e)
+
 abbrev refer-member : Member Refer
 refer-member = member (λ r. r.who) refers.plan (λ r. None) (λ r. r) (λ layout r found got after result. (after ≡ refers.next r found) × (result ≡ refers.turn r found)) refers.Fits (λ r. 4) refers.cost (λ r. false) (λ r. None)
 
@@ -97,7 +107,7 @@ refer-ranked = rank-of refer-member (λ s. refl) (λ s. (omega arith, omega arit
     (λ layout seat a b s t turn made goes. subst (λ (x : Refer). refers.cost x (words_at layout b) < refers.cost s (words_at layout a)) (sym made.follows.0)
     (refer-falls (words_at layout a) (words_at layout b) s made.step made.found made.planned (met made) (words-kept made)))
     (λ layout seat a b s t turn made is quiet. absurd (both_ways true (sym is ∙ ap is_waits made.follows.1 ∙ refer-goes s made.found) refl))
-    (λ s. refl) (λ layout view s step fits is. (referring.can layout view s step fits is).served)
+    (λ s. refl) refer-mild
 
 -- ---- a page put into a frame
 
@@ -182,6 +192,17 @@ fill-goes f found = which f.at
     which (fill_at.SetCache frame) = refl
     which (fill_at.Over frame) = refl
 
+-- none of its steps poisons a frame or takes its poison back
+pub fill-mild : (s : Fill) (step : Step) → fills.plan s ≡ Some step → IsMild step
+fill-mild s step is = which s.at is
+  where
+    which : (x : FillAt) → fills.plan_at s.page x ≡ Some step → IsMild step
+    which (fill_at.Take t) e = taking.mild t step e
+    which (fill_at.SetOwner frame) e = subst IsMild (same_Some (steps.SetOwner frame s.page true) step e) tt
+    which (fill_at.Refer r) e = refer-mild r step e
+    which (fill_at.SetCache frame) e = subst IsMild (same_Some (steps.SetCache s.page (Some frame)) step e) tt
+    which (fill_at.Over frame) e = absurd (none-some step e)
+
 abbrev fill-member : Member Fill
 fill-member = member (λ f. f.who) fills.plan (λ f. None) (λ f. f) (λ layout f found got after result. (after ≡ fills.next layout f found) × (result ≡ fills.turn f found)) fills.Fits fills.class fills.cost (λ f. false) (λ f. None)
 
@@ -194,7 +215,7 @@ pub fill-ranked : IsRanked fill-member
 fill-ranked = rank-failing fill-member (λ s. refl) fill-class (λ layout a seat s rule fits. let few : fills.cost s (words_at layout a) ≤ 8208 = fill-small layout a s rule in omega arith)
     (λ layout seat a b s t turn made goes. fill-lowers made (fill-falls layout a seat (view_of a seat) (words_at layout b) s made.step made.found (is-met made) (words-after made) (met made) (words-kept made) made.fits made.planned))
     (λ layout seat a b s t turn made is quiet. absurd (both_ways true (sym is ∙ ap is_waits made.follows.1 ∙ fill-goes s made.found) refl))
-    (λ s. refl) (λ layout view s step fits is. (filling.can layout view s step fits is).served)
+    (λ s. refl) fill-mild
 
 -- ---- a command given up
 
@@ -254,6 +275,16 @@ give-up-goes g = which g.at
     which give_up_at.GiveUp = refl
     which give_up_at.Over = refl
 
+-- none of its steps poisons a frame or takes its poison back
+pub give-up-mild : (s : GiveUp) (step : Step) → give_ups.plan s ≡ Some step → IsMild step
+give-up-mild s step is = which s.at is
+  where
+    which : (x : GiveUpAt) → give_ups.plan_at x ≡ Some step → IsMild step
+    which (give_up_at.Unhold u) e = unhold-mild u step e
+    which (give_up_at.Unlock u) e = unlocking.mild u step e
+    which give_up_at.GiveUp e = subst IsMild (same_Some (steps.GiveUp) step e) tt
+    which give_up_at.Over e = absurd (none-some step e)
+
 abbrev give-up-member : Member GiveUp
 give-up-member = member (λ g. g.who) give_ups.plan give_ups.put give_ups.bare (λ layout g found got after result. (after ≡ give_ups.next g found) × (result ≡ give_ups.turn g)) give_ups.Fits give_ups.class give_ups.cost (λ g. false) (λ g. None)
 
@@ -262,4 +293,4 @@ give-up-ranked = rank-of give-up-member (λ s. refl) give-up-class (λ layout a 
     (λ layout seat a b s t turn made goes. subst (λ (x : GiveUp). give_ups.cost x (words_at layout b) < give_ups.cost s (words_at layout a)) (sym made.follows.0)
     (give-up-falls (words_at layout a) (words_at layout b) s made.step made.found made.planned))
     (λ layout seat a b s t turn made is quiet. absurd (both_ways true (sym is ∙ ap is_waits made.follows.1 ∙ give-up-goes s) refl))
-    (λ s. refl) (λ layout view s step fits is. (giving_up.can layout view s step fits is).served)
+    (λ s. refl) give-up-mild

@@ -42,7 +42,7 @@ use Rattle.hwp_hold.specs.Takes as takes
 use Rattle.hwp_hold.specs.Takes.{adopted_lock, new_lock}
 use Rattle.hwp_hold.specs.Unholds as unholds
 use Rattle.hwp_hold.specs.Unholds.{holding, HoldsAhead}
-use Rattle.hwp_hold.proofs.Bringing.{trans, goes-home, none-fails}
+use Rattle.hwp_hold.proofs.Bringing.{trans, goes-home}
 use Rattle.hwp_hold.proofs.Referring as referring
 use Rattle.hwp_hold.proofs.Taking as taking
 use Rattle.hwp_hold.proofs.Unholding.{refs-are}
@@ -205,7 +205,6 @@ module _ {layout : Layout} {old new : View} {who : Who} {page : Page} {body : Bo
       poisoned = false;
       hand_is = hand;
       home = goes-home who frame has.seen has.entry new false false hand;
-      sound = none-fails who frame has.seen has.entry;
       page_is = has.entry.body_is.page_is;
       taken_is = has.entry.body_is.page_is;
       layout_is = has.entry.body_is.layout_is;

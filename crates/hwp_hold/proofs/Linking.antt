@@ -1,5 +1,5 @@
 -- What a finished `Hold` leaves fits `Unhold`: the page can be let go with its body as it was taken.
-use Rattle.std.proofs.Common.{◌≡◌, ℕ, ◌+◌, ◌<◌, ◌==◌, Bool, true, false, cond, List, [], ◌∷◌, ◌++◌, Option, Some, None, is_none, length, drop, slice_get, append-nil, refl, sym, ap, ◌∙◌, subst, arith}
+use Rattle.std.proofs.Common.{◌≡◌, ℕ, ◌+◌, ◌<◌, ◌==◌, Bool, true, cond, List, [], ◌∷◌, ◌++◌, Option, Some, None, is_none, length, drop, slice_get, append-nil, refl, sym, ap, ◌∙◌, subst, arith}
 use Rattle.std.proofs.lemmas.Bool.{both_ways, false≢true}
 use Rattle.std.proofs.lemmas.List.{drop_all}
 use Rattle.std.proofs.lemmas.List.Sums.{sum_by-cons}
@@ -25,7 +25,6 @@ use Rattle.hwp_rule.specs.Logs.{log_of, state_of, fitting, fitting_word}
 use Rattle.hwp_rule.specs.Views.{more_of, page_locks_on}
 use Rattle.hwp_rule.specs.parts.Entries.{HasSeen}
 use Rattle.hwp_rule.specs.parts.Fits.{FitsWords}
-use Rattle.hwp_rule.specs.Unfailed.{is_failure, HaveNoFailure}
 use Rattle.hwp_rule.proofs.FittingWords.{fitting-at}
 use Rattle.hwp_rule.proofs.Lists.{same-number}
 use Rattle.hwp_known.specs.Known.{SawLog}
@@ -60,9 +59,6 @@ module _ (layout : Layout) (who : Who) (frame : Option Frame) (log : Log) (seen 
     own = subst (EachMember (λ (e : Entry). e.who ≡ who)) (sym none-more) (no-member (λ (e : Entry). e.who ≡ who));
     seen = subst (EachMember (λ (e : Entry). HasSeen (drop seen sights) who frame e.what)) (sym none-more) (no-member (λ (e : Entry). HasSeen (drop seen sights) who frame e.what));
   }
-
-  pub none-fails : HaveNoFailure (more_of taken log)
-  none-fails = subst HaveNoFailure (sym none-more) (no-member (λ (e : Entry). is_failure e.what ≡ false))
 
 module _ (layout : Layout) (view : View) (who : Who) (page : Page) (frame : Option Frame) (body : BodyValue) (has : HoldsPage layout view page frame body) where
   abbrev log : Log
@@ -130,7 +126,6 @@ held-ahead layout view who page None body has = record {
   poisoned = has.poisoned;
   hand_is = has.hand_is;
   home = goes-home layout view who page None body has;
-  sound = none-fails layout who None (log_of body) has.seen;
   page_is = has.body_is.page_is;
   taken_is = has.body_is.page_is;
   layout_is = has.body_is.layout_is;
@@ -144,7 +139,6 @@ held-ahead layout view who page (Some frame) body has = record {
   poisoned = has.poisoned;
   hand_is = has.hand_is;
   home = goes-home layout view who page (Some frame) body has;
-  sound = none-fails layout who (Some frame) (log_of body) has.seen;
   page_is = has.body_is.page_is;
   taken_is = has.body_is.page_is;
   layout_is = has.body_is.layout_is;
@@ -169,7 +163,6 @@ ahead-unholds layout view who page None count body on inside has some within = r
     poisoned = has.poisoned;
     hand_is = has.hand_is;
     home = has.home;
-    sound = has.sound;
     page_is = has.page_is;
     taken_is = has.taken_is;
     layout_is = has.layout_is;

@@ -11,11 +11,13 @@ use Rattle.hwp_rule.specs.declared.Place.TheVariants as places
 use Rattle.hwp_rule.specs.declared.State.{State}
 use Rattle.hwp_rule.specs.declared.Step.{Step}
 use Rattle.hwp_rule.specs.declared.Step.TheVariants as steps
+use Rattle.hwp_rule.specs.Served.{IsMild}
 use Rattle.hwp_rule.specs.Steps.{place_of, word_after, is_last}
 use Rattle.hwp_rule.specs.Views.{frame_in}
 use Rattle.hwp_rule.specs.Words.{Words, read, index}
 use Rattle.hwp_rule.proofs.Lists.{same-number}
 use Rattle.hwp_rule.proofs.Meeting.{held-word, page-free, frame-free}
+use Rattle.hwp_known.proofs.Listing.{ListsNone}
 use Rattle.hwp_step.specs.declared.Turn.{Turn}
 use Rattle.hwp_step.specs.declared.Turn.TheVariants.{Moved, Changed, Waits}
 use Rattle.hwp_step.specs.Boards.{view_of}
@@ -40,9 +42,6 @@ use Rattle.hwp_hold.specs.Pins as pins
 use Rattle.hwp_hold.specs.Releases as releases
 use Rattle.hwp_hold.specs.Unholds as unholds
 use Rattle.hwp_hold.proofs.Holding as holding
-use Rattle.hwp_hold.proofs.Pinning as pinning
-use Rattle.hwp_hold.proofs.Releasing as releasing
-use Rattle.hwp_hold.proofs.Unholding as unholding
 
 -- ---- a reference
 
@@ -106,6 +105,26 @@ pin-goes p found = which p.at
     which (pin_at.Held word) = refl
     which (pin_at.Gone word) = refl
 
+-- none of its steps poisons a frame or takes its poison back
+pub pin-mild : (s : Pin) (step : Step) → pins.plan s ≡ Some step → IsMild step
+pin-mild s step is = which s.at is
+  where
+    which : (x : PinAt) → pins.plan_at s.frame x ≡ Some step → IsMild step
+    which pin_at.Load e = subst IsMild (same_Some (steps.Load (places.Frame s.frame)) step e) tt
+    which (pin_at.Get seen) e = subst IsMild (same_Some (steps.GetRef s.frame seen 1) step e) tt
+    which (pin_at.Held word) e = absurd (none-some step e)
+    which (pin_at.Gone word) e = absurd (none-some step e)
+
+-- none of its steps lists an entry by itself
+pub pin-lists : (s : Pin) (step : Step) → pins.plan s ≡ Some step → ListsNone step
+pin-lists s step is = which s.at is
+  where
+    which : (x : PinAt) → pins.plan_at s.frame x ≡ Some step → ListsNone step
+    which pin_at.Load e = subst ListsNone (same_Some (steps.Load (places.Frame s.frame)) step e) tt
+    which (pin_at.Get seen) e = subst ListsNone (same_Some (steps.GetRef s.frame seen 1) step e) tt
+    which (pin_at.Held word) e = absurd (none-some step e)
+    which (pin_at.Gone word) e = absurd (none-some step e)
+
 abbrev pin-member : Member Pin
 pin-member = member (λ p. p.who) pins.plan (λ p. None) (λ p. p) (λ layout p found got after result. (after ≡ pins.next p found) × (result ≡ pins.turn p found)) pins.Fits (λ p. 4) pins.cost (λ p. false) (λ p. None)
 
@@ -114,7 +133,7 @@ pin-ranked = rank-of pin-member (λ s. refl) (λ s. (omega arith, omega arith)) 
     (λ layout seat a b s t turn made goes. subst (λ (x : Pin). pins.cost x (words_at layout b) < pins.cost s (words_at layout a)) (sym made.follows.0)
     (pin-falls (words_at layout a) (words_at layout b) s made.step made.found made.planned (met made) (words-kept made)))
     (λ layout seat a b s t turn made is quiet. absurd (both_ways true (sym is ∙ ap is_waits made.follows.1 ∙ pin-goes s made.found) refl))
-    (λ s. refl) (λ layout view s step fits is. (pinning.can layout view s step fits is).served)
+    (λ s. refl) pin-mild
 
 -- ---- references given back
 
@@ -156,6 +175,30 @@ release-class r = which r.at
     which release_at.Retire = (omega arith, omega arith)
     which release_at.Back = (omega arith, omega arith)
 
+-- none of its steps poisons a frame or takes its poison back
+pub release-mild : (s : Release) (step : Step) → releases.plan s ≡ Some step → IsMild step
+release-mild s step is = which s.at is
+  where
+    which : (x : ReleaseAt) → releases.plan_at s.frame s.count x ≡ Some step → IsMild step
+    which release_at.Put e = subst IsMild (same_Some (steps.PutRef s.frame s.count) step e) tt
+    which release_at.Give e = subst IsMild (same_Some (steps.GiveBit s.frame) step e) tt
+    which release_at.Unreserve e = subst IsMild (same_Some (steps.Unreserve) step e) tt
+    which release_at.Adopt e = subst IsMild (same_Some (steps.Adopt s.frame) step e) tt
+    which release_at.Retire e = subst IsMild (same_Some (steps.Retire s.frame) step e) tt
+    which release_at.Back e = absurd (none-some step e)
+
+-- none of its steps lists an entry by itself
+pub release-lists : (s : Release) (step : Step) → releases.plan s ≡ Some step → ListsNone step
+release-lists s step is = which s.at is
+  where
+    which : (x : ReleaseAt) → releases.plan_at s.frame s.count x ≡ Some step → ListsNone step
+    which release_at.Put e = subst ListsNone (same_Some (steps.PutRef s.frame s.count) step e) tt
+    which release_at.Give e = subst ListsNone (same_Some (steps.GiveBit s.frame) step e) tt
+    which release_at.Unreserve e = subst ListsNone (same_Some (steps.Unreserve) step e) tt
+    which release_at.Adopt e = subst ListsNone (same_Some (steps.Adopt s.frame) step e) tt
+    which release_at.Retire e = subst ListsNone (same_Some (steps.Retire s.frame) step e) tt
+    which release_at.Back e = absurd (none-some step e)
+
 abbrev release-member : Member Release
 release-member = member (λ r. r.who) releases.plan (λ r. None) (λ r. r) (λ layout r found got after result. (after ≡ releases.next r found) × (result ≡ Moved)) releases.Fits releases.class releases.cost (λ r. false) (λ r. None)
 
@@ -164,7 +207,7 @@ release-ranked = rank-of release-member (λ s. refl) release-class (λ layout a 
     (λ layout seat a b s t turn made goes. subst (λ (x : Release). releases.cost x (words_at layout b) < releases.cost s (words_at layout a)) (sym made.follows.0)
     (release-falls (words_at layout a) (words_at layout b) s made.step made.found made.planned))
     (λ layout seat a b s t turn made is quiet. absurd (both_ways true (sym is ∙ ap is_waits made.follows.1) refl))
-    (λ s. refl) (λ layout view s step fits is. (releasing.can layout view s step fits is).served)
+    (λ s. refl) release-mild
 
 -- ---- a page held
 
@@ -230,6 +273,28 @@ hold-class h = which h.at
     which (hold_at.Held None body) = (omega arith, omega arith)
     which (hold_at.Held (Some frame) body) = (omega arith, omega arith)
 
+-- none of its steps poisons a frame or takes its poison back
+pub hold-mild : (s : Hold) (step : Step) → holds.plan s ≡ Some step → IsMild step
+hold-mild s step is = which s.at is
+  where
+    which : (x : HoldAt) → holds.plan_at s.page x ≡ Some step → IsMild step
+    which hold_at.LockPage e = subst IsMild (same_Some (steps.LockPage s.page) step e) tt
+    which (hold_at.LoadCache body) e = subst IsMild (same_Some (steps.Load (places.Cache s.page)) step e) tt
+    which (hold_at.Pin p) e = pin-mild p step e
+    which (hold_at.LockFrame frame) e = subst IsMild (same_Some (steps.LockFrame frame) step e) tt
+    which (hold_at.Held frame body) e = absurd (none-some step e)
+
+-- none of its steps lists an entry by itself
+pub hold-lists : (s : Hold) (step : Step) → holds.plan s ≡ Some step → ListsNone step
+hold-lists s step is = which s.at is
+  where
+    which : (x : HoldAt) → holds.plan_at s.page x ≡ Some step → ListsNone step
+    which hold_at.LockPage e = subst ListsNone (same_Some (steps.LockPage s.page) step e) tt
+    which (hold_at.LoadCache body) e = subst ListsNone (same_Some (steps.Load (places.Cache s.page)) step e) tt
+    which (hold_at.Pin p) e = pin-lists p step e
+    which (hold_at.LockFrame frame) e = subst ListsNone (same_Some (steps.LockFrame frame) step e) tt
+    which (hold_at.Held frame body) e = absurd (none-some step e)
+
 abbrev hold-member : Member Hold
 hold-member = member (λ h. h.who) holds.plan (λ h. None) (λ h. h) (λ layout h found got after result. (after ≡ holds.next h found got) × (result ≡ holds.turn h found)) holds.Fits holds.class holds.cost (λ h. false) (λ h. None)
 
@@ -268,7 +333,7 @@ module _ {layout : Layout} {seat : ℕ} {a b : State} {s t : Hold} {turn : Turn}
 pub hold-ranked : IsRanked hold-member
 hold-ranked = rank-of hold-member (λ s. refl) hold-class (λ layout a seat s rule fits. let few : holds.cost s (words_at layout a) ≤ 4098 = hold-small (words_at layout a) s in omega arith)
     (λ layout seat a b s t turn made goes. held-cost-falls made goes) (λ layout seat a b s t turn made waits quiet. absurd (never-waits made waits quiet))
-    (λ s. refl) (λ layout view s step fits is. (holding.can layout view s step fits is).served)
+    (λ s. refl) hold-mild
 
 -- ---- a page let go
 
@@ -313,6 +378,16 @@ unhold-class u = which u.at
     which (unhold_at.UnlockPage body) = (omega arith, omega arith)
     which unhold_at.Over = (omega arith, omega arith)
 
+-- none of its steps poisons a frame or takes its poison back
+pub unhold-mild : (s : Unhold) (step : Step) → unholds.plan s ≡ Some step → IsMild step
+unhold-mild s step is = which s.at is
+  where
+    which : (x : UnholdAt) → unholds.plan_at s.page x ≡ Some step → IsMild step
+    which (unhold_at.UnlockFrame frame count body) e = subst IsMild (same_Some (steps.UnlockFrame frame) step e) tt
+    which (unhold_at.Release r) e = release-mild r step e
+    which (unhold_at.UnlockPage body) e = subst IsMild (same_Some (steps.UnlockPage s.page) step e) tt
+    which unhold_at.Over e = absurd (none-some step e)
+
 abbrev unhold-member : Member Unhold
 unhold-member = member (λ u. u.who) unholds.plan unholds.put unholds.bare (λ layout u found got after result. (after ≡ unholds.next u found) × (result ≡ Moved)) unholds.Fits unholds.class unholds.cost (λ u. false) (λ u. None)
 
@@ -321,4 +396,4 @@ unhold-ranked = rank-of unhold-member (λ s. refl) unhold-class (λ layout a sea
     (λ layout seat a b s t turn made goes. subst (λ (x : Unhold). unholds.cost x (words_at layout b) < unholds.cost s (words_at layout a)) (sym made.follows.0)
     (unhold-falls (words_at layout a) (words_at layout b) s made.step made.found made.planned))
     (λ layout seat a b s t turn made is quiet. absurd (both_ways true (sym is ∙ ap is_waits made.follows.1) refl))
-    (λ s. refl) (λ layout view s step fits is. (unholding.can layout view s step fits is).served)
+    (λ s. refl) unhold-mild

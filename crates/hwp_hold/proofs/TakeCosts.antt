@@ -11,6 +11,7 @@ use Rattle.hwp_rule.specs.declared.Step.{Step}
 use Rattle.hwp_rule.specs.declared.Step.TheVariants as steps
 use Rattle.hwp_rule.specs.declared.View.{View}
 use Rattle.hwp_rule.specs.Rule.{Holds}
+use Rattle.hwp_rule.specs.Served.{IsMild}
 use Rattle.hwp_rule.specs.Words.{Words, free_words, free_bit}
 use Rattle.hwp_rule.proofs.Lists.{same-number}
 use Rattle.hwp_step.specs.declared.Turn.{Turn}
@@ -25,7 +26,6 @@ use Rattle.hwp_hold.specs.Takes.{at_available, after_word, lowest_free, has_bit,
 use Rattle.hwp_hold.proofs.Freeing.{all_zero, frees-length, some-free, some-reserved, shown, lowest-shown, none-cleared, zero-on, not-zero, zero-past}
 use Rattle.hwp_hold.proofs.Making.{IsMet, words_then, is-met, read-met, words-stay}
 use Rattle.hwp_hold.proofs.Ranking.{stale-most}
-use Rattle.hwp_hold.proofs.Taking.{can}
 
 -- the step retires a frame
 abbrev pub Retires : Step → Type 0
@@ -197,6 +197,19 @@ goes-on t found = which t.at
     which (take_at.Retire frame) = refl
     which (take_at.Over frame) = refl
 
+-- none of its steps poisons a frame or takes its poison back
+pub mild : (s : Take) (step : Step) → plan s ≡ Some step → IsMild step
+mild s step is = which s.at is
+  where
+    which : (x : TakeAt) → plan_at x ≡ Some step → IsMild step
+    which take_at.LoadAvailable e = subst IsMild (same_Some (steps.Load places.Available) step e) tt
+    which (take_at.Reserve seen) e = subst IsMild (same_Some (steps.Reserve seen) step e) tt
+    which (take_at.LoadFree number) e = subst IsMild (same_Some (steps.Load (places.Free number)) step e) tt
+    which (take_at.TakeBit frame) e = subst IsMild (same_Some (steps.TakeBit frame) step e) tt
+    which (take_at.Adopt frame) e = subst IsMild (same_Some (steps.Adopt frame) step e) tt
+    which (take_at.Retire frame) e = subst IsMild (same_Some (steps.Retire frame) step e) tt
+    which (take_at.Over frame) e = absurd (none-some step e)
+
 abbrev take-member : Member Take
 take-member = member (λ t. t.who) plan (λ t. None) (λ t. t) (λ layout t found got after result. (after ≡ next layout t found) × (result ≡ turn t found)) Fits class cost (λ t. false) (λ t. None)
 
@@ -210,4 +223,4 @@ pub ranked : IsRanked take-member
 ranked = rank-failing take-member (λ s. refl) class-within (λ layout a seat s rule fits. let few : cost s (words_at layout a) ≤ 8204 = small layout a s rule in omega arith)
     (λ layout seat a b s t turned made goes. lowers made (falls layout a seat (view_of a seat) made.found s made.step (is-met made) made.fits made.planned))
     (λ layout seat a b s t turned made is quiet. absurd (both_ways true (sym is ∙ ap is_waits made.follows.1 ∙ goes-on s made.found) refl))
-    (λ s. refl) (λ layout view s step fits is. (can layout view s step fits is).served)
+    (λ s. refl) mild

@@ -19,12 +19,10 @@ use Rattle.hwp_rule.specs.declared.View.{View}
 use Rattle.hwp_rule.specs.Lists.{EachMember}
 use Rattle.hwp_rule.specs.Asks.{CanUnlockFrame, CanUnlockPage}
 use Rattle.hwp_rule.specs.Steps.{is_last}
-use Rattle.hwp_rule.specs.Unfailed.{AddsNoFailure}
 use Rattle.hwp_rule.specs.Views.{without, is_lock_of, is_page_lock_of, is_body_of, hand_found, less_refs, refs_on, locks_on}
 use Rattle.std.specs.List.{find}
 use Rattle.hwp_rule.proofs.Lists.{same-number}
 use Rattle.hwp_rule.proofs.Refs.{refs-cons}
-use Rattle.hwp_rule.proofs.Unfailed.{adds-one}
 use Rattle.hwp_step.specs.declared.Turn.{Turn}
 use Rattle.hwp_step.specs.declared.Turn.TheVariants.{Moved}
 use Rattle.hwp_rule.specs.Logs.{log_of}
@@ -113,18 +111,6 @@ module _ {layout : Layout} {who : Who} {view : View} {page : Page} where
     put = has.home;
   })
 
-adds-sound : (layout : Layout) (who : Who) (view : View) (page : Page) (frame : Option Frame) (count : ℕ) (body : Option BodyValue) → HoldsAhead layout who view page frame count body → AddsNoFailure view (logs body)
-adds-sound layout who view page frame count body has = subst (λ (b : Option BodyValue). AddsNoFailure view (logs b)) (sym has.given_is)
-    (adds-one view (log_of has.body) has.taken (ap (λ (h : Hand). h.bodies) has.hand_is ∙ which frame) has.sound)
-  where
-    which : (f : Option Frame) → (holding page f count has.trans has.taken has.handled has.poisoned).bodies ≡ has.taken ∷ []
-    which None = refl
-    which (Some f) = refl
-
-page-adds : (layout : Layout) (who : Who) (view : View) (page : Page) (body : Option BodyValue) → FitsPage layout who view page body → AddsNoFailure view (logs body)
-page-adds layout who view page None has = tt
-page-adds layout who view page (Some given) has = adds-sound layout who view page None 1 (Some given) has
-
 body-fits : (layout : Layout) (who : Who) (view : View) (page : Page) (frame : Option Frame) (count : ℕ) (body : Option BodyValue) → HoldsAhead layout who view page frame count body → (b : BodyValue) → body ≡ Some b → b.layout ≡ layout
 body-fits layout who view page frame count body has b is = ap (λ (x : BodyValue). x.layout) (same_Some b has.body (sym is ∙ has.given_is)) ∙ has.layout_is
 
@@ -137,9 +123,8 @@ can layout view u step fits is = which u.at fits.at is
   where
     which : (x : UnholdAt) → FitsAt layout view u.who u.page x → plan_at u.page x ≡ Some step → CanMake layout u.who step (put_at x) view
     which (at.UnlockFrame frame count body) at e = can-put fits.on_turn e tt at.1.1 (can-free-frame frame count body at.0) (body-fits layout u.who view u.page (Some frame) count body at.0) tt
-        (adds-sound layout u.who view u.page (Some frame) count body at.0)
     which (at.Release r) at e = subst (λ (w : Who). CanMake layout w step None view) at.own (releasing-laws.can layout view r step at.release e)
-    which (at.UnlockPage body) at e = can-put fits.on_turn e tt fits.page (can-free-page body at) (page-fits layout u.who view u.page body at) tt (page-adds layout u.who view u.page body at)
+    which (at.UnlockPage body) at e = can-put fits.on_turn e tt fits.page (can-free-page body at) (page-fits layout u.who view u.page body at) tt
     which at.Over at e = absurd (none-some step e)
 
 -- ---- what follows fits

@@ -15,13 +15,11 @@ use Rattle.hwp_rule.specs.declared.Step.{Step}
 use Rattle.hwp_rule.specs.declared.Step.TheVariants as steps
 use Rattle.hwp_rule.specs.declared.View.{View}
 use Rattle.hwp_rule.specs.Asks.{CanUnlockFrame}
-use Rattle.hwp_rule.specs.Logs.{log_of}
+use Rattle.hwp_rule.specs.Served.{IsMild}
 use Rattle.hwp_rule.specs.Steps.{is_last}
-use Rattle.hwp_rule.specs.Unfailed.{AddsNoFailure}
 use Rattle.hwp_rule.specs.Views.{without, is_lock_of, less_refs, refs_on, locks_on}
 use Rattle.hwp_rule.specs.Words.{Words}
 use Rattle.hwp_rule.proofs.Lists.{same-number}
-use Rattle.hwp_rule.proofs.Unfailed.{adds-one}
 use Rattle.hwp_step.specs.declared.Turn.{Turn}
 use Rattle.hwp_step.specs.declared.Turn.TheVariants.{Moved}
 use Rattle.hwp_step.specs.Calls.{CanMake, FitsLayout, Steps, IsOnTurn, logs}
@@ -38,7 +36,7 @@ use Rattle.hwp_hold.specs.declared.unlock.UnlockAt.TheVariants as at
 use Rattle.hwp_hold.specs.Holds.{one_ref}
 use Rattle.hwp_hold.specs.Releases as releases
 use Rattle.hwp_hold.specs.Unlocks.{holding, HoldsFrame, releasing, IsReleasing, plan, plan_at, put, put_at, bare, bare_at, after_release, next, next_at, empty_frame, HoldsEmptyFrame, FitsFrame, Fits, FitsAt, class, class_at, cost, cost_at}
-use Rattle.hwp_hold.proofs.Ranking.{release-falls, release-small, release-class}
+use Rattle.hwp_hold.proofs.Ranking.{release-falls, release-small, release-class, release-mild}
 use Rattle.hwp_hold.proofs.Releasing as releasing_laws
 
 -- ---- what is held after each step
@@ -79,9 +77,6 @@ module _ {layout : Layout} {who : Who} {view : View} {frame : Frame} {body : Opt
       lock : FrameLock
       lock = record { frame = frame; owner = has.body.page.0 + 1; handled = has.handled; poisoned = has.poisoned }
 
-  adds-sound : AddsNoFailure view (logs body)
-  adds-sound = subst (λ (b : Option BodyValue). AddsNoFailure view (logs b)) (sym has.given_is) (adds-one view (log_of has.body) has.taken (ap (λ (h : Hand). h.bodies) has.hand_is) has.sound)
-
   body-fits : FitsLayout layout body
   body-fits b is = ap (λ (x : BodyValue). x.layout) (same_Some b has.body (sym is ∙ has.given_is)) ∙ has.layout_is
 
@@ -100,8 +95,8 @@ pub can : (layout : Layout) (view : View) (u : Unlock) (step : Step) → Fits la
 can layout view u step fits is = which u.at fits.at is
   where
     which : (x : UnlockAt) → FitsAt layout view u.who x → plan_at x ≡ Some step → CanMake layout u.who step (put_at x) view
-    which (at.UnlockFrame frame None) has e = can-put fits.on_turn e tt has.within (can-free-empty has) (λ b none. absurd (none-some b none)) tt tt
-    which (at.UnlockFrame frame (Some body)) has e = can-put fits.on_turn e tt has.within (can-free has) (body-fits has) tt (adds-sound has)
+    which (at.UnlockFrame frame None) has e = can-put fits.on_turn e tt has.within (can-free-empty has) (λ b none. absurd (none-some b none)) tt
+    which (at.UnlockFrame frame (Some body)) has e = can-put fits.on_turn e tt has.within (can-free has) (body-fits has) tt
     which (at.Release r) has e = subst (λ (w : Who). CanMake layout w step None view) has.own (releasing_laws.can layout view r step has.release e)
     which at.Over has e = absurd (none-some step e)
 
@@ -209,6 +204,15 @@ unlock-class u = which u.at
     which (at.Release r) = release-class r
     which at.Over = (omega arith, omega arith)
 
+-- none of its steps poisons a frame or takes its poison back
+pub mild : (s : Unlock) (step : Step) → plan s ≡ Some step → IsMild step
+mild s step is = which s.at is
+  where
+    which : (x : UnlockAt) → plan_at x ≡ Some step → IsMild step
+    which (at.UnlockFrame frame body) e = subst IsMild (same_Some (steps.UnlockFrame frame) step e) tt
+    which (at.Release r) e = release-mild r step e
+    which at.Over e = absurd (none-some step e)
+
 abbrev unlock-member : Member Unlock
 unlock-member = member (λ u. u.who) plan put bare (λ layout u found got after result. (after ≡ next u found) × (result ≡ Moved)) Fits class cost (λ u. false) (λ u. None)
 
@@ -217,4 +221,4 @@ unlock-ranked = rank-of unlock-member (λ s. refl) unlock-class (λ layout a sea
     (λ layout seat a b s t turn made goes. subst (λ (x : Unlock). cost x (words_at layout b) < cost s (words_at layout a)) (sym made.follows.0)
     (unlock-falls (words_at layout a) (words_at layout b) s made.step made.found made.planned))
     (λ layout seat a b s t turn made is quiet. absurd (both_ways true (sym is ∙ ap is_waits made.follows.1) refl))
-    (λ s. refl) (λ layout view s step fits is. (can layout view s step fits is).served)
+    (λ s. refl) mild

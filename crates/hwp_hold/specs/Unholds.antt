@@ -11,8 +11,7 @@ use Rattle.hwp_rule.specs.declared.Step.TheVariants as steps
 use Rattle.hwp_rule.specs.declared.View.{View}
 use Rattle.hwp_rule.specs.Asks.{CanGoHome}
 use Rattle.hwp_rule.specs.Logs.{log_of}
-use Rattle.hwp_rule.specs.Unfailed.{HaveNoFailure}
-use Rattle.hwp_rule.specs.Views.{more_of, unpoisoned}
+use Rattle.hwp_rule.specs.Views.{unpoisoned}
 use Rattle.hwp_rule.specs.Words.{Words}
 use Rattle.hwp_hold.specs.declared.hold.Hold.{Hold}
 use Rattle.hwp_hold.specs.declared.release.Release.{Release}
@@ -86,7 +85,7 @@ holding page (Some frame) count trans body handled poisoned = record empty {
   refs = refs_to frame count;
 }
 
--- and the body, with the entries that it has now, can go home; none of these is a failure
+-- and the body, with the entries that it has now, can go home
 pub record HoldsAhead (layout : Layout) (who : Who) (view : View) (page : Page) (frame : Option Frame) (count : ℕ) (given : Option BodyValue) : Type 0 where
   pub body : BodyValue
   pub given_is : given ≡ Some body
@@ -96,7 +95,6 @@ pub record HoldsAhead (layout : Layout) (who : Who) (view : View) (page : Page) 
   pub poisoned : Bool
   pub hand_is : hand_of view ≡ holding page frame count trans taken handled poisoned
   pub home : CanGoHome layout who view (log_of body)
-  pub sound : HaveNoFailure (more_of taken (log_of body))
   pub page_is : body.page ≡ page
   pub taken_is : taken.log.page ≡ page
   pub layout_is : body.layout ≡ layout

@@ -11,8 +11,7 @@ use Rattle.hwp_rule.specs.declared.Step.TheVariants as steps
 use Rattle.hwp_rule.specs.declared.View.{View}
 use Rattle.hwp_rule.specs.Asks.{CanGoHome}
 use Rattle.hwp_rule.specs.Logs.{log_of}
-use Rattle.hwp_rule.specs.Unfailed.{HaveNoFailure}
-use Rattle.hwp_rule.specs.Views.{more_of, unpoisoned}
+use Rattle.hwp_rule.specs.Views.{unpoisoned}
 use Rattle.hwp_rule.specs.Words.{Words}
 use Rattle.hwp_step.specs.Calls.{IsOnTurn}
 use Rattle.hwp_step.specs.Hands.{Hand, hand_of, empty}
@@ -74,8 +73,7 @@ holding frame page body handled poisoned = record empty {
   bodies = body ∷ [];
 }
 
--- the frame is locked, not its page, and the page's body, with the entries that it has now, can go home; none of these is a
--- failure
+-- the frame is locked, not its page, and the page's body, with the entries that it has now, can go home
 pub record HoldsFrame (layout : Layout) (who : Who) (view : View) (frame : Frame) (given : Option BodyValue) : Type 0 where
   pub body : BodyValue
   pub given_is : given ≡ Some body
@@ -84,7 +82,6 @@ pub record HoldsFrame (layout : Layout) (who : Who) (view : View) (frame : Frame
   pub poisoned : Bool
   pub hand_is : hand_of view ≡ holding frame body.page taken handled poisoned
   pub home : CanGoHome layout who view (log_of body)
-  pub sound : HaveNoFailure (more_of taken (log_of body))
   pub taken_is : taken.log.page ≡ body.page
   pub layout_is : body.layout ≡ layout
   pub within : frame.0 < layout.frames

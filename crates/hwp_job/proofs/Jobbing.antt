@@ -8,6 +8,7 @@ use Rattle.hwp_rule.specs.declared.State.{State}
 use Rattle.hwp_rule.specs.declared.Step.{Step}
 use Rattle.hwp_rule.specs.declared.View.{View}
 use Rattle.hwp_rule.specs.Rule.{Holds}
+use Rattle.hwp_rule.specs.Served.{IsMild}
 use Rattle.hwp_rule.specs.Words.{Words}
 use Rattle.hwp_step.specs.declared.Turn.{Turn}
 use Rattle.hwp_step.specs.Boards.{view_of}
@@ -29,13 +30,13 @@ use Rattle.hwp_evict.specs.declared.Fsync.{Fsync}
 use Rattle.hwp_evict.specs.Evicts as evicts
 use Rattle.hwp_evict.specs.Fsyncs as fsyncs
 use Rattle.hwp_evict.proofs.Evicting as evicting
-use Rattle.hwp_evict.proofs.EvictCosts.{evict-ranked, evict-tells}
+use Rattle.hwp_evict.proofs.EvictCosts.{evict-mild, evict-ranked, evict-tells}
 use Rattle.hwp_evict.proofs.Fsyncing as fsyncing
-use Rattle.hwp_evict.proofs.Fsyncing.{fsync-ranked, fsync-tells}
+use Rattle.hwp_evict.proofs.Fsyncing.{fsync-mild, fsync-ranked, fsync-tells}
 use Rattle.hwp_fault.specs.declared.Access.{Access}
 use Rattle.hwp_fault.specs.Accesses as accesses
 use Rattle.hwp_fault.proofs.Accessing as accessing
-use Rattle.hwp_fault.proofs.AccessCosts.{access-ranked, access-tells}
+use Rattle.hwp_fault.proofs.AccessCosts.{access-mild, access-ranked, access-tells}
 use Rattle.hwp_job.specs.declared.job.Job.{Job}
 use Rattle.hwp_job.specs.declared.job.Job.TheVariants as jobs
 use Rattle.hwp_job.specs.Jobs.{Fits, Next, Shows, bare, class, cost, plan, put, who}
@@ -191,8 +192,17 @@ small layout a seat (jobs.Prctl x) rule fits = calling.ranked.small layout a sea
 small layout a seat (jobs.ReadStop x) rule fits = reading.ranked.small layout a seat x rule fits
 small layout a seat (jobs.Nested x) rule fits = nesting.ranked.small layout a seat x rule fits
 
+-- none of its steps poisons a frame or takes its poison back
+pub mild : (j : Job) (step : Step) → plan j ≡ Some step → IsMild step
+mild (jobs.Access a) step is = access-mild a step is
+mild (jobs.Evict e) step is = evict-mild e step is
+mild (jobs.Fsync f) step is = fsync-mild f step is
+mild (jobs.Prctl p) step is = calling.mild p step is
+mild (jobs.ReadStop r) step is = reading.mild r step is
+mild (jobs.Nested n) step is = nesting.mild n step is
+
 pub ranked : IsRanked job-member
-ranked = rank-failing job-member (λ j. refl) classes small falls waits (λ j. refl) (λ layout view j step fits is. (can layout view j step fits is).served)
+ranked = rank-failing job-member (λ j. refl) classes small falls waits (λ j. refl) mild
 
 -- ---- what the class tells
 

@@ -7,3 +7,4 @@ pub mod Stopping
 pub mod Setting
 pub mod Barring
 pub mod Staying
+pub mod Doing

@@ -1,6 +1,6 @@
--- Steps that set no policy and don't stop the machine leave the settings and stops of a view; and all tasks but two make only such.
+-- Steps that set no policy, take or add no losses, neither mark nor count a frame and don't stop the machine leave what a view lists
+-- of these; and all tasks but three make only such.
 use Rattle.std.proofs.Common.{◌≡◌, ℕ, ◌==◌, Bool, true, false, cond, Option, Some, None, refl, ap, ◌∙◌}
-use Rattle.hwp_geom.specs.declared.FileNo.{FileNo}
 use Rattle.hwp_geom.specs.declared.Frame.{Frame}
 use Rattle.hwp_geom.specs.declared.Layout.{Layout}
 use Rattle.hwp_geom.specs.declared.Page.{Page}
@@ -51,13 +51,10 @@ use Rattle.hwp_hold.specs.Unholds as unholds
 use Rattle.hwp_hold.specs.Unlocks as unlocks
 use Rattle.hwp_evict.specs.declared.evict.EvictAt.{EvictAt}
 use Rattle.hwp_evict.specs.declared.evict.EvictAt.TheVariants as evict_at
-use Rattle.hwp_evict.specs.declared.fsync.FsyncAt.{FsyncAt}
-use Rattle.hwp_evict.specs.declared.fsync.FsyncAt.TheVariants as fsync_at
 use Rattle.hwp_evict.specs.declared.vacate.VacateAt.{VacateAt}
 use Rattle.hwp_evict.specs.declared.vacate.VacateAt.TheVariants as vacate_at
 use Rattle.hwp_evict.specs.Clears as clears
 use Rattle.hwp_evict.specs.Evicts as evicts
-use Rattle.hwp_evict.specs.Fsyncs as fsyncs
 use Rattle.hwp_evict.specs.Vacates as vacates
 use Rattle.hwp_fault.specs.declared.access.AccessAt.{AccessAt}
 use Rattle.hwp_fault.specs.declared.access.AccessAt.TheVariants as access_at
@@ -66,14 +63,22 @@ use Rattle.hwp_fault.specs.declared.fault.FaultAt.{FaultAt}
 use Rattle.hwp_fault.specs.declared.fault.FaultAt.TheVariants as fault_at
 use Rattle.hwp_fault.specs.declared.map_in.MapInAt.{MapInAt}
 use Rattle.hwp_fault.specs.declared.map_in.MapInAt.TheVariants as map_in_at
+use Rattle.hwp_fault.specs.declared.Touch.{Touch}
 use Rattle.hwp_fault.specs.Accesses as accesses
 use Rattle.hwp_fault.specs.Faults as faults
 use Rattle.hwp_fault.specs.MapIns as map_ins
+use Rattle.hwp_job.specs.Done.{counts_owed}
 
--- the step sets no policy and doesn't stop the machine
+-- the step sets no policy, takes or adds no losses, neither marks nor counts a frame and doesn't stop the machine
 abbrev pub IsQuiet : Step → Type 0
 IsQuiet (steps.Stop cpu) = ⊥
 IsQuiet (steps.SetPolicy thread policy settings) = ⊥
+IsQuiet (steps.ReportLost file) = ⊥
+IsQuiet (steps.Poison frame hardware) = ⊥
+IsQuiet (steps.Revive frame seen) = ⊥
+IsQuiet (steps.CountPoison hardware) = ⊥
+IsQuiet steps.Uncount = ⊥
+IsQuiet (steps.Lose file body) = ⊥
 IsQuiet step = Unit {0}
 
 abbrev pub PlansQuiet : Option Step → Type 0
@@ -85,55 +90,66 @@ PlansQuiet (Some step) = IsQuiet step
 pub record Alike (v x : View) : Type 0 where
   pub settings : x.settings ≡ v.settings
   pub stops : x.stops ≡ v.stops
+  pub marks : x.marks ≡ v.marks
+  pub reported : x.reported ≡ v.reported
+  pub owed : counts_owed x ≡ counts_owed v
 
 same : (v : View) → Alike v v
-same v = record { settings = refl; stops = refl }
+same v = record { settings = refl; stops = refl; marks = refl; reported = refl; owed = refl }
 
 either : (b : Bool) (v x y : View) → Alike v x → Alike v y → Alike v (cond b x y)
 either true v x y g h = g
 either false v x y g h = h
 
 loads : (who : Who) (place : Place) (found : ℕ) (v : View) → Alike v (loaded who place found v)
-loads who (places.Cache page) found v = record { settings = refl; stops = refl }
-loads who _ found v = record { settings = refl; stops = refl }
+loads who (places.Cache page) found v = record { settings = refl; stops = refl; marks = refl; reported = refl; owed = refl }
+loads who _ found v = record { settings = refl; stops = refl; marks = refl; reported = refl; owed = refl }
 
 takes-alike : (layout : Layout) (who : Who) (frame : Option Frame) (content : Option Log) (v x : View) → Alike v x → Alike v (taken layout who frame content x)
 takes-alike layout who frame None v x is = is
-takes-alike layout who frame (Some log) v x is = record { settings = is.settings; stops = is.stops }
+takes-alike layout who frame (Some log) v x is = record { settings = is.settings; stops = is.stops; marks = is.marks; reported = is.reported; owed = is.owed }
 
 lists-alike : (layout : Layout) (who : Who) (log : Log) (body : Option InHand) (v : View) → Alike v (listed_of layout who log body v)
 lists-alike layout who log None v = same v
-lists-alike layout who log (Some body) v = record { settings = refl; stops = refl }
+lists-alike layout who log (Some body) v = record { settings = refl; stops = refl; marks = refl; reported = refl; owed = refl }
 
 puts-alike : (layout : Layout) (who : Who) (content : Option Log) (v : View) → Alike v (put_home layout who content v)
 puts-alike layout who None v = same v
-puts-alike layout who (Some log) v = let is = lists-alike layout who log (body_of log.page v) v in record { settings = is.settings; stops = is.stops }
+puts-alike layout who (Some log) v = let is = lists-alike layout who log (body_of log.page v) v in record { settings = is.settings; stops = is.stops; marks = is.marks; reported = is.reported; owed = is.owed }
 
 by-quiet : (layout : Layout) (who : Who) (step : Step) (found : ℕ) (content : Option Log) (v : View) → IsQuiet step → Alike v (view_by layout who step found content v)
 by-quiet layout who (steps.Load place) found content v quiet = loads who place found v
-by-quiet layout who (steps.Reserve seen) found content v quiet = either (found == seen) v _ _ (record { settings = refl; stops = refl }) (record { settings = refl; stops = refl })
-by-quiet layout who (steps.TakeBit frame) found content v quiet = either (goes (steps.TakeBit frame) found) v _ _ (record { settings = refl; stops = refl }) (record { settings = refl; stops = refl })
-by-quiet layout who (steps.GetRef frame seen count) found content v quiet = either (found == seen) v _ _ (record { settings = refl; stops = refl }) (record { settings = refl; stops = refl })
-by-quiet layout who (steps.LockFrame frame) found content v quiet = either (goes (steps.LockFrame frame) found) v _ _ (takes-alike layout who (Some frame) content v _ (record { settings = refl; stops = refl })) (same v)
-by-quiet layout who (steps.UnlockFrame frame) found content v quiet = let is = puts-alike layout who content v in record { settings = is.settings; stops = is.stops }
-by-quiet layout who (steps.Revive frame seen) found content v quiet = either (found == seen) v _ _ (record { settings = refl; stops = refl }) (record { settings = refl; stops = refl })
-by-quiet layout who (steps.LockPage page) found content v quiet = either (goes (steps.LockPage page) found) v _ _ (takes-alike layout who None content v _ (record { settings = refl; stops = refl })) (same v)
-by-quiet layout who (steps.UnlockPage page) found content v quiet = let is = puts-alike layout who content v in record { settings = is.settings; stops = is.stops }
-by-quiet layout who (steps.Poison frame hardware) found content v quiet =
-    let is = either (goes (steps.Poison frame hardware) found) v _ _ (record { settings = refl; stops = refl }) (record { settings = refl; stops = refl }) in record { settings = is.settings; stops = is.stops }
+by-quiet layout who (steps.Reserve seen) found content v quiet = either (found == seen) v _ _ (record { settings = refl; stops = refl; marks = refl; reported = refl; owed = refl }) (record { settings = refl; stops = refl; marks = refl; reported = refl; owed = refl })
+by-quiet layout who (steps.TakeBit frame) found content v quiet = either (goes (steps.TakeBit frame) found) v _ _ (record { settings = refl; stops = refl; marks = refl; reported = refl; owed = refl }) (record { settings = refl; stops = refl; marks = refl; reported = refl; owed = refl })
+by-quiet layout who (steps.GetRef frame seen count) found content v quiet = either (found == seen) v _ _ (record { settings = refl; stops = refl; marks = refl; reported = refl; owed = refl }) (record { settings = refl; stops = refl; marks = refl; reported = refl; owed = refl })
+by-quiet layout who (steps.LockFrame frame) found content v quiet = either (goes (steps.LockFrame frame) found) v _ _ (takes-alike layout who (Some frame) content v _ (record { settings = refl; stops = refl; marks = refl; reported = refl; owed = refl })) (same v)
+by-quiet layout who (steps.UnlockFrame frame) found content v quiet = let is = puts-alike layout who content v in record { settings = is.settings; stops = is.stops; marks = is.marks; reported = is.reported; owed = is.owed }
+by-quiet layout who (steps.Revive frame seen) found content v quiet = absurd quiet
+by-quiet layout who (steps.ReportLost file) found content v quiet = absurd quiet
+by-quiet layout who (steps.LockPage page) found content v quiet = either (goes (steps.LockPage page) found) v _ _ (takes-alike layout who None content v _ (record { settings = refl; stops = refl; marks = refl; reported = refl; owed = refl })) (same v)
+by-quiet layout who (steps.UnlockPage page) found content v quiet = let is = puts-alike layout who content v in record { settings = is.settings; stops = is.stops; marks = is.marks; reported = is.reported; owed = is.owed }
+by-quiet layout who (steps.Poison frame hardware) found content v quiet = absurd quiet
 by-quiet layout who (steps.Stop cpu) found content v quiet = absurd quiet
 by-quiet layout who (steps.Kill process page body) found content v quiet =
     let is = lists-alike layout who (log_of body.value) (body_of body.value.page v) v in
-    either (found == 0) v _ _ (record { settings = is.settings; stops = is.stops }) (record { settings = is.settings; stops = is.stops })
+    either (found == 0) v _ _ (record { settings = is.settings; stops = is.stops; marks = is.marks; reported = is.reported; owed = is.owed }) (record { settings = is.settings; stops = is.stops; marks = is.marks; reported = is.reported; owed = is.owed })
 by-quiet layout who (steps.SetPolicy thread policy settings) found content v quiet = absurd quiet
-by-quiet layout who (steps.Lose file body) found content v quiet = let is = lists-alike layout who (log_of body.value) (body_of body.value.page v) v in record { settings = is.settings; stops = is.stops }
-by-quiet layout who _ found content v quiet = record { settings = refl; stops = refl }
+by-quiet layout who (steps.CountPoison hardware) found content v quiet = absurd quiet
+by-quiet layout who steps.Uncount found content v quiet = absurd quiet
+by-quiet layout who (steps.Lose file body) found content v quiet = absurd quiet
+by-quiet layout who _ found content v quiet = record { settings = refl; stops = refl; marks = refl; reported = refl; owed = refl }
 
 -- the settings and stops after such a step
 pub leaves : {layout : Layout} {who : Who} {step : Step} {put : Option Log} {old new : View} {found : ℕ} {got : Option BodyValue} → Steps layout who step put old new found got → IsQuiet step → Alike old new
 leaves {layout} {who} {step} {put} {old} {new} {found} {got} made quiet =
     let is = by-quiet layout who step found (content_of layout who step put found got) (noted who old) quiet in
-    record { settings = ap (λ (v : View). v.settings) made.told.next ∙ is.settings; stops = ap (λ (v : View). v.stops) made.told.next ∙ is.stops }
+    record {
+      settings = ap (λ (v : View). v.settings) made.told.next ∙ is.settings;
+      stops = ap (λ (v : View). v.stops) made.told.next ∙ is.stops;
+      marks = ap (λ (v : View). v.marks) made.told.next ∙ is.marks;
+      reported = ap (λ (v : View). v.reported) made.told.next ∙ is.reported;
+      owed = ap counts_owed made.told.next ∙ is.owed;
+    }
 
 -- ---- tasks that make only such steps
 
@@ -201,14 +217,15 @@ map-in slot frame (map_in_at.Refer r) = refer r.frame r.count r.at
 map-in slot frame map_in_at.SetPte = tt
 map-in slot frame map_in_at.Over = tt
 
-fault : (slot : VSlot) (x : FaultAt) → PlansQuiet (faults.plan_at slot x)
-fault slot (fault_at.Hold h) = hold h.page h.at
-fault slot (fault_at.LoadPte frame body) = tt
-fault slot (fault_at.Fill f) = fill f.page f.at
-fault slot (fault_at.MapIn m) = map-in m.slot m.frame m.at
-fault slot (fault_at.Unhold u answer) = unhold u.page u.at
-fault slot (fault_at.GiveUp g) = give-up g.at
-fault slot (fault_at.Over answer) = tt
+fault : (page : Page) (slot : VSlot) (touch : Touch) (x : FaultAt) → PlansQuiet (faults.plan_at page slot touch x)
+fault page slot touch (fault_at.Hold h) = hold h.page h.at
+fault page slot touch (fault_at.LoadPte frame body) = tt
+fault page slot touch (fault_at.Kill frame body place) = tt
+fault page slot touch (fault_at.Fill f) = fill f.page f.at
+fault page slot touch (fault_at.MapIn m) = map-in m.slot m.frame m.at
+fault page slot touch (fault_at.Unhold u answer) = unhold u.page u.at
+fault page slot touch (fault_at.GiveUp g) = give-up g.at
+fault page slot touch (fault_at.Over answer) = tt
 
 pub access : (a : Request) (x : AccessAt) → PlansQuiet (accesses.plan_at a x)
 access a access_at.LoadStop = tt
@@ -219,7 +236,7 @@ access a (access_at.LockFrame frame) = tt
 access a (access_at.LoadAgain frame body) = tt
 access a (access_at.LoadBad frame body) = tt
 access a (access_at.Unlock u then) = unlock u.at
-access a (access_at.Fault f) = fault f.slot f.at
+access a (access_at.Fault f) = fault f.page f.slot f.touch f.at
 access a (access_at.GiveUp g) = give-up g.at
 access a (access_at.Over answer) = tt
 
@@ -245,11 +262,6 @@ evict (evict_at.Vacate v done) = vacate v.page v.frame v.at
 evict (evict_at.Unhold u answer) = unhold u.page u.at
 evict (evict_at.GiveUp g) = give-up g.at
 evict (evict_at.Over answer) = tt
-
-pub fsync : (file : FileNo) (x : FsyncAt) → PlansQuiet (fsyncs.plan_at file x)
-fsync file fsync_at.LoadStop = tt
-fsync file fsync_at.Report = tt
-fsync file (fsync_at.Over answer) = tt
 
 pub read : (x : ReadStopAt) → PlansQuiet (read_stops.plan_at x)
 read read_stop_at.LoadStop = tt

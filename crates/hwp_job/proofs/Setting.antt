@@ -30,12 +30,16 @@ use Rattle.hwp_control.specs.declared.prctl.PrctlAt.{PrctlAt}
 use Rattle.hwp_control.specs.declared.prctl.PrctlAt.TheVariants as prctl_at
 use Rattle.hwp_control.specs.Nesteds as nesteds
 use Rattle.hwp_control.specs.Prctls as prctls
+use Rattle.hwp_evict.specs.declared.Fsync.{Fsync}
+use Rattle.hwp_evict.specs.declared.fsync.FsyncAt.{FsyncAt}
+use Rattle.hwp_evict.specs.declared.fsync.FsyncAt.TheVariants as fsync_at
+use Rattle.hwp_evict.specs.Fsyncs as fsyncs
 use Rattle.hwp_job.specs.declared.job.Job.{Job}
 use Rattle.hwp_job.specs.declared.job.Job.TheVariants as jobs
 use Rattle.hwp_job.specs.Jobs.{plan}
 use Rattle.hwp_job.specs.Settings.{policies_in, set_at, set_now}
 use Rattle.hwp_job.specs.Stays.{Stepped}
-use Rattle.hwp_job.proofs.Quiet.{access, evict, fsync, leaves, read}
+use Rattle.hwp_job.proofs.Quiet.{access, evict, leaves, read}
 use Rattle.hwp_job.proofs.Stopping.{quiet-step}
 
 pub either-same : (b : Bool) (l : List Policy) → cond b l l ≡ l
@@ -65,15 +69,15 @@ module _ (thread : Thread) (old new : View) (after : Job) where
 
 -- what follows a step by which a call sets nothing
 module _ (p : Prctl) (found : ℕ) where
-  stopped : (b : Bool) → set_at (cond b (prctl_at.Over prctl_answers.Stopped) prctl_at.LoadProcess) ≡ []
+  pub stopped : (b : Bool) → set_at (cond b (prctl_at.Over prctl_answers.Stopped) prctl_at.LoadProcess) ≡ []
   stopped true = refl
   stopped false = refl
 
-  ended : (o : Option Page) → set_at (prctls.after_process o) ≡ []
+  pub ended : (o : Option Page) → set_at (prctls.after_process o) ≡ []
   ended None = refl
   ended (Some page) = refl
 
-  replied : (n : ℕ) (r : Reply) → set_at (prctls.after_reply n r) ≡ []
+  pub replied : (n : ℕ) (r : Reply) → set_at (prctls.after_reply n r) ≡ []
   replied n (replies.Set policy) = refl
   replied n (replies.Is policy) = refl
   replied n replies.Einval = refl
@@ -128,10 +132,20 @@ module _ {layout : Layout} {old new : View} {n : Nested} {after : Job} (s : Step
           ∙ by (s.found == 0) (record (noted n.who old) { stops = old.stops ++ n.who ∷ [] }) (sighted n.who places.Stop s.found (noted n.who old)) refl refl
       which (nested_at.Over answer) e = absurd (none-some s.step e)
 
+-- nor does a call of fsync(2)
+module _ {layout : Layout} {old new : View} {f : Fsync} {after : Job} (s : Stepped layout old new (jobs.Fsync f) after) where
+  fsync-leaves : new.settings ≡ old.settings
+  fsync-leaves = which f.at s.planned
+    where
+      which : (x : FsyncAt) → fsyncs.plan_at f.file x ≡ Some s.step → new.settings ≡ old.settings
+      which fsync_at.LoadStop e = (leaves s.made (quiet-step {o = Some (steps.Load places.Stop)} tt e)).settings
+      which fsync_at.Report e = ap (λ (v : View). v.settings) (steps-planned {other = steps.ReportLost f.file} e s.made).told.next
+      which (fsync_at.Over answer) e = absurd (none-some s.step e)
+
 pub settings-after : {layout : Layout} {old new : View} {j after : Job} → Stepped layout old new j after → (thread : Thread) → policies_in thread new ≡ policies_in thread old ++ set_now thread after
 settings-after {old = old} {new = new} {j = jobs.Access a} {after = after} s thread = kept thread old new after (leaves s.made (quiet-step (access a.request a.at) s.planned)).settings (ap (set_now thread) s.follows.1)
 settings-after {old = old} {new = new} {j = jobs.Evict e} {after = after} s thread = kept thread old new after (leaves s.made (quiet-step (evict e.at) s.planned)).settings (ap (set_now thread) s.follows.1)
-settings-after {old = old} {new = new} {j = jobs.Fsync f} {after = after} s thread = kept thread old new after (leaves s.made (quiet-step (fsync f.file f.at) s.planned)).settings (ap (set_now thread) s.follows.0)
+settings-after {old = old} {new = new} {j = jobs.Fsync f} {after = after} s thread = kept thread old new after (fsync-leaves s) (ap (set_now thread) s.follows.0)
 settings-after {old = old} {new = new} {j = jobs.Prctl p} {after = after} s thread = call-sets s thread
 settings-after {old = old} {new = new} {j = jobs.ReadStop r} {after = after} s thread = kept thread old new after (leaves s.made (quiet-step (read r.at) s.planned)).settings (ap (set_now thread) s.follows.0)
 settings-after {old = old} {new = new} {j = jobs.Nested n} {after = after} s thread = kept thread old new after (nested-leaves s) (ap (set_now thread) s.follows.0)

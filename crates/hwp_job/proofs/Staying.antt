@@ -1,5 +1,5 @@
 -- What a processor knows of policies it knows after each step of a command, and when the next command begins.
-use Rattle.std.proofs.Common.{◌≡◌, ◌⊎◌, inl, inr, ℕ, ◌+◌, ◌<◌, ◌≤◌, ◌==◌, ◌&&◌, Bool, true, false, cond, List, [], ◌∷◌, ◌++◌, Option, Some, None, length, map, take, filter_map, if◌then◌else◌, option_map, slice_get, slice_index, append-nil, refl, sym, ap, ◌∙◌, subst, arith, true≢false}
+use Rattle.std.proofs.Common.{◌≡◌, ◌⊎◌, inl, inr, ℕ, zero, suc, ◌+◌, ◌<◌, ◌≤◌, ◌==◌, ◌&&◌, Bool, true, false, cond, List, [], ◌∷◌, ◌++◌, Option, Some, None, length, map, take, drop, filter_map, if◌then◌else◌, option_map, slice_get, slice_index, append-nil, refl, sym, ap, ◌∙◌, subst, arith, true≢false}
 use Rattle.std.specs.List.{cons_option}
 use Rattle.std.proofs.lemmas.Bool.{eqb-true, ne_eqb}
 use Rattle.std.proofs.lemmas.List.{length-append, length-map, take_more}
@@ -19,6 +19,7 @@ use Rattle.hwp_kill.specs.declared.Reply.TheVariants as replies
 use Rattle.hwp_kill.specs.Prctl.{asks_policy, clear_mode, get_operation, policy_set, reply, set_mode, set_operation, setting}
 use Rattle.hwp_rule.specs.declared.Setting.{Setting}
 use Rattle.hwp_rule.specs.declared.View.{View}
+use Rattle.hwp_rule.specs.Lists.{StartsWith}
 use Rattle.hwp_rule.specs.parts.Policies.{settings_of}
 use Rattle.hwp_form.specs.declared.Command.{Command}
 use Rattle.hwp_form.specs.declared.Command.TheVariants as commands
@@ -78,8 +79,13 @@ number-of thread view = length-map (settings_of thread view.settings) (λ (s : S
 -- ---- over a step
 
 pub policies-stay : {layout : Layout} {old new : View} {j after : Job} → Stepped layout old new j after → (list : List Command) (by : Who) → KnowsPolicies layout list old by j → KnowsPolicies layout list new by after
-policies-stay {layout} {old} {new} {j} {after} s list by knows = record { each = λ thread. each thread (knows.each thread); few = few }
+policies-stay {layout} {old} {new} {j} {after} s list by knows = record { each = λ thread. each thread (knows.each thread); starts = starts; few = few }
   where
+    starts : (thread : Thread) → (before : List Policy) × StartsWith before (settings thread list) × (policies_in thread new ≡ before ++ set_now thread after)
+    starts thread =
+        let was = knows.starts thread in
+        (was.0, was.1, settings-after s thread ∙ ap (λ (l : List Policy). l ++ set_now thread after) (was.2 ∙ ap (λ (l : List Policy). was.0 ++ l) (unset-before thread j s.planned) ∙ append-nil was.0))
+
     each : (thread : Thread) → CannotReply layout old thread j ⊎ IsCounted list old by j thread → CannotReply layout new thread after ⊎ IsCounted list new by after thread
     each thread (inl cannot) = inl (barred-stays s thread cannot)
     each thread (inr counted) = inr (settings-after s thread ∙ ap (λ (l : List Policy). l ++ set_now thread after)
@@ -98,11 +104,14 @@ policies-stay {layout} {old} {new} {j} {after} s list by knows = record { each =
 -- ---- before the first command
 
 pub policies-first : (layout : Layout) (list : List Command) (view : View) (by : Who) (j : Job) → view.settings ≡ [] → by.seq ≡ 0 → IsAtStop j → KnowsPolicies layout list view by j
-policies-first layout list view by j none first start = record { each = λ thread. inr (each thread); few = few }
+policies-first layout list view by j none first start = record { each = λ thread. inr (each thread); starts = λ thread. ([], (settings thread list, refl), starts thread); few = few }
   where
     each : (thread : Thread) → IsCounted list view by j thread
     each thread = ap (λ (l : List Setting). map (λ (s : Setting). s.policy) (settings_of thread l)) none
         ∙ sym (ap (λ (n : ℕ). settings thread (take n list) ++ set_now thread j) first ∙ ap (λ (l : List Policy). [] ++ l) (unset-at-start thread j start))
+
+    starts : (thread : Thread) → policies_in thread view ≡ [] ++ set_now thread j
+    starts thread = ap (λ (l : List Setting). map (λ (s : Setting). s.policy) (settings_of thread l)) none ∙ sym (ap (λ (l : List Policy). [] ++ l) (unset-at-start thread j start))
 
     few : (thread : Thread) → length (settings_of thread view.settings) ≤ by.seq + length (set_now thread j)
     few thread = let zero : length (settings_of thread view.settings) ≡ 0 = ap (λ (l : List Setting). length (settings_of thread l)) none in omega arith
@@ -118,7 +127,7 @@ asks (replies.Is policy) = true
 asks _ = false
 
 -- a policy is set just where the arguments set it
-set-says : (old : Policy) (given : List ℕ) (policy : Policy) → reply old given ≡ replies.Set policy → policy_set given ≡ Some policy
+pub set-says : (old : Policy) (given : List ℕ) (policy : Policy) → reply old given ≡ replies.Set policy → policy_set given ≡ Some policy
 set-says old given policy is = which (asks_policy given) (policy_set given) is
   where
     which : (b : Bool) (o : Option Policy) → cond b (replies.Is old) (setting o) ≡ replies.Set policy → o ≡ Some policy
@@ -211,9 +220,9 @@ no-setting : (thread : Thread) (command : Command) → is_prctl command ≡ fals
 no-setting thread (commands.Prctl other args) is = absurd (true≢false is)
 no-setting thread _ is = refl
 
--- what an answered command leaves: its thread can't set its policy any more, or what it set is what it says
+-- what an answered command leaves: its thread can't set its policy any more and it set none, or what it set is what it says
 abbrev Leaves : Layout → View → Thread → Command → Job → Type 0
-Leaves layout view thread command j = IsBarred layout view thread ⊎ (filter_map (setting_of thread) (command ∷ []) ≡ set_now thread j)
+Leaves layout view thread command j = (IsBarred layout view thread × (set_now thread j ≡ [])) ⊎ (filter_map (setting_of thread) (command ∷ []) ≡ set_now thread j)
 
 abbrev prctl_in : Prctl → Job → Prctl
 prctl_in d (jobs.Prctl p) = p
@@ -254,8 +263,8 @@ module _ (layout : Layout) (view : View) (by : Who) (thread : Thread) where
       by-thread true is_ = which p.at refl fits.at is
         where
           which : (x : PrctlAt) → p.at ≡ x → prctls.FitsAt view p.who p.thread p.process p.arguments x → option_map prctl_answer (prctls.answer_at x) ≡ Some a → Leaves layout view thread (commands.Prctl other args) (jobs.Prctl p)
-          which (prctl_at.Over prctl_answers.Stopped) at saw e = inl (inl (stopped-halts layout view (jobs.Prctl p) fits (ap (λ (y : PrctlAt). option_map prctl_answer (prctls.answer_at y)) at)))
-          which (prctl_at.Over (prctl_answers.Gone page)) at saw e = inl (inr (ended is_ page saw))
+          which (prctl_at.Over prctl_answers.Stopped) at saw e = inl (inl (stopped-halts layout view (jobs.Prctl p) fits (ap (λ (y : PrctlAt). option_map prctl_answer (prctls.answer_at y)) at)), set true is_ ∙ ap set_at at)
+          which (prctl_at.Over (prctl_answers.Gone page)) at saw e = inl (inr (ended is_ page saw), set true is_ ∙ ap set_at at)
           which (prctl_at.Over (prctl_answers.Replied r)) at saw e = inr (said true is_ ∙ call-set view p.who p.thread p.arguments r saw.1 ∙ sym (set true is_ ∙ ap set_at at))
           which _ at saw e = absurd (none-some a e)
 
@@ -279,34 +288,6 @@ at-most-one thread (jobs.Prctl p) = which (p.thread.0 == thread.0) p.at
     which true (prctl_at.Over (prctl_answers.Replied (replies.Set policy))) = omega arith
     which true _ = omega arith
 at-most-one thread _ = omega arith
-
-pub policies-next : (layout : Layout) (list : List Command) (view : View) (by : Who) (command : Command) (j : Job) (a : Answer) → Runs layout by command j → Fits layout view j → answer j ≡ Some a → slice_get list by.seq ≡ Some command → KnowsPolicies layout list view by j
-    → (later : Who) (k : Job) → later.seq ≡ by.seq + 1 → IsAtStop k → KnowsPolicies layout list view later k
-policies-next layout list view by command j a runs fits is there knows later k next start = record { each = λ thread. each thread (knows.each thread); few = few }
-  where
-    -- the commands before the later one
-    longer : take later.seq list ≡ take by.seq list ++ command ∷ []
-    longer = ap (λ (n : ℕ). take n list) next ∙ take_more list by.seq command (slice_get_within list by.seq command there) ∙ ap (λ (c : Command). take by.seq list ++ c ∷ []) (get_or_from_slice_get list by.seq command command there)
-
-    counted : (thread : Thread) → IsCounted list view by j thread → filter_map (setting_of thread) (command ∷ []) ≡ set_now thread j → IsCounted list view later k thread
-    counted thread was said =
-        was ∙ ap (λ (l : List Policy). settings thread (take by.seq list) ++ l) (sym said)
-        ∙ sym (filter_map-append (setting_of thread) (take by.seq list) (command ∷ [])) ∙ ap (settings thread) (sym longer)
-        ∙ sym (append-nil (settings thread (take later.seq list))) ∙ ap (λ (l : List Policy). settings thread (take later.seq list) ++ l) (sym (unset-at-start thread k start))
-
-    each : (thread : Thread) → CannotReply layout view thread j ⊎ IsCounted list view by j thread → CannotReply layout view thread k ⊎ IsCounted list view later k thread
-    each thread (inl (inl (halted, ends))) = inl (inl (halted, inl start))
-    each thread (inl (inr (ended, not_))) = inl (inr (ended, unreplied-at-start thread k start))
-    each thread (inr was) = which (leaves layout view by thread command j a runs fits is)
-      where
-        which : Leaves layout view thread command j → CannotReply layout view thread k ⊎ IsCounted list view later k thread
-        which (inl barred) = inl (barred-at-start layout view thread k start barred)
-        which (inr said) = inr (counted thread was said)
-
-    few : (thread : Thread) → length (settings_of thread view.settings) ≤ later.seq + length (set_now thread k)
-    few thread = let before : length (settings_of thread view.settings) ≤ by.seq + length (set_now thread j) = knows.few thread in let one : length (set_now thread j) ≤ 1 = at-most-one thread j in omega arith
-
--- ---- what is known
 
 abbrev replies_it : Option PrctlAnswer → Bool
 replies_it (Some (prctl_answers.Replied r)) = true
@@ -333,6 +314,83 @@ unreplied layout view thread (jobs.Prctl p) (inr (ended, not_)) (own, r, is) = w
     which (prctl_at.Over prctl_answers.Stopped) not_past e = true≢false (sym (ap replies_it e))
     which _ not_past e = none-some (prctl_answers.Replied r) e
 unreplied layout view thread _ cannot replied = absurd replied
+
+-- nor has it set its policy
+unset : (layout : Layout) (view : View) (thread : Thread) (j : Job) → CannotReply layout view thread j → set_now thread j ≡ []
+unset layout view thread (jobs.Prctl p) cannot = by (p.thread.0 == thread.0) refl
+  where
+    by : (b : Bool) → (p.thread.0 == thread.0) ≡ b → cond b (set_at p.at) [] ≡ []
+    by false is = refl
+    by true is = which p.at refl
+      where
+        own : p.thread ≡ thread
+        own = ap (λ (n : ℕ). record { 0 = n }) (eqb-true p.thread.0 thread.0 is)
+
+        which : (x : PrctlAt) → p.at ≡ x → set_at x ≡ []
+        which (prctl_at.Over (prctl_answers.Replied (replies.Set policy))) at = absurd (unreplied layout view thread (jobs.Prctl p) cannot (own, replies.Set policy, ap prctls.answer_at at))
+        which _ at = refl
+unset layout view thread _ cannot = refl
+
+-- a list is a front of it and the rest
+front-and-rest : {A : Type 0} (n : ℕ) (l : List A) → l ≡ take n l ++ drop n l
+front-and-rest zero [] = refl
+front-and-rest zero (x ∷ xs) = refl
+front-and-rest (suc n) [] = refl
+front-and-rest (suc n) (x ∷ xs) = ap (λ (l : List _). x ∷ l) (front-and-rest n xs)
+
+-- the policies that are set, when a command is answered, are the first of those that the commands say
+pub policies-end : (layout : Layout) (list : List Command) (view : View) (by : Who) (command : Command) (j : Job) (a : Answer) → Runs layout by command j → Fits layout view j → answer j ≡ Some a → slice_get list by.seq ≡ Some command
+    → KnowsPolicies layout list view by j → (thread : Thread) → StartsWith (policies_in thread view) (settings thread list)
+policies-end layout list view by command j a runs fits is there knows thread = which (leaves layout view by thread command j a runs fits is) (knows.each thread)
+  where
+    -- the policies of the commands up to this one are the first of all
+    front : (l : List Policy) → l ≡ settings thread (take by.seq list) ++ filter_map (setting_of thread) (command ∷ []) → StartsWith l (settings thread list)
+    front l so = (settings thread (drop (by.seq + 1) list),
+        ap (settings thread) (front-and-rest (by.seq + 1) list) ∙ filter_map-append (setting_of thread) (take (by.seq + 1) list) (drop (by.seq + 1) list)
+        ∙ ap (λ (m : List Policy). m ++ settings thread (drop (by.seq + 1) list)) (
+            ap (settings thread) (take_more list by.seq command (slice_get_within list by.seq command there) ∙ ap (λ (c : Command). take by.seq list ++ c ∷ []) (get_or_from_slice_get list by.seq command command there))
+            ∙ filter_map-append (setting_of thread) (take by.seq list) (command ∷ []) ∙ sym so))
+
+    none : set_now thread j ≡ [] → StartsWith (policies_in thread view) (settings thread list)
+    none unset_ = let was = knows.starts thread in subst (λ (l : List Policy). StartsWith l (settings thread list)) (sym (was.2 ∙ ap (λ (l : List Policy). was.0 ++ l) unset_ ∙ append-nil was.0)) was.1
+
+    which : Leaves layout view thread command j → CannotReply layout view thread j ⊎ IsCounted list view by j thread → StartsWith (policies_in thread view) (settings thread list)
+    which (inl barred) each = none barred.1
+    which (inr said) (inl cannot) = none (unset layout view thread j cannot)
+    which (inr said) (inr counted) = front (policies_in thread view) (counted ∙ ap (λ (l : List Policy). settings thread (take by.seq list) ++ l) (sym said))
+
+pub policies-next : (layout : Layout) (list : List Command) (view : View) (by : Who) (command : Command) (j : Job) (a : Answer) → Runs layout by command j → Fits layout view j → answer j ≡ Some a → slice_get list by.seq ≡ Some command → KnowsPolicies layout list view by j
+    → (later : Who) (k : Job) → later.seq ≡ by.seq + 1 → IsAtStop k → KnowsPolicies layout list view later k
+policies-next layout list view by command j a runs fits is there knows later k next start = record {
+  each = λ thread. each thread (knows.each thread);
+  starts = λ thread. (policies_in thread view, policies-end layout list view by command j a runs fits is there knows thread,
+      sym (append-nil (policies_in thread view)) ∙ ap (λ (l : List Policy). policies_in thread view ++ l) (sym (unset-at-start thread k start)));
+  few = few;
+}
+  where
+    -- the commands before the later one
+    longer : take later.seq list ≡ take by.seq list ++ command ∷ []
+    longer = ap (λ (n : ℕ). take n list) next ∙ take_more list by.seq command (slice_get_within list by.seq command there) ∙ ap (λ (c : Command). take by.seq list ++ c ∷ []) (get_or_from_slice_get list by.seq command command there)
+
+    counted : (thread : Thread) → IsCounted list view by j thread → filter_map (setting_of thread) (command ∷ []) ≡ set_now thread j → IsCounted list view later k thread
+    counted thread was said =
+        was ∙ ap (λ (l : List Policy). settings thread (take by.seq list) ++ l) (sym said)
+        ∙ sym (filter_map-append (setting_of thread) (take by.seq list) (command ∷ [])) ∙ ap (settings thread) (sym longer)
+        ∙ sym (append-nil (settings thread (take later.seq list))) ∙ ap (λ (l : List Policy). settings thread (take later.seq list) ++ l) (sym (unset-at-start thread k start))
+
+    each : (thread : Thread) → CannotReply layout view thread j ⊎ IsCounted list view by j thread → CannotReply layout view thread k ⊎ IsCounted list view later k thread
+    each thread (inl (inl (halted, ends))) = inl (inl (halted, inl start))
+    each thread (inl (inr (ended, not_))) = inl (inr (ended, unreplied-at-start thread k start))
+    each thread (inr was) = which (leaves layout view by thread command j a runs fits is)
+      where
+        which : Leaves layout view thread command j → CannotReply layout view thread k ⊎ IsCounted list view later k thread
+        which (inl barred) = inl (barred-at-start layout view thread k start barred.0)
+        which (inr said) = inr (counted thread was said)
+
+    few : (thread : Thread) → length (settings_of thread view.settings) ≤ later.seq + length (set_now thread k)
+    few thread = let before : length (settings_of thread view.settings) ≤ by.seq + length (set_now thread j) = knows.few thread in let one : length (set_now thread j) ≤ 1 = at-most-one thread j in omega arith
+
+-- ---- what is known
 
 pub counted : {layout : Layout} {list : List Command} {view : View} {by : Who} {j : Job} → KnowsPolicies layout list view by j → (thread : Thread) → HasReplied j thread → IsCounted list view by j thread
 counted {layout} {list} {view} {by} {j} knows thread replied = which (knows.each thread)

@@ -66,7 +66,7 @@ use Rattle.hwp_job.specs.Answers.{access_answer, evict_answer, fsync_answer, nes
 use Rattle.hwp_job.specs.Begins.{Begins}
 use Rattle.hwp_job.specs.Jobs.{Fits, answer, plan}
 use Rattle.hwp_job.specs.Stays.{EndsStopped, IsAtStop, IsHalted, Stepped, StopsItself}
-use Rattle.hwp_job.proofs.Quiet.{PlansQuiet, IsQuiet, access, evict, fsync, leaves, read}
+use Rattle.hwp_job.proofs.Quiet.{PlansQuiet, IsQuiet, access, evict, leaves, read}
 
 -- ---- answers
 
@@ -207,11 +207,19 @@ prctl-stops {layout} {old} {new} {p} s = which p.at s.planned
     which (prctl_at.SetPolicy policy settings) e = ap (λ (v : View). v.stops) (steps-planned {other = steps.SetPolicy p.thread policy settings} e s.made).told.next
     which (prctl_at.Over b) e = absurd (none-some s.step e)
 
+fsync-stops : {layout : Layout} {old new : View} {f : Fsync} {after : Job} → Stepped layout old new (jobs.Fsync f) after → new.stops ≡ old.stops
+fsync-stops {layout} {old} {new} {f} s = which f.at s.planned
+  where
+    which : (x : FsyncAt) → fsyncs.plan_at f.file x ≡ Some s.step → new.stops ≡ old.stops
+    which fsync_at.LoadStop e = (leaves s.made (quiet-step {o = Some (steps.Load places.Stop)} tt e)).stops
+    which fsync_at.Report e = ap (λ (v : View). v.stops) (steps-planned {other = steps.ReportLost f.file} e s.made).told.next
+    which (fsync_at.Over b) e = absurd (none-some s.step e)
+
 -- a step leaves the stops of the view, or is the stop of a command that stops the machine itself
 pub stops-after : {layout : Layout} {old new : View} {j after : Job} → Stepped layout old new j after → (new.stops ≡ old.stops) ⊎ StopsItself j after old new
 stops-after {j = jobs.Access a} s = by-quiet s (access a.request a.at)
 stops-after {j = jobs.Evict e} s = by-quiet s (evict e.at)
-stops-after {j = jobs.Fsync f} s = by-quiet s (fsync f.file f.at)
+stops-after {j = jobs.Fsync f} s = inl (fsync-stops s)
 stops-after {j = jobs.Prctl p} s = inl (prctl-stops s)
 stops-after {j = jobs.ReadStop r} s = by-quiet s (read r.at)
 stops-after {j = jobs.Nested n} s = nested-stops s
@@ -306,6 +314,7 @@ module _ (layout : Layout) (view : View) where
   access-halts : (a : _) (x : AccessAt) → accesses.FitsAt layout view a x → option_map access_answer (accesses.answer_at x) ≡ Some answers.Stopped → IsHalted view
   access-halts a (access_at.Over (access_answers.Value word page place)) fits is = absurd (other _ refl is)
   access-halts a (access_at.Over (access_answers.Stored page place)) fits is = absurd (other _ refl is)
+  access-halts a (access_at.Over (access_answers.Sigbus page place)) fits is = absurd (other _ refl is)
   access-halts a (access_at.Over access_answers.NoFrame) fits is = absurd (other _ refl is)
   access-halts a (access_at.Over (access_answers.Gone page)) fits is = absurd (other _ refl is)
   access-halts a (access_at.Over access_answers.Stopped) fits is = halts fits.answered.0

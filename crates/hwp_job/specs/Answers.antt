@@ -21,6 +21,7 @@ use Rattle.hwp_fault.specs.declared.AccessAnswer.TheVariants as access
 abbrev pub access_answer : AccessAnswer → Answer
 access_answer (access.Value word page place) = answers.Value word (record { page = page; entry = place })
 access_answer (access.Stored page place) = answers.Stored (record { page = page; entry = place })
+access_answer (access.Sigbus page place) = answers.Sigbus (record { page = page; entry = place })
 access_answer (access.NoFrame) = answers.NoFrame
 access_answer (access.Gone page) = answers.Gone page
 access_answer access.Stopped = answers.Stopped

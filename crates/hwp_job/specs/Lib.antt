@@ -4,3 +4,4 @@ pub mod Begins
 pub mod Runs
 pub mod Settings
 pub mod Stays
+pub mod Done

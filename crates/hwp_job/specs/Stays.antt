@@ -5,19 +5,21 @@ use Rattle.hwp_geom.specs.declared.Layout.{Layout}
 use Rattle.hwp_geom.specs.declared.Proc.{Proc}
 use Rattle.hwp_geom.specs.declared.Thread.{Thread}
 use Rattle.hwp_geom.specs.declared.Who.{Who}
+use Rattle.hwp_kill.specs.declared.Policy.{Policy}
 use Rattle.hwp_page.specs.History.{BodyValue}
 use Rattle.hwp_words.specs.Stops.{is_stopped}
 use Rattle.hwp_rule.specs.declared.Place.TheVariants as places
 use Rattle.hwp_rule.specs.declared.Sight.{Sight}
 use Rattle.hwp_rule.specs.declared.Step.{Step}
 use Rattle.hwp_rule.specs.declared.View.{View}
-use Rattle.hwp_rule.specs.Lists.{SomeMember}
+use Rattle.hwp_rule.specs.Lists.{SomeMember, StartsWith}
 use Rattle.hwp_rule.specs.parts.Policies.{settings_of}
 use Rattle.hwp_step.specs.declared.Turn.{Turn}
 use Rattle.hwp_step.specs.Calls.{Steps, logs}
 use Rattle.hwp_form.specs.declared.Command.{Command}
 use Rattle.hwp_report.specs.declared.Answer.TheVariants as answers
 use Rattle.hwp_law.specs.Commands.{process_of_thread}
+use Rattle.hwp_law.specs.Policies.{settings}
 use Rattle.hwp_control.specs.declared.Nested.{Nested}
 use Rattle.hwp_control.specs.declared.NestedAnswer.TheVariants as nested_answers
 use Rattle.hwp_control.specs.declared.PrctlAnswer.TheVariants as prctl_answers
@@ -31,7 +33,7 @@ use Rattle.hwp_fault.specs.declared.access.AccessAt.TheVariants as access_at
 use Rattle.hwp_job.specs.declared.job.Job.{Job}
 use Rattle.hwp_job.specs.declared.job.Job.TheVariants as jobs
 use Rattle.hwp_job.specs.Jobs.{Fits, Next, answer, bare, plan, put, who}
-use Rattle.hwp_job.specs.Settings.{IsCounted, set_now}
+use Rattle.hwp_job.specs.Settings.{IsCounted, policies_in, set_now}
 
 -- the command made the step that came, and what follows is told
 pub record Stepped (layout : Layout) (old new : View) (j after : Job) : Type 0 where
@@ -102,7 +104,9 @@ CannotReply layout view thread j = (IsHalted view × EndsStopped j) ⊎ (HasEnde
 -- ---- policies
 
 -- What a processor knows of policies while it runs a command of its list: those of each thread are listed as the commands say,
--- but for threads that can't set theirs any more; and no thread was set more often than there were commands.
+-- but for threads that can't set theirs any more; those listed before this command begin what the commands say; and no thread was
+-- set more often than there were commands.
 pub record KnowsPolicies (layout : Layout) (list : List Command) (view : View) (who : Who) (j : Job) : Type 0 where
   pub each : (thread : Thread) → CannotReply layout view thread j ⊎ IsCounted list view who j thread
+  pub starts : (thread : Thread) → (before : List Policy) × StartsWith before (settings thread list) × (policies_in thread view ≡ before ++ set_now thread j)
   pub few : (thread : Thread) → length (settings_of thread view.settings) ≤ who.seq + length (set_now thread j)

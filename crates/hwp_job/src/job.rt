@@ -3,10 +3,10 @@ ghost use Rattle.std.specs.Prelude.{◌≡◌};
 use hwp_control::{Nested, NestedAnswer, Prctl, PrctlAnswer, ReadStop, ReadStopAnswer};
 use hwp_evict::{Evict, EvictAnswer, Fsync, FsyncAnswer, Refusal};
 use hwp_fault::{Access, AccessAnswer};
-use hwp_geom::{Layout, Who};
+use hwp_geom::{Frame, Layout, Who};
 use hwp_kill::Reply;
 use hwp_page::{At, Body};
-use hwp_report::Answer;
+use hwp_report::{Answer, MarkLine};
 use hwp_rule::Step;
 use hwp_step::{Machine, Ranked, Scheduled, Turn};
 
@@ -29,6 +29,7 @@ pub enum Job {
 
 impl Job {
     ghost use Rattle.hwp_job.specs.Jobs.{answer};
+    ghost use Rattle.hwp_job.specs.Done.{note};
 
     /// What the command answers; `None` until it is over, and where it gave up because memory ran out.
     pub fn answer(&self) -> Option<Answer>
@@ -42,6 +43,14 @@ impl Job {
             Job::ReadStop(read) => read.answer().map(|answer| read_stop_answer(answer)),
             Job::Nested(nested) => nested.answer().map(|answer| nested_answer(answer)),
         }
+    }
+
+    /// The line that the command adds to the record of a frame, when it is over; no command does so yet.
+    pub fn note(&self) -> Option<(Frame, MarkLine)>
+        ensures { result ≡ note self.now }
+    {
+        let _ = self;
+        None
     }
 }
 
@@ -58,6 +67,7 @@ fn access_answer(answer: AccessAnswer) -> Answer
             at: At { page, entry: place },
         },
         AccessAnswer::Stored { page, place } => Answer::Stored(At { page, entry: place }),
+        AccessAnswer::Sigbus { page, place } => Answer::Sigbus(At { page, entry: place }),
         AccessAnswer::NoFrame => Answer::NoFrame,
         AccessAnswer::Gone { page } => Answer::Gone(page),
         AccessAnswer::Stopped => Answer::Stopped,

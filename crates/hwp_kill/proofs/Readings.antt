@@ -22,7 +22,7 @@ owners None p q a b = absurd a
 owners (Some t) p q a b = sym a ∙ b
 
 -- a thread is one of one process
-same_owner : (layout : Layout) (thread : Thread) (p q : Proc) → IsIn layout thread p → IsIn layout thread q → p ≡ q
+pub same_owner : (layout : Layout) (thread : Thread) (p q : Proc) → IsIn layout thread p → IsIn layout thread q → p ≡ q
 same_owner layout thread p q a b = owners (slice_get layout.threads thread.0) p q a b
 
 some_used : (layout : Layout) (maps : set.FinSet nat_cmp) (process : Proc) (found : Option VSlot)
@@ -123,7 +123,7 @@ refused never = (λ t. absurd (cc), λ p. absurd (never p))
 pub granted : {P : Type 0} → P → IsTrue true ↔ P
 granted p = (λ t. p, λ q. refl)
 
-within_threads : (layout : Layout) (thread : Thread) (p : Proc) → IsIn layout thread p → thread.0 < length layout.threads
+pub within_threads : (layout : Layout) (thread : Thread) (p : Proc) → IsIn layout thread p → thread.0 < length layout.threads
 within_threads layout thread p own = elim (cases_lt thread.0 (length layout.threads)) [
   | inl within ↦ within
   | inr past ↦ absurd (rw (slice_get_past layout.threads thread.0 past) at own)

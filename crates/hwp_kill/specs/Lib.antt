@@ -2,4 +2,5 @@ pub mod Kill
 pub mod Limits
 pub mod Lowest
 pub mod Members
+pub mod Next
 pub mod Prctl

@@ -8,7 +8,7 @@ use crate::types::{Code, Policy, Seen, Signal};
 use hwp_geom::{Layout, List, Proc, Thread, VSlot};
 
 /// Whether the thread is declared as one of the process.
-fn is_in(layout: &Layout, thread: Thread, process: Proc) -> bool
+pub(crate) fn is_in(layout: &Layout, thread: Thread, process: Proc) -> bool
     ensures { IsTrue result ↔ IsIn layout.now thread process }
 {
     match layout.threads.as_slice().get(usize::from(thread.0)) {
@@ -29,7 +29,7 @@ pub(crate) fn is_current(layout: &Layout, current: Option<Thread>, process: Proc
 
 /// Whether a thread with this policy is signalled at once: `Default` stands for the system default
 /// `vm.memory_failure_early_kill` (Linux hwpoison.rst).
-fn is_early_policy(layout: &Layout, policy: Policy) -> bool
+pub(crate) fn is_early_policy(layout: &Layout, policy: Policy) -> bool
     ensures { result ≡ is_early layout.now policy }
 {
     match policy {

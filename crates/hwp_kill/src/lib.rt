@@ -3,6 +3,7 @@
 #![tactic(auto)]
 
 mod kill;
+mod next;
 mod policies;
 mod reading;
 mod signal_list;
@@ -10,6 +11,7 @@ mod slots;
 mod types;
 
 pub use kill::signals;
+pub use next::next_to_read;
 pub use policies::{
     PR_MCE_KILL, PR_MCE_KILL_CLEAR, PR_MCE_KILL_DEFAULT, PR_MCE_KILL_EARLY, PR_MCE_KILL_GET,
     PR_MCE_KILL_LATE, PR_MCE_KILL_SET, prctl,

@@ -3,10 +3,13 @@
 use Rattle.std.proofs.Common.{◌≡◌, ◌≢◌, ℕ, suc, ◌<◌, ◌≤◌, ◌==◌, ◌&&◌, Bool, true, false, cond, List, [], ◌∷◌, ◌++◌, Option, Some, None, filter, length, slice_get, append-nil, refl, sym, ap, ◌∙◌, subst, arith}
 use Rattle.std.proofs.lemmas.Bool.{both_ways, eqb-true}
 use Rattle.std.proofs.lemmas.List.Elements.{filter-append}
+use Rattle.std.specs.declared.snapshot.Snapshot.{Snapshot}
 use Rattle.hwp_geom.specs.declared.Cpu.{Cpu}
+use Rattle.hwp_geom.specs.declared.FileNo.{FileNo}
 use Rattle.hwp_geom.specs.declared.Frame.{Frame}
 use Rattle.hwp_geom.specs.declared.Layout.{Layout}
 use Rattle.hwp_geom.specs.declared.Page.{Page}
+use Rattle.hwp_geom.specs.declared.Proc.{Proc}
 use Rattle.hwp_geom.specs.declared.Who.{Who}
 use Rattle.hwp_page.specs.declared.Entry.{Entry}
 use Rattle.hwp_page.specs.declared.What.{What}
@@ -22,10 +25,10 @@ use Rattle.hwp_rule.specs.declared.Step.{Step}
 use Rattle.hwp_rule.specs.declared.Step.TheVariants as steps
 use Rattle.hwp_rule.specs.declared.View.{View}
 use Rattle.hwp_rule.specs.Lists.{EachMember}
+use Rattle.hwp_rule.specs.Logs.{log_of}
 use Rattle.hwp_rule.specs.Rule.{Holds}
-use Rattle.hwp_rule.specs.Served.{IsServed}
 use Rattle.hwp_rule.specs.Steps.{goes}
-use Rattle.hwp_rule.specs.Views.{body_of, listed_of, loaded, made_from, more_of, noted, put_home, stamp_of, taken, view_by}
+use Rattle.hwp_rule.specs.Views.{body_of, killed_by, listed, listed_of, loaded, made_from, more_of, noted, put_home, sighted, stamp_of, taken, view_by}
 use Rattle.hwp_rule.specs.parts.Holdings.{IsPast}
 use Rattle.hwp_rule.proofs.Lists.{same-number}
 use Rattle.hwp_rule.proofs.MoreEntries.{made-each}
@@ -42,6 +45,12 @@ PutsNone (steps.UnlockPage page) = ⊥
 PutsNone (steps.Kill process page body) = ⊥
 PutsNone (steps.Lose file body) = ⊥
 PutsNone step = Unit {0}
+
+-- given no body, the step lists no entry
+abbrev pub ListsNone : Step → Type 0
+ListsNone (steps.Kill process page body) = ⊥
+ListsNone (steps.Lose file body) = ⊥
+ListsNone step = Unit {0}
 
 either : (b : Bool) (x y v : View) → x.made ≡ v.made → y.made ≡ v.made → (cond b x y).made ≡ v.made
 either true x y v e f = e
@@ -76,19 +85,19 @@ module _ {layout : Layout} {who : Who} {old new : View} {found : ℕ} {got : Opt
   pub made-kept : {step : Step} {put : Option Log} → Steps layout who step put old new found got → PutsNone step → new.made ≡ old.made
   made-kept {step} {put} made none = ap (λ (v : View). v.made) made.told.next ∙ by-none layout who step found (content_of layout who step put found got) (noted who old) none
 
-  same-by : (step : Step) → IsServed step → Steps layout who step None old new found got → new.made ≡ old.made
-  same-by (steps.UnlockFrame frame) served made = ap (λ (v : View). v.made) made.told.next
-  same-by (steps.UnlockPage page) served made = ap (λ (v : View). v.made) made.told.next
-  same-by (steps.Kill process page body) served made = absurd served
-  same-by (steps.Lose file body) served made = absurd served
-  same-by step served made = made-kept made tt
+  same-by : (step : Step) → ListsNone step → Steps layout who step None old new found got → new.made ≡ old.made
+  same-by (steps.UnlockFrame frame) lists made = ap (λ (v : View). v.made) made.told.next
+  same-by (steps.UnlockPage page) lists made = ap (λ (v : View). v.made) made.told.next
+  same-by (steps.Kill process page body) lists made = absurd lists
+  same-by (steps.Lose file body) lists made = absurd lists
+  same-by step lists made = made-kept made tt
 
-  -- of any step that boards can make, given none
-  pub made-same : {step : Step} → IsServed step → Steps layout who step None old new found got → new.made ≡ old.made
-  made-same {step} served made = same-by step served made
+  -- of a step that lists none, given none
+  pub made-same : {step : Step} → ListsNone step → Steps layout who step None old new found got → new.made ≡ old.made
+  made-same {step} lists made = same-by step lists made
 
-  pub deeds-same : (by : Who) {step : Step} → IsServed step → Steps layout who step None old new found got → deeds by new ≡ deeds by old
-  deeds-same by served made = ap (filter (is_by by)) (made-same served made)
+  pub deeds-same : (by : Who) {step : Step} → ListsNone step → Steps layout who step None old new found got → deeds by new ≡ deeds by old
+  deeds-same by lists made = ap (filter (is_by by)) (made-same lists made)
 
 -- ---- a step that puts a body
 
@@ -105,6 +114,24 @@ module _ {layout : Layout} {who : Who} {old new : View} {found : ℕ} {got : Opt
 
   pub page-lists : {page : Page} → Steps layout who (steps.UnlockPage page) (Some log) old new found got → Lists old new (stamp_of who old) body log
   page-lists made = put-lists layout who old new body log there (ap (λ (v : View). v.made) made.told.next)
+
+either-made : (b : Bool) (x y : View) (l : List Made) → x.made ≡ l → y.made ≡ l → (cond b x y).made ≡ l
+either-made true x y l e f = e
+either-made false x y l e f = f
+
+-- a kill lists what the body has more, and so does a loss that is counted
+module _ {layout : Layout} {who : Who} {old new : View} {put : Option Log} {found : ℕ} {got : Option BodyValue} {body : InHand} where
+  pub kill-lists : {process : Proc} {page : Page} {with_entries : Snapshot BodyValue} → body_of (log_of with_entries.value).page old ≡ Some body
+      → Steps layout who (steps.Kill process page with_entries) put old new found got → Lists old new (stamp_of who old) body (log_of with_entries.value)
+  kill-lists {process} {page} {with_entries} there made =
+      let now : (listed layout who (log_of with_entries.value) (noted who old)).made ≡ (listed_of layout who (log_of with_entries.value) (Some body) (noted who old)).made = ap (λ (b : Option InHand). (listed_of layout who (log_of with_entries.value) b (noted who old)).made) there in
+      record { made_is = ap (λ (v : View). v.made) made.told.next ∙ either-made (found == 0) (killed_by process page (listed layout who (log_of with_entries.value) (noted who old))) (sighted who (places.Process process) found (killed_by process page (listed layout who (log_of with_entries.value) (noted who old)))) _ now now }
+
+  pub loss-lists : {file : FileNo} {with_entries : Snapshot BodyValue} → body_of (log_of with_entries.value).page old ≡ Some body
+      → Steps layout who (steps.Lose file with_entries) put old new found got → Lists old new (stamp_of who old) body (log_of with_entries.value)
+  loss-lists {file} {with_entries} there made = record {
+    made_is = ap (λ (v : View). v.made) made.told.next ∙ ap (λ (b : Option InHand). (listed_of layout who (log_of with_entries.value) b (noted who old)).made) there;
+  }
 
 is-own : (who other : Who) → other ≡ who → ((other.cpu.0 == who.cpu.0) && (other.seq == who.seq)) ≡ true
 is-own who other own =
@@ -206,8 +233,8 @@ module _ {layout : Layout} {who : Who} {old new : View} {found : ℕ} {got : Opt
   by-other : (step : Step) (body : Option BodyValue) → CanMake layout who step body old → Steps layout who step (logs body) old new found got → deeds other new ≡ deeds other old
   by-other (steps.UnlockFrame frame) body can made = frame-puts frame body can made
   by-other (steps.UnlockPage page) body can made = page-puts page body can made
-  by-other (steps.Kill process page body) put can made = absurd can.served
-  by-other (steps.Lose file body) put can made = absurd can.served
+  by-other (steps.Kill process page body) put can made = others-list other (kill-lists can.asks.kind.page_held.body_is made) can.asks.kind.extends.own differs
+  by-other (steps.Lose file body) put can made = others-list other (loss-lists can.asks.kind.page_held.body_is made) can.asks.kind.extends.own differs
   by-other step body can made = ap (filter (is_by other)) (made-kept made tt)
 
   -- a step of a command lists no entry of another

@@ -21,6 +21,7 @@ later-open who (suc i) p e = absurd (none-some p e)
 pub on-turn-open : (who : Who) → IsOnTurn (opening_view who.cpu.0) who
 on-turn-open who = record {
   turn = record { part = (0, record { cpu = who.cpu; latest = 0 }, refl, (refl, omega arith)) };
+  begins = λ i p e same less. refl;
   later = λ i p e same. later-open who i p e;
 }
 

@@ -103,6 +103,13 @@ impl Body {
         &self.state
     }
 
+    /// The layout of the page's machine.
+    pub fn layout(&self) -> &Layout
+        ensures { result.now ≡ self.now.layout }
+    {
+        &self.layout
+    }
+
     /// The page.
     pub fn page(&self) -> Page
         ensures { result ≡ self.now.page }

@@ -13,7 +13,6 @@ use Rattle.hwp_rule.specs.declared.Rec.{Rec}
 use Rattle.hwp_rule.specs.declared.SlotMove.{SlotMove}
 use Rattle.hwp_rule.specs.declared.State.{State}
 use Rattle.hwp_rule.specs.declared.Step.{Step}
-use Rattle.hwp_rule.specs.declared.Step.TheVariants as variants
 use Rattle.hwp_rule.specs.declared.View.{View}
 use Rattle.hwp_rule.specs.Asks.{AsksOf}
 use Rattle.hwp_rule.specs.Logs.{log_of}
@@ -21,7 +20,6 @@ use Rattle.hwp_rule.specs.Moves.{Move, Told}
 use Rattle.hwp_rule.specs.Opening.{opening_view}
 use Rattle.hwp_rule.specs.Slots.{slot_move, is_out, homes_moved, takes, MeetsSlot}
 use Rattle.hwp_rule.specs.Steps.{place_of, word_after, kind_of}
-use Rattle.hwp_rule.specs.Unfailed.{BringsNoFailure}
 use Rattle.hwp_rule.specs.Views.{view_after}
 use Rattle.hwp_rule.specs.Words.{index, size, IsPlace}
 use Rattle.hwp_rule.proofs.Moving.{holds-moved}
@@ -48,11 +46,6 @@ content-flow false content got put is = ap (option_map log_of) is
 asks-content : (layout : Layout) (who : Who) (step : Step) (found : ℕ) (got put : Option Log) (v : View) (t : Bool) → takes layout step found ≡ t → AsksOf layout who step put v → AsksOf layout who step (cond t got put) v
 asks-content layout who step found got put v true is asks = asks-taken layout who step found put got v is asks
 asks-content layout who step found got put v false is asks = asks
-
-brings-content : (layout : Layout) (step : Step) (found : ℕ) (got put : Option Log) (v : View) → BringsNoFailure step put v → BringsNoFailure step (cond (takes layout step found) got put) v
-brings-content layout (variants.UnlockFrame frame) found got put v sound = sound
-brings-content layout (variants.UnlockPage page) found got put v sound = sound
-brings-content layout step found got put v sound = tt
 
 module _ (layout : Layout) (words : List ℕ) (slots : List Slot) (trail : Trail) (seat : ℕ) (kept : IsBoard layout words slots trail seat)
     (who : Who) (step : Step) (put : Option BodyValue) where
@@ -97,6 +90,7 @@ module _ (layout : Layout) (words : List ℕ) (slots : List Slot) (trail : Trail
         me = me;
         asks = record {
           turn = can.asks.turn;
+          begins = can.asks.begins;
           place = can.asks.place;
           kind = asks-content layout who step found (logs got) (logs put) view (takes layout step found) refl can.asks.kind;
         };
@@ -114,8 +108,7 @@ module _ (layout : Layout) (words : List ℕ) (slots : List Slot) (trail : Trail
       unfolding move
       reached turn = record {
         run = (a, kept.reached.run, move);
-        holds = holds-moved layout seat r a b (keeps step) can.served kept.reached.holds move
-            (brings-content layout step found (logs got) (logs put) view can.sound);
+        holds = holds-moved layout seat r a b (keeps step) can.served kept.reached.holds move;
       }
 
       told : Told layout r view (get_or views seat (opening_view seat))

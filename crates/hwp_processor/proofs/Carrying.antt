@@ -22,18 +22,21 @@ use Rattle.hwp_job.proofs.Jobbing as jobbing
 use Rattle.hwp_job.proofs.Running.{runs-on, runs-who}
 use Rattle.hwp_job.proofs.Staying.{policies-stay}
 use Rattle.hwp_job.proofs.Stopping.{halted-stays, no-own-stop, stops-after}
+use Rattle.hwp_served.specs.Accounts.{Note}
 use Rattle.hwp_served.specs.Served.{IsOwnStop}
+use Rattle.hwp_served.proofs.Accounting.{account-stays}
 use Rattle.hwp_served.proofs.Staying.{caused-stays}
 use Rattle.hwp_caused.proofs.Undamaged.{none-bad}
 use Rattle.hwp_processor.specs.Processors.{at_number}
 use Rattle.hwp_processor.specs.Serving.{HasStoppedIt, IsRunning, Serves}
 use Rattle.hwp_processor.proofs.Lines.{answered-as}
+use Rattle.hwp_processor.proofs.Noting.{account-on, listed-on, noted-on}
 
 -- a command that has stopped the machine makes no step
 over : (rows : List CpuLine) (who : Who) (j : Job) (step : Step) → HasStoppedIt rows j who → jobs.plan j ≡ Some step → ⊥
 over rows who j step it is = none-some step (sym (ap jobs.plan it.job_is ∙ ap (λ (x : NestedAt). nesteds.plan_at it.nested.who x) it.at_is) ∙ is)
 
-module _ (layout : Layout) (old new : View) (cpu : Cpu) (list : List Command) (rows : List CpuLine) (j k : Job) (run : IsRunning layout old cpu list rows j) (made : Stepped layout old new j k) where
+module _ (layout : Layout) (old new : View) (cpu : Cpu) (list : List Command) (rows : List CpuLine) (notes : List Note) (j k : Job) (run : IsRunning layout old cpu list rows notes j) (made : Stepped layout old new j k) where
   pub can : CanMake layout (jobs.who j) made.step (jobs.put j) old
   can = jobbing.can layout old j made.step made.fits made.planned
 
@@ -47,21 +50,22 @@ module _ (layout : Layout) (old new : View) (cpu : Cpu) (list : List Command) (r
   serves : Serves layout new cpu list rows
   serves = record {
     answered = answered-as layout list old new cpu (length rows)
-        (λ n c a less caused. caused-stays can made.made (at_number cpu n) (other n (λ same. absurd (omega arith))) list c a caused) 0 list rows (omega arith) run.serves.answered;
+        (λ n c a less caused. caused-stays can made.made (at_number cpu n) (other n (λ same. absurd (omega arith))) list c a caused)
+        (λ n c a less account. account-stays made.made (at_number cpu n) (other n (λ same. absurd (omega arith))) c a account) 0 list rows (omega arith) run.serves.answered;
     stays = run.serves.stays;
     halted = λ some. (halted-stays made (run.serves.halted some) (run.stopped some)).0;
     none_bad = none-bad can made.made run.serves.none_bad;
   }
 
   -- a stop of the machine is one from before, or that of this step
-  stops : EachMember (λ (who : Who). IsOwnStop cpu list rows who ⊎ HasStoppedIt rows k who) new.stops
+  stops : EachMember (λ (who : Who). IsOwnStop layout cpu list rows who ⊎ HasStoppedIt rows k who) new.stops
   stops i who there = which (stops-after made)
     where
-      before : IsOwnStop cpu list rows who ⊎ HasStoppedIt rows j who → IsOwnStop cpu list rows who ⊎ HasStoppedIt rows k who
+      before : IsOwnStop layout cpu list rows who ⊎ HasStoppedIt rows j who → IsOwnStop layout cpu list rows who ⊎ HasStoppedIt rows k who
       before (inl first) = inl first
       before (inr it) = absurd (over rows who j made.step it made.planned)
 
-      by-it : (itself : StopsItself j k old new) → (slice_get old.stops i ≡ Some who) ⊎ (itself.nested.who ≡ who) → IsOwnStop cpu list rows who ⊎ HasStoppedIt rows k who
+      by-it : (itself : StopsItself j k old new) → (slice_get old.stops i ≡ Some who) ⊎ (itself.nested.who ≡ who) → IsOwnStop layout cpu list rows who ⊎ HasStoppedIt rows k who
       by-it itself (inl early) = before (run.stops i who early)
       by-it itself (inr last) = inr (record {
         nested = record itself.nested { at = nested_at.Over (Some nested_answers.Shutdown) };
@@ -71,11 +75,11 @@ module _ (layout : Layout) (old new : View) (cpu : Cpu) (list : List Command) (r
         first = λ some. no-own-stop (run.stopped some) itself;
       })
 
-      which : (new.stops ≡ old.stops) ⊎ StopsItself j k old new → IsOwnStop cpu list rows who ⊎ HasStoppedIt rows k who
+      which : (new.stops ≡ old.stops) ⊎ StopsItself j k old new → IsOwnStop layout cpu list rows who ⊎ HasStoppedIt rows k who
       which (inl same) = before (run.stops i who (sym (ap (λ (l : List Who). slice_get l i) same) ∙ there))
       which (inr itself) = by-it itself (at_push old.stops itself.nested.who who i (sym (ap (λ (l : List Who). slice_get l i) itself.stops_are) ∙ there))
 
-  pub carried : IsRunning layout new cpu list rows k
+  pub carried : IsRunning layout new cpu list rows notes k
   carried = record {
     serves = serves;
     command = run.command;
@@ -85,4 +89,7 @@ module _ (layout : Layout) (old new : View) (cpu : Cpu) (list : List Command) (r
     policies = policies-stay made list (at_number cpu (length rows)) run.policies;
     stopped = λ some. (halted-stays made (run.serves.halted some) (run.stopped some)).1;
     stops = stops;
+    listed = listed-on made can own run.listed;
+    account = account-on made can own run.account;
+    noted = noted-on made can own notes run.noted;
   }

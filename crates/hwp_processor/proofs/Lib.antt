@@ -1,4 +1,5 @@
 pub mod Lines
+pub mod Noting
 pub mod Carrying
 pub mod Beginning
 pub mod Settling

@@ -12,6 +12,7 @@ use Rattle.hwp_report.specs.declared.CpuLine.TheVariants as lines
 use Rattle.hwp_rule.specs.declared.View.{View}
 use Rattle.hwp_rule.proofs.Lists.{at_longer, at_push}
 use Rattle.hwp_law.specs.Stops.{StaysStopped}
+use Rattle.hwp_served.specs.Accounts.{IsAccounted}
 use Rattle.hwp_served.specs.Causes.{IsCaused}
 use Rattle.hwp_served.specs.Served.{AreAnswered, IsOwnStop}
 use Rattle.hwp_processor.specs.Processors.{at_number}
@@ -33,28 +34,31 @@ abbrev answer_in : CpuLine → Answer
 answer_in (lines.Answer seq answer) = answer
 answer_in (lines.Event seq bank status addr misc row acted) = answers.Stopped
 
--- one answer more, with its cause
+-- one answer more, with its cause, and what its command did
 pub answered-more : (layout : Layout) (list : List Command) (view : View) (cpu : Cpu) (n : ℕ) (commands : List Command) (rows : List CpuLine) (m : ℕ) (command : Command) (answer : Answer)
     → m ≡ n + length rows → AreAnswered layout list view cpu n commands rows → slice_get commands (length rows) ≡ Some command → IsCaused layout list view (at_number cpu m) command answer
-    → AreAnswered layout list view cpu n commands (rows ++ lines.Answer m answer ∷ [])
-answered-more layout list view cpu n [] [] m command answer is are there caused = absurd (none-some command there)
-answered-more layout list view cpu n [] (row ∷ rows) m command answer is are there caused = absurd (none-some command there)
-answered-more layout list view cpu n (c ∷ cs) [] m command answer is are there caused =
+    → IsAccounted view (at_number cpu m) command answer → AreAnswered layout list view cpu n commands (rows ++ lines.Answer m answer ∷ [])
+answered-more layout list view cpu n [] [] m command answer is are there caused accounted = absurd (none-some command there)
+answered-more layout list view cpu n [] (row ∷ rows) m command answer is are there caused accounted = absurd (none-some command there)
+answered-more layout list view cpu n (c ∷ cs) [] m command answer is are there caused accounted =
     let same : m ≡ n = omega arith in
-    (same, subst (λ (d : Command). IsCaused layout list view (at_number cpu n) d answer) (sym (same_Some c command there)) (subst (λ (k : ℕ). IsCaused layout list view (at_number cpu k) command answer) same caused), tt)
-answered-more layout list view cpu n (c ∷ cs) (lines.Answer seq a ∷ rows) m command answer is are there caused =
-    (are.0, are.1, answered-more layout list view cpu (n + 1) cs rows m command answer (omega arith) are.2 there caused)
-answered-more layout list view cpu n (c ∷ cs) (lines.Event seq bank status addr misc row acted ∷ rows) m command answer is are there caused = absurd are
+    (same, subst (λ (d : Command). IsCaused layout list view (at_number cpu n) d answer) (sym (same_Some c command there)) (subst (λ (k : ℕ). IsCaused layout list view (at_number cpu k) command answer) same caused),
+        subst (λ (d : Command). IsAccounted view (at_number cpu n) d answer) (sym (same_Some c command there)) (subst (λ (k : ℕ). IsAccounted view (at_number cpu k) command answer) same accounted), tt)
+answered-more layout list view cpu n (c ∷ cs) (lines.Answer seq a ∷ rows) m command answer is are there caused accounted =
+    (are.0, are.1, are.2, answered-more layout list view cpu (n + 1) cs rows m command answer (omega arith) are.3 there caused accounted)
+answered-more layout list view cpu n (c ∷ cs) (lines.Event seq bank status addr misc row acted ∷ rows) m command answer is are there caused accounted = absurd are
 
--- answers keep their causes where each cause stays
+-- answers keep their causes, and what their commands did, where each of these stays
 pub answered-as : (layout : Layout) (list : List Command) (old new : View) (cpu : Cpu) (m : ℕ)
     → ((k : ℕ) (c : Command) (a : Answer) → k < m → IsCaused layout list old (at_number cpu k) c a → IsCaused layout list new (at_number cpu k) c a)
+    → ((k : ℕ) (c : Command) (a : Answer) → k < m → IsAccounted old (at_number cpu k) c a → IsAccounted new (at_number cpu k) c a)
     → (n : ℕ) (commands : List Command) (rows : List CpuLine) → n + length rows ≤ m → AreAnswered layout list old cpu n commands rows → AreAnswered layout list new cpu n commands rows
-answered-as layout list old new cpu m stay n [] [] few are = tt
-answered-as layout list old new cpu m stay n (c ∷ cs) [] few are = tt
-answered-as layout list old new cpu m stay n [] (row ∷ rows) few are = absurd are
-answered-as layout list old new cpu m stay n (c ∷ cs) (lines.Answer seq a ∷ rows) few are = (are.0, stay n c a (omega arith) are.1, answered-as layout list old new cpu m stay (n + 1) cs rows (omega arith) are.2)
-answered-as layout list old new cpu m stay n (c ∷ cs) (lines.Event seq bank status addr misc row acted ∷ rows) few are = absurd are
+answered-as layout list old new cpu m stay also n [] [] few are = tt
+answered-as layout list old new cpu m stay also n (c ∷ cs) [] few are = tt
+answered-as layout list old new cpu m stay also n [] (row ∷ rows) few are = absurd are
+answered-as layout list old new cpu m stay also n (c ∷ cs) (lines.Answer seq a ∷ rows) few are =
+    (are.0, stay n c a (omega arith) are.1, also n c a (omega arith) are.2, answered-as layout list old new cpu m stay also (n + 1) cs rows (omega arith) are.3)
+answered-as layout list old new cpu m stay also n (c ∷ cs) (lines.Event seq bank status addr misc row acted ∷ rows) few are = absurd are
 
 -- after a `stopped` all answers are
 pub stays-more : (rows : List CpuLine) (m : ℕ) (a : Answer) → StaysStopped rows → (HasStopped rows → a ≡ answers.Stopped) → StaysStopped (rows ++ lines.Answer m a ∷ [])
@@ -79,10 +83,12 @@ stopped-was rows m a (i, k, is) = which (at_push rows (lines.Answer m a) (lines.
     which (inr last) = inr (ap answer_in last)
 
 -- a stop by a command that is answered
-pub own-more : (cpu : Cpu) (list : List Command) (rows : List CpuLine) (row : CpuLine) (who : Who) → IsOwnStop cpu list rows who → IsOwnStop cpu list (rows ++ row ∷ []) who
-own-more cpu list rows row who own = record {
+pub own-more : (layout : Layout) (cpu : Cpu) (list : List Command) (rows : List CpuLine) (row : CpuLine) (who : Who) → IsOwnStop layout cpu list rows who → IsOwnStop layout cpu list (rows ++ row ∷ []) who
+own-more layout cpu list rows row who own = record {
   cpu_is = own.cpu_is;
   command = own.command;
+  there = own.there;
+  can = own.can;
   answered = at_longer rows (row ∷ []) who.seq (lines.Answer who.seq answers.Stopped) own.answered;
   first = λ i less is.
       let within : who.seq < length rows = slice_get_within rows who.seq (lines.Answer who.seq answers.Stopped) own.answered in

@@ -15,9 +15,11 @@ use Rattle.hwp_job.specs.Stays.{KnowsPolicies}
 use Rattle.hwp_job.proofs.Running.{begins-fits, begins-runs}
 use Rattle.hwp_job.proofs.Staying.{left, policies-first}
 use Rattle.hwp_job.proofs.Stopping.{begins-stop}
+use Rattle.hwp_law.specs.Policies.{settings}
 use Rattle.hwp_served.specs.Served.{AreAnswered}
 use Rattle.hwp_processor.specs.Processors.{BeginsAt, at_number}
-use Rattle.hwp_processor.specs.Serving.{FitsAt, IsDone, IsRunning, Serves}
+use Rattle.hwp_processor.specs.Serving.{FitsAt, IsDone, IsListed, IsRunning, Serves}
+use Rattle.hwp_processor.proofs.Noting.{account-starts, noted-starts}
 
 module _ (layout : Layout) (cpu : Cpu) (list : List Command) (few : length list ≤ command_limit) where
   abbrev view : View
@@ -30,8 +32,13 @@ module _ (layout : Layout) (cpu : Cpu) (list : List Command) (few : length list 
   first-turn : IsOnTurn view (at_number cpu 0)
   first-turn = record {
     turn = record { part = (0, record { cpu = record { 0 = cpu.0 }; latest = 0 }, refl, (refl, omega arith)) };
+    begins = λ i p there same less. refl;
     later = λ i p there same. first-part i p there;
   }
+
+  -- nothing is listed
+  listed : (n : ℕ) → IsListed view cpu n
+  listed n = record { marked = λ i m at. absurd (none-some m at); taken = λ i r at. absurd (none-some r at); set = λ i s at. absurd (none-some s at) }
 
   serves : Serves layout view cpu list []
   serves = record {
@@ -45,7 +52,7 @@ module _ (layout : Layout) (cpu : Cpu) (list : List Command) (few : length list 
       by [] = tt
       by (c ∷ cs) = tt
 
-  running : (command : Command) (j : Job) → slice_get list 0 ≡ Some command → Begins layout (at_number cpu 0) command j → IsRunning layout view cpu list [] j
+  running : (command : Command) (j : Job) → slice_get list 0 ≡ Some command → Begins layout (at_number cpu 0) command j → IsRunning layout view cpu list [] [] j
   running command j there begins = record {
     serves = serves;
     command = command;
@@ -55,28 +62,35 @@ module _ (layout : Layout) (cpu : Cpu) (list : List Command) (few : length list 
     policies = know;
     stopped = λ some. inl (begins-stop layout (at_number cpu 0) command j begins);
     stops = λ i who at. absurd (none-some who at);
+    listed = listed 1;
+    account = account-starts view cpu 0 j (listed 0) refl (begins-stop layout (at_number cpu 0) command j begins);
+    noted = noted-starts layout view cpu 0 [] j (listed 0) tt;
   }
     where
       know : KnowsPolicies layout list view (at_number cpu 0) j
       know = policies-first layout list view (at_number cpu 0) j refl refl (begins-stop layout (at_number cpu 0) command j begins)
 
-  done : slice_get list 0 ≡ None → IsDone layout view cpu list []
+  done : slice_get list 0 ≡ None → IsDone layout view cpu list [] []
   done none = record {
     serves = serves;
     all = sym (let most : length list ≤ 0 = empty list none in omega arith);
     made = λ k past. refl;
     hand_is = refl;
+    owed = refl;
     stops = λ i who at. absurd (none-some who at);
+    listed = listed (length list);
+    noted = tt;
+    policies = λ thread. (settings thread list, refl);
   }
     where
       empty : (l : List Command) → slice_get l 0 ≡ None → length l ≤ 0
       empty [] is = omega arith
       empty (c ∷ cs) is = absurd (none-some c (sym is))
 
-  pub begun : (x : Option Job) → BeginsAt layout (at_number cpu 0) (slice_get list 0) x → FitsAt layout view cpu list [] x
+  pub begun : (x : Option Job) → BeginsAt layout (at_number cpu 0) (slice_get list 0) x → FitsAt layout view cpu list [] [] x
   begun x begins = which (slice_get list 0) refl x begins
     where
-      which : (o : Option Command) → slice_get list 0 ≡ o → (y : Option Job) → BeginsAt layout (at_number cpu 0) o y → FitsAt layout view cpu list [] y
+      which : (o : Option Command) → slice_get list 0 ≡ o → (y : Option Job) → BeginsAt layout (at_number cpu 0) o y → FitsAt layout view cpu list [] [] y
       which (Some command) there (Some j) at = running command j there at
       which None there None at = done there
       which (Some command) there None at = absurd at

@@ -9,8 +9,10 @@ use Rattle.hwp_report.specs.declared.Answer.{Answer}
 use Rattle.hwp_report.specs.declared.CpuLine.{CpuLine}
 use Rattle.hwp_report.specs.declared.CpuLine.TheVariants as lines
 use Rattle.hwp_rule.specs.declared.State.{State}
+use Rattle.hwp_rule.specs.declared.Step.{Step}
 use Rattle.hwp_rule.specs.Moves.{Move}
 use Rattle.hwp_rule.specs.Rule.{Holds}
+use Rattle.hwp_rule.specs.Served.{IsMild}
 use Rattle.hwp_rule.specs.Words.{Words, free_words}
 use Rattle.hwp_rule.proofs.Moving.{shaped}
 use Rattle.hwp_step.specs.declared.Turn.{Turn}
@@ -26,12 +28,13 @@ use Rattle.hwp_evict.proofs.Fsyncing.{fsync-below}
 use Rattle.hwp_fault.proofs.AccessCosts.{access-below}
 use Rattle.hwp_job.specs.declared.job.Job.{Job}
 use Rattle.hwp_job.specs.declared.job.Job.TheVariants as kinds
+use Rattle.hwp_job.specs.Done.{note}
 use Rattle.hwp_job.specs.Jobs as jobs
 use Rattle.hwp_job.proofs.Jobbing as jobbing
+use Rattle.hwp_served.specs.Accounts.{Note}
 use Rattle.hwp_processor.specs.declared.processor.Processor.{Processor}
 use Rattle.hwp_processor.specs.Processors.{Follows, IsAnswered, Next, NextOf, bare, class, class_of, cost, cost_of, plan, plan_of, put, put_of, who, who_of}
 use Rattle.hwp_processor.specs.Serving.{Fits, FitsAt, IsRunning}
-use Rattle.hwp_processor.proofs.Settling as settling
 
 abbrev pub the-member : Member Processor
 the-member = member who plan put bare Next Fits class cost (λ p. false) (λ p. None)
@@ -68,15 +71,15 @@ module _ {layout : Layout} {seat : ℕ} {a b : State} {p q : Processor} {turn : 
   Lowers before = (cost q (words_at layout b) < before) ⊎ ((failures_left (words_at layout b) < failures_left (words_at layout a)) × (cost q (words_at layout b) < before + failure_weight))
 
   -- what is left where the command that ran was answered
-  answered-falls : (j : Job) (answer : Answer) → IsRunning layout (view_of a seat) p.cpu p.commands rows j → IsAnswered (bare p) answer q → cost q (words_at layout b) < 32768 * (length p.commands - length rows)
-  answered-falls j answer at answered =
+  answered-falls : (j : Job) (answer : Answer) (o : Option Note) → IsRunning layout (view_of a seat) p.cpu p.commands rows p.notes.items j → IsAnswered (bare p) answer o q → cost q (words_at layout b) < 32768 * (length p.commands - length rows)
+  answered-falls j answer o at answered =
       let within : length rows < length p.commands = slice_get_within p.commands (length rows) at.command at.there in
       let count : length q.commands ≡ length p.commands = ap length answered.commands_are in
       let one : length q.lines.items ≡ length rows + 1 = ap length answered.lines_are ∙ length-append rows (lines.Answer (length rows) answer ∷ []) in
       let few : cost_of q.job (words_at layout b) < 32768 = left-below layout b made.kept q.job in
       omega (arith, within, count, one, few)
 
-  module _ (j : Job) (at : IsRunning layout (view_of a seat) p.cpu p.commands rows j) (planned : jobs.plan j ≡ Some made.step)
+  module _ (j : Job) (at : IsRunning layout (view_of a seat) p.cpu p.commands rows p.notes.items j) (planned : jobs.plan j ≡ Some made.step)
       (move : Move layout seat (rec_of layout (jobs.who j) made.step (logs (jobs.put j)) made.found made.got) a b) where
     -- the turn of the command that runs
     of-job : (k : Job) (t : Turn) → jobs.Next layout (jobs.bare j) made.found made.got k t → Made jobbing.job-member layout seat a b j k t
@@ -88,7 +91,7 @@ module _ {layout : Layout} {seat : ℕ} {a b : State} {p q : Processor} {turn : 
       | inl less ↦ inl (subst (λ (x : Processor). cost x (words_at layout b) < 32768 * (length p.commands - length rows) + jobs.cost j (words_at layout a)) (sym after_is) (omega (arith, less)))
       | inr fails ↦ inr (fails.fewer, subst (λ (x : Processor). cost x (words_at layout b) < 32768 * (length p.commands - length rows) + jobs.cost j (words_at layout a) + failure_weight) (sym after_is) (omega (arith, fails.bounded)))
     ]
-    falls-on k t next (Some answer) (answered, turn_is) goes = inl (let less : cost q (words_at layout b) < 32768 * (length p.commands - length rows) = answered-falls j answer at answered in omega (arith, less))
+    falls-on k t next (Some answer) (answered, turn_is) goes = inl (let less : cost q (words_at layout b) < 32768 * (length p.commands - length rows) = answered-falls j answer (note k) at answered in omega (arith, less))
 
     waits-on : (k : Job) (t : Turn) → jobs.Next layout (jobs.bare j) made.found made.got k t → (o : Option Answer) → Follows (bare p) k o t q turn → is_waits turn ≡ true → Quiet (jobs.class j) layout a seat
         → cost q (words_at layout b) < 32768 * (length p.commands - length rows) + jobs.cost j (words_at layout a)
@@ -106,7 +109,7 @@ falls layout seat a b p q turn made goes = elim (which p.job made.fits.at made.p
   | inr fails ↦ inr (record { fewer = fails.0; bounded = fails.1 })
 ]
   where
-    which : (x : Option Job) → FitsAt layout (view_of a seat) p.cpu p.commands p.lines.items x → plan_of x ≡ Some made.step
+    which : (x : Option Job) → FitsAt layout (view_of a seat) p.cpu p.commands p.lines.items p.notes.items x → plan_of x ≡ Some made.step
         → Move layout seat (rec_of layout (who_of p.cpu x) made.step (logs (put_of x)) made.found made.got) a b → NextOf layout (bare p) (option_map jobs.bare x) made.found made.got q turn
         → Lowers made (32768 * (length p.commands - length p.lines.items) + cost_of x (words_at layout a))
     which (Some j) at planned move next = falls-on made j at planned move next.0 next.1 next.2 (jobs.answer next.0) next.3 goes
@@ -115,7 +118,7 @@ falls layout seat a b p q turn made goes = elim (which p.job made.fits.at made.p
 waits : (layout : Layout) (seat : ℕ) (a b : State) (p q : Processor) (turn : Turn) → Made the-member layout seat a b p q turn → is_waits turn ≡ true → Quiet (class p) layout a seat → CostFalls the-member layout a b p q
 waits layout seat a b p q turn made is quiet = which p.job made.fits.at made.planned made.move made.follows quiet
   where
-    which : (x : Option Job) → FitsAt layout (view_of a seat) p.cpu p.commands p.lines.items x → plan_of x ≡ Some made.step
+    which : (x : Option Job) → FitsAt layout (view_of a seat) p.cpu p.commands p.lines.items p.notes.items x → plan_of x ≡ Some made.step
         → Move layout seat (rec_of layout (who_of p.cpu x) made.step (logs (put_of x)) made.found made.got) a b → NextOf layout (bare p) (option_map jobs.bare x) made.found made.got q turn
         → Quiet (class_of x) layout a seat → cost q (words_at layout b) < 32768 * (length p.commands - length p.lines.items) + cost_of x (words_at layout a)
     which (Some j) at planned move next others = waits-on made j at planned move next.0 next.1 next.2 (jobs.answer next.0) next.3 is others
@@ -134,5 +137,13 @@ small layout a seat p rule fits =
     let below : cost_of p.job (words_at layout a) < 32768 = left-below layout a rule p.job in
     omega (arith, few, below)
 
+-- none of its steps poisons a frame or takes its poison back
+pub mild : (p : Processor) (step : Step) → plan p ≡ Some step → IsMild step
+mild p step is = which p.job is
+  where
+    which : (x : Option Job) → plan_of x ≡ Some step → IsMild step
+    which (Some j) e = jobbing.mild j step e
+    which None e = absurd (none-some step e)
+
 pub ranked : IsRanked the-member
-ranked = rank-failing the-member (λ p. refl) classes small falls waits (λ p. refl) (λ layout view p step fits is. (settling.can layout view p step fits is).served)
+ranked = rank-failing the-member (λ p. refl) classes small falls waits (λ p. refl) mild

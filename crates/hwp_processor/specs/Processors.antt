@@ -2,7 +2,9 @@
 -- answered; then the next one begins.
 use Rattle.std.specs.Prelude.{◌≡◌, ℕ, ◌+◌, ◌-◌, ◌*◌, ◌<◌, ◌≤◌, true, List, [], ◌∷◌, ◌++◌, Option, Some, None, All, length, option_map, slice_get, vec_capacity}
 use Rattle.std.specs.Arc.{arc_value}
+use Rattle.std.specs.List.{cons_option}
 use Rattle.hwp_geom.specs.declared.Cpu.{Cpu}
+use Rattle.hwp_geom.specs.declared.Frame.{Frame}
 use Rattle.hwp_geom.specs.declared.Layout.{Layout}
 use Rattle.hwp_geom.specs.declared.Who.{Who}
 use Rattle.hwp_geom.specs.Layout.{IsSound}
@@ -12,12 +14,14 @@ use Rattle.hwp_form.specs.declared.Command.{Command}
 use Rattle.hwp_script.specs.Valid.{IsCommandOf}
 use Rattle.hwp_report.specs.declared.Answer.{Answer}
 use Rattle.hwp_report.specs.declared.CpuLine.TheVariants as lines
+use Rattle.hwp_report.specs.declared.MarkLine.{MarkLine}
 use Rattle.hwp_rule.specs.declared.Step.{Step}
 use Rattle.hwp_rule.specs.Words.{Words}
 use Rattle.hwp_step.specs.declared.Turn.{Turn}
 use Rattle.hwp_step.specs.declared.Turn.TheVariants as turns
 use Rattle.hwp_job.specs.declared.Job.{Job}
 use Rattle.hwp_job.specs.Begins.{Begins, is_supported}
+use Rattle.hwp_job.specs.Done.{note}
 use Rattle.hwp_job.specs.Jobs as jobs
 use Rattle.hwp_processor.specs.declared.processor.Processor.{Processor}
 
@@ -31,11 +35,13 @@ pub record AreCommands (layout : Layout) (cpu : Cpu) (list : List Command) : Typ
   pub supported : All (λ (c : Command). is_supported c ≡ true) list
   pub few : length list ≤ command_limit
 
--- the processor can run its commands, and has memory for a line of each
+-- the processor can run its commands, and has memory for a line and a note of each
 pub record IsReady (p : Processor) : Type 0 where
   pub sound : IsSound (arc_value p.layout)
   pub commands : AreCommands (arc_value p.layout) p.cpu p.commands
   pub room : length p.commands ≤ vec_capacity p.lines
+  pub noting : length p.commands ≤ vec_capacity p.notes
+  pub noted : length p.notes.items ≤ length p.lines.items
 
 -- the command is at its beginning; past the last command none runs
 abbrev pub BeginsAt : Layout → Who → Option Command → Option Job → Type 0
@@ -50,6 +56,7 @@ pub record AtBeginning (layout : Layout) (cpu : Cpu) (list : List Command) (p : 
   pub commands_are : p.commands ≡ list
   pub ready : IsReady p
   pub no_line : p.lines.items ≡ []
+  pub no_note : p.notes.items ≡ []
   pub begins : BeginsAt layout (at_number cpu 0) (slice_get list 0) p.job
 
 -- ---- the command that runs
@@ -103,19 +110,21 @@ ShowsOf p None found got = Unit {0}
 abbrev pub Shows : Processor → ℕ → Option BodyValue → Type 0
 Shows p found got = ShowsOf p p.job found got
 
--- the command that ran is answered so by a line, which is the last one, and the next command begins
-pub record IsAnswered (p : Processor) (answer : Answer) (after : Processor) : Type 0 where
+-- the command that ran is answered so by a line, which is the last one, as is its note, and the next command begins
+pub record IsAnswered (p : Processor) (answer : Answer) (note : Option (Frame × MarkLine)) (after : Processor) : Type 0 where
   pub layout_is : arc_value after.layout ≡ arc_value p.layout
   pub cpu_is : after.cpu ≡ p.cpu
   pub commands_are : after.commands ≡ p.commands
   pub lines_are : after.lines.items ≡ p.lines.items ++ lines.Answer (length p.lines.items) answer ∷ []
+  pub notes_are : after.notes.items ≡ p.notes.items ++ cons_option note []
   pub room : vec_capacity after.lines ≡ vec_capacity p.lines
+  pub noting : vec_capacity after.notes ≡ vec_capacity p.notes
   pub begins : BeginsAt (arc_value p.layout) (at_number p.cpu (length p.lines.items + 1)) (slice_get p.commands (length p.lines.items + 1)) after.job
 
 -- the turn is that of the command, until the command has its answer
 abbrev pub Follows : Processor → Job → Option Answer → Turn → Processor → Turn → Type 0
 Follows p j None t after turn = (after ≡ record p { job = Some j }) × (turn ≡ t)
-Follows p j (Some answer) t after turn = IsAnswered p answer after × (turn ≡ turns.Answered)
+Follows p j (Some answer) t after turn = IsAnswered p answer (note j) after × (turn ≡ turns.Answered)
 
 abbrev pub NextOf : Layout → Processor → Option Job → ℕ → Option BodyValue → Processor → Turn → Type 0
 NextOf layout p (Some j) found got after turn = (k : Job) × (t : Turn) × jobs.Next layout j found got k t × Follows p k (jobs.answer k) t after turn

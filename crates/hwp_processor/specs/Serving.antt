@@ -1,33 +1,68 @@
 -- What a processor keeps while it runs its commands.
-use Rattle.std.specs.Prelude.{◌≡◌, ℕ, ◌≤◌, ◌⊎◌, List, Option, Some, None, length, slice_get}
+use Rattle.std.specs.Prelude.{◌≡◌, ℕ, ◌+◌, ◌≤◌, ◌⊎◌, List, ◌++◌, Option, Some, None, length, map, slice_get}
 use Rattle.std.specs.Arc.{arc_value}
 use Rattle.hwp_geom.specs.declared.Cpu.{Cpu}
 use Rattle.hwp_geom.specs.declared.Layout.{Layout}
+use Rattle.hwp_geom.specs.declared.Thread.{Thread}
 use Rattle.hwp_geom.specs.declared.Who.{Who}
+use Rattle.hwp_geom.specs.Pairs.{Pairs}
 use Rattle.hwp_form.specs.declared.Command.{Command}
 use Rattle.hwp_report.specs.declared.Answer.TheVariants as answers
 use Rattle.hwp_report.specs.declared.CpuLine.{CpuLine}
 use Rattle.hwp_report.specs.declared.CpuLine.TheVariants as lines
+use Rattle.hwp_rule.specs.declared.Mark.{Mark}
+use Rattle.hwp_rule.specs.declared.Reported.{Reported}
+use Rattle.hwp_rule.specs.declared.Setting.{Setting}
 use Rattle.hwp_rule.specs.declared.View.{View}
-use Rattle.hwp_rule.specs.Lists.{EachMember}
+use Rattle.hwp_rule.specs.Lists.{EachMember, StartsWith}
+use Rattle.hwp_rule.specs.Views.{no_debts}
 use Rattle.hwp_step.specs.Hands.{hand_of, empty}
 use Rattle.hwp_known.specs.Known.{HasMadeNone}
 use Rattle.hwp_control.specs.declared.Nested.{Nested}
 use Rattle.hwp_control.specs.declared.NestedAnswer.TheVariants as nested_answers
 use Rattle.hwp_control.specs.declared.nested.NestedAt.TheVariants as nested_at
+use Rattle.hwp_law.specs.Policies.{settings}
 use Rattle.hwp_law.specs.Stops.{StaysStopped}
 use Rattle.hwp_job.specs.declared.job.Job.{Job}
 use Rattle.hwp_job.specs.declared.job.Job.TheVariants.{Nested as NestedJob}
+use Rattle.hwp_job.specs.Done.{HasCounted, marked_now, policies_now, taken_now}
 use Rattle.hwp_job.specs.Jobs as jobs
 use Rattle.hwp_job.specs.Runs.{NoneBad, Runs}
+use Rattle.hwp_job.specs.Settings.{policies_in}
 use Rattle.hwp_job.specs.Stays.{EndsStopped, IsHalted, KnowsPolicies}
-use Rattle.hwp_served.specs.Served.{AreAnswered, IsOwnStop}
+use Rattle.hwp_served.specs.Accounts.{IsNote, Note, frames_marked, losses_taken, policies_set}
+use Rattle.hwp_served.specs.Owed.{OwesOwn}
+use Rattle.hwp_served.specs.Served.{AreAnswered, IsOneOf, IsOwnStop}
 use Rattle.hwp_processor.specs.declared.processor.Processor.{Processor}
 use Rattle.hwp_processor.specs.Processors.{IsReady, at_number}
 
 -- some line is `stopped`
 abbrev pub HasStopped : List CpuLine → Type 0
 HasStopped rows = (i : ℕ) × (seq : ℕ) × (slice_get rows i ≡ Some (lines.Answer seq answers.Stopped))
+
+-- what the processor's view lists of marks, losses taken and policies is of its first n commands
+pub record IsListed (view : View) (cpu : Cpu) (n : ℕ) : Type 0 where
+  pub marked : EachMember (λ (m : Mark). IsOneOf cpu n m.stamp.who) view.marks
+  pub taken : EachMember (λ (r : Reported). IsOneOf cpu n r.stamp.who) view.reported
+  pub set : EachMember (λ (s : Setting). IsOneOf cpu n s.stamp.who) view.settings
+
+-- what it lists of the command that runs is what that has done so far
+pub record HasAccount (view : View) (who : Who) (j : Job) : Type 0 where
+  pub marked : frames_marked who view ≡ marked_now j
+  pub taken : losses_taken who view ≡ taken_now j
+  pub set : policies_set who view ≡ policies_now j
+  pub counted : HasCounted j view
+  pub losses : OwesOwn who view
+
+-- the marks of commands that are answered are noted; the others are those of the command that runs
+pub record AreNoted (layout : Layout) (view : View) (cpu : Cpu) (n : ℕ) (notes : List Note) (j : Job) : Type 0 where
+  pub earlier : List Mark
+  pub last : List Mark
+  pub all : view.marks ≡ earlier ++ last
+  pub noted : Pairs (IsNote layout view) notes earlier
+  pub before : EachMember (λ (m : Mark). IsOneOf cpu n m.stamp.who) earlier
+  pub own : EachMember (λ (m : Mark). m.stamp.who ≡ at_number cpu n) last
+  pub frames : map (λ (m : Mark). m.frame) last ≡ marked_now j
 
 -- what holds of the lines so far: each answer has its cause, and after a `stopped` all are, on a machine that has stopped
 pub record Serves (layout : Layout) (view : View) (cpu : Cpu) (list : List Command) (rows : List CpuLine) : Type 0 where
@@ -45,7 +80,7 @@ pub record HasStoppedIt (rows : List CpuLine) (j : Job) (who : Who) : Type 0 whe
   pub first : HasStopped rows → ⊥
 
 -- the command after those that are answered runs, and knows what those left
-pub record IsRunning (layout : Layout) (view : View) (cpu : Cpu) (list : List Command) (rows : List CpuLine) (j : Job) : Type 0 where
+pub record IsRunning (layout : Layout) (view : View) (cpu : Cpu) (list : List Command) (rows : List CpuLine) (notes : List Note) (j : Job) : Type 0 where
   pub serves : Serves layout view cpu list rows
   pub command : Command
   pub there : slice_get list (length rows) ≡ Some command
@@ -53,22 +88,29 @@ pub record IsRunning (layout : Layout) (view : View) (cpu : Cpu) (list : List Co
   pub fits : jobs.Fits layout view j
   pub policies : KnowsPolicies layout list view (at_number cpu (length rows)) j
   pub stopped : HasStopped rows → EndsStopped j
-  pub stops : EachMember (λ (who : Who). IsOwnStop cpu list rows who ⊎ HasStoppedIt rows j who) view.stops
+  pub stops : EachMember (λ (who : Who). IsOwnStop layout cpu list rows who ⊎ HasStoppedIt rows j who) view.stops
+  pub listed : IsListed view cpu (length rows + 1)
+  pub account : HasAccount view (at_number cpu (length rows)) j
+  pub noted : AreNoted layout view cpu (length rows) notes j
 
--- all commands are answered, none past them was begun, and nothing is held
-pub record IsDone (layout : Layout) (view : View) (cpu : Cpu) (list : List Command) (rows : List CpuLine) : Type 0 where
+-- all commands are answered, none past them was begun, and nothing is held or owed
+pub record IsDone (layout : Layout) (view : View) (cpu : Cpu) (list : List Command) (rows : List CpuLine) (notes : List Note) : Type 0 where
   pub serves : Serves layout view cpu list rows
   pub all : length rows ≡ length list
   pub made : (k : ℕ) → length list ≤ k → HasMadeNone view (at_number cpu k)
   pub hand_is : hand_of view ≡ empty
-  pub stops : EachMember (IsOwnStop cpu list rows) view.stops
+  pub owed : view.owed ≡ no_debts
+  pub stops : EachMember (IsOwnStop layout cpu list rows) view.stops
+  pub listed : IsListed view cpu (length list)
+  pub noted : Pairs (IsNote layout view) notes view.marks
+  pub policies : (thread : Thread) → StartsWith (policies_in thread view) (settings thread list)
 
-abbrev pub FitsAt : Layout → View → Cpu → List Command → List CpuLine → Option Job → Type 0
-FitsAt layout view cpu list rows (Some j) = IsRunning layout view cpu list rows j
-FitsAt layout view cpu list rows None = IsDone layout view cpu list rows
+abbrev pub FitsAt : Layout → View → Cpu → List Command → List CpuLine → List Note → Option Job → Type 0
+FitsAt layout view cpu list rows notes (Some j) = IsRunning layout view cpu list rows notes j
+FitsAt layout view cpu list rows notes None = IsDone layout view cpu list rows notes
 
 -- the processor is of the machine, and its commands are answered or run
 pub record Fits (layout : Layout) (view : View) (p : Processor) : Type 0 where
   pub ready : IsReady p
   pub layout_is : arc_value p.layout ≡ layout
-  pub at : FitsAt layout view p.cpu p.commands p.lines.items p.job
+  pub at : FitsAt layout view p.cpu p.commands p.lines.items p.notes.items p.job

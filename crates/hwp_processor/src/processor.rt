@@ -1,13 +1,14 @@
-ghost use Rattle.std.specs.Prelude.{◌≡◌, ◌+◌, ◌<◌, ◌≤◌, length, slice_get, None, IsSome, IfOk, OnErr};
+ghost use Rattle.std.specs.Prelude.{◌≡◌, ◌+◌, ◌<◌, ◌≤◌, ◌++◌, [], length, slice_get, vec_capacity, None, IsSome, IfOk, OnErr};
+ghost use Rattle.std.specs.List.{cons_option};
 ghost use Rattle.std.specs.Arc.{arc_value};
 ghost use Rattle.hwp_geom.specs.Layout.{IsSound};
 ghost use Rattle.hwp_processor.specs.Processors.{AreCommands, AtBeginning, BeginsAt, IsAnswered, IsReady, at_number};
 
 use hwp_form::Command;
-use hwp_geom::{Cpu, Layout, List, OutOfMemory, Who};
+use hwp_geom::{Cpu, Frame, Layout, List, OutOfMemory, Who};
 use hwp_job::Job;
 use hwp_page::Body;
-use hwp_report::{Answer, CpuLine};
+use hwp_report::{Answer, CpuLine, MarkLine};
 use hwp_rule::Step;
 use hwp_step::{Machine, Ranked, Scheduled, Turn};
 use std::alloc::{AllocError, Global};
@@ -21,6 +22,8 @@ pub struct Processor {
     commands: List<Command>,
     /// The lines of the commands that are answered. There is memory for all that come.
     lines: Vec<CpuLine>,
+    /// The lines that the answered commands add to the records of frames, each with its frame. There is memory for all that come.
+    notes: Vec<(Frame, MarkLine)>,
     /// The command that runs, whose number is that of the lines; none where all are answered.
     job: Option<Job>,
 }
@@ -42,6 +45,7 @@ impl Processor {
             cpu,
             commands: List::from_vec(Vec::from_slice(alloc, commands)?),
             lines: Vec::with_capacity(alloc, commands.len())?,
+            notes: Vec::with_capacity(alloc, commands.len())?,
             job: begin(layout, cpu, commands, 0),
         })
     }
@@ -53,28 +57,31 @@ impl Processor {
         self.lines.as_slice()
     }
 
-    /// The answers of all commands, in order.
+    /// The answers of all commands, in order, and what they add to the records of frames.
     ///
     /// # Errors
     /// `OutOfMemory` where a command is not answered: of a processor that is over, one that gave up because memory ran out.
-    pub fn finish(self) -> Result<List<CpuLine>, OutOfMemory>
-        ensures all { IfOk result (λ lines. (lines ≡ self.lines.items) × (self.job ≡ None)) }
+    pub fn finish(self) -> Result<(List<CpuLine>, List<(Frame, MarkLine)>), OutOfMemory>
+        ensures all { IfOk result (λ all. (all.0 ≡ self.lines.items) × (all.1 ≡ self.notes.items) × (self.job ≡ None)) }
         ensures gave_up { OnErr result (IsSome self.job) }
     {
-        let Processor { lines, job, .. } = self;
+        let Processor {
+            lines, notes, job, ..
+        } = self;
         if job.is_some() {
             return Err(AllocError);
         }
-        Ok(List::from_vec(lines))
+        Ok((List::from_vec(lines), List::from_vec(notes)))
     }
 
-    /// The running command is answered so, and the next one begins.
-    fn answer(&mut self, answer: Answer)
+    /// The running command is answered so, with what it adds to the record of a frame, and the next one begins.
+    fn answer(&mut self, answer: Answer, note: Option<(Frame, MarkLine)>)
         requires ready { IsReady self.old }
         requires running { length self.old.lines.items < length self.old.commands }
-        ensures { IsAnswered self.old answer self.new }
+        ensures { IsAnswered self.old answer note self.new }
     {
         let number = self.lines.len();
+        add(&mut self.notes, note);
         let line = CpuLine::Answer {
             seq: number as u32,
             answer,
@@ -83,6 +90,18 @@ impl Processor {
         let commands = self.commands.as_slice();
         self.job = begin(&self.layout, self.cpu, commands, number + 1);
     }
+}
+
+/// A note more, where there is one.
+fn add(notes: &mut Vec<(Frame, MarkLine)>, note: Option<(Frame, MarkLine)>)
+    requires room { length notes.old.items < vec_capacity notes.old }
+    ensures items { notes.new.items ≡ notes.old.items ++ cons_option note [] }
+    ensures room { vec_capacity notes.new ≡ vec_capacity notes.old }
+{
+    let Some(note) = note else {
+        return;
+    };
+    notes.push_reserved(note);
 }
 
 /// The command of this number at its beginning; `None` past the last.
@@ -152,7 +171,8 @@ impl Machine for Processor {
         let Some(answer) = job.answer() else {
             return turn;
         };
-        self.answer(answer);
+        let note = job.note();
+        self.answer(answer, note);
         Turn::Answered
     }
 }

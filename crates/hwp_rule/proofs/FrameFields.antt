@@ -107,6 +107,9 @@ module _ (frames : List ℕ) (f w u : ℕ) (there : slice_get frames f ≡ Some 
     named = λ g x q a is.
         let was : (y : ℕ) × (slice_get frames g ≡ Some y) × (owner_of x ≡ owner_of y) = field-was owner_of owner g x a in
         h.named g was.0 q was.1 (sym was.2 ∙ is);
+    within = λ g x a.
+        let was : (y : ℕ) × (slice_get frames g ≡ Some y) × (owner_of x ≡ owner_of y) = field-was owner_of owner g x a in
+        omega (arith, was.2, h.within g was.0 was.1);
   }
 
   pub bodies-kept : owner_of u ≡ owner_of w → lock_of u ≡ lock_of w → (layout : Layout) (caches pages : List ℕ) (homes : Homes) (held : List Holder) → BodiesAtHome layout frames caches pages homes held → BodiesAtHome layout (set frames f u) caches pages homes held

@@ -1,5 +1,6 @@
 -- A step keeps the turn: the seat still has its processors, and has come to no later command.
-use Rattle.std.proofs.Common.{◌≡◌, ℕ, ◌≤◌, ◌==◌, max, Bool, true, false, cond, Option, Some, None, refl, sym, ap, subst, arith}
+use Rattle.std.proofs.Common.{◌≡◌, ℕ, ◌≤◌, ◌==◌, max, Bool, true, false, cond, Option, Some, None, refl, sym, ap, ◌∙◌, subst, arith, true≢false}
+use Rattle.std.proofs.lemmas.Bool.{eq-eqb}
 use Rattle.hwp_geom.specs.declared.Cpu.{Cpu}
 use Rattle.hwp_geom.specs.declared.Frame.{Frame}
 use Rattle.hwp_geom.specs.declared.Layout.{Layout}
@@ -11,12 +12,12 @@ use Rattle.hwp_rule.specs.declared.step.Step.{Step}
 use Rattle.hwp_rule.specs.declared.view.InHand.{InHand}
 use Rattle.hwp_rule.specs.declared.view.Part.{Part}
 use Rattle.hwp_rule.specs.declared.view.View.{View}
-use Rattle.hwp_rule.specs.Asks.{IsTurnOf}
+use Rattle.hwp_rule.specs.Asks.{BeginsBare, IsTurnOf}
 use Rattle.hwp_rule.specs.Lists.{EachMember, SomeMember}
 use Rattle.hwp_rule.specs.Logs.{log_of}
 use Rattle.hwp_rule.specs.Steps.{goes}
 use Rattle.hwp_rule.specs.Views.{loaded, taken, listed_of, body_of, put_home, view_by, noted, view_after}
-use Rattle.hwp_rule.proofs.Lists.{each-changed, some-changed}
+use Rattle.hwp_rule.proofs.Lists.{each-changed, each-map, some-changed}
 use Rattle.hwp_rule.specs.declared.place.Place.TheVariants as places
 use Rattle.hwp_rule.specs.declared.step.Step.TheVariants as steps
 
@@ -97,6 +98,20 @@ turn-after layout r v who own turn = record { part = subst (SomeMember (λ (p : 
     part : SomeMember (λ (p : Part). (p.cpu ≡ who.cpu) × (p.latest ≤ who.seq)) (noted r.who v).parts
     part = some-changed (λ (p : Part). (p.cpu ≡ who.cpu) × (p.latest ≤ who.seq)) (is_part r.who) (later r.who) v.parts
         (λ p is h. let below : p.latest ≤ who.seq = h.1 in let now : r.who.seq ≡ who.seq = ap (λ (w : Who). w.seq) own in (h.0, omega arith)) turn.part
+
+-- after a step its processor has come to its command
+come-to : (layout : Layout) (r : Rec) (v : View) → EachMember (λ (p : Part). p.cpu ≡ r.who.cpu → r.who.seq ≤ p.latest) (view_after layout r v).parts
+come-to layout r v = subst (EachMember (λ (p : Part). p.cpu ≡ r.who.cpu → r.who.seq ≤ p.latest))
+    (sym (by-step layout r.who r.step r.found r.content (noted r.who v)))
+    (each-map (λ (p : Part). cond (is_part r.who p) (later r.who p) p) (λ (p : Part). p.cpu ≡ r.who.cpu → r.who.seq ≤ p.latest) v.parts (λ i p there. which p (is_part r.who p) refl))
+  where
+    which : (p : Part) (b : Bool) → is_part r.who p ≡ b → (cond b (later r.who p) p).cpu ≡ r.who.cpu → r.who.seq ≤ (cond b (later r.who p) p).latest
+    which p true is same = omega arith
+    which p false is same = absurd (true≢false (sym (eq-eqb p.cpu.0 r.who.cpu.0 (ap (λ (c : Cpu). c.0) same)) ∙ is))
+
+-- so its next step begins no command
+pub begun-after : (layout : Layout) (r : Rec) (v : View) → BeginsBare (view_after layout r v) r.who
+begun-after layout r v i p there same less = absurd (let come : r.who.seq ≤ p.latest = come-to layout r v i p there same in omega (arith, less))
 
 -- a processor of the view has come to no later command, also after a step of that command or of an earlier one
 pub none-later-after : (layout : Layout) (r : Rec) (v : View) (cpu : Cpu) (seq : ℕ) → r.who.seq ≤ seq

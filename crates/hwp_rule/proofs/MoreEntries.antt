@@ -23,7 +23,7 @@ use Rattle.hwp_rule.specs.Steps.{policy_at}
 use Rattle.hwp_rule.specs.Views.{made_from}
 use Rattle.hwp_rule.specs.parts.Entries.{weigh_from, HasMask, HasPolicy, HasSeen, Shows, AreInOrder}
 use Rattle.hwp_rule.specs.parts.Fits.{Fits, FitsWords}
-use Rattle.hwp_rule.specs.Unfailed.{is_failure}
+use Rattle.hwp_rule.specs.Undamaged.{is_failure}
 use Rattle.hwp_rule.proofs.Lists.{each-weaken}
 use Rattle.std.specs.FinSet as sets
 use Rattle.hwp_page.specs.declared.What.TheVariants as entries

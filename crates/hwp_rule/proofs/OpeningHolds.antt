@@ -38,7 +38,7 @@ use Rattle.hwp_rule.specs.parts.Exhaustion.{usable, is_marked}
 use Rattle.hwp_rule.specs.parts.Stops.{EndingsAndStopsStay}
 use Rattle.hwp_rule.specs.parts.Fits.{PageFits, Fits, KnowsWords, KnowsOwn}
 use Rattle.hwp_rule.specs.parts.Holdings.{IsBounded, ProcessorsApart, AreOwn, IsPast, HoldsNothing}
-use Rattle.hwp_rule.specs.Unfailed.{HasFailedNothing, is_failure}
+use Rattle.hwp_rule.specs.Undamaged.{HasDamagedNothing}
 use Rattle.hwp_words.specs.Counters.{hardware_of, biased_poisoned_of}
 use Rattle.hwp_words.specs.Stops.{stopper_of}
 use Rattle.hwp_rule.specs.declared.view.Ref.{Ref}
@@ -46,6 +46,7 @@ use Rattle.hwp_rule.specs.declared.view.FrameLock.{FrameLock}
 use Rattle.hwp_rule.specs.declared.view.PageLock.{PageLock}
 use Rattle.hwp_rule.specs.declared.view.InHand.{InHand}
 use Rattle.hwp_rule.specs.declared.view.Mark.{Mark}
+use Rattle.hwp_rule.specs.declared.view.MarkKind.TheVariants as kinds
 use Rattle.hwp_rule.specs.declared.view.Made.{Made}
 use Rattle.hwp_rule.specs.declared.view.Sight.{Sight}
 use Rattle.hwp_rule.specs.declared.view.Length.{Length}
@@ -396,11 +397,10 @@ module _ (layout : Layout) (sound : IsSound layout) (w : Words) (o : AreOpening 
     stops = each-none (IsPast (opening_view c).parts);
   })
 
-  unfailed-opened : EachMember HasFailedNothing (opening_views layout)
-  unfailed-opened = each-map opening_view HasFailedNothing (below layout.cpus) (λ i c e. record {
-    unmarked = refl;
+  undamaged-opened : EachMember HasDamagedNothing (opening_views layout)
+  undamaged-opened = each-map opening_view HasDamagedNothing (below layout.cpus) (λ i c e. record {
     unspoiled = refl;
-    no_failure = each-none (λ (m : Made). is_failure m.entry.what ≡ false);
+    marks = each-none (λ (m : Mark). m.kind ≡ kinds.Poisoned false);
   })
 
   rule-opened : FrameRule layout w (opening_homes layout) (opening_views layout)
@@ -458,6 +458,7 @@ module _ (layout : Layout) (sound : IsSound layout) (w : Words) (o : AreOpening 
       caches = record {
         owned = λ q x there. inl (is-zero w.caches (length layout.pages) q x o.caches there);
         named = λ f x q there owner. let none : owner_of x ≡ 0 = (frame f x there).2.owner in absurd (omega arith);
+        within = λ f x there. let none : owner_of x ≡ 0 = (frame f x there).2.owner in omega arith;
       };
       bodies = record {
         frame_home = λ f x there unlocked. record { content = None; there = frame-home layout f (inside f x there); named = sym (frame f x there).2.owner };
@@ -505,5 +506,5 @@ opening-holds layout sound = record {
   slots = homes-length layout;
   rule = rule-opened layout sound (words_of layout (opening_words layout)) (are-opening layout sound);
   held = record { nothing = each-map opening_view (λ (v : View). v.parts ≡ [] → HoldsNothing v) (below layout.cpus) (λ i c e none. record { refs = refl; locks = refl; pages = refl; reserved = refl; hands = refl; owed = refl; bodies = refl }) };
-  unfailed = unfailed-opened layout sound (words_of layout (opening_words layout)) (are-opening layout sound);
+  undamaged = undamaged-opened layout sound (words_of layout (opening_words layout)) (are-opening layout sound);
 }

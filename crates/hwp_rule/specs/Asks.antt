@@ -1,5 +1,5 @@
 -- What a step asks: the condition on what its seat knows.
-use Rattle.std.specs.Prelude.{◌≡◌, ◌≢◌, ℕ, ◌+◌, ◌<◌, ◌≤◌, Bool, true, false, cond, List, ◌++◌, Option, Some, None, length, drop, slice_get}
+use Rattle.std.specs.Prelude.{◌≡◌, ◌≢◌, ℕ, ◌+◌, ◌<◌, ◌≤◌, Bool, true, false, cond, List, [], ◌++◌, Option, Some, None, length, drop, slice_get}
 use Rattle.hwp_geom.specs.declared.Cpu.{Cpu}
 use Rattle.hwp_geom.specs.declared.FileNo.{FileNo}
 use Rattle.hwp_geom.specs.declared.Frame.{Frame}
@@ -269,8 +269,13 @@ AsksOf layout who (steps.SetPolicy thread policy settings) content v = CanSetPol
 AsksOf layout who (steps.Lose file body) content v = CanLose layout who v file (log_of body.value)
 AsksOf layout who (steps.ReportLost file) content v = Unit {0}
 
+-- a command past those that the processor has come to begins with no body in hand
+abbrev pub BeginsBare : View → Who → Type 0
+BeginsBare v who = EachMember (λ (p : Part). p.cpu ≡ who.cpu → p.latest < who.seq → v.bodies ≡ []) v.parts
+
 -- the step's condition: the seat's turn, names of the layout, and what its kind asks
 pub record Asks (layout : Layout) (who : Who) (step : Step) (content : Option Log) (v : View) : Type 0 where
   pub turn : IsTurnOf v who
+  pub begins : BeginsBare v who
   pub place : IsPlace layout (place_of step)
   pub kind : AsksOf layout who step content v

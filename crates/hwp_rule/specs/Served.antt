@@ -1,14 +1,19 @@
 -- The steps that a board can make so far.
+use Rattle.std.specs.Prelude.{◌≡◌, false}
 use Rattle.hwp_rule.specs.declared.step.Step.{Step}
 use Rattle.hwp_rule.specs.declared.step.Step.TheVariants as steps
 
--- all kinds but those by which memory fails, and comes back
+-- all kinds but those by which hardware fails, and poison is taken back
 abbrev pub IsServed : Step → Type 0
-IsServed (steps.Poison frame hardware) = ⊥
-IsServed (steps.CountPoison hardware) = ⊥
+IsServed (steps.Poison frame hardware) = hardware ≡ false
+IsServed (steps.CountPoison hardware) = hardware ≡ false
 IsServed steps.Uncount = ⊥
 IsServed (steps.Revive frame seen) = ⊥
 IsServed (steps.Spoil frame line damage) = ⊥
-IsServed (steps.Kill process page body) = ⊥
-IsServed (steps.Lose file body) = ⊥
 IsServed step = Unit {0}
+
+-- a step that neither poisons a frame nor takes its poison back
+abbrev pub IsMild : Step → Type 0
+IsMild (steps.Poison frame hardware) = ⊥
+IsMild (steps.Revive frame seen) = ⊥
+IsMild step = Unit {0}

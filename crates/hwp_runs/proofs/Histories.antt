@@ -76,12 +76,12 @@ there-is page place e p n x above =
 -- ---- boards where no seat has a body in hand
 
 module _ (layout : Layout) (s : State) (h : Holds layout s) (empty : EachMember (λ (v : View). v.bodies ≡ []) s.views) where
-  no-bodies : (f : Log → ℕ) → sum_all (λ (b : InHand). f b.log) (map (λ (v : View). v.bodies) s.views) ≡ 0
+  pub no-bodies : (f : Log → ℕ) → sum_all (λ (b : InHand). f b.log) (map (λ (v : View). v.bodies) s.views) ≡ 0
   no-bodies f = sum-zero (sum_by (λ (b : InHand). f b.log)) (map (λ (v : View). v.bodies) s.views)
       (each-map (λ (v : View). v.bodies) (λ (l : List InHand). sum_by (λ (b : InHand). f b.log) l ≡ 0) s.views (λ i v there. ap (sum_by (λ (b : InHand). f b.log)) (empty i v there)))
 
   -- what is summed over the bodies at home is summed over what the views made
-  balanced : (f : Page → ℕ → Entry → ℕ) → sum_by (of_home (weigh f)) s.homes ≡ sum_by (λ (v : View). sum_by (λ (m : Made). f m.page m.place m.entry) v.made) s.views
+  pub balanced : (f : Page → ℕ → Entry → ℕ) → sum_by (of_home (weigh f)) s.homes ≡ sum_by (λ (v : View). sum_by (λ (m : Made). f m.page m.place m.entry) v.made) s.views
   balanced f =
       let all = h.rule.histories.entries.balance f in
       let none : sum_all (λ (b : InHand). weigh f b.log) (map (λ (v : View). v.bodies) s.views) ≡ 0 = no-bodies (weigh f) in

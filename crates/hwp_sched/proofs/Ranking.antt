@@ -8,17 +8,24 @@ use Rattle.hwp_geom.specs.declared.Layout.{Layout}
 use Rattle.hwp_rule.specs.declared.View.{View}
 use Rattle.hwp_rule.specs.Rule.{Holds}
 use Rattle.hwp_rule.specs.Served.{IsServed}
+use Rattle.hwp_step.specs.declared.Turn.{Turn}
+use Rattle.hwp_step.specs.declared.Turn.TheVariants as turns
 use Rattle.hwp_step.specs.Boards.{Played, view_of, AreSeated}
-use Rattle.hwp_step.specs.Ranks.{Member, CostFalls, HasFailed, OtherHand, Pending, failures_left, is_waits, top, words_at}
+use Rattle.hwp_step.specs.Ranks.{Member, CostFalls, HasFailed, OtherHand, Pending, failures_left, is_refused, is_waits, top, words_at}
 use Rattle.hwp_step.specs.Classes.{IsScheduled}
 use Rattle.hwp_step.proofs.Failures.{failures-few}
 use Rattle.hwp_step.proofs.Ranking.{failures-kept}
-use Rattle.hwp_sched.specs.Order.{Running, IsAt, TurnOf, level, levels, IsChosen, cpu_of, seat_of}
+use Rattle.hwp_sched.specs.Order.{Running, IsAt, IsNoMemory, TurnOf, level, levels, IsChosen, cpu_of, seat_of}
 use Rattle.hwp_sched.specs.Rank.{words_in, phi, has_one, yields, aborts_at, cost_at, need_at, ceiling, number_of, rank}
 use Rattle.hwp_sched.specs.Ready.{Claimed, Ready, IsNext}
 use Rattle.hwp_sched.proofs.Seats.{few-tasks}
 use Rattle.hwp_sched.proofs.Gaps.{phi-stays, phi-falls, has_one-at, yields-most, yields-one, yields-none, number-by-phi, number-by-yield, number-by-cost}
 use Rattle.hwp_sched.proofs.Chosen.{abort-none, abort-same, task-at, value-at, IsAt-set, IsAt-other, IsAt-before, IsAt-same, level-left, frame-level, quiet}
+
+-- a turn for which memory wasn't refused
+not-refused : (turn : Turn) → (IsNoMemory turn → ⊥) → is_refused turn ≡ false
+not-refused turns.NoMemory going = absurd (going tt)
+not-refused turn going = refl
 
 module _ {S : Type 0} (m : Member S) (a b : Running S) (p : ℕ) (played : Played) (ready : Ready m a) (turn : TurnOf m a p played b) where
   pub law-of : IsScheduled m
@@ -56,7 +63,7 @@ module _ {S : Type 0} (m : Member S) (a b : Running S) (p : ℕ) (played : Playe
       own = λ i u at. own-by i u at (cases_eq i p);
       fits = λ i u at. fits-by i u at (cases_eq i p);
       claimed = λ frame cycle pending. claimed-by frame cycle
-          (law-of.ranked.owns a.layout (seat_of a p) a.state b.state turn.before turn.after played.turn frame cycle turn.made (subst (λ (l : Layout). Pending (words_at l b.state) frame cycle) layout_is pending));
+          (law-of.ranked.owns a.layout (seat_of a p) a.state b.state turn.before turn.after played.turn frame cycle turn.made (not-refused played.turn turn.goes_on) (subst (λ (l : Layout). Pending (words_at l b.state) frame cycle) layout_is pending));
     };
   }
     where

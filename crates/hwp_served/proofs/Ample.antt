@@ -1,83 +1,165 @@
--- Where no frame is marked and none was available, the script isn't ample.
-use Rattle.std.proofs.Common.{◌≡◌, ℕ, zero, suc, ◌+◌, ◌*◌, ◌<◌, ◌≤◌, ◌==◌, ◌||◌, not, Bool, true, false, cond, List, [], ◌∷◌, Some, length, map, take, slice_get, get_or, refl, sym, ap, ◌∙◌, arith}
-use Rattle.std.specs.List.{list_any, sum_by}
+-- Where no frame was available, the script isn't ample: the frames that have marks are among those that it names.
+use Rattle.std.proofs.Common.{◌≡◌, ℕ, zero, suc, ◌+◌, ◌*◌, ◌<◌, ◌≤◌, ◌==◌, ◌||◌, min, not, Bool, true, false, cond, List, [], ◌∷◌, Option, None, Some, length, map, slice_get, slice_index_or, refl, sym, ap, ◌∙◌, subst, arith, true≢false}
+use Rattle.std.specs.List.{cons_option, filter_map, flat_map, list_any, sum_by}
 use Rattle.std.specs.Int.{from_bool}
-use Rattle.std.proofs.lemmas.Bool.{ltb-true}
-use Rattle.std.proofs.Math.Seq.{take-length}
-use Rattle.std.proofs.lemmas.List.Sums.{sum_by-cons, sum_by_more}
-use Rattle.std.proofs.lemmas.Option.{get_or_from_slice_get}
-use Rattle.hwp_geom.specs.declared.Layout.{Layout}
+use Rattle.std.proofs.lemmas.Bool.{eq-eqb, eqb-true, ltb-true}
+use Rattle.std.proofs.lemmas.List.Folds.{list_any-append}
+use Rattle.std.proofs.lemmas.Option.{get_or_from_slice_get, none-some, same_Some}
+use Rattle.hwp_geom.specs.declared.Cpu.{Cpu}
+use Rattle.hwp_geom.specs.declared.Frame.{Frame}
+use Rattle.hwp_geom.specs.declared.Who.{Who}
 use Rattle.hwp_rule.specs.declared.Mark.{Mark}
 use Rattle.hwp_rule.specs.declared.Place.TheVariants as places
-use Rattle.hwp_rule.specs.declared.Sight.{Sight}
 use Rattle.hwp_rule.specs.declared.State.{State}
 use Rattle.hwp_rule.specs.declared.View.{View}
-use Rattle.hwp_rule.specs.Lists.{EachMember, sum_all}
-use Rattle.hwp_rule.specs.Rule.{Holds}
+use Rattle.hwp_rule.specs.Lists.{sum_all}
 use Rattle.hwp_rule.specs.Words.{sum_below}
 use Rattle.hwp_rule.specs.parts.Exhaustion.{is_marked, usable}
-use Rattle.hwp_rule.proofs.Counting.{below-zero}
-use Rattle.hwp_rule.proofs.Lists.{at_map, each-map, sum-zero}
-use Rattle.hwp_runs.proofs.Homes.{there-is}
+use Rattle.hwp_rule.proofs.Counting.{some-term}
+use Rattle.hwp_rule.proofs.Lists.{at_map, map-was}
+use Rattle.hwp_step.specs.Boards.{view_of}
+use Rattle.hwp_known.specs.Known.{Saw}
+use Rattle.hwp_script.specs.declared.Command.{Command}
+use Rattle.hwp_script.specs.declared.Command.TheVariants as commands
 use Rattle.hwp_script.specs.declared.Script.{Script}
-use Rattle.hwp_law.specs.Answers.{is_ample, named_frames, usable_from}
+use Rattle.hwp_report.specs.declared.Answer.{Answer}
+use Rattle.hwp_report.specs.declared.Answer.TheVariants as answers
+use Rattle.hwp_report.specs.declared.Report.{Report}
+use Rattle.hwp_law.specs.Answers.{frame_named, is_ample, named_frames, usable_from}
+use Rattle.hwp_runs.proofs.Homes.{there-is}
+use Rattle.hwp_served.specs.Accounts.{frames_marked, is_same, marked_by}
+use Rattle.hwp_served.proofs.Ending.{IsEnd, IsOf, command-of, filter-has, list-of, own-view, rows-of, served-of}
+use Rattle.hwp_served.proofs.Marked.{same-self}
 
--- a sum over numbers is the sum over a list whose members it goes by
-below-sum : {A : Type 0} (g : ℕ → ℕ) (h : A → ℕ) (l : List A) (n : ℕ) → n ≤ length l → ((i : ℕ) (x : A) → slice_get l i ≡ Some x → g i ≡ h x) → sum_below g n ≡ sum_by h (take n l)
-below-sum g h l zero fits same = refl
-below-sum {A} g h l (suc n) fits same =
-    let first : sum_below g n ≡ sum_by h (take n l) = below-sum g h l n (omega arith) same in
-    let found = there-is l n (omega arith) in
-    let last : g n ≡ h found.0 = same n found.0 found.1 in
-    let more : sum_by h (take (n + 1) l) ≡ sum_by h (take n l) + h (get_or l n found.0) = sum_by_more h l n found.0 (omega arith) in
-    let its : h (get_or l n found.0) ≡ h found.0 = ap h (get_or_from_slice_get l n found.0 found.0 found.1) in
-    let longer : sum_by h (take (suc n) l) ≡ sum_by h (take (n + 1) l) = ap (λ (m : ℕ). sum_by h (take m l)) (let e : suc n ≡ n + 1 = omega arith in e) in
-    omega arith
+-- ---- named frames
 
--- the frames that are neither the kernel's nor named are no more than those that aren't the kernel's
-usable-le : (named : List ℕ) (n : ℕ) (kernel : List Bool) → usable_from named n kernel ≤ sum_by (λ (k : Bool). from_bool (not k)) kernel
-usable-le named n [] = omega arith
-usable-le named n (k ∷ ks) =
-    let rest : usable_from named (n + 1) ks ≤ sum_by (λ (b : Bool). from_bool (not b)) ks = usable-le named (n + 1) ks in
-    let all : sum_by (λ (b : Bool). from_bool (not b)) (k ∷ ks) ≡ from_bool (not k) + sum_by (λ (b : Bool). from_bool (not b)) ks = sum_by-cons (λ (b : Bool). from_bool (not b)) k ks in
-    let first : one (k || list_any (λ f. f == n) named) ≤ from_bool (not k) = which k (list_any (λ f. f == n) named) in
-    omega arith
+or-true : (b : Bool) → (b || true) ≡ true
+or-true true = refl
+or-true false = refl
+
+-- a command of a list names its frame, and so does the script
+named-in : (f : ℕ) (list : List Command) (j : ℕ) (c : Command) → slice_get list j ≡ Some c → frame_named c ≡ Some f → list_any (λ n. n == f) (filter_map frame_named list) ≡ true
+named-in f [] j c there is = absurd (none-some c there)
+named-in f (d ∷ ds) zero c there is =
+    let own : frame_named d ≡ Some f = ap frame_named (same_Some d c there) ∙ is in
+    ap (λ (o : Option ℕ). list_any (λ n. n == f) (cons_option o (filter_map frame_named ds))) own ∙ ap (λ (b : Bool). b || list_any (λ n. n == f) (filter_map frame_named ds)) (eq-eqb f f refl)
+named-in f (d ∷ ds) (suc j) c there is = by (frame_named d) (named-in f ds j c there is)
   where
-    one : Bool → ℕ
-    one b = cond b 0 1
+    by : (o : Option ℕ) → list_any (λ n. n == f) (filter_map frame_named ds) ≡ true → list_any (λ n. n == f) (cons_option o (filter_map frame_named ds)) ≡ true
+    by None rest = rest
+    by (Some n) rest = ap (λ (b : Bool). (n == f) || b) rest ∙ or-true (n == f)
 
-    which : (a b : Bool) → cond (a || b) zero (suc zero) ≤ from_bool (not a)
-    which true b = omega arith
-    which false true = omega arith
-    which false false = omega arith
+named-of : (f : ℕ) (lists : List (List Command)) (i j : ℕ) (list : List Command) (c : Command) → slice_get lists i ≡ Some list → slice_get list j ≡ Some c → frame_named c ≡ Some f → list_any (λ n. n == f) (flat_map (filter_map frame_named) lists) ≡ true
+named-of f [] i j list c at there is = absurd (none-some list at)
+named-of f (l ∷ ls) zero j list c at there is =
+    list_any-append (λ n. n == f) (filter_map frame_named l) (flat_map (filter_map frame_named) ls)
+    ∙ ap (λ (b : Bool). b || list_any (λ n. n == f) (flat_map (filter_map frame_named) ls)) (named-in f l j c (ap (λ (x : List Command). slice_get x j) (same_Some l list at) ∙ there) is)
+named-of f (l ∷ ls) (suc i) j list c at there is =
+    list_any-append (λ n. n == f) (filter_map frame_named l) (flat_map (filter_map frame_named) ls)
+    ∙ ap (λ (b : Bool). list_any (λ n. n == f) (filter_map frame_named l) || b) (named-of f ls i j list c at there is) ∙ or-true (list_any (λ n. n == f) (filter_map frame_named l))
 
-module _ (layout : Layout) (s : State) (h : Holds layout s) (unmarked : EachMember (λ (v : View). v.marks ≡ []) s.views) where
-  marks-none : (f : ℕ) → sum_all (λ (m : Mark). from_bool (m.frame.0 == f)) (map (λ (v : View). v.marks) s.views) ≡ 0
-  marks-none f = sum-zero (sum_by (λ (m : Mark). from_bool (m.frame.0 == f))) (map (λ (v : View). v.marks) s.views)
-      (each-map (λ (v : View). v.marks) (λ (l : List Mark). sum_by (λ (m : Mark). from_bool (m.frame.0 == f)) l ≡ 0) s.views (λ i v there. ap (sum_by (λ (m : Mark). from_bool (m.frame.0 == f))) (unmarked i v there)))
+only : (f frame : Frame) (k : ℕ) → slice_get (f ∷ []) k ≡ Some frame → Some f.0 ≡ Some frame.0
+only f frame zero there = ap (λ (x : Frame). Some x.0) (same_Some f frame there)
+only f frame (suc k) there = absurd (none-some frame there)
 
-  unmarked-below : sum_below (is_marked layout (map (λ (v : View). v.marks) s.views)) layout.frames ≡ 0
-  unmarked-below = below-zero (is_marked layout (map (λ (v : View). v.marks) s.views)) layout.frames (λ f less. let none : sum_all (λ (m : Mark). from_bool (m.frame.0 == f)) (map (λ (v : View). v.marks) s.views) ≡ 0 = marks-none f in omega arith)
+-- what a command poisoned is what it names
+marked-named : (command : Command) (answer : Answer) (k : ℕ) (frame : Frame) → slice_get (marked_by command answer) k ≡ Some frame → frame_named command ≡ Some frame.0
+marked-named (commands.Inject f) answers.Recovered k frame there = only f frame k there
+marked-named (commands.Inject f) answers.Delayed k frame there = only f frame k there
+marked-named (commands.Inject f) answers.Ignored k frame there = only f frame k there
+marked-named command answer k frame there = absurd (none-some frame there)
 
-  usable-below : sum_below (usable layout) layout.frames ≡ sum_by (λ (k : Bool). from_bool (not k)) layout.kernel
-  usable-below =
-      let fit : length layout.kernel ≡ layout.frames = h.sound.kernel in
-      below-sum (usable layout) (λ (k : Bool). from_bool (not k)) layout.kernel layout.frames (omega arith) (λ i k there. ap (λ (b : Bool). from_bool (not b)) (get_or_from_slice_get layout.kernel i k true there))
-      ∙ ap (λ (n : ℕ). sum_by (λ (k : Bool). from_bool (not k)) (take n layout.kernel)) (sym fit) ∙ ap (sum_by (λ (k : Bool). from_bool (not k))) (take-length layout.kernel)
+-- ---- sums
 
-  pub not-ample : (script : Script) → script.layout ≡ layout → (i j : ℕ) (v : View) (x : Sight) → slice_get s.views i ≡ Some v → slice_get v.sights j ≡ Some x → x.place ≡ places.Available → x.word ≡ 0 → is_ample script ≡ false
-  not-ample script same i j v x view sight place none = which (is_ample script) refl
+-- 1 where a frame is neither the kernel's nor named
+abbrev spare : List Bool → List ℕ → ℕ → ℕ
+spare kernel named f = cond (slice_index_or kernel f true || list_any (λ n. n == f) named) 0 1
+
+spare-below : (kernel : List Bool) (named : List ℕ) (n : ℕ) (ks : List Bool) → ((i : ℕ) (k : Bool) → slice_get ks i ≡ Some k → slice_get kernel (n + i) ≡ Some k) → usable_from named n ks + sum_below (spare kernel named) n ≡ sum_below (spare kernel named) (n + length ks)
+spare-below kernel named n [] same = let none : n + 0 ≡ n = omega arith in let zero_ : 0 + sum_below (spare kernel named) n ≡ sum_below (spare kernel named) n = omega arith in zero_ ∙ ap (sum_below (spare kernel named)) (sym none)
+spare-below kernel named n (k ∷ ks) same =
+    let zero_ : n + 0 ≡ n = omega arith in
+    let here : slice_index_or kernel n true ≡ k = get_or_from_slice_get kernel n k true (subst (λ (m : ℕ). slice_get kernel m ≡ Some k) zero_ (same 0 k refl)) in
+    let its : spare kernel named n ≡ cond (k || list_any (λ m. m == n) named) 0 1 = ap (λ (b : Bool). cond (b || list_any (λ m. m == n) named) 0 1) here in
+    let rest : usable_from named (n + 1) ks + sum_below (spare kernel named) (n + 1) ≡ sum_below (spare kernel named) ((n + 1) + length ks)
+    = spare-below kernel named (n + 1) ks (λ i b there. let more : n + suc i ≡ (n + 1) + i = omega arith in subst (λ (m : ℕ). slice_get kernel m ≡ Some b) more (same (suc i) b there)) in
+    let one : sum_below (spare kernel named) (n + 1) ≡ sum_below (spare kernel named) n + spare kernel named n = (let next : n + 1 ≡ suc n = omega arith in ap (sum_below (spare kernel named)) next) in
+    let all : sum_below (spare kernel named) (n + suc (length ks)) ≡ sum_below (spare kernel named) ((n + 1) + length ks) = (let same_ : n + suc (length ks) ≡ (n + 1) + length ks = omega arith in ap (sum_below (spare kernel named)) same_) in
+    let first : usable_from named n (k ∷ ks) ≡ cond (k || list_any (λ m. m == n) named) 0 1 + usable_from named (n + 1) ks = refl in
+    omega (arith, its, rest, one, all, first)
+
+-- two sums that are within a third at each number
+below-le : (g h u : ℕ → ℕ) (n : ℕ) → ((i : ℕ) → i < n → g i + h i ≤ u i) → sum_below g n + sum_below h n ≤ sum_below u n
+below-le g h u zero each = omega arith
+below-le g h u (suc n) each =
+    let rest : sum_below g n + sum_below h n ≤ sum_below u n = below-le g h u n (λ i less. each i (omega (arith, less))) in
+    let last : g n + h n ≤ u n = each n (omega arith) in
+    omega arith
+
+module _ (script : Script) (seat : Cpu → ℕ) (last : State) (report : Report) (end : IsEnd script seat last report) where
+  abbrev all_marks : List (List Mark)
+  all_marks = map (λ (v : View). v.marks) last.views
+
+  -- a marked frame is named
+  mark-named : (i j : ℕ) (v : View) (m : Mark) → slice_get last.views i ≡ Some v → slice_get v.marks j ≡ Some m → list_any (λ n. n == m.frame.0) (named_frames script) ≡ true
+  mark-named i j v m view there =
+      let who : Who = m.stamp.who in
+      let past = (end.board.holds.rule.processors.commands.own i v view).marks j m there in
+      let own = own-view script seat last report end i v m.stamp.who view past in
+      let mine : slice_get (view_of last (seat m.stamp.who.cpu)).marks j ≡ Some m = sym (ap (λ (x : View). slice_get x.marks j) own.1) ∙ there in
+      let list = list-of script seat last report end m.stamp.who.cpu own.0 in
+      let rows = rows-of script seat last report end m.stamp.who.cpu own.0 in
+      let served = (served-of script seat last report end m.stamp.who.cpu list.0 rows.0 list.1 rows.1).1 in
+      let begun = served.marked j m mine in
+      let command = there-is list.0 m.stamp.who.seq begun.1 in
+      let of : IsOf script report (view_of last (seat m.stamp.who.cpu)) m.stamp.who = command-of script seat last report end m.stamp.who list.0 rows.0 command.0 list.1 rows.1 command.1 in
+      let found = filter-has (λ (k : Mark). is_same m.stamp.who k.stamp.who) (view_of last (seat m.stamp.who.cpu)).marks j m mine (same-self m.stamp.who m.stamp.who refl) in
+      let among : slice_get (frames_marked m.stamp.who (view_of last (seat m.stamp.who.cpu))) found.0 ≡ Some m.frame = at_map (λ (k : Mark). k.frame) _ found.0 m found.1 in
+      named-of m.frame.0 script.lists m.stamp.who.cpu.0 m.stamp.who.seq of.list of.command of.list_is of.command_is
+      (marked-named of.command of.answer found.0 m.frame (sym (ap (λ (l : List Frame). slice_get l found.0) of.accounted.marked) ∙ among))
+
+  -- a frame without a name has no mark
+  unmarked : (f : ℕ) → list_any (λ n. n == f) (named_frames script) ≡ false → sum_all (λ (m : Mark). from_bool (m.frame.0 == f)) all_marks ≡ 0
+  unmarked f unnamed = which (sum_all (λ (m : Mark). from_bool (m.frame.0 == f)) all_marks) refl
+    where
+      some : (b : Bool) → 0 < from_bool b → b ≡ true
+      some true more = refl
+      some false more = absurd (omega (arith, more))
+
+      which : (n : ℕ) → sum_all (λ (m : Mark). from_bool (m.frame.0 == f)) all_marks ≡ n → n ≡ 0
+      which zero is = refl
+      which (suc n) is =
+          let list = some-term (sum_by (λ (m : Mark). from_bool (m.frame.0 == f))) all_marks (omega arith) in
+          let mark = some-term (λ (m : Mark). from_bool (m.frame.0 == f)) list.1 list.3 in
+          let was = map-was (λ (v : View). v.marks) last.views list.0 list.1 list.2 in
+          let at : slice_get was.0.marks mark.0 ≡ Some mark.1 = ap (λ (l : List Mark). slice_get l mark.0) was.2 ∙ mark.2 in
+          let frame_is : mark.1.frame.0 ≡ f = eqb-true mark.1.frame.0 f (some (mark.1.frame.0 == f) mark.3) in
+          let named : list_any (λ k. k == f) (named_frames script) ≡ true = subst (λ (g : ℕ). list_any (λ k. k == g) (named_frames script) ≡ true) frame_is (mark-named list.0 mark.0 was.0 mark.1 was.1 at) in
+          absurd (true≢false (sym named ∙ unnamed))
+
+  within : (f : ℕ) → spare script.layout.kernel (named_frames script) f + is_marked script.layout all_marks f ≤ usable script.layout f
+  within f = which (slice_index_or script.layout.kernel f true) (list_any (λ n. n == f) (named_frames script)) (unmarked f)
+    where
+      which : (k named : Bool) → (named ≡ false → sum_all (λ (m : Mark). from_bool (m.frame.0 == f)) all_marks ≡ 0)
+          → cond (k || named) 0 1 + min (from_bool (not k)) (sum_all (λ (m : Mark). from_bool (m.frame.0 == f)) all_marks) ≤ from_bool (not k)
+      which true named none = omega arith
+      which false true none = omega arith
+      which false false none = let zero_ : sum_all (λ (m : Mark). from_bool (m.frame.0 == f)) all_marks ≡ 0 = none refl in omega arith
+
+  -- where a command saw no frame available, the script isn't ample
+  pub not-ample : (cpu : Cpu) → cpu.0 < script.layout.cpus → (who : Who) → Saw (view_of last (seat cpu)) who places.Available 0 → is_ample script ≡ false
+  not-ample cpu inside who saw = which (is_ample script) refl
     where
       which : (b : Bool) → is_ample script ≡ b → is_ample script ≡ false
       which false is = is
       which true is =
           let more : length script.layout.pages + 2 * script.layout.cpus < usable_from (named_frames script) 0 script.layout.kernel = ltb-true _ _ is in
-          let few : usable_from (named_frames script) 0 script.layout.kernel ≤ sum_by (λ (k : Bool). from_bool (not k)) script.layout.kernel = usable-le (named_frames script) 0 script.layout.kernel in
-          let all : sum_below (usable layout) layout.frames ≤ sum_below (is_marked layout (map (λ (v : View). v.marks) s.views)) layout.frames + length layout.pages + 2 * layout.cpus =
-          h.rule.failures.exhaustion.explained i v.sights (at_map (λ (z : View). z.sights) s.views i v view) j x sight place none in
-          let zero_marked : sum_below (is_marked layout (map (λ (v : View). v.marks) s.views)) layout.frames ≡ 0 = unmarked-below in
-          let counted : sum_below (usable layout) layout.frames ≡ sum_by (λ (k : Bool). from_bool (not k)) layout.kernel = usable-below in
-          let pages : length script.layout.pages ≡ length layout.pages = ap (λ (l : Layout). length l.pages) same in
-          let cpus : script.layout.cpus ≡ layout.cpus = ap (λ (l : Layout). l.cpus) same in
-          let kernel : sum_by (λ (k : Bool). from_bool (not k)) script.layout.kernel ≡ sum_by (λ (k : Bool). from_bool (not k)) layout.kernel = ap (λ (l : Layout). sum_by (λ (k : Bool). from_bool (not k)) l.kernel) same in
-          absurd (omega arith)
+          let explained : sum_below (usable script.layout) script.layout.frames ≤ sum_below (is_marked script.layout all_marks) script.layout.frames + length script.layout.pages + 2 * script.layout.cpus
+          = end.board.holds.rule.failures.exhaustion.explained (seat cpu) (view_of last (seat cpu)).sights (at_map (λ (z : View). z.sights) last.views (seat cpu) (view_of last (seat cpu)) (end.seated.there cpu inside)) saw.0 saw.1 saw.2 saw.3.1 saw.3.2 in
+          let counted : usable_from (named_frames script) 0 script.layout.kernel + 0 ≡ sum_below (spare script.layout.kernel (named_frames script)) (0 + length script.layout.kernel)
+          = spare-below script.layout.kernel (named_frames script) 0 script.layout.kernel (λ i k there. let same : i ≡ 0 + i = omega arith in subst (λ (n : ℕ). slice_get script.layout.kernel n ≡ Some k) same there) in
+          let fit : 0 + length script.layout.kernel ≡ script.layout.frames = (let many : length script.layout.kernel ≡ script.layout.frames = end.board.holds.sound.kernel in omega arith) in
+          let at : sum_below (spare script.layout.kernel (named_frames script)) (0 + length script.layout.kernel) ≡ sum_below (spare script.layout.kernel (named_frames script)) script.layout.frames = ap (sum_below (spare script.layout.kernel (named_frames script))) fit in
+          let both : sum_below (spare script.layout.kernel (named_frames script)) script.layout.frames + sum_below (is_marked script.layout all_marks) script.layout.frames ≤ sum_below (usable script.layout) script.layout.frames
+          = below-le (spare script.layout.kernel (named_frames script)) (is_marked script.layout all_marks) (usable script.layout) script.layout.frames (λ f less. within f) in
+          absurd (omega (arith, more, explained, counted, at, both))

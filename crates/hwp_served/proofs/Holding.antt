@@ -1,15 +1,12 @@
--- The report of a run is lawful.
+-- The last board of a run, and what the report of a run shows beside its law.
 use Rattle.std.proofs.Common.{◌≡◌, ◌⊎◌, ℕ, zero, suc, ◌+◌, ◌<◌, ◌≤◌, List, [], ◌∷◌, Option, Some, slice_get, option_and_then, sym, ap, ◌∙◌, subst, arith, inl, inr}
 use Rattle.std.proofs.lemmas.Bool.{cases_lt}
 use Rattle.std.proofs.lemmas.Option.{none-some, same_Some, slice_get_within}
 use Rattle.hwp_geom.specs.declared.Cpu.{Cpu}
-use Rattle.hwp_geom.specs.declared.FileNo.{FileNo}
 use Rattle.hwp_geom.specs.declared.Layout.{Layout}
 use Rattle.hwp_geom.specs.declared.Thread.{Thread}
 use Rattle.hwp_geom.specs.declared.VSlot.{VSlot}
 use Rattle.hwp_geom.specs.declared.Who.{Who}
-use Rattle.hwp_rule.specs.declared.Place.TheVariants as places
-use Rattle.hwp_rule.specs.declared.Sight.{Sight}
 use Rattle.hwp_rule.specs.declared.State.{State}
 use Rattle.hwp_rule.specs.declared.View.{View}
 use Rattle.hwp_rule.specs.Lists.{EachMember}
@@ -26,40 +23,33 @@ use Rattle.hwp_report.specs.declared.Answer.TheVariants as answers
 use Rattle.hwp_report.specs.declared.CpuLine.{CpuLine}
 use Rattle.hwp_report.specs.declared.CpuLine.TheVariants as lines
 use Rattle.hwp_report.specs.declared.Report.{Report}
-use Rattle.hwp_law.specs.Answers.{AreAnswers}
-use Rattle.hwp_law.specs.Report.{IsReport}
 use Rattle.hwp_law.proofs.Rows.{same_answer}
 use Rattle.hwp_law.specs.Runs.{IsOfRun, StopsFirst, WereOut, slot_of}
 use Rattle.hwp_runs.proofs.Homes.{there-is}
 use Rattle.hwp_runs.proofs.Leading.{leads-hold}
 use Rattle.hwp_runs.proofs.Legal.{run-legal}
-use Rattle.hwp_runs.proofs.Reported.{histories-lead, histories-ordered}
 use Rattle.hwp_runs.proofs.Rising.{run-rises}
 use Rattle.hwp_served.specs.Causes.{FoundNoFrame, IsCaused}
 use Rattle.hwp_served.specs.Runs.{IsRunOf}
 use Rattle.hwp_served.specs.Served.{AreAnswered}
-use Rattle.hwp_served.proofs.Answered.{are-answers, had}
-use Rattle.hwp_served.proofs.Ending.{IsEnd, list-of, nothing-held}
-use Rattle.hwp_served.proofs.Framed.{frames-fit}
-use Rattle.hwp_served.proofs.Losses.{losses-none, poisoned-none}
-use Rattle.hwp_served.proofs.Lossless.{run-lossless}
-use Rattle.hwp_served.proofs.Made.{entries-made, entries-named}
+use Rattle.hwp_served.proofs.Along.{run-keeps}
+use Rattle.hwp_served.proofs.Answered.{had}
+use Rattle.hwp_served.proofs.Ending.{IsEnd, list-of, nothing-held, served-of}
+use Rattle.hwp_served.proofs.PoisonSeen.{AreMarkedBy, marked-kept}
 use Rattle.hwp_served.proofs.Seen.{saw-at}
-use Rattle.hwp_served.proofs.Stops.{stop-fits, stopper}
-use Rattle.hwp_served.proofs.Undamaged.{run-clean}
-use Rattle.hwp_served.proofs.Unmarked.{run-unmarked}
-use Rattle.hwp_served.proofs.Windows.{in-window, line-answers, states-in-windows}
+use Rattle.hwp_served.proofs.Stops.{stopper}
+use Rattle.hwp_served.proofs.Windows.{in-window, line-answers}
 
 -- the n-th line of commands that are answered is of the n-th command
 pub line-number : (layout : Layout) (all : List Command) (view : View) (cpu : Cpu) (n : ℕ) (list : List Command) (rows : List CpuLine) (i m : ℕ) (answer : Answer) → AreAnswered layout all view cpu n list rows → slice_get rows i ≡ Some (lines.Answer m answer) → m ≡ n + i
 line-number layout all view cpu n list [] i m answer are there = absurd (none-some (lines.Answer m answer) there)
 line-number layout all view cpu n [] (row ∷ rows) i m answer are there = absurd are
 line-number layout all view cpu n (c ∷ cs) (lines.Event a b s x y z w ∷ rows) i m answer are there = absurd are
-line-number layout all view cpu n (c ∷ cs) (lines.Answer seq a ∷ rows) zero m answer (seq_is, caused, rest) there =
+line-number layout all view cpu n (c ∷ cs) (lines.Answer seq a ∷ rows) zero m answer (seq_is, caused, accounted, rest) there =
     let same : seq ≡ m = (same_answer seq m a answer (same_Some (lines.Answer seq a) (lines.Answer m answer) there)).0 in
     let is : seq ≡ n = seq_is in
     omega arith
-line-number layout all view cpu n (c ∷ cs) (lines.Answer seq a ∷ rows) (suc i) m answer (seq_is, caused, rest) there =
+line-number layout all view cpu n (c ∷ cs) (lines.Answer seq a ∷ rows) (suc i) m answer (seq_is, caused, accounted, rest) there =
     let later : m ≡ (n + 1) + i = line-number layout all view cpu (n + 1) cs rows i m answer rest there in
     omega arith
 
@@ -72,24 +62,20 @@ no-frame-of layout list view who (commands.Store thread s line word) slot is cau
 no-frame-of layout list view who command slot is caused = absurd (none-some slot is)
 
 module _ (script : Script) (seat : Cpu → ℕ) (turns : List Played) (last : State) (report : Report) (run : IsRunOf script seat turns last report) where
-  abbrev Sights : Type 0
-  Sights = (i j : ℕ) (v : View) (x : Sight) → slice_get last.views i ≡ Some v → slice_get v.sights j ≡ Some x → (file : FileNo) → x.place ≡ places.Loss file → x.word ≡ 0
-
   pub holds : Holds script.layout last
   holds = leads-hold script.layout (opening script.layout) last turns run.rule run.moves
 
-  pub unmarked : EachMember (λ (v : View). v.marks ≡ []) last.views
-  unmarked = run-unmarked script.layout turns last run.rule run.moves
-
-  pub lossless : Sights
-  lossless = run-lossless script.layout turns last run.rule run.moves
+  -- each frame that a command saw poisoned had its mark
+  pub seen_marks : EachMember (AreMarkedBy last) last.views
+  seen_marks = run-keeps script.layout AreMarkedBy (marked-kept script.layout) turns last run.rule run.moves
 
   -- nothing is in hand
-  nothing : EachMember HoldsNothing last.views
+  pub nothing : EachMember HoldsNothing last.views
   nothing = nothing-held script.layout seat last holds run.seated (λ cpu inside.
       let list = there-is script.lists cpu.0 (subst (λ (n : ℕ). cpu.0 < n) (sym run.lengths.lists) inside) in
       let rows = there-is report.cpus cpu.0 (subst (λ (n : ℕ). cpu.0 < n) (sym run.lengths.cpus) inside) in
-      (run.served cpu list.0 rows.0 list.1 rows.1).nothing)
+      let own = there-is run.notes cpu.0 (subst (λ (n : ℕ). cpu.0 < n) (sym run.lengths.noted) inside) in
+      (run.served cpu list.0 rows.0 own.0 list.1 rows.1 own.1).nothing)
 
   pub ended : IsEnd script seat last report
   ended = record {
@@ -106,14 +92,11 @@ module _ (script : Script) (seat : Cpu → ℕ) (turns : List Played) (last : St
     seated = run.seated;
     lists_fit = run.lengths.lists;
     cpus_fit = run.lengths.cpus;
+    notes = run.notes;
+    notes_fit = run.lengths.noted;
     served = run.served;
+    records = run.records;
   }
-
-  pub all-answered : (cpu : Cpu) (list : List Command) (rows : List CpuLine) → slice_get script.lists cpu.0 ≡ Some list → slice_get report.cpus cpu.0 ≡ Some rows → AreAnswers script report.pages report.stop cpu 0 list rows
-  all-answered cpu list rows list_is rows_is =
-      let inside : cpu.0 < script.layout.cpus = subst (λ (n : ℕ). cpu.0 < n) run.lengths.lists (slice_get_within script.lists cpu.0 list list_is) in
-      let served = run.served cpu list rows list_is rows_is in
-      are-answers script seat last report ended unmarked lossless cpu inside list list_is 0 list rows served.answered served.count
 
   stops-first : StopsFirst report.cpus report.stop
   stops-first s rows i m is rows_is line =
@@ -121,7 +104,7 @@ module _ (script : Script) (seat : Cpu → ℕ) (turns : List Played) (last : St
       let same : by.rows ≡ rows = same_Some by.rows rows (sym by.rows_is ∙ rows_is) in
       let inside : s.who.cpu.0 < script.layout.cpus = subst (λ (n : ℕ). s.who.cpu.0 < n) run.lengths.cpus (slice_get_within report.cpus s.who.cpu.0 rows rows_is) in
       let list = list-of script seat last report ended s.who.cpu inside in
-      let served = run.served s.who.cpu list.0 rows list.1 rows_is in
+      let served = (served-of script seat last report ended s.who.cpu list.0 rows list.1 rows_is).1 in
       let number : m ≡ 0 + i = line-number script.layout list.0 (view_of last (seat s.who.cpu)) s.who.cpu 0 list.0 rows i m answers.Stopped served.answered line in
       let at : i ≡ m = omega arith in
       let there : slice_get by.rows m ≡ Some (lines.Answer m answers.Stopped) = ap (λ (l : List CpuLine). slice_get l m) same ∙ subst (λ (n : ℕ). slice_get rows n ≡ Some (lines.Answer m answers.Stopped)) at line in
@@ -140,25 +123,9 @@ module _ (script : Script) (seat : Cpu → ℕ) (turns : List Played) (last : St
       record {
         at = record { page = found.page; entry = found.place };
         of_slot = found.page_is;
-        out = had script seat last report ended unmarked lossless cpu a.inside found.away;
+        out = had script seat last report ended seen_marks cpu a.inside found.away;
         window = in-window script seat last report ended cpu rows rows_is seq (record { page = found.page; entry = found.place }) (ended.seated.there cpu a.inside) (saw-at found.away);
       }
-
-  pub report-holds : IsReport script report
-  report-holds = record {
-    pages_fit = run.lengths.pages;
-    cpus_fit = run.lengths.cpus;
-    histories = histories-lead script.layout last report ended.board;
-    made = entries-made script seat last report ended;
-    ordered = histories-ordered script.layout last report ended.board;
-    answers = all-answered;
-    named = entries-named script seat last report ended;
-    windows = states-in-windows script seat last report ended;
-    stop = stop-fits script seat last report ended run.cause;
-    losses = run.ends.files ∙ losses-none script.layout last holds;
-    unpoisoned = run.ends.count ∙ poisoned-none script.layout last holds;
-    frames = frames-fit script.layout last report ended.board unmarked (run-clean script.layout turns last run.rule run.moves);
-  }
 
   pub report-of-run : IsOfRun script report
   report-of-run = record { stops_first = stops-first; were_out = were-out }

@@ -1,5 +1,5 @@
 -- Each entry of the report is one that its command makes, and the one that answers it is named.
-use Rattle.std.proofs.Common.{◌≡◌, ℕ, List, Option, Some, IsTrue, slice_get, option_and_then, sym, ap, ◌∙◌, subst}
+use Rattle.std.proofs.Common.{◌≡◌, ℕ, true, List, Option, Some, IsTrue, slice_get, option_and_then, sym, ap, ◌∙◌, subst}
 use Rattle.std.specs.Prelude.{IsSomeAnd}
 use Rattle.hwp_geom.specs.declared.Cpu.{Cpu}
 use Rattle.hwp_geom.specs.declared.Page.{Page}
@@ -14,11 +14,11 @@ use Rattle.hwp_report.specs.declared.CpuLine.{CpuLine}
 use Rattle.hwp_report.specs.declared.CpuLine.TheVariants as lines
 use Rattle.hwp_report.specs.declared.Report.{Report}
 use Rattle.hwp_law.specs.Answers.{AreNamed, is_answering}
-use Rattle.hwp_law.specs.History.{AreMade, Fits, Names}
+use Rattle.hwp_law.specs.Entries.{AreMadeBy, CanStandIn, Makes}
 use Rattle.hwp_law.specs.Places.{command_at, entry_at}
 use Rattle.hwp_law.specs.States.{entry_named}
 use Rattle.hwp_runs.proofs.Reported.{entry-listed}
-use Rattle.hwp_served.proofs.Deeds.{IsDeed, are-deeds}
+use Rattle.hwp_served.proofs.Deeds.{IsDeed, are-deeds, is_mild}
 use Rattle.hwp_served.proofs.Ending.{IsEnd, IsOf, of-deeds, of-made}
 
 -- what there is has the property
@@ -32,8 +32,9 @@ command-is script who list command list_is there = ap (λ (o : Option (List Comm
 pub record Does (script : Script) (report : Report) (at : At) (e : Entry) : Type 0 where
   pub view : View
   pub of : IsOf script report view e.who
-  pub fits : Fits of.command e.what
-  pub names : Names script.layout of.command at.page
+  pub makes : Makes of.command e.what
+  pub stands : CanStandIn script.layout of.command at.page e.what
+  pub mild : is_mild e.what ≡ true
   pub named : IsTrue (is_answering e.what) → entry_named of.answer ≡ Some at
 
 module _ (script : Script) (seat : Cpu → ℕ) (last : State) (report : Report) (end : IsEnd script seat last report) where
@@ -47,16 +48,17 @@ module _ (script : Script) (seat : Cpu → ℕ) (last : State) (report : Report)
       record {
         view = listed.1;
         of = of;
-        fits = subst (λ (x : Entry). Fits of.command x.what) that.entry_is deed.fits;
-        names = subst (Names script.layout of.command) that.page_is deed.names;
+        makes = subst (λ (x : Entry). Makes of.command x.what) that.entry_is deed.makes;
+        stands = subst (λ (x : Entry). CanStandIn script.layout of.command at.page x.what) that.entry_is (subst (λ (p : Page). CanStandIn script.layout of.command p made.1.entry.what) that.page_is deed.stands);
+        mild = subst (λ (x : Entry). is_mild x.what ≡ true) that.entry_is deed.mild;
         named = λ answers. deed.named (subst (λ (x : Entry). IsTrue (is_answering x.what)) (sym that.entry_is) answers)
             ∙ ap (λ (p : Page). Some (record { page = p; entry = made.1.place })) that.page_is ∙ ap (λ (n : ℕ). Some (record { page = at.page; entry = n })) that.place_is;
       }
 
-  pub entries-made : AreMade script report.pages
-  entries-made at e is =
+  pub entries-made-by : AreMadeBy script report.pages
+  entries-made-by at e is =
       let d = does at e is in
-      some-so (λ (command : Command). Fits command e.what × Names script.layout command at.page) (command_at script e.who) d.of.command (command-is script e.who d.of.list d.of.command d.of.list_is d.of.command_is) (d.fits, d.names)
+      some-so (λ (command : Command). Makes command e.what × CanStandIn script.layout command at.page e.what) (command_at script e.who) d.of.command (command-is script e.who d.of.list d.of.command d.of.list_is d.of.command_is) (d.makes, d.stands)
 
   pub entries-named : AreNamed report.pages report.cpus
   entries-named at e is answers =

@@ -43,7 +43,7 @@ pub record MadeAt (view : View) (who : Who) (at : At) : Type 0 where
   pub place_is : made.place ≡ at.entry
 
 -- one of those that pass the test is a member that does
-filter-is : {A : Type 0} (test : A → Bool) (l : List A) (k : ℕ) (x : A) → slice_get (filter test l) k ≡ Some x → (j : ℕ) × (slice_get l j ≡ Some x) × (test x ≡ true)
+pub filter-is : {A : Type 0} (test : A → Bool) (l : List A) (k : ℕ) (x : A) → slice_get (filter test l) k ≡ Some x → (j : ℕ) × (slice_get l j ≡ Some x) × (test x ≡ true)
 filter-is test [] k x there = absurd (none-some x there)
 filter-is test (y ∷ ys) k x there = which (test y) refl k there (λ n h. filter-is test ys n x h)
   where
@@ -112,15 +112,19 @@ module _ (layout : Layout) (list : List Command) (view : View) (who : Who) where
   pub names-place : (command : Command) (answer : Answer) → IsCaused layout list view who command answer → Names answer
   names-place command answers.Stopped caused at is = absurd (none-some at is)
   names-place (commands.Load thread slot line) (answers.Value word bt) caused at is = made-one bt (made-at caused.1.made) at is
+  names-place (commands.Load thread slot line) (answers.Sigbus bt) caused at is = made-one bt (made-at caused.made) at is
   names-place (commands.Load thread slot line) answers.NoFrame caused at is = absurd (none-some at is)
   names-place (commands.Load thread slot line) (answers.Gone page) caused at is = absurd (none-some at is)
   names-place (commands.Fetch thread slot line) (answers.Value word bt) caused at is = made-one bt (made-at caused.1.made) at is
+  names-place (commands.Fetch thread slot line) (answers.Sigbus bt) caused at is = made-one bt (made-at caused.made) at is
   names-place (commands.Fetch thread slot line) answers.NoFrame caused at is = absurd (none-some at is)
   names-place (commands.Fetch thread slot line) (answers.Gone page) caused at is = absurd (none-some at is)
   names-place (commands.KLoad thread slot line) (answers.Value word bt) caused at is = made-one bt (made-at caused.1.made) at is
+  names-place (commands.KLoad thread slot line) (answers.Sigbus bt) caused at is = made-one bt (made-at caused.made) at is
   names-place (commands.KLoad thread slot line) answers.NoFrame caused at is = absurd (none-some at is)
   names-place (commands.KLoad thread slot line) (answers.Gone page) caused at is = absurd (none-some at is)
   names-place (commands.Store thread slot line word) (answers.Stored bt) caused at is = made-one bt (made-at caused.1.made) at is
+  names-place (commands.Store thread slot line word) (answers.Sigbus bt) caused at is = made-one bt (made-at caused.made) at is
   names-place (commands.Store thread slot line word) answers.NoFrame caused at is = absurd (none-some at is)
   names-place (commands.Store thread slot line word) (answers.Gone page) caused at is = absurd (none-some at is)
   names-place (commands.Free slot) (answers.DoneAt bt) caused at is = made-one bt (made-at caused.1.made) at is
@@ -143,6 +147,11 @@ module _ (layout : Layout) (list : List Command) (view : View) (who : Who) where
       replied (replies.Is policy) is = none-some at is
       replied replies.Einval is = none-some at is
   names-place (commands.Log status addr misc) answers.Done caused at is = absurd (none-some at is)
+  names-place (commands.Inject frame) answers.Recovered caused at is = absurd (none-some at is)
+  names-place (commands.Inject frame) answers.Delayed caused at is = absurd (none-some at is)
+  names-place (commands.Inject frame) answers.Ignored caused at is = absurd (none-some at is)
+  names-place (commands.Inject frame) answers.Already caused at is = absurd (none-some at is)
+  names-place (commands.Inject frame) answer caused at is = absurd caused.1
   names-place command answer caused at is = absurd caused
 
   -- where the answer names a number of entries, the command saw the page after as many
@@ -161,6 +170,12 @@ module _ (layout : Layout) (list : List Command) (view : View) (who : Who) where
       replied (replies.Set policy) is = none-some at is
       replied (replies.Is policy) is = none-some at is
       replied replies.Einval is = none-some at is
+  names-state (commands.Inject frame) answers.Recovered caused at is = absurd (none-some at is)
+  names-state (commands.Inject frame) answers.Delayed caused at is = absurd (none-some at is)
+  names-state (commands.Inject frame) answers.Ignored caused at is = absurd (none-some at is)
+  names-state (commands.Inject frame) answers.Already caused at is = absurd (none-some at is)
+  names-state (commands.Inject frame) answer caused at is = absurd caused.1
+  names-state command (answers.Sigbus bt) caused at is = absurd (none-some at is)
   names-state command (answers.Value word bt) caused at is = absurd (none-some at is)
   names-state command (answers.Stored bt) caused at is = absurd (none-some at is)
   names-state command answers.NoFrame caused at is = absurd (none-some at is)

@@ -26,10 +26,11 @@ use Rattle.hwp_runs.specs.Scrubs.{ScrubsShown}
 use Rattle.hwp_runs.specs.Shown.{AlreadyShown, IsShown}
 use Rattle.hwp_runs.proofs.Knowing.{Said}
 use Rattle.hwp_runs.proofs.Telling.{all-told, told}
+use Rattle.hwp_served.specs.Accounts.{IsAccounted}
 use Rattle.hwp_served.specs.Causes.{IsCaused}
 use Rattle.hwp_served.specs.Runs.{IsRunOf}
 use Rattle.hwp_served.specs.Served.{AreAnswered}
-use Rattle.hwp_served.proofs.Ending.{command-of, list-of, rows-of}
+use Rattle.hwp_served.proofs.Ending.{command-of, list-of, rows-of, served-of}
 use Rattle.hwp_served.proofs.Holding.{ended}
 use Rattle.hwp_served.proofs.Shown.{answer-shown, goes-shown}
 
@@ -38,7 +39,7 @@ no-events : (layout : Layout) (all : List Command) (view : View) (cpu : Cpu) (n 
 no-events layout all view cpu n list [] are = refl
 no-events layout all view cpu n [] (row ∷ rows) are = absurd are
 no-events layout all view cpu n (c ∷ cs) (lines.Event a b s x y z w ∷ rows) are = absurd are
-no-events layout all view cpu n (c ∷ cs) (lines.Answer seq answer ∷ rows) (seq_is, caused, rest) = no-events layout all view cpu (n + 1) cs rows rest
+no-events layout all view cpu n (c ∷ cs) (lines.Answer seq answer ∷ rows) (seq_is, caused, accounted, rest) = no-events layout all view cpu (n + 1) cs rows rest
 
 -- the answer of a command among its processor's lines
 answer-found : (layout : Layout) (all : List Command) (view : View) (cpu : Cpu) (n : ℕ) (list : List Command) (rows : List CpuLine) (k m : ℕ) (answer : Answer) → AreAnswered layout all view cpu n list rows → slice_get rows k ≡ Some (lines.Answer m answer) → m ≡ n + k
@@ -46,11 +47,11 @@ answer-found : (layout : Layout) (all : List Command) (view : View) (cpu : Cpu) 
 answer-found layout all view cpu n list [] k m answer are there at = absurd (none-some (lines.Answer m answer) there)
 answer-found layout all view cpu n [] (row ∷ rows) k m answer are there at = absurd are
 answer-found layout all view cpu n (c ∷ cs) (lines.Event a b s x y z w ∷ rows) k m answer are there at = absurd are
-answer-found layout all view cpu n (c ∷ cs) (lines.Answer seq a ∷ rows) zero m answer (seq_is, caused, rest) there at =
+answer-found layout all view cpu n (c ∷ cs) (lines.Answer seq a ∷ rows) zero m answer (seq_is, caused, accounted, rest) there at =
     let is : m ≡ seq = (let same : m ≡ n + 0 = at in let seq_at : seq ≡ n = seq_is in omega arith) in
     ap (λ (b : Bool). cond b (Some (record { seq = seq; answer = a })) (find (λ (l : AnswerLine). m == l.seq) (filter_map answer_in rows))) (eq-eqb m seq is)
     ∙ ap answer_in (same_Some (lines.Answer seq a) (lines.Answer m answer) there)
-answer-found layout all view cpu n (c ∷ cs) (lines.Answer seq a ∷ rows) (suc k) m answer (seq_is, caused, rest) there at =
+answer-found layout all view cpu n (c ∷ cs) (lines.Answer seq a ∷ rows) (suc k) m answer (seq_is, caused, accounted, rest) there at =
     let seq_at : seq ≡ n = seq_is in
     let other : m ≢ seq = λ same. (let no : m ≡ seq = same in omega arith) in
     ap (λ (b : Bool). cond b (Some (record { seq = seq; answer = a })) (find (λ (l : AnswerLine). m == l.seq) (filter_map answer_in rows))) (ne_eqb m seq other)
@@ -87,12 +88,12 @@ module _ (script : Script) (seat : Cpu → ℕ) (turns : List Played) (last : St
       which (Some rows) some =
           let inside : who.cpu.0 < script.layout.cpus = subst (λ (n : ℕ). who.cpu.0 < n) run.lengths.cpus (slice_get_within report.cpus who.cpu.0 rows some) in
           let list = list-of script seat last report (ended script seat turns last report run) who.cpu inside in
-          no-events script.layout list.0 (view_of last (seat who.cpu)) who.cpu 0 list.0 rows (run.served who.cpu list.0 rows list.1 some).answered
+          no-events script.layout list.0 (view_of last (seat who.cpu)) who.cpu 0 list.0 rows (served-of script seat last report (ended script seat turns last report run) who.cpu list.0 rows list.1 some).1.answered
 
   -- the answer that a command's line says is the command's in the report
   pub answer-told : (who : Who) (list : List Command) (rows : List CpuLine) (answer : Answer) → slice_get script.lists who.cpu.0 ≡ Some list → slice_get report.cpus who.cpu.0 ≡ Some rows → slice_get rows who.seq ≡ Some (lines.Answer who.seq answer) → answer_of report who ≡ Some answer
   answer-told who list rows answer list_is rows_is line =
-      let served = run.served who.cpu list rows list_is rows_is in
+      let served = (served-of script seat last report (ended script seat turns last report run) who.cpu list rows list_is rows_is).1 in
       let found = answer-found script.layout list (view_of last (seat who.cpu)) who.cpu 0 list rows who.seq who.seq answer served.answered line (omega arith) in
       ap (λ (o : Option (List CpuLine)). answer_among (unwrap_or o []) who.seq) rows_is ∙ ap (λ (o : Option AnswerLine). option_map (λ (l : AnswerLine). l.answer) o) found
 
@@ -101,6 +102,7 @@ module _ (script : Script) (seat : Cpu → ℕ) (turns : List Played) (last : St
     pub list : List Command
     pub inside : who.cpu.0 < script.layout.cpus
     pub caused : IsCaused script.layout list (view_of last (seat who.cpu)) who command answer
+    pub accounted : IsAccounted (view_of last (seat who.cpu)) who command answer
 
   pub answers-of : (who : Who) (command : Command) (answer : Answer) → command_at script who ≡ Some command → answer_of report who ≡ Some answer → Answers who command answer
   answers-of who command answer at is =
@@ -116,6 +118,7 @@ module _ (script : Script) (seat : Cpu → ℕ) (turns : List Played) (last : St
         list = of.list;
         inside = inside;
         caused = subst (λ (c : Command). IsCaused script.layout of.list (view_of last (seat who.cpu)) who c answer) same_command (subst (IsCaused script.layout of.list (view_of last (seat who.cpu)) who of.command) same of.caused);
+        accounted = subst (λ (c : Command). IsAccounted (view_of last (seat who.cpu)) who c answer) same_command (subst (IsAccounted (view_of last (seat who.cpu)) who of.command) same of.accounted);
       }
 
   said : (cpu : Cpu) → cpu.0 < script.layout.cpus → Said (told script.layout turns) (view_of last (seat cpu))

@@ -1,5 +1,5 @@
 -- What a command's cause rests on was shown by turns of the command itself.
-use Rattle.std.proofs.Common.{◌≡◌, ◌≢◌, ◌⊎◌, ℕ, ◌+◌, not, false, List, Option, Some, None, length, take, slice_get, option_and_then, refl, sym, ap, ◌∙◌, subst, inl, inr, true≢false}
+use Rattle.std.proofs.Common.{◌≡◌, ◌≢◌, ◌⊎◌, ℕ, ◌+◌, not, true, false, List, Option, Some, None, length, take, slice_get, option_and_then, refl, sym, ap, ◌∙◌, subst, inl, inr, true≢false}
 use Rattle.std.specs.Prelude.{IsSomeAnd}
 use Rattle.std.proofs.lemmas.Bool.{eq-eqb}
 use Rattle.std.proofs.lemmas.Option.{none-some, same_Some}
@@ -17,6 +17,7 @@ use Rattle.hwp_page.specs.declared.At.{At}
 use Rattle.hwp_page.specs.declared.PageState.{PageState}
 use Rattle.hwp_page.specs.Refusals.{IsAway}
 use Rattle.hwp_page.specs.Step.{IsOf}
+use Rattle.hwp_words.specs.Frames.{is_poisoned}
 use Rattle.hwp_words.specs.Stops.{stopper_of}
 use Rattle.hwp_rule.specs.declared.Length.{Length}
 use Rattle.hwp_rule.specs.declared.Log.{Log}
@@ -59,7 +60,7 @@ one-page layout slot a b = which (slice_get layout.trans slot.0)
     which (Some t) of is = sym of ∙ is
 
 -- the process of a command, from the command
-process-is : (script : Script) (who : Who) (command : Command) → command_at script who ≡ Some command → process_at script who ≡ option_and_then (process_of_thread script.layout) (thread_of command)
+pub process-is : (script : Script) (who : Who) (command : Command) → command_at script who ≡ Some command → process_at script who ≡ option_and_then (process_of_thread script.layout) (thread_of command)
 process-is script who command is = ap (λ (o : Option Command). option_and_then (process_of_thread script.layout) (option_and_then thread_of o)) is
 
 module _ (layout : Layout) (turns : List Played) (view : View) (said : Said (told layout turns) view) (who : Who) where
@@ -157,15 +158,19 @@ module _ (script : Script) (turns : List Played) (view : View) (said : Said (tol
   pub answer-shown : (command : Command) (answer : Answer) → Shows command answer
   answer-shown command answers.Stopped at caused = stop-shown script.layout turns view said who caused
   answer-shown (commands.Load thread slot line) (answers.Value word entry) at caused = tt
+  answer-shown (commands.Load thread slot line) (answers.Sigbus entry) at caused = tt
   answer-shown (commands.Load thread slot line) answers.NoFrame at caused = no-frame-shown (commands.Load thread slot line) thread slot refl caused
   answer-shown (commands.Load thread slot line) (answers.Gone page) at caused = gone-shown (commands.Load thread slot line) thread page at refl caused
   answer-shown (commands.Fetch thread slot line) (answers.Value word entry) at caused = tt
+  answer-shown (commands.Fetch thread slot line) (answers.Sigbus entry) at caused = tt
   answer-shown (commands.Fetch thread slot line) answers.NoFrame at caused = no-frame-shown (commands.Fetch thread slot line) thread slot refl caused
   answer-shown (commands.Fetch thread slot line) (answers.Gone page) at caused = gone-shown (commands.Fetch thread slot line) thread page at refl caused
   answer-shown (commands.KLoad thread slot line) (answers.Value word entry) at caused = tt
+  answer-shown (commands.KLoad thread slot line) (answers.Sigbus entry) at caused = tt
   answer-shown (commands.KLoad thread slot line) answers.NoFrame at caused = no-frame-shown (commands.KLoad thread slot line) thread slot refl caused
   answer-shown (commands.KLoad thread slot line) (answers.Gone page) at caused = gone-shown (commands.KLoad thread slot line) thread page at refl caused
   answer-shown (commands.Store thread slot line word) (answers.Stored entry) at caused = tt
+  answer-shown (commands.Store thread slot line word) (answers.Sigbus entry) at caused = tt
   answer-shown (commands.Store thread slot line word) answers.NoFrame at caused = no-frame-shown (commands.Store thread slot line word) thread slot refl caused
   answer-shown (commands.Store thread slot line word) (answers.Gone page) at caused = gone-shown (commands.Store thread slot line word) thread page at refl caused
   answer-shown (commands.Free slot) (answers.DoneAt entry) at caused = tt
@@ -184,6 +189,12 @@ module _ (script : Script) (turns : List Played) (view : View) (said : Said (tol
   answer-shown (commands.Prctl thread args) answer at caused =
       subst (AnswerShown script turns who (commands.Prctl thread args)) (sym caused.replied) (replied-shown thread args (reply (last_policy (settings thread (take who.seq list))) (arguments args)))
   answer-shown (commands.Log status addr misc) answers.Done at caused = tt
+  answer-shown (commands.Inject frame) answers.Recovered at caused = tt
+  answer-shown (commands.Inject frame) answers.Delayed at caused = tt
+  answer-shown (commands.Inject frame) answers.Ignored at caused = tt
+  answer-shown (commands.Inject frame) answers.Already at caused =
+      word-shown script.layout turns view said who (λ (word : ℕ). is_poisoned word ≡ true) (places.Frame frame) caused.1.word caused.1.poisoned caused.1.saw
+  answer-shown (commands.Inject frame) answer at caused = absurd caused.1
   answer-shown command answer at caused = absurd caused
 
   module _ (process : Proc) where
@@ -195,12 +206,16 @@ module _ (script : Script) (turns : List Played) (view : View) (said : Said (tol
     goes command answers.Stopped is caused = tt
     goes command (answers.Gone page) is caused = tt
     goes (commands.Load thread slot line) (answers.Value word entry) is caused = runs-on (commands.Load thread slot line) thread refl is caused.1.going
+    goes (commands.Load thread slot line) (answers.Sigbus entry) is caused = runs-on (commands.Load thread slot line) thread refl is caused.going
     goes (commands.Load thread slot line) answers.NoFrame is caused = runs-on (commands.Load thread slot line) thread refl is caused.going
     goes (commands.Fetch thread slot line) (answers.Value word entry) is caused = runs-on (commands.Fetch thread slot line) thread refl is caused.1.going
+    goes (commands.Fetch thread slot line) (answers.Sigbus entry) is caused = runs-on (commands.Fetch thread slot line) thread refl is caused.going
     goes (commands.Fetch thread slot line) answers.NoFrame is caused = runs-on (commands.Fetch thread slot line) thread refl is caused.going
     goes (commands.KLoad thread slot line) (answers.Value word entry) is caused = runs-on (commands.KLoad thread slot line) thread refl is caused.1.going
+    goes (commands.KLoad thread slot line) (answers.Sigbus entry) is caused = runs-on (commands.KLoad thread slot line) thread refl is caused.going
     goes (commands.KLoad thread slot line) answers.NoFrame is caused = runs-on (commands.KLoad thread slot line) thread refl is caused.going
     goes (commands.Store thread slot line word) (answers.Stored entry) is caused = runs-on (commands.Store thread slot line word) thread refl is caused.1.going
+    goes (commands.Store thread slot line word) (answers.Sigbus entry) is caused = runs-on (commands.Store thread slot line word) thread refl is caused.going
     goes (commands.Store thread slot line word) answers.NoFrame is caused = runs-on (commands.Store thread slot line word) thread refl is caused.going
     goes (commands.Prctl thread args) answer is caused = runs-on (commands.Prctl thread args) thread refl is caused.going
     goes (commands.Free slot) answer is caused = absurd (none-some process is)
@@ -209,6 +224,7 @@ module _ (script : Script) (turns : List Played) (view : View) (said : Said (tol
     goes (commands.Out page) answer is caused = absurd (none-some process is)
     goes (commands.Fsync file) answer is caused = absurd (none-some process is)
     goes (commands.Log status addr misc) answer is caused = absurd (none-some process is)
+    goes (commands.Inject frame) answer is caused = absurd (none-some process is)
     goes command answer is caused = absurd caused
 
     pub goes-shown : (command : Command) (answer : Answer) → command_at script who ≡ Some command → process_at script who ≡ Some process → IsCaused script.layout list view who command answer → GoesOn script.layout turns who process answer

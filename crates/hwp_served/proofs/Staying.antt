@@ -7,7 +7,9 @@ use Rattle.hwp_geom.specs.declared.Thread.{Thread}
 use Rattle.hwp_geom.specs.declared.VSlot.{VSlot}
 use Rattle.hwp_geom.specs.declared.Who.{Who}
 use Rattle.hwp_page.specs.declared.At.{At}
+use Rattle.hwp_page.specs.declared.Outcome.{Outcome}
 use Rattle.hwp_page.specs.declared.PageState.{PageState}
+use Rattle.hwp_page.specs.declared.Situation.{Situation}
 use Rattle.hwp_page.specs.declared.What.{What}
 use Rattle.hwp_page.specs.declared.What.TheVariants as entries
 use Rattle.hwp_page.specs.History.{BodyValue}
@@ -32,7 +34,8 @@ use Rattle.hwp_script.specs.declared.Command.{Command}
 use Rattle.hwp_script.specs.declared.Command.TheVariants as commands
 use Rattle.hwp_report.specs.declared.Answer.{Answer}
 use Rattle.hwp_report.specs.declared.Answer.TheVariants as answers
-use Rattle.hwp_served.specs.Causes.{FoundGone, FoundNoFrame, FoundState, FoundStopped, IsBarred, IsCaused, IsLoadCaused, IsPageCaused, IsReplied, IsStoreCaused, MadeOne, Reached, SawProcess}
+use Rattle.hwp_law.specs.Pairings.{has_page}
+use Rattle.hwp_served.specs.Causes.{FoundGone, FoundNoFrame, FoundState, FoundStopped, HasCome, HasFailed, IsBarred, IsCaused, IsEntered, IsInjectCaused, IsLoadCaused, IsPageCaused, IsReplied, IsStoreCaused, MadeOne, Reached, SawProcess}
 
 -- ---- stops
 
@@ -134,12 +137,14 @@ module _ {layout : Layout} {by : Who} {step : Step} {body : Option BodyValue} {o
 
   load-stays : (thread : Thread) (slot : VSlot) (line : ℕ) (answer : Answer) → IsLoadCaused layout old who thread slot line answer → IsLoadCaused layout new who thread slot line answer
   load-stays thread slot line (answers.Value word at) caused = (caused.0, reached-stays thread slot at _ caused.1)
+  load-stays thread slot line (answers.Sigbus at) caused = reached-stays thread slot at _ caused
   load-stays thread slot line answers.NoFrame caused = no-frame-stays thread slot caused
   load-stays thread slot line (answers.Gone page) caused = gone-stays thread page caused
   load-stays thread slot line _ caused = absurd caused
 
   store-stays : (thread : Thread) (slot : VSlot) (line word : ℕ) (answer : Answer) → IsStoreCaused layout old who thread slot line word answer → IsStoreCaused layout new who thread slot line word answer
   store-stays thread slot line word (answers.Stored at) caused = (caused.0, reached-stays thread slot at _ caused.1)
+  store-stays thread slot line word (answers.Sigbus at) caused = reached-stays thread slot at _ caused
   store-stays thread slot line word answers.NoFrame caused = no-frame-stays thread slot caused
   store-stays thread slot line word (answers.Gone page) caused = gone-stays thread page caused
   store-stays thread slot line word _ caused = absurd caused
@@ -151,6 +156,25 @@ module _ {layout : Layout} {by : Who} {step : Step} {body : Option BodyValue} {o
 
   replied-stays : (list : List Command) (thread : Thread) (given : List ℕ) (answer : Answer) → IsReplied layout list old who thread given answer → IsReplied layout list new who thread given answer
   replied-stays list thread given answer replied = record { going = saw-process-stays thread 0 replied.going; made = made-none-later replied.made; replied = replied.replied }
+
+  -- ---- failures
+
+  entered-stays : (situation : Situation) (page : Bool) → IsEntered old who situation page → IsEntered new who situation page
+  entered-stays situation true made = record { at = made.at; seen = made.seen; signals = made.signals; made = one-stays made.at _ made.made }
+  entered-stays situation false none = made-none-later none
+
+  pub failed-stays : (frame : Frame) (situation : Situation) → HasFailed layout old who frame situation → HasFailed layout new who frame situation
+  failed-stays frame situation failed = record { kernel = failed.kernel; entered = entered-stays situation (has_page situation) failed.entered }
+
+  come-stays : (frame : Frame) (outcome : Outcome) → HasCome layout old who frame outcome → HasCome layout new who frame outcome
+  come-stays frame outcome (situation, is, failed) = (situation, is, failed-stays frame situation failed)
+
+  inject-stays : (frame : Frame) (answer : Answer) → IsInjectCaused layout old who frame answer → IsInjectCaused layout new who frame answer
+  inject-stays frame answers.Recovered come = come-stays frame _ come
+  inject-stays frame answers.Delayed come = come-stays frame _ come
+  inject-stays frame answers.Ignored come = come-stays frame _ come
+  inject-stays frame answers.Already found_ = record { word = found_.word; poisoned = found_.poisoned; saw = saw-stays made found_.saw; made = made-none-later found_.made }
+  inject-stays frame _ caused = absurd caused
 
   -- the cause of another command's answer stays
   pub caused-stays : (list : List Command) (command : Command) (answer : Answer) → IsCaused layout list old who command answer → IsCaused layout list new who command answer
@@ -171,4 +195,5 @@ module _ {layout : Layout} {by : Who} {step : Step} {body : Option BodyValue} {o
   caused-stays list (commands.Prctl thread args) (answers.Gone page) caused = gone-stays thread page caused
   caused-stays list (commands.Prctl thread args) answer caused = replied-stays list thread _ answer caused
   caused-stays list (commands.Log status addr misc) answers.Done caused = made-none-later caused
+  caused-stays list (commands.Inject frame) answer caused = (caused.0, inject-stays frame answer caused.1)
   caused-stays list command answer caused = absurd caused

@@ -1,7 +1,6 @@
 -- The stop record is that of a command which stopped the machine.
 use Rattle.std.proofs.Common.{◌≡◌, ◌⊎◌, ◌≢◌, ℕ, ◌+◌, ◌<◌, not, List, Option, Some, None, IsSome, slice_get, refl, sym, ap, ◌∙◌, subst, arith, inl, inr, true≢false}
 use Rattle.std.proofs.lemmas.Bool.{eq-eqb}
-use Rattle.std.proofs.lemmas.Option.{slice_get_within}
 use Rattle.hwp_geom.specs.declared.Cpu.{Cpu}
 use Rattle.hwp_geom.specs.declared.Who.{Who}
 use Rattle.hwp_words.specs.Stops.{stopper_of}
@@ -14,20 +13,14 @@ use Rattle.hwp_rule.proofs.Lists.{at_map, map-was}
 use Rattle.hwp_step.specs.Boards.{view_of}
 use Rattle.hwp_known.specs.Known.{SawStop}
 use Rattle.hwp_script.specs.declared.Command.{Command}
-use Rattle.hwp_script.specs.declared.Command.TheVariants as commands
 use Rattle.hwp_script.specs.declared.Script.{Script}
 use Rattle.hwp_report.specs.declared.CpuLine.{CpuLine}
 use Rattle.hwp_report.specs.declared.Report.{Report}
 use Rattle.hwp_report.specs.declared.Stop.{Stop}
-use Rattle.hwp_report.specs.declared.StopCause.{StopCause}
-use Rattle.hwp_report.specs.declared.StopCause.TheVariants as causes
-use Rattle.hwp_law.specs.Places.{command_at}
-use Rattle.hwp_law.specs.Stops.{IsCause, StopFits}
 use Rattle.hwp_runs.specs.Ends.{IsStopOn}
 use Rattle.hwp_served.specs.Causes.{FoundStopped}
 use Rattle.hwp_served.specs.Served.{IsOwnStop}
-use Rattle.hwp_served.proofs.Ending.{IsEnd, list-of, own-view, rows-of}
-use Rattle.hwp_served.proofs.Made.{command-is, some-so}
+use Rattle.hwp_served.proofs.Ending.{IsEnd, list-of, own-view, rows-of, served-of}
 
 module _ (script : Script) (seat : Cpu → ℕ) (last : State) (report : Report) (end : IsEnd script seat last report) where
   -- the command that a stop record names
@@ -36,7 +29,7 @@ module _ (script : Script) (seat : Cpu → ℕ) (last : State) (report : Report)
     pub rows : List CpuLine
     pub list_is : slice_get script.lists who.cpu.0 ≡ Some list
     pub rows_is : slice_get report.cpus who.cpu.0 ≡ Some rows
-    pub own : IsOwnStop who.cpu list rows who
+    pub own : IsOwnStop script.layout who.cpu list rows who
 
   pub stopper : (stop : Stop) → report.stop ≡ Some stop → StopBy stop.who
   stopper stop is =
@@ -49,28 +42,9 @@ module _ (script : Script) (seat : Cpu → ℕ) (last : State) (report : Report)
       let same : listed.3.1 ≡ stop.who = listed.3.3 in
       let list = list-of script seat last report end listed.3.1.cpu own.0 in
       let rows = rows-of script seat last report end listed.3.1.cpu own.0 in
-      let served = end.served listed.3.1.cpu list.0 rows.0 list.1 rows.1 in
-      let stopped : IsOwnStop listed.3.1.cpu list.0 rows.0 listed.3.1 = served.stops listed.3.0 listed.3.1 (sym (ap (λ (x : View). slice_get x.stops listed.3.0) own.1) ∙ in_view) in
+      let served = (served-of script seat last report end listed.3.1.cpu list.0 rows.0 list.1 rows.1).1 in
+      let stopped : IsOwnStop script.layout listed.3.1.cpu list.0 rows.0 listed.3.1 = served.stops listed.3.0 listed.3.1 (sym (ap (λ (x : View). slice_get x.stops listed.3.0) own.1) ∙ in_view) in
       subst StopBy same (record { list = list.0; rows = rows.0; list_is = list.1; rows_is = rows.1; own = stopped })
-
-  -- the record's command stopped the machine and was answered so; its cause is that of the command
-  pub stop-fits : ((stop : Stop) → report.stop ≡ Some stop → stop.cause ≡ causes.Shutdown) → StopFits script report.cpus report.stop
-  stop-fits shutdown = record {
-    caused = λ stop is.
-        let by = stopper stop is in
-        record {
-          cause = some-so (λ (command : Command). IsCause command stop.cause) (command_at script stop.who) commands.RaiseNested (command-is script stop.who by.list commands.RaiseNested by.list_is by.own.command)
-              (subst (λ (cause : StopCause). IsCause commands.RaiseNested cause) (sym (shutdown stop is)) tt);
-          rows = by.rows;
-          row = stop.who.seq;
-          of_cpu = by.rows_is;
-          answered = by.own.answered;
-        };
-    stays = λ cpu rows rows_is.
-        let inside : cpu.0 < script.layout.cpus = subst (λ (n : ℕ). cpu.0 < n) end.cpus_fit (slice_get_within report.cpus cpu.0 rows rows_is) in
-        let list = list-of script seat last report end cpu inside in
-        (end.served cpu list.0 rows list.1 rows_is).stays;
-  }
 
   -- where the stop word names a processor, the report has the record
   recorded : (stop : Option Stop) → IsStopOn (words_of script.layout last.words).stop last.views stop → stopper_of (words_of script.layout last.words).stop ≢ 0 → IsSome stop

@@ -21,7 +21,7 @@ use Rattle.hwp_law.proofs.Rows.{same_answer}
 use Rattle.hwp_runs.proofs.Homes.{there-is}
 use Rattle.hwp_runs.proofs.Reported.{before-later, listed-entry, not-below-seen, past-earlier}
 use Rattle.hwp_served.specs.Causes.{IsCaused}
-use Rattle.hwp_served.proofs.Ending.{IsEnd, command-of, list-of}
+use Rattle.hwp_served.proofs.Ending.{IsEnd, command-of, list-of, served-of}
 use Rattle.hwp_served.proofs.Made.{command-is}
 use Rattle.hwp_served.proofs.Seen.{MadeAt, SawAt, names-place, names-state}
 
@@ -38,7 +38,7 @@ module _ (script : Script) (seat : Cpu → ℕ) (last : State) (report : Report)
   line-answers cpu rows i seq answer rows_is line =
       let inside : cpu.0 < script.layout.cpus = subst (λ (n : ℕ). cpu.0 < n) end.cpus_fit (slice_get_within report.cpus cpu.0 rows rows_is) in
       let list = list-of script seat last report end cpu inside in
-      let served = end.served cpu list.0 rows list.1 rows_is in
+      let served = (served-of script seat last report end cpu list.0 rows list.1 rows_is).1 in
       let command = there-is list.0 i (subst (λ (n : ℕ). i < n) served.count (slice_get_within rows i (lines.Answer seq answer) line)) in
       let of = command-of script seat last report end (record { cpu = cpu; seq = i }) list.0 rows command.0 list.1 rows_is command.1 in
       let same_rows : of.rows ≡ rows = same_Some of.rows rows (sym of.rows_is ∙ rows_is) in

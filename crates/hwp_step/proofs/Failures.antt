@@ -1,17 +1,18 @@
--- What a served step leaves of the failures of frames: none begins, and none that was ended opens again.
+-- What a step leaves of the failures of frames: none begins but by a poison, and none that was ended opens again.
 use Rattle.std.proofs.Common.{◌≡◌, ◌≢◌, ℕ, ◌+◌, ◌-◌, ◌*◌, ◌%◌, ◌^◌, ◌<◌, ◌≤◌, ◌==◌, ◌⊎◌, inl, inr, nat_lt, Bool, true, false, cond, List, [], ◌∷◌, ◌++◌, Option, Some, None, map, length, get_or, set, slice_get, slice_index, suc, zero, refl, sym, ap, ◌∙◌, subst, arith, bit_and, bit_or, bit_xor}
 use Rattle.std.specs.Int.{from_bool}
 use Rattle.std.specs.List.{sum_by}
 use Rattle.std.proofs.lemmas.Bool.{both_ways, cases_lt, lt-ltb, le-ltb, eqb-true, eqb-false}
-use Rattle.std.proofs.lemmas.List.{get_or-set_same, get_or-set_other, get_or_past}
+use Rattle.std.proofs.lemmas.List.{get_or-set_same, get_or-set_other, get_or_past, length-set}
 use Rattle.std.proofs.lemmas.List.Sums.{sum_by-cons}
 use Rattle.std.proofs.lemmas.Option.{same_Some, slice_get-get_or}
+use Rattle.hwp_geom.specs.declared.Damage.TheVariants as damages
 use Rattle.hwp_geom.specs.declared.Frame.{Frame}
 use Rattle.hwp_geom.specs.declared.Layout.{Layout}
 use Rattle.hwp_geom.specs.declared.Who.{Who}
 use Rattle.hwp_words.specs.Frames.{lock_of, poison_of, handled_of, cycle_of, is_poisoned, is_kernel, handled_bit}
 use Rattle.hwp_words.proofs.FieldLaws.{field-xor, field-xor_other}
-use Rattle.hwp_words.proofs.FrameSteps.{fields-lock, fields-unlock}
+use Rattle.hwp_words.proofs.FrameSteps.{fields-lock, fields-unlock, fields-poison}
 use Rattle.hwp_rule.specs.declared.FrameLock.{FrameLock}
 use Rattle.hwp_rule.specs.declared.InHand.{InHand}
 use Rattle.hwp_rule.specs.declared.Log.{Log}
@@ -27,7 +28,8 @@ use Rattle.hwp_rule.specs.declared.View.{View}
 use Rattle.hwp_rule.specs.Asks.{AsksOf, CanRetire, HasInHand}
 use Rattle.hwp_rule.specs.Moves.{Move}
 use Rattle.hwp_rule.specs.Rule.{Holds}
-use Rattle.hwp_rule.specs.Served.{IsServed}
+use Rattle.hwp_rule.specs.Logs.{log_of}
+use Rattle.hwp_rule.specs.Served.{IsServed, IsMild}
 use Rattle.hwp_rule.specs.Steps.{place_of, word_after, goes}
 use Rattle.hwp_rule.specs.Views.{view_by, view_after, noted, loaded, taken, listed_of, put_home, body_of, lock_found, lock_of_page}
 use Rattle.hwp_rule.specs.Words.{Words, read, put, index, IsPlace}
@@ -72,42 +74,42 @@ puts-body : (layout : Layout) (who : Who) (content : Option Log) (v : View) → 
 puts-body layout who None v = refl
 puts-body layout who (Some log) v = lists-body layout who log (body_of log.page v) v
 
--- a served step marks no frame
-marks-by : (layout : Layout) (who : Who) (step : Step) (found : ℕ) (content : Option Log) (v : View) → IsServed step → (view_by layout who step found content v).marks ≡ v.marks
-marks-by layout who (steps.Load place) found content v served = loads who place found v
-marks-by layout who (steps.Reserve seen) found content v served = either (found == seen) _ _ v.marks refl refl
-marks-by layout who (steps.TakeBit frame) found content v served = either (goes (steps.TakeBit frame) found) _ _ v.marks refl refl
-marks-by layout who (steps.GiveBit frame) found content v served = refl
-marks-by layout who steps.Unreserve found content v served = refl
-marks-by layout who (steps.Adopt frame) found content v served = refl
-marks-by layout who (steps.GetRef frame seen count) found content v served = either (found == seen) _ _ v.marks refl refl
-marks-by layout who (steps.PutRef frame count) found content v served = refl
-marks-by layout who (steps.LockFrame frame) found content v served = either (goes (steps.LockFrame frame) found) _ _ v.marks (takes-body layout who (Some frame) content (record v { locks = v.locks ++ lock_found frame found ∷ [] })) refl
-marks-by layout who (steps.UnlockFrame frame) found content v served = puts-body layout who content v
-marks-by layout who (steps.Retire frame) found content v served = refl
-marks-by layout who (steps.Revive frame seen) found content v served = absurd served
-marks-by layout who (steps.SetOwner frame page owned) found content v served = refl
-marks-by layout who (steps.LockPage page) found content v served = either (goes (steps.LockPage page) found) _ _ v.marks (takes-body layout who None content (record v { pages = v.pages ++ lock_of_page layout page content (body_of page v) ∷ [] })) refl
-marks-by layout who (steps.UnlockPage page) found content v served = puts-body layout who content v
-marks-by layout who (steps.SetPte slot pte) found content v served = refl
-marks-by layout who (steps.SetCache page frame) found content v served = refl
-marks-by layout who (steps.Poison frame hardware) found content v served = absurd served
-marks-by layout who (steps.CountPoison hardware) found content v served = absurd served
-marks-by layout who steps.Uncount found content v served = absurd served
-marks-by layout who (steps.Spoil frame line damage) found content v served = absurd served
-marks-by layout who (steps.Stop cpu) found content v served = either (found == 0) _ _ v.marks refl refl
-marks-by layout who steps.GiveUp found content v served = refl
-marks-by layout who (steps.Kill process page body) found content v served = absurd served
-marks-by layout who (steps.SetPolicy thread policy settings) found content v served = refl
-marks-by layout who (steps.Lose file body) found content v served = absurd served
-marks-by layout who (steps.ReportLost file) found content v served = refl
+-- a step that neither poisons a frame nor takes its poison back marks none
+pub marks-by : (layout : Layout) (who : Who) (step : Step) (found : ℕ) (content : Option Log) (v : View) → IsMild step → (view_by layout who step found content v).marks ≡ v.marks
+marks-by layout who (steps.Load place) found content v mild = loads who place found v
+marks-by layout who (steps.Reserve seen) found content v mild = either (found == seen) _ _ v.marks refl refl
+marks-by layout who (steps.TakeBit frame) found content v mild = either (goes (steps.TakeBit frame) found) _ _ v.marks refl refl
+marks-by layout who (steps.GiveBit frame) found content v mild = refl
+marks-by layout who steps.Unreserve found content v mild = refl
+marks-by layout who (steps.Adopt frame) found content v mild = refl
+marks-by layout who (steps.GetRef frame seen count) found content v mild = either (found == seen) _ _ v.marks refl refl
+marks-by layout who (steps.PutRef frame count) found content v mild = refl
+marks-by layout who (steps.LockFrame frame) found content v mild = either (goes (steps.LockFrame frame) found) _ _ v.marks (takes-body layout who (Some frame) content (record v { locks = v.locks ++ lock_found frame found ∷ [] })) refl
+marks-by layout who (steps.UnlockFrame frame) found content v mild = puts-body layout who content v
+marks-by layout who (steps.Retire frame) found content v mild = refl
+marks-by layout who (steps.Revive frame seen) found content v mild = absurd mild
+marks-by layout who (steps.SetOwner frame page owned) found content v mild = refl
+marks-by layout who (steps.LockPage page) found content v mild = either (goes (steps.LockPage page) found) _ _ v.marks (takes-body layout who None content (record v { pages = v.pages ++ lock_of_page layout page content (body_of page v) ∷ [] })) refl
+marks-by layout who (steps.UnlockPage page) found content v mild = puts-body layout who content v
+marks-by layout who (steps.SetPte slot pte) found content v mild = refl
+marks-by layout who (steps.SetCache page frame) found content v mild = refl
+marks-by layout who (steps.Poison frame hardware) found content v mild = absurd mild
+marks-by layout who (steps.CountPoison hardware) found content v mild = refl
+marks-by layout who steps.Uncount found content v mild = refl
+marks-by layout who (steps.Spoil frame line damage) found content v mild = refl
+marks-by layout who (steps.Stop cpu) found content v mild = either (found == 0) _ _ v.marks refl refl
+marks-by layout who steps.GiveUp found content v mild = refl
+marks-by layout who (steps.Kill process page body) found content v mild = either (found == 0) _ _ v.marks (lists-body layout who (log_of body.value) (body_of body.value.page v) v) (lists-body layout who (log_of body.value) (body_of body.value.page v) v)
+marks-by layout who (steps.SetPolicy thread policy settings) found content v mild = refl
+marks-by layout who (steps.Lose file body) found content v mild = lists-body layout who (log_of body.value) (body_of body.value.page v) v
+marks-by layout who (steps.ReportLost file) found content v mild = refl
 
 abbrev marks_of : State → List (List Mark)
 marks_of s = map (λ (v : View). v.marks) s.views
 
-marks-kept : (layout : Layout) (seat : ℕ) (r : Rec) (a b : State) → IsServed r.step → Move layout seat r a b → marks_of b ≡ marks_of a
-marks-kept layout seat r a b served m = ap marks_of m.next
-    ∙ keep (λ (v : View). v.marks) (λ (l : List (List Mark)). l ≡ marks_of a) a.views seat m.view (view_after layout r m.view) m.me (marks-by layout r.who r.step r.found r.content (noted r.who m.view) served) refl
+marks-kept : (layout : Layout) (seat : ℕ) (r : Rec) (a b : State) → IsMild r.step → Move layout seat r a b → marks_of b ≡ marks_of a
+marks-kept layout seat r a b mild m = ap marks_of m.next
+    ∙ keep (λ (v : View). v.marks) (λ (l : List (List Mark)). l ≡ marks_of a) a.views seat m.view (view_after layout r m.view) m.me (marks-by layout r.who r.step r.found r.content (noted r.who m.view) mild) refl
 
 -- ---- the cycle and the poison of a frame, by the marks
 
@@ -147,13 +149,16 @@ Fresh (steps.Adopt frame) found = lock_of found ≡ 0
 Fresh (steps.Retire frame) found = handled_of found ≡ 0
 Fresh step found = Unit {0}
 
-set-rises : (l : List ℕ) (i f x : ℕ) → i < length l → handled_of (slice_index l i) ≤ handled_of x → handled_of (slice_index l f) ≤ handled_of (slice_index (set l i x) f)
-set-rises l i f x within le = which (same-or f i)
+-- what holds of a word and the new one, and of each word and itself
+set-each : (P : ℕ → ℕ → Type 0) (l : List ℕ) (i f x : ℕ) → i < length l → P (slice_index l i) x → ((y : ℕ) → P y y) → P (slice_index l f) (slice_index (set l i x) f)
+set-each P l i f x within here same = which (same-or f i)
   where
-    which : (f ≡ i) ⊎ (f ≢ i) → handled_of (slice_index l f) ≤ handled_of (slice_index (set l i x) f)
-    which (inl same) = subst (λ (k : ℕ). handled_of (slice_index l k) ≤ handled_of (slice_index (set l i x) k)) (sym same)
-        (subst (λ (n : ℕ). handled_of (slice_index l i) ≤ handled_of n) (sym (get_or-set_same l i x 0 within)) le)
-    which (inr other) = subst (λ (n : ℕ). handled_of (slice_index l f) ≤ handled_of n) (sym (get_or-set_other l i f x 0 other)) (omega arith)
+    which : (f ≡ i) ⊎ (f ≢ i) → P (slice_index l f) (slice_index (set l i x) f)
+    which (inl is) = subst (λ (k : ℕ). P (slice_index l k) (slice_index (set l i x) k)) (sym is) (subst (P (slice_index l i)) (sym (get_or-set_same l i x 0 within)) here)
+    which (inr other) = subst (P (slice_index l f)) (sym (get_or-set_other l i f x 0 other)) (same (slice_index l f))
+
+set-rises : (l : List ℕ) (i f x : ℕ) → i < length l → handled_of (slice_index l i) ≤ handled_of x → handled_of (slice_index l f) ≤ handled_of (slice_index (set l i x) f)
+set-rises l i f x within le = set-each (λ (y z : ℕ). handled_of y ≤ handled_of z) l i f x within le (λ y. omega arith)
 
 handled-adopted : (w : ℕ) → lock_of w ≡ 0 → handled_of w ≤ handled_of ((w + 17) % 2 ^ 64)
 handled-adopted w free = omega arith
@@ -177,44 +182,61 @@ got-word seen count found = which (found == seen) refl
     which true same = subst (λ (n : ℕ). handled_of found ≤ handled_of ((n + count * 16) % 2 ^ 64)) (eqb-true found seen same) (handled-more found count)
     which false other = omega arith
 
--- no served step clears HANDLED
-rises : (layout : Layout) (step : Step) (w : Words) (f : ℕ) → IsServed step → length w.frames ≡ layout.frames → IsPlace layout (place_of step) → Fresh step (read (place_of step) w)
+-- a step that takes no poison back
+abbrev IsLasting : Step → Type 0
+IsLasting (steps.Revive frame seen) = ⊥
+IsLasting step = Unit {0}
+
+mild-lasts : (step : Step) → IsMild step → IsLasting step
+mild-lasts (steps.Revive frame seen) mild = mild
+mild-lasts step mild = tt
+
+-- no such step clears HANDLED
+rises : (layout : Layout) (step : Step) (w : Words) (f : ℕ) → IsLasting step → length w.frames ≡ layout.frames → IsPlace layout (place_of step) → Fresh step (read (place_of step) w)
     → handled_of (slice_index w.frames f) ≤ handled_of (slice_index (put (place_of step) (word_after step (read (place_of step) w)) w).frames f)
-rises layout (steps.Load of) w f served count place fresh = subst (λ (x : Words). handled_of (slice_index w.frames f) ≤ handled_of (slice_index x.frames f)) (sym (same-put of w)) (omega arith)
-rises layout (steps.Reserve seen) w f served count place fresh = omega arith
-rises layout (steps.TakeBit frame) w f served count place fresh = omega arith
-rises layout (steps.GiveBit frame) w f served count place fresh = omega arith
-rises layout steps.Unreserve w f served count place fresh = omega arith
-rises layout (steps.Adopt frame) w f served count place fresh = set-rises w.frames frame.0 f _ (omega (arith, place, count)) (handled-adopted (slice_index w.frames frame.0) fresh)
-rises layout (steps.GetRef frame seen number) w f served count place fresh = set-rises w.frames frame.0 f _ (omega (arith, place, count)) (got-word seen number (slice_index w.frames frame.0))
-rises layout (steps.PutRef frame number) w f served count place fresh = set-rises w.frames frame.0 f _ (omega (arith, place, count)) (handled-less (slice_index w.frames frame.0) number)
-rises layout (steps.LockFrame frame) w f served count place fresh = set-rises w.frames frame.0 f _ (omega (arith, place, count))
+rises layout (steps.Load of) w f lasts count place fresh = subst (λ (x : Words). handled_of (slice_index w.frames f) ≤ handled_of (slice_index x.frames f)) (sym (same-put of w)) (omega arith)
+rises layout (steps.Reserve seen) w f lasts count place fresh = omega arith
+rises layout (steps.TakeBit frame) w f lasts count place fresh = omega arith
+rises layout (steps.GiveBit frame) w f lasts count place fresh = omega arith
+rises layout steps.Unreserve w f lasts count place fresh = omega arith
+rises layout (steps.Adopt frame) w f lasts count place fresh = set-rises w.frames frame.0 f _ (omega (arith, place, count)) (handled-adopted (slice_index w.frames frame.0) fresh)
+rises layout (steps.GetRef frame seen number) w f lasts count place fresh = set-rises w.frames frame.0 f _ (omega (arith, place, count)) (got-word seen number (slice_index w.frames frame.0))
+rises layout (steps.PutRef frame number) w f lasts count place fresh = set-rises w.frames frame.0 f _ (omega (arith, place, count)) (handled-less (slice_index w.frames frame.0) number)
+rises layout (steps.LockFrame frame) w f lasts count place fresh = set-rises w.frames frame.0 f _ (omega (arith, place, count))
     (let same : handled_of (bit_or (slice_index w.frames frame.0) 1) ≡ handled_of (slice_index w.frames frame.0) = (fields-lock (slice_index w.frames frame.0)).handled in omega (arith, same))
-rises layout (steps.UnlockFrame frame) w f served count place fresh = set-rises w.frames frame.0 f _ (omega (arith, place, count))
+rises layout (steps.UnlockFrame frame) w f lasts count place fresh = set-rises w.frames frame.0 f _ (omega (arith, place, count))
     (let same : handled_of (bit_and (slice_index w.frames frame.0) 18446744073709551614) ≡ handled_of (slice_index w.frames frame.0) = (fields-unlock (slice_index w.frames frame.0)).handled in omega (arith, same))
-rises layout (steps.Retire frame) w f served count place fresh = set-rises w.frames frame.0 f _ (omega (arith, place, count)) (omega (arith, fresh))
-rises layout (steps.Revive frame seen) w f served count place fresh = absurd served
-rises layout (steps.SetOwner frame page owned) w f served count place fresh = set-rises w.frames frame.0 f _ (omega (arith, place, count)) (handled-owned (slice_index w.frames frame.0) (page.0 + 1))
-rises layout (steps.LockPage page) w f served count place fresh = omega arith
-rises layout (steps.UnlockPage page) w f served count place fresh = omega arith
-rises layout (steps.SetPte slot pte) w f served count place fresh = omega arith
-rises layout (steps.SetCache page frame) w f served count place fresh = omega arith
-rises layout (steps.Poison frame hardware) w f served count place fresh = absurd served
-rises layout (steps.CountPoison hardware) w f served count place fresh = absurd served
-rises layout steps.Uncount w f served count place fresh = absurd served
-rises layout (steps.Spoil frame line damage) w f served count place fresh = absurd served
-rises layout (steps.Stop cpu) w f served count place fresh = omega arith
-rises layout steps.GiveUp w f served count place fresh = omega arith
-rises layout (steps.Kill process page body) w f served count place fresh = absurd served
-rises layout (steps.SetPolicy thread policy settings) w f served count place fresh = omega arith
-rises layout (steps.Lose file body) w f served count place fresh = absurd served
-rises layout (steps.ReportLost file) w f served count place fresh = omega arith
+rises layout (steps.Retire frame) w f lasts count place fresh = set-rises w.frames frame.0 f _ (omega (arith, place, count)) (omega (arith, fresh))
+rises layout (steps.Revive frame seen) w f lasts count place fresh = absurd lasts
+rises layout (steps.SetOwner frame page owned) w f lasts count place fresh = set-rises w.frames frame.0 f _ (omega (arith, place, count)) (handled-owned (slice_index w.frames frame.0) (page.0 + 1))
+rises layout (steps.LockPage page) w f lasts count place fresh = omega arith
+rises layout (steps.UnlockPage page) w f lasts count place fresh = omega arith
+rises layout (steps.SetPte slot pte) w f lasts count place fresh = omega arith
+rises layout (steps.SetCache page frame) w f lasts count place fresh = omega arith
+rises layout (steps.Poison frame hardware) w f lasts count place fresh = set-rises w.frames frame.0 f _ (omega (arith, place, count))
+    (let same : handled_of (bit_or (slice_index w.frames frame.0) 2) ≡ handled_of (slice_index w.frames frame.0) = (fields-poison (slice_index w.frames frame.0)).handled in omega (arith, same))
+rises layout (steps.CountPoison hardware) w f lasts count place fresh = omega arith
+rises layout steps.Uncount w f lasts count place fresh = omega arith
+rises layout (steps.Spoil frame line damages.Bad) w f lasts count place fresh = omega arith
+rises layout (steps.Spoil frame line damages.Weak) w f lasts count place fresh = omega arith
+rises layout (steps.Stop cpu) w f lasts count place fresh = omega arith
+rises layout steps.GiveUp w f lasts count place fresh = omega arith
+rises layout (steps.Kill process page body) w f lasts count place fresh = omega arith
+rises layout (steps.SetPolicy thread policy settings) w f lasts count place fresh = omega arith
+rises layout (steps.Lose file body) w f lasts count place fresh = omega arith
+rises layout (steps.ReportLost file) w f lasts count place fresh = omega arith
 
 -- ---- the sum
 
 -- what a word of a frame adds to the failures that are left
 abbrev left_of : ℕ → ℕ
 left_of x = (1 - poison_of x) + (1 - handled_of x)
+
+left-poisoned : (x : ℕ) → left_of (bit_or x 2) ≤ left_of x
+left-poisoned x =
+    let handled : handled_of (bit_or x 2) ≡ handled_of x = (fields-poison x).handled in
+    let poison : poison_of (bit_or x 2) ≡ 1 = (fields-poison x).poison in
+    omega (arith, handled, poison)
 
 -- words of which none adds more add no more in all
 sum-falls : (now was : List ℕ) → length now ≡ length was → ((i : ℕ) → i < length was → left_of (get_or now i 0) ≤ left_of (get_or was i 0)) → sum_by left_of now ≤ sum_by left_of was
@@ -334,8 +356,8 @@ module _ {layout : Layout} {seat : ℕ} {r : Rec} {a b : State} (rule : Holds la
     now-long = (shaped layout b kept).frames
 
     -- of each frame
-    later : IsServed r.step → (f : ℕ) → f < layout.frames → KeepsFailure (slice_index was f) (slice_index now f)
-    later served f inside = record { poison = marks.1; cycle = marks.0; kernel = kernels; handled = handled }
+    later : IsMild r.step → (f : ℕ) → f < layout.frames → KeepsFailure (slice_index was f) (slice_index now f)
+    later mild f inside = record { poison = marks.1; cycle = marks.0; kernel = kernels; handled = handled }
       where
         there : slice_get was f ≡ Some (slice_index was f)
         there = slice_get-get_or was f 0 (omega (arith, inside, was-long))
@@ -345,7 +367,7 @@ module _ {layout : Layout} {seat : ℕ} {r : Rec} {a b : State} (rule : Holds la
 
         marks : (cycle_of (slice_index now f) ≡ cycle_of (slice_index was f)) × (poison_of (slice_index now f) ≡ poison_of (slice_index was f))
         marks = same-cycle was now (marks_of a) (map (λ (v : View). v.sights) a.views) (map (λ (v : View). v.sights) b.views) f (slice_index was f) (slice_index now f) rule.rule.failures.marks
-            (subst (λ (l : List (List Mark)). MarksAlternate now l (map (λ (v : View). v.sights) b.views)) (marks-kept layout seat r a b served move) kept.rule.failures.marks) there here
+            (subst (λ (l : List (List Mark)). MarksAlternate now l (map (λ (v : View). v.sights) b.views)) (marks-kept layout seat r a b mild move) kept.rule.failures.marks) there here
 
         kernel-there : slice_get layout.kernel f ≡ Some (get_or layout.kernel f false)
         kernel-there = slice_get-get_or layout.kernel f false (let count : length layout.kernel ≡ layout.frames = rule.sound.kernel in omega (arith, inside, count))
@@ -356,25 +378,43 @@ module _ {layout : Layout} {seat : ℕ} {r : Rec} {a b : State} (rule : Holds la
         handled : handled_of (slice_index was f) ≤ handled_of (slice_index now f)
         handled = subst (λ (w : Words). handled_of (slice_index was f) ≤ handled_of (slice_index w.frames f)) (sym words-moved)
             (subst (λ (n : ℕ). handled_of (slice_index was f) ≤ handled_of (slice_index (put (place_of r.step) (word_after r.step n) (words_at layout a)).frames f)) read-moved
-            (rises layout r.step (words_at layout a) f served was-long move.asks.place fresh))
+            (rises layout r.step (words_at layout a) f (mild-lasts r.step mild) was-long move.asks.place fresh))
 
-    lowers : IsServed r.step → (f : ℕ) → f < length was → left_of (slice_index now f) ≤ left_of (slice_index was f)
-    lowers served f inside =
-        let on : KeepsFailure (slice_index was f) (slice_index now f) = later served f (omega (arith, inside, was-long)) in
+    -- a poison sets a bit of one word
+    poisoned-words : (frame : Frame) (hardware : Bool) → r.step ≡ steps.Poison frame hardware → (words_at layout b).frames ≡ set was frame.0 (bit_or (slice_index was frame.0) 2)
+    poisoned-words frame hardware is = ap (λ (w : Words). w.frames) words-moved
+        ∙ ap (λ (x : Step). (put (place_of x) (word_after x r.found) (words_at layout a)).frames) is
+        ∙ ap (λ (n : ℕ). set was frame.0 (bit_or n 2)) (sym (ap (λ (x : Step). read (place_of x) (words_at layout a)) (sym is) ∙ read-moved))
+
+    poisoned-inside : (frame : Frame) (hardware : Bool) → r.step ≡ steps.Poison frame hardware → frame.0 < length was
+    poisoned-inside frame hardware is = let inside : frame.0 < layout.frames = subst (λ (x : Step). IsPlace layout (place_of x)) is move.asks.place in omega (arith, inside, was-long)
+
+    lowers-mild : IsMild r.step → (f : ℕ) → f < length was → left_of (slice_index now f) ≤ left_of (slice_index was f)
+    lowers-mild mild f inside =
+        let on : KeepsFailure (slice_index was f) (slice_index now f) = later mild f (omega (arith, inside, was-long)) in
         let poison : poison_of (slice_index now f) ≡ poison_of (slice_index was f) = on.poison in
         let handled : handled_of (slice_index was f) ≤ handled_of (slice_index now f) = on.handled in
         omega (arith, poison, handled)
+
+    lowers : IsServed r.step → (f : ℕ) → f < length was → left_of (slice_index now f) ≤ left_of (slice_index was f)
+    lowers served f inside = which r.step refl
+      where
+        which : (step : Step) → r.step ≡ step → left_of (slice_index now f) ≤ left_of (slice_index was f)
+        which (steps.Poison frame hardware) is = subst (λ (l : List ℕ). left_of (slice_index l f) ≤ left_of (slice_index was f)) (sym (poisoned-words frame hardware is))
+            (set-each (λ (y z : ℕ). left_of z ≤ left_of y) was frame.0 f (bit_or (slice_index was frame.0) 2) (poisoned-inside frame hardware is) (left-poisoned (slice_index was frame.0)) (λ y. omega arith))
+        which (steps.Revive frame seen) is = absurd (subst IsServed is served)
+        which step is = lowers-mild (subst IsMild (sym is) tt) f inside
 
     same-length : length now ≡ length was
     same-length = now-long ∙ sym was-long
 
     -- a failure that isn't ended wasn't before
-    pub pending-moved : IsServed r.step → (frame : Frame) (cycle : ℕ) → Pending (words_at layout b) frame cycle → Pending (words_at layout a) frame cycle
-    pending-moved served frame cycle pending = which (cases_lt frame.0 layout.frames)
+    pub pending-moved : IsMild r.step → (frame : Frame) (cycle : ℕ) → Pending (words_at layout b) frame cycle → Pending (words_at layout a) frame cycle
+    pending-moved mild frame cycle pending = which (cases_lt frame.0 layout.frames)
       where
         which : (frame.0 < layout.frames) ⊎ (layout.frames ≤ frame.0) → Pending (words_at layout a) frame cycle
         which (inl inside) =
-            let on : KeepsFailure (slice_index was frame.0) (slice_index now frame.0) = later served frame.0 inside in
+            let on : KeepsFailure (slice_index was frame.0) (slice_index now frame.0) = later mild frame.0 inside in
             record {
               poisoned = ap (λ (n : ℕ). n == 1) (sym on.poison) ∙ pending.poisoned;
               handled =
@@ -391,18 +431,37 @@ module _ {layout : Layout} {seat : ℕ} {r : Rec} {a b : State} (rule : Holds la
     pub failures-moved : IsServed r.step → failures_left (words_at layout b) ≤ failures_left (words_at layout a)
     failures-moved served = sum-falls now was same-length (λ f inside. lowers served f inside)
 
+    -- a poison that finds none leaves one failure fewer
+    pub poison-lowers : (frame : Frame) (hardware : Bool) → r.step ≡ steps.Poison frame hardware → poison_of r.found ≡ 0 → failures_left (words_at layout b) < failures_left (words_at layout a)
+    poison-lowers frame hardware is sound = subst (λ (l : List ℕ). sum_by left_of l < failures_left (words_at layout a)) (sym (poisoned-words frame hardware is))
+        (sum-less (set was frame.0 word) was frame.0 (length-set was frame.0 word)
+        (λ f within. set-each (λ (y z : ℕ). left_of z ≤ left_of y) was frame.0 f word inside (left-poisoned (slice_index was frame.0)) (λ y. omega arith)) inside
+        (subst (λ (n : ℕ). left_of n < left_of (slice_index was frame.0)) (sym (get_or-set_same was frame.0 word 0 inside))
+        (let handled : handled_of word ≡ handled_of (slice_index was frame.0) = (fields-poison (slice_index was frame.0)).handled in
+        let poison : poison_of word ≡ 1 = (fields-poison (slice_index was frame.0)).poison in
+        omega (arith, handled, poison, before))))
+      where
+        word : ℕ
+        word = bit_or (slice_index was frame.0) 2
+
+        inside : frame.0 < length was
+        inside = poisoned-inside frame hardware is
+
+        before : poison_of (slice_index was frame.0) ≡ 0
+        before = ap poison_of (ap (λ (x : Step). read (place_of x) (words_at layout a)) (sym is) ∙ read-moved) ∙ sound
+
     -- a retire leaves one failure fewer
     pub retire-lowers : (frame : Frame) → r.step ≡ steps.Retire frame → failures_left (words_at layout b) < failures_left (words_at layout a)
-    retire-lowers frame is = sum-less now was frame.0 same-length (λ f within. lowers served f within) (omega (arith, inside, was-long)) less
+    retire-lowers frame is = sum-less now was frame.0 same-length (λ f within. lowers-mild mild f within) (omega (arith, inside, was-long)) less
       where
-        served : IsServed r.step
-        served = subst IsServed (sym is) tt
+        mild : IsMild r.step
+        mild = subst IsMild (sym is) tt
 
         inside : frame.0 < layout.frames
         inside = inside-of frame (inl is)
 
         on : KeepsFailure (slice_index was frame.0) (slice_index now frame.0)
-        on = later served frame.0 inside
+        on = later mild frame.0 inside
 
         word-is : slice_index now frame.0 ≡ bit_xor (slice_index was frame.0) 5
         word-is = ap (λ (w : Words). slice_index w.frames frame.0) words-moved

@@ -1,17 +1,18 @@
 -- What a step of a task on a board says of the words before it and after it.
-use Rattle.std.proofs.Common.{◌≡◌, ◌≢◌, ℕ, ◌<◌, ◌≤◌, ◌⊎◌, inl, inr, true, false, List, [], ◌∷◌, Some, None, slice_get, refl, sym, ap, ◌∙◌, arith}
+use Rattle.std.proofs.Common.{◌≡◌, ◌≢◌, ℕ, ◌<◌, ◌≤◌, ◌⊎◌, inl, inr, Bool, true, false, List, [], ◌∷◌, Some, None, slice_get, refl, sym, ap, ◌∙◌, arith}
 use Rattle.std.proofs.lemmas.Bool.{both_ways}
 use Rattle.std.proofs.lemmas.Option.{get_or_from_slice_get, none-some, same_Some}
 use Rattle.hwp_geom.specs.declared.Frame.{Frame}
 use Rattle.hwp_geom.specs.declared.Layout.{Layout}
 use Rattle.hwp_geom.proofs.WordLaws.{not_nil}
+use Rattle.hwp_words.specs.Frames.{poison_of}
 use Rattle.hwp_rule.specs.declared.State.{State}
 use Rattle.hwp_rule.specs.declared.Step.TheVariants as steps
 use Rattle.hwp_rule.specs.declared.View.{View}
 use Rattle.hwp_rule.specs.Lists.{EachMember}
 use Rattle.hwp_rule.specs.Opening.{opening_view}
 use Rattle.hwp_rule.specs.Rule.{Holds}
-use Rattle.hwp_rule.specs.Served.{IsServed}
+use Rattle.hwp_rule.specs.Served.{IsServed, IsMild}
 use Rattle.hwp_rule.specs.Steps.{place_of, word_after}
 use Rattle.hwp_rule.specs.Views.{view_after}
 use Rattle.hwp_rule.specs.Words.{read, put}
@@ -20,8 +21,8 @@ use Rattle.hwp_rule.proofs.WordsByKind.{same-put}
 use Rattle.hwp_step.specs.declared.turn.Turn.{Turn}
 use Rattle.hwp_step.specs.Boards.{view_of}
 use Rattle.hwp_step.specs.Calls.{Steps, logs, rec_of}
-use Rattle.hwp_step.specs.Ranks.{Member, Made, CostFalls, HasFailed, IsRanked, Pending, PlansServed, Quiet, failure_weight, failures_left, is_waits, top, words_at}
-use Rattle.hwp_step.proofs.Failures.{read-moved, words-moved, pending-moved, failures-moved, retire-lowers}
+use Rattle.hwp_step.specs.Ranks.{Member, Made, CostFalls, HasFailed, IsRanked, Pending, PlansMild, Quiet, failure_weight, failures_left, is_waits, top, words_at}
+use Rattle.hwp_step.proofs.Failures.{read-moved, words-moved, pending-moved, failures-moved, poison-lowers, retire-lowers}
 
 module _ {S : Type 0} {m : Member S} {layout : Layout} {seat : ℕ} {a b : State} {s t : S} {turn : Turn} (made : Made m layout seat a b s t turn) where
   -- what the seat knows
@@ -47,14 +48,17 @@ module _ {S : Type 0} {m : Member S} {layout : Layout} {seat : ℕ} {a b : State
   pub words-kept : word_after made.step made.found ≡ made.found → words_at layout b ≡ words_at layout a
   words-kept left = words-after ∙ ap (λ (x : ℕ). put (place_of made.step) x (words_at layout a)) (left ∙ sym met) ∙ same-put (place_of made.step) (words_at layout a)
 
-  -- a failure that isn't ended after a served step wasn't before it
-  pub pending-kept : IsServed made.step → (frame : Frame) (cycle : ℕ) → Pending (words_at layout b) frame cycle → Pending (words_at layout a) frame cycle
-  pending-kept served = pending-moved made.rule made.move made.kept served
+  -- a failure that isn't ended after a step that poisons nothing wasn't before it
+  pub pending-kept : IsMild made.step → (frame : Frame) (cycle : ℕ) → Pending (words_at layout b) frame cycle → Pending (words_at layout a) frame cycle
+  pending-kept mild = pending-moved made.rule made.move made.kept mild
 
   pub failures-kept : IsServed made.step → failures_left (words_at layout b) ≤ failures_left (words_at layout a)
   failures-kept served = failures-moved made.rule made.move made.kept served
 
-  -- a retire leaves one failure fewer
+  -- a frame that is poisoned, or retired, is one failure fewer
+  pub poison-fails : (frame : Frame) (hardware : Bool) → Some (steps.Poison frame hardware) ≡ Some made.step → poison_of made.found ≡ 0 → failures_left (words_at layout b) < failures_left (words_at layout a)
+  poison-fails frame hardware is sound = poison-lowers made.rule made.move made.kept frame hardware (sym (same_Some (steps.Poison frame hardware) made.step is)) sound
+
   pub retire-fails : (frame : Frame) → Some (steps.Retire frame) ≡ Some made.step → failures_left (words_at layout b) < failures_left (words_at layout a)
   retire-fails frame is = retire-lowers made.rule made.move made.kept frame (sym (same_Some (steps.Retire frame) made.step is))
 
@@ -92,15 +96,15 @@ pub rank-failing : {S : Type 0} (m : Member S) → ((s : S) → m.aborts s ≡ f
     → ((layout : Layout) (a : State) (seat : ℕ) (s : S) → Holds layout a → m.fits layout (view_of a seat) s → m.cost s (words_at layout a) < top)
     → ((layout : Layout) (seat : ℕ) (a b : State) (s t : S) (turn : Turn) → Made m layout seat a b s t turn → is_waits turn ≡ false → CostFalls m layout a b s t ⊎ HasFailed m layout a b s t)
     → ((layout : Layout) (seat : ℕ) (a b : State) (s t : S) (turn : Turn) → Made m layout seat a b s t turn → is_waits turn ≡ true → Quiet (m.class s) layout a seat → CostFalls m layout a b s t)
-    → ((s : S) → m.claims s ≡ None) → PlansServed m → IsRanked m
-rank-failing m none classes small falls waits unclaimed served = record {
+    → ((s : S) → m.claims s ≡ None) → PlansMild m → IsRanked m
+rank-failing m none classes small falls waits unclaimed mild = record {
   classes = classes;
   small = small;
   falls = falls;
   waits = λ layout seat a b s t turn made is quiet. inl (waits layout seat a b s t turn made is quiet);
   leaves = λ layout seat a b s t turn made aborts. absurd (both_ways true (sym aborts ∙ none s) refl);
-  owns = λ layout seat a b s t turn frame cycle made pending. inr (
-    pending-kept made (served layout (view_of a seat) s made.step made.fits made.planned) frame cycle pending,
+  owns = λ layout seat a b s t turn frame cycle made going pending. inr (
+    pending-kept made (mild s made.step made.planned) frame cycle pending,
     λ claimed. none-some (frame, cycle) (sym (unclaimed s) ∙ claimed),
   );
 }
@@ -110,6 +114,6 @@ pub rank-of : {S : Type 0} (m : Member S) → ((s : S) → m.aborts s ≡ false)
     → ((layout : Layout) (a : State) (seat : ℕ) (s : S) → Holds layout a → m.fits layout (view_of a seat) s → m.cost s (words_at layout a) < top)
     → ((layout : Layout) (seat : ℕ) (a b : State) (s t : S) (turn : Turn) → Made m layout seat a b s t turn → is_waits turn ≡ false → CostFalls m layout a b s t)
     → ((layout : Layout) (seat : ℕ) (a b : State) (s t : S) (turn : Turn) → Made m layout seat a b s t turn → is_waits turn ≡ true → Quiet (m.class s) layout a seat → CostFalls m layout a b s t)
-    → ((s : S) → m.claims s ≡ None) → PlansServed m → IsRanked m
-rank-of m none classes small falls waits unclaimed served =
-    rank-failing m none classes small (λ layout seat a b s t turn made goes. inl (falls layout seat a b s t turn made goes)) waits unclaimed served
+    → ((s : S) → m.claims s ≡ None) → PlansMild m → IsRanked m
+rank-of m none classes small falls waits unclaimed mild =
+    rank-failing m none classes small (λ layout seat a b s t turn made goes. inl (falls layout seat a b s t turn made goes)) waits unclaimed mild

@@ -10,13 +10,12 @@ use Rattle.hwp_rule.specs.declared.Rec.{Rec}
 use Rattle.hwp_rule.specs.declared.Step.{Step}
 use Rattle.hwp_rule.specs.declared.Step.TheVariants as steps
 use Rattle.hwp_rule.specs.declared.View.{View}
-use Rattle.hwp_rule.specs.Asks.{Asks, IsTurnOf}
+use Rattle.hwp_rule.specs.Asks.{Asks, BeginsBare, IsTurnOf}
 use Rattle.hwp_rule.specs.Lists.{EachMember}
 use Rattle.hwp_rule.specs.Logs.{log_of}
 use Rattle.hwp_rule.specs.Moves.{Told}
 use Rattle.hwp_rule.specs.Served.{IsServed}
 use Rattle.hwp_rule.specs.Slots.{takes}
-use Rattle.hwp_rule.specs.Unfailed.{BringsNoFailure}
 
 -- the histories of bodies
 abbrev pub logs : Option BodyValue → Option Log
@@ -34,6 +33,7 @@ IsLater view who seq = EachMember (λ (p : Part). p.cpu ≡ who.cpu → p.latest
 -- the processor may make steps of its command
 pub record IsOnTurn (view : View) (who : Who) : Type 0 where
   pub turn : IsTurnOf view who
+  pub begins : BeginsBare view who
   pub later : IsLater view who who.seq
 
 -- a body is of the machine's layout
@@ -46,11 +46,10 @@ GoesHome (steps.UnlockFrame frame) put = Unit {0}
 GoesHome (steps.UnlockPage page) put = Unit {0}
 GoesHome step put = put ≡ None
 
--- the processor can make the step of its command, with this body for the slot whose lock it frees; until memory failure is
+-- the processor can make the step of its command, with this body for the slot whose lock it frees; until machine checks are
 -- served, no step of one
 pub record CanMake (layout : Layout) (who : Who) (step : Step) (put : Option BodyValue) (view : View) : Type 0 where
   pub served : IsServed step
-  pub sound : BringsNoFailure step (logs put) view
   pub later : IsLater view who who.seq
   pub asks : Asks layout who step (logs put) view
   pub layout_is : FitsLayout layout put

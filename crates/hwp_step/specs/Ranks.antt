@@ -11,7 +11,7 @@ use Rattle.hwp_rule.specs.declared.Step.{Step}
 use Rattle.hwp_rule.specs.declared.View.{View}
 use Rattle.hwp_rule.specs.Moves.{Move}
 use Rattle.hwp_rule.specs.Rule.{Holds}
-use Rattle.hwp_rule.specs.Served.{IsServed}
+use Rattle.hwp_rule.specs.Served.{IsServed, IsMild}
 use Rattle.hwp_rule.specs.Words.{Words, words_of}
 use Rattle.hwp_step.specs.declared.turn.Turn.{Turn}
 use Rattle.hwp_step.specs.declared.turn.Turn.TheVariants as turns
@@ -22,6 +22,11 @@ use Rattle.hwp_step.specs.Calls.{Brings, logs, rec_of}
 abbrev pub is_waits : Turn → Bool
 is_waits (turns.Waits word) = true
 is_waits turn = false
+
+-- memory is refused
+abbrev pub is_refused : Turn → Bool
+is_refused turns.NoMemory = true
+is_refused turn = false
 
 -- more than all costs
 abbrev pub top : ℕ
@@ -125,9 +130,13 @@ CostFalls m layout a b before after = m.cost after (words_at layout b) < m.cost 
 abbrev pub PlansServed : {S : Type 0} → Member S → Type 0
 PlansServed {S} m = (layout : Layout) (view : View) (s : S) (step : Step) → m.fits layout view s → m.plan s ≡ Some step → IsServed step
 
+-- what a task plans neither poisons a frame nor takes its poison back
+abbrev pub PlansMild : {S : Type 0} → Member S → Type 0
+PlansMild {S} m = (s : S) (step : Step) → m.plan s ≡ Some step → IsMild step
+
 -- The law of the rank. A class is 1 to 4, and costs are small. A turn that doesn't wait lowers the cost, or leaves fewer
 -- frames to fail; one that waits lowers it, where the others hold nothing that it can wait for, or else it gives up what it has begun because another has the frame
--- in hand. Whoever gives up leaves class 1. A failure that isn't ended stays the claim of a task.
+-- in hand. Whoever gives up leaves class 1. A failure that isn't ended stays the claim of a task, as long as memory isn't refused, with which the run ends.
 pub record IsRanked {S : Type 0} (m : Member S) : Type 0 where
   pub classes : (s : S) → (1 ≤ m.class s) × (m.class s ≤ 4)
   pub small : (layout : Layout) (a : State) (seat : ℕ) (s : S) → Holds layout a → m.fits layout (view_of a seat) s → m.cost s (words_at layout a) < top
@@ -135,5 +144,5 @@ pub record IsRanked {S : Type 0} (m : Member S) : Type 0 where
   pub waits : (layout : Layout) (seat : ℕ) (a b : State) (s t : S) (turn : Turn) → Made m layout seat a b s t turn → is_waits turn ≡ true → Quiet (m.class s) layout a seat
       → CostFalls m layout a b s t ⊎ ((m.aborts t ≡ true) × OtherHand a seat)
   pub leaves : (layout : Layout) (seat : ℕ) (a b : State) (s t : S) (turn : Turn) → Made m layout seat a b s t turn → m.aborts s ≡ true → (m.plan t ≡ None) ⊎ (1 < m.class t)
-  pub owns : (layout : Layout) (seat : ℕ) (a b : State) (s t : S) (turn : Turn) (frame : Frame) (cycle : ℕ) → Made m layout seat a b s t turn → Pending (words_at layout b) frame cycle
+  pub owns : (layout : Layout) (seat : ℕ) (a b : State) (s t : S) (turn : Turn) (frame : Frame) (cycle : ℕ) → Made m layout seat a b s t turn → is_refused turn ≡ false → Pending (words_at layout b) frame cycle
       → (m.claims t ≡ Some (frame, cycle)) ⊎ (Pending (words_at layout a) frame cycle × (m.claims s ≢ Some (frame, cycle)))

@@ -9,7 +9,6 @@ use Rattle.hwp_script.specs.declared.Why.TheVariants as whys
 use Rattle.hwp_script.specs.Reads.{Reads, IsRefused}
 use Rattle.hwp_report.specs.declared.Report.{Report}
 use Rattle.hwp_law.specs.Law.{IsLawful}
-use Rattle.hwp_law.specs.Report.{IsReport}
 use Rattle.hwp_law.specs.Runs.{IsOfRun}
 use Rattle.hwp_core.specs.Runs.{AreSupported, IsCoreRun}
 
@@ -38,7 +37,6 @@ pub record Takes (left left' : Option (List ℕ)) (script : Script) : Type 0 whe
 
 -- the report is one of the script, and of a run of its processors on the written schedule
 pub record IsReportOfRun (script : Script) (report : Report) : Type 0 where
-  pub law : IsReport script report
   pub run : IsOfRun script report
   pub lawful : IsLawful script report
   pub core : IsCoreRun script report

@@ -4,6 +4,7 @@
 
 #[cfg(test)]
 mod calls;
+mod checking;
 #[cfg(test)]
 #[cfg(test)]
 mod helpers;

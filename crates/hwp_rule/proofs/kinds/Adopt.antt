@@ -203,6 +203,7 @@ module _ (layout : Layout) (w : Words) (homes : Homes) (views : List View) (seat
         | inr held ↦ inr (some-set (HoldsBoth g q) (map (λ (v : View). (v.locks, v.pages)) views) seat (v.locks, v.pages) (u.locks, v.pages) (at_map (λ (v : View). (v.locks, v.pages)) views seat v me)
             (both-push g q v.locks v.pages (lock_found frame word)) held)
       ];
+      within = still.within;
     }
       where
         still : CacheWordsOwned frames w.caches (map (λ (v : View). (v.locks, v.pages)) views)

@@ -1,10 +1,11 @@
 -- A cache word that is written keeps the frame rule.
 use Rattle.std.proofs.Common.{◌≡◌, ◌⊎◌, ℕ, ◌+◌, ◌^◌, ◌<◌, ◌≤◌, ◌==◌, ne_eqb, Bool, not, List, Option, Some, None, is_some, map, set, length, slice_get, slice_index, inl, inr, refl, sym, ap, ◌∙◌, subst, arith}
 use Rattle.std.specs.Int.{from_bool}
+use Rattle.std.proofs.lemmas.List.{length-set}
 use Rattle.std.proofs.lemmas.Option.{same_Some, slice_get_within}
 use Rattle.hwp_geom.specs.declared.Frame.{Frame}
 use Rattle.hwp_geom.specs.declared.Page.{Page}
-use Rattle.hwp_words.specs.Frames.{lock_of}
+use Rattle.hwp_words.specs.Frames.{lock_of, owner_of}
 use Rattle.hwp_words.specs.Names.{frame_name}
 use Rattle.hwp_rule.specs.declared.view.FrameLock.{FrameLock}
 use Rattle.hwp_rule.specs.declared.view.PageLock.{PageLock}
@@ -129,6 +130,7 @@ keeps-set_cache page frame layout w homes views seat v who content given =
         ]
         | inr some ↦ inr some
       ];
+      within = λ f x at. subst (λ (n : ℕ). owner_of x ≤ n) (sym (length-set w.caches page.0 (frame_name frame))) (h.pages.caches.within f x at);
     }
 
     -- the page is locked, so its shelf is out

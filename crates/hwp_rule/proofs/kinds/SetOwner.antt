@@ -24,7 +24,7 @@ use Rattle.hwp_rule.specs.parts.Locks.{IsLocked}
 use Rattle.hwp_rule.specs.parts.Owners.{TranslationsOwned, CacheWordsOwned, NamesOwn, HoldsBoth}
 use Rattle.hwp_rule.proofs.Keeps.{Keeps}
 use Rattle.hwp_rule.proofs.KnownByLocks.{lock-listed, page-listed}
-use Rattle.hwp_rule.proofs.Lists.{at_map, at_set, same-or, set_here, set_else, each-weaken, some-set}
+use Rattle.hwp_rule.proofs.Lists.{at_changed, at_map, at_set, same-or, set_here, set_else, each-weaken, some-set}
 use Rattle.hwp_rule.proofs.WordsByKind.{word-there}
 use Rattle.hwp_rule.proofs.steps.OwnerSteps.{owning, same-locks, kept-owning}
 use Rattle.hwp_rule.specs.declared.step.Step.TheVariants as steps
@@ -87,8 +87,8 @@ module _ (layout : Layout) (w : Words) (homes : Homes) (views : List View) (seat
   }
 
   caches-owning : ((q x : ℕ) → slice_get w.caches q ≡ Some x → owner_of word ≡ q + 1 → x ≡ frame.0 + 1 → ⊥) → ((q : ℕ) → owner_of now ≡ q + 1 → HoldsBoth frame.0 q (u.locks, v.pages))
-      → CacheWordsOwned frames w.caches (set both seat (u.locks, v.pages))
-  caches-owning never holds = record {
+      → owner_of now ≤ length w.caches → CacheWordsOwned frames w.caches (set both seat (u.locks, v.pages))
+  caches-owning never holds inside = record {
     owned = λ q x at. elim (h.pages.caches.owned q x at) [ inl none ↦ inl none | inr names ↦ inr (names-other q x (never q x at) names) ];
     named = λ g x q at owner. elim (at_set w.frames frame.0 g now x at) [
       | inl t ↦ inr (
@@ -103,6 +103,7 @@ module _ (layout : Layout) (w : Words) (homes : Homes) (views : List View) (seat
             (λ x. record { frame = subst (λ (n : ℕ). 0 < n) (sym (same-locks layout w homes views seat v frame word now b g)) x.frame; page = x.page }) some)
       ]
     ];
+    within = at_changed (λ g x. owner_of x ≤ length w.caches) w.frames frame.0 now inside (λ g x differs at. h.pages.caches.within g x at);
   }
     where
       here : slice_get both seat ≡ Some (v.locks, v.pages)
@@ -129,7 +130,8 @@ pub keeps-owned : (frame : Frame) (page : Page) → Keeps (steps.SetOwner frame 
 keeps-owned frame page layout w homes views seat v who content given =
     kept-owning layout w homes views seat v frame word now (page.0 + 1) me h there are (lock-listed v frame can.has) unhandled
     (translations-owning layout w homes views seat v frame page word now (page.0 + 1) me h there (λ s x t at declared owner names. no-owner t.page.0 owner))
-    (caches-owning layout w homes views seat v frame page word now (page.0 + 1) me h there (λ q x at owner names. no-owner q owner) holds)
+    (caches-owning layout w homes views seat v frame page word now (page.0 + 1) me h there (λ q x at owner names. no-owner q owner) holds
+    (let page_is : page.0 < length layout.pages = given.asks.0 in let shaped : length w.caches ≡ length layout.pages = given.shaped.caches in omega (arith, page_is, shaped, are.owner)))
     (holding-owning layout w homes views seat v frame page word now (page.0 + 1) me h there (λ q owner. absurd (no-owner q owner)))
   where
     word : ℕ
@@ -181,7 +183,7 @@ pub keeps-disowned : (frame : Frame) (page : Page) → Keeps (steps.SetOwner fra
 keeps-disowned frame page layout w homes views seat v who content given =
     kept-owning layout w homes views seat v frame word now 0 me h there are (lock-listed v frame can.has) unhandled
     (translations-owning layout w homes views seat v frame page word now 0 me h there unmapped)
-    (caches-owning layout w homes views seat v frame page word now 0 me h there uncached (λ q owner. absurd (omega (arith, owner, are.owner))))
+    (caches-owning layout w homes views seat v frame page word now 0 me h there uncached (λ q owner. absurd (omega (arith, owner, are.owner))) (omega (arith, are.owner)))
     (holding-owning layout w homes views seat v frame page word now 0 me h there
     (λ q owner. subst (λ (n : ℕ). 0 < page_locks_on n v.pages) (the-page q owner) (page-listed v page can.page_held.lock)))
   where

@@ -94,7 +94,7 @@ module _ (layout : Layout) (w : Words) (homes : Homes) (views : List View) (seat
 
     caches-locking : CacheWordsOwned frames w.caches (set (map (λ (v : View). (v.locks, v.pages)) views) seat (locks, pages))
     caches-locking = record {
-      owned = (like-caches w.frames f word now there x.like w.caches (map (λ (v : View). (v.locks, v.pages)) views) h.pages.caches).owned;
+      owned = still.owned;
       named = λ g z q at owner.
           let was : (a : ℕ) × (slice_get w.frames g ≡ Some a) × IsLike a z = word-was w.frames f word now there x.like g z at in
           let owned : owner_of was.0 ≡ q + 1 = sym was.2.owner ∙ owner in
@@ -115,8 +115,12 @@ module _ (layout : Layout) (w : Words) (homes : Homes) (views : List View) (seat
               | inr differs ↦ inr (both.0, both.1, set_else (map (λ (v : View). (v.locks, v.pages)) views) seat both.0 (locks, pages) differs ∙ both.2, both.3)
             ]
           ];
+      within = still.within;
     }
       where
+        still : CacheWordsOwned frames w.caches (map (λ (v : View). (v.locks, v.pages)) views)
+        still = like-caches w.frames f word now there x.like w.caches (map (λ (v : View). (v.locks, v.pages)) views) h.pages.caches
+
         my_locks : slice_get {X = List FrameLock × List PageLock} (map (λ (v : View). (v.locks, v.pages)) views) seat ≡ Some (v.locks, v.pages)
         my_locks = at_map (λ (v : View). (v.locks, v.pages)) views seat v me
 

@@ -66,6 +66,7 @@ module _ (layout : Layout) (w : Words) (homes : Homes) (views : List View) (seat
       | inr some ↦ inr (some-set (HoldsBoth f q) both seat (v.locks, v.pages) (v.locks, listing.pages) (at_map (λ (v : View). (v.locks, v.pages)) views seat v me)
           (λ holds. record { frame = holds.frame; page = subst (λ (n : ℕ). 0 < n) (sym (same-locks test to same v.pages q)) holds.page }) some)
     ];
+    within = h.pages.caches.within;
   }
 
   still-holding : (b : InHand) → IsHolding b (holder_of v) → IsHolding b (holder_of listing)

@@ -87,6 +87,7 @@ module _ (layout : Layout) (w : Words) (homes : Homes) (views : List View) (seat
           | inr differs ↦ inr (both.0, both.1, set_else (map (λ (v : View). (v.locks, v.pages)) views) seat both.0 (v.locks, pages) differs ∙ both.2, both.3)
         ]
       ];
+      within = h.pages.caches.within;
     }
       where
         my_locks : slice_get {X = List FrameLock × List PageLock} (map (λ (v : View). (v.locks, v.pages)) views) seat ≡ Some (v.locks, v.pages)

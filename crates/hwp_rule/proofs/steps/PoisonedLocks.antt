@@ -79,6 +79,7 @@ module _ (layout : Layout) (w : Words) (homes : Homes) (views : List View) (seat
       | inr some ↦ inr (some-set (HoldsBoth g q) both seat (v.locks, v.pages) (u.locks, v.pages) my-both
           (λ x. record { frame = subst (λ (n : ℕ). 0 < n) (sym (same-locks g)) x.frame; page = x.page }) some)
     ];
+    within = h.pages.caches.within;
   }
 
   bodies-listed : BodiesAtHome layout w.frames w.caches w.pages homes (set (map holder_of views) seat (holder_of u))

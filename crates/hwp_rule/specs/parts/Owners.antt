@@ -1,5 +1,5 @@
 -- Which page a frame belongs to.
-use Rattle.std.specs.Prelude.{◌≡◌, ◌⊎◌, ℕ, ◌+◌, ◌<◌, List, Some, slice_get}
+use Rattle.std.specs.Prelude.{◌≡◌, ◌⊎◌, ℕ, ◌+◌, ◌<◌, ◌≤◌, List, Some, length, slice_get}
 use Rattle.hwp_geom.specs.declared.TransDecl.{TransDecl}
 use Rattle.hwp_words.specs.declared.Pte.TheVariants as ptes
 use Rattle.hwp_words.specs.Frames.{owner_of}
@@ -28,8 +28,10 @@ pub record HoldsBoth (f q : ℕ) (locks : List FrameLock × List PageLock) : Typ
   pub page : 0 < page_locks_on q locks.1
 
 -- A cache word is 0 or names a frame that its page owns. A frame that a page owns is named by the page's cache word,
--- unless one view holds both the frame's lock and the page's. Broken by: a frame unlocked with an owner whose cache word
--- names another; a cache word cleared and the page unlocked before the owner is cleared.
+-- unless one view holds both the frame's lock and the page's. A frame's owner is a page of the layout, or none. Broken by:
+-- a frame unlocked with an owner whose cache word names another; a cache word cleared and the page unlocked before the
+-- owner is cleared; an owner that is no page of the layout.
 pub record CacheWordsOwned (frames caches : List ℕ) (locks : List (List FrameLock × List PageLock)) : Type 0 where
   pub owned : (q w : ℕ) → slice_get caches q ≡ Some w → (w ≡ 0) ⊎ NamesOwn frames q w
   pub named : (f w q : ℕ) → slice_get frames f ≡ Some w → owner_of w ≡ q + 1 → (slice_get caches q ≡ Some (f + 1)) ⊎ SomeMember (HoldsBoth f q) locks
+  pub within : (f w : ℕ) → slice_get frames f ≡ Some w → owner_of w ≤ length caches

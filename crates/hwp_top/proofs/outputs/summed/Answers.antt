@@ -10,7 +10,7 @@ returns-clause-output c =
     let same : c.in_ok-script.script ≡ generated c.args.seed = c.in_ok-script.ensures.script in
     record {
       built = subst (λ (s : Script). IsBuilt s) same c.in_ok-script.ensures.built;
-      report_of = subst (λ (s : Script). IsReportOfRun s c.in-Ok.report) same (record { law = c.in-Ok.ensures.law; run = c.in-Ok.ensures.of_run; lawful = c.in-Ok.ensures.lawful; core = c.in-Ok.ensures.core });
+      report_of = subst (λ (s : Script). IsReportOfRun s c.in-Ok.report) same (record { run = c.in-Ok.ensures.of_run; lawful = c.in-Ok.ensures.lawful; core = c.in-Ok.ensures.core });
       status_is = refl;
       text_is = c.in-Ok-print.ensures ∙ ap (summary_text c.args.seed) c.summary.ensures;
     }

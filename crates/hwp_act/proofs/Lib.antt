@@ -1,0 +1,12 @@
+pub mod AbandonSteps
+pub mod ActCosts
+pub mod Acting
+pub mod Entering
+pub mod FailureEntry
+pub mod PolicyWords
+pub mod Abandons
+pub mod Abandoning
+pub mod Endings
+pub mod Reading
+pub mod Snapshots
+pub mod Starting

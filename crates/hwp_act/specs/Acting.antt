@@ -1,0 +1,94 @@
+-- What is held and known while a memory failure acts on the page in its frame.
+use Rattle.std.specs.Prelude.{◌≡◌, ℕ, ◌+◌, ◌<◌, ◌≤◌, true, false, [], ◌∷◌, Option, Some, None, is_none, length, drop}
+use Rattle.hwp_geom.specs.declared.Frame.{Frame}
+use Rattle.hwp_geom.specs.declared.Layout.{Layout}
+use Rattle.hwp_geom.specs.declared.Page.{Page}
+use Rattle.hwp_geom.specs.declared.Who.{Who}
+use Rattle.hwp_page.specs.History.{BodyValue, IsReplay}
+use Rattle.hwp_rule.specs.declared.Log.{Log}
+use Rattle.hwp_rule.specs.declared.View.{View}
+use Rattle.hwp_rule.specs.Logs.{state_of}
+use Rattle.hwp_rule.specs.parts.Entries.{HasSeen}
+use Rattle.hwp_step.specs.Calls.{IsOnTurn}
+use Rattle.hwp_step.specs.Hands.{hand_of, empty, body_in}
+use Rattle.hwp_known.specs.Known.{HasMadeNone}
+use Rattle.hwp_hold.specs.declared.give_up.GiveUp.{GiveUp}
+use Rattle.hwp_hold.specs.GiveUps as give_ups
+use Rattle.hwp_evict.specs.declared.clear.Clear.{Clear}
+use Rattle.hwp_evict.specs.Clears as clears
+use Rattle.hwp_act.specs.declared.abandon.Abandon.{Abandon}
+use Rattle.hwp_act.specs.declared.abandon.Failed.{Failed}
+use Rattle.hwp_act.specs.declared.abandon.Losses.{Losses}
+use Rattle.hwp_act.specs.declared.act.Act.{Act}
+use Rattle.hwp_act.specs.declared.act.ActAt.{ActAt}
+use Rattle.hwp_act.specs.declared.act.ActAt.TheVariants as at
+use Rattle.hwp_act.specs.declared.read_policies.ReadPolicies.{ReadPolicies}
+use Rattle.hwp_act.specs.Abandoned as abandoned
+use Rattle.hwp_act.specs.Abandoned.{CanLoseOne, Failure, HasFailed, HasFailure, what_of}
+use Rattle.hwp_act.specs.Abandons as abandons
+use Rattle.hwp_act.specs.Acts.{IsReady}
+use Rattle.hwp_act.specs.Failing.{bars_of}
+use Rattle.hwp_act.specs.Reads as reads
+
+-- the command has made no entry and owes no loss, and the view poisoned more frames than losses that it made
+pub record IsClean (view : View) (who : Who) : Type 0 where
+  pub none : HasMadeNone view who
+  pub paid : view.owed.losses ≡ []
+  pub spare : CanLoseOne view
+
+-- policies are being read
+pub record IsReading (layout : Layout) (view : View) (who : Who) (page : Page) (frame : Frame) (r : ReadPolicies) : Type 0 where
+  pub read : reads.Fits layout view r
+  pub own : r.who ≡ who
+  pub page_is : r.body.page ≡ page
+  pub frame_is : r.frame ≡ frame
+  pub under_way : is_none r.next ≡ false
+  pub ready : IsReady r.body
+  pub clean : IsClean view who
+
+-- the body has the entry of the failure, and the translations are being written
+pub record IsClearing (layout : Layout) (view : View) (who : Who) (page : Page) (frame : Frame) (c : Clear) (losses : Losses) (failed : Failed) (body : BodyValue) : Type 0 where
+  pub clear : clears.Fits layout view c
+  pub own : c.who ≡ who
+  pub page_is : c.page ≡ page
+  pub frame_is : c.frame ≡ frame
+  pub log : Log
+  pub seen : ℕ
+  pub f : Failure
+  pub bodies_are : view.bodies ≡ body_in (Some frame) log seen ∷ []
+  pub locks_are : view.locks ≡ record { frame = frame; owner = page.0 + 1; handled = false; poisoned = true } ∷ []
+  pub entry : HasFailure layout who page log f losses failed body
+  pub replay : IsReplay layout page log.entries (state_of layout log)
+  pub barred_is : c.barred ≡ bars_of f.situation
+  pub few : seen ≤ length view.sights
+  pub saw : HasSeen (drop seen view.sights) who (Some frame) (what_of f)
+  pub clean : IsClean view who
+
+pub record IsAbandoning (layout : Layout) (view : View) (who : Who) (page : Page) (a : Abandon) : Type 0 where
+  pub abandon : abandoned.Fits layout view a
+  pub own : a.who ≡ who
+  pub page_is : a.page ≡ page
+  pub under_way : is_none (abandons.plan a) ≡ false
+
+pub record IsGivingUp (layout : Layout) (view : View) (who : Who) (g : GiveUp) : Type 0 where
+  pub give_up : give_ups.Fits layout view g
+  pub own : g.who ≡ who
+  pub under_way : is_none (give_ups.plan g) ≡ false
+
+-- the one entry that the command made, where it didn't give up
+abbrev pub FitsOver : View → Who → Page → Option Failed → Type 0
+FitsOver view who page None = hand_of view ≡ empty
+FitsOver view who page (Some failed) = (hand_of view ≡ empty) × (view.owed.losses ≡ []) × (failed.at.page ≡ page) × HasFailed view who failed
+
+abbrev pub FitsAt : Layout → View → Who → Page → Frame → ActAt → Type 0
+FitsAt layout view who page frame (at.Read r) = IsReading layout view who page frame r
+FitsAt layout view who page frame (at.Clear c losses failed body) = IsClearing layout view who page frame c losses failed body × (is_none c.next ≡ false)
+FitsAt layout view who page frame (at.Abandon a) = IsAbandoning layout view who page a
+FitsAt layout view who page frame (at.GiveUp g) = IsGivingUp layout view who g
+FitsAt layout view who page frame (at.Over failed) = FitsOver view who page failed
+
+pub record Fits (layout : Layout) (view : View) (a : Act) : Type 0 where
+  pub on_turn : IsOnTurn view a.who
+  pub page : a.page.0 < length layout.pages
+  pub frame : a.frame.0 < layout.frames
+  pub at : FitsAt layout view a.who a.page a.frame a.at

@@ -1,0 +1,345 @@
+-- The failure that a `Claim` begins is claimed until it is ended; and the rank of the task.
+use Rattle.std.proofs.Common.{◌≡◌, ◌≢◌, ◌⊎◌, inl, inr, ℕ, ◌+◌, ◌*◌, ◌/◌, ◌%◌, ◌^◌, ◌<◌, ◌≤◌, ◌==◌, ◌&&◌, ◌||◌, Bool, true, false, not, cond, List, [], ◌∷◌, Option, Some, None, is_none, get_or, set, slice_get, slice_index, refl, sym, ap, ◌∙◌, subst, arith, bit_or, bit_xor}
+use Rattle.std.proofs.lemmas.Bool.{both_ways, eqb-false}
+use Rattle.std.proofs.lemmas.List.{get_or-set_other}
+use Rattle.std.proofs.lemmas.Option.{none-some, same_Some}
+use Rattle.hwp_geom.specs.declared.Frame.{Frame}
+use Rattle.hwp_geom.specs.declared.Layout.{Layout}
+use Rattle.hwp_geom.specs.declared.Page.{Page}
+use Rattle.hwp_page.specs.History.{BodyValue}
+use Rattle.hwp_words.specs.Frames.{count_of, cycle_of, handled_bit, handled_of, is_handled, is_kernel, is_poisoned}
+use Rattle.hwp_words.proofs.FieldLaws.{field-xor}
+use Rattle.hwp_words.proofs.FrameSteps.{FieldsAre, fields-poison}
+use Rattle.hwp_rule.specs.declared.FrameLock.{FrameLock}
+use Rattle.hwp_rule.specs.declared.Place.TheVariants as places
+use Rattle.hwp_rule.specs.declared.State.{State}
+use Rattle.hwp_rule.specs.declared.Step.{Step}
+use Rattle.hwp_rule.specs.declared.Step.TheVariants as steps
+use Rattle.hwp_rule.specs.declared.View.{View}
+use Rattle.hwp_rule.specs.Served.{IsMild}
+use Rattle.hwp_rule.specs.Steps.{place_of, word_after}
+use Rattle.hwp_rule.specs.Words.{Words, index, put as put_word, read}
+use Rattle.hwp_rule.specs.parts.Locks.{IsLocked}
+use Rattle.hwp_rule.proofs.Lists.{at_map, same-number, same-or}
+use Rattle.hwp_rule.proofs.Meeting.{frame-word}
+use Rattle.hwp_step.specs.declared.Turn.{Turn}
+use Rattle.hwp_step.specs.Boards.{view_of}
+use Rattle.hwp_step.specs.Hands.{Hand, hand_of}
+use Rattle.hwp_step.specs.Ranks.{Made, IsRanked, Pending, words_at}
+use Rattle.hwp_step.proofs.Ranking.{failed, me, pending-kept, words-after}
+use Rattle.hwp_hold.specs.declared.release.Release.{Release}
+use Rattle.hwp_hold.specs.declared.release.ReleaseAt.{ReleaseAt}
+use Rattle.hwp_hold.specs.declared.release.ReleaseAt.TheVariants as release_at
+use Rattle.hwp_hold.specs.Holds.{is_free}
+use Rattle.hwp_hold.specs.Releases as releases
+use Rattle.hwp_hold.specs.Unlocks.{empty_frame}
+use Rattle.hwp_hold.specs.Unlocks as unlocks
+use Rattle.hwp_hold.proofs.Unlocking as unlocking
+use Rattle.hwp_claim.specs.declared.claim.Claim.{Claim}
+use Rattle.hwp_claim.specs.declared.claim.ClaimAt.{ClaimAt}
+use Rattle.hwp_claim.specs.declared.claim.ClaimAt.TheVariants as at
+use Rattle.hwp_claim.specs.declared.grab.Grab.{Grab}
+use Rattle.hwp_claim.specs.declared.grab.GrabAt.{GrabAt}
+use Rattle.hwp_claim.specs.declared.grab.GrabAt.TheVariants as grab_at
+use Rattle.hwp_claim.specs.declared.meet.Meet.{Meet}
+use Rattle.hwp_claim.specs.declared.meet.MeetAt.{MeetAt}
+use Rattle.hwp_claim.specs.declared.meet.MeetAt.TheVariants as meet_at
+use Rattle.hwp_claim.specs.Grabs as grabs
+use Rattle.hwp_claim.specs.Meets as meets
+use Rattle.hwp_claim.specs.Meets.{is_ended, owner_in, word_in}
+use Rattle.hwp_claim.specs.Claims.{plan, plan_at, put_at, bare, bare_at, stopped, poisoned, is_done, looked, after_grab, after_meet, after_unlock, next, next_at, Fits, FitsAt, class, claims, claims_at, has_ended_at, aborts, cost}
+use Rattle.hwp_claim.proofs.GrabCosts as grab_costs
+use Rattle.hwp_claim.proofs.MeetCosts.{meet-mild, set-word}
+use Rattle.hwp_claim.proofs.ClaimCosts.{claim-class, claim-falls, claim-leaves, claim-member, claim-small, claim-waits, seen-word}
+
+-- ---- a word that shows that a failure isn't pending
+
+module _ (w : Words) (frame : Frame) (cycle word : ℕ) (there : slice_index w.frames frame.0 ≡ word) (pending : Pending w frame cycle) where
+  lasts : is_ended cycle word ≡ false
+  lasts = ap (λ (p : Bool). not (p && (cycle_of word == cycle))) (sym (ap is_poisoned there) ∙ pending.poisoned) ∙ ap not (same-number (cycle_of word) cycle (sym (ap cycle_of there) ∙ pending.cycle_is))
+
+  not-ended : is_ended cycle word ≡ true → ⊥
+  not-ended is = both_ways (is_ended cycle word) lasts is
+
+  not-handled : is_handled word ≡ true → ⊥
+  not-handled is = both_ways (is_handled word) (sym (ap is_handled there) ∙ pending.handled) is
+
+  not-kernel : is_kernel word ≡ true → ⊥
+  not-kernel is = both_ways (is_kernel word) (sym (ap is_kernel there) ∙ pending.kernel) is
+
+-- the claim stays, or there was none, or its failure isn't pending any more
+abbrev Keeps : Words → Words → Option (Frame × ℕ) → Option (Frame × ℕ) → Type 0
+Keeps w now old new = (old ≡ None) ⊎ (old ≡ new) ⊎ ((frame : Frame) (cycle : ℕ) → old ≡ Some (frame, cycle) → Pending w frame cycle → Pending now frame cycle → ⊥)
+
+drops : (w now : Words) (new : Option (Frame × ℕ)) (frame : Frame) (cycle : ℕ) → (Pending w frame cycle → ⊥) → Keeps w now (Some (frame, cycle)) new
+drops w now new frame cycle over = inr (inr (λ f c e before after. over (subst (λ (x : Frame × ℕ). Pending w x.0 x.1) (sym (same_Some (frame, cycle) (f, c) e)) before)))
+
+drops-now : (w now : Words) (new : Option (Frame × ℕ)) (frame : Frame) (cycle : ℕ) → (Pending now frame cycle → ⊥) → Keeps w now (Some (frame, cycle)) new
+drops-now w now new frame cycle over = inr (inr (λ f c e before after. over (subst (λ (x : Frame × ℕ). Pending now x.0 x.1) (sym (same_Some (frame, cycle) (f, c) e)) after)))
+
+abbrev claim-of : Frame → ℕ → Option (Frame × ℕ)
+claim-of frame cycle = Some (frame, cycle)
+
+abbrev no-claim : Option (Frame × ℕ)
+no-claim = None
+
+-- a claim is of this failure, or it isn't
+claimed-or : (old : Option (Frame × ℕ)) (frame : Frame) (cycle : ℕ) → (old ≡ Some (frame, cycle)) ⊎ (old ≢ Some (frame, cycle))
+claimed-or None frame cycle = inr (λ e. none-some (frame, cycle) e)
+claimed-or (Some c) frame cycle = which (same-or c.0.0 frame.0) (same-or c.1 cycle)
+  where
+    which : (c.0.0 ≡ frame.0) ⊎ (c.0.0 ≢ frame.0) → (c.1 ≡ cycle) ⊎ (c.1 ≢ cycle) → (Some c ≡ Some (frame, cycle)) ⊎ (Some c ≢ Some (frame, cycle))
+    which (inl one) (inl other) = inl (ap (λ (n : ℕ). claim-of (record { 0 = n }) c.1) one ∙ ap (claim-of frame) other)
+    which (inr one) other = inr (λ e. one (ap (λ (x : Frame × ℕ). x.0.0) (same_Some c (frame, cycle) e)))
+    which (inl one) (inr other) = inr (λ e. other (ap (λ (x : Frame × ℕ). x.1) (same_Some c (frame, cycle) e)))
+
+owned-by : (w now : Words) (old new : Option (Frame × ℕ)) (frame : Frame) (cycle : ℕ) → Keeps w now old new → Pending w frame cycle → Pending now frame cycle → (new ≡ Some (frame, cycle)) ⊎ (Pending w frame cycle × (old ≢ Some (frame, cycle)))
+owned-by w now old new frame cycle (inl none) before after = inr (before, λ e. none-some (frame, cycle) (sym none ∙ e))
+owned-by w now old new frame cycle (inr (inl same)) before after = which (claimed-or old frame cycle)
+  where
+    which : (old ≡ Some (frame, cycle)) ⊎ (old ≢ Some (frame, cycle)) → (new ≡ Some (frame, cycle)) ⊎ (Pending w frame cycle × (old ≢ Some (frame, cycle)))
+    which (inl own) = inl (sym same ∙ own)
+    which (inr other) = inr (before, other)
+owned-by w now old new frame cycle (inr (inr over)) before after = inr (before, λ e. over frame cycle e before after)
+
+module _ {layout : Layout} {seat : ℕ} {a b : State} {s t : Claim} {turned : Turn} (made : Made claim-member layout seat a b s t turned) where
+  abbrev w : Words
+  w = words_at layout a
+
+  abbrev now : Words
+  now = words_at layout b
+
+  after-is : {other : Step} → Some other ≡ Some made.step → now ≡ put_word (place_of other) (word_after other made.found) w
+  after-is {other} e = words-after made ∙ ap (λ (x : Step). put_word (place_of x) (word_after x made.found) w) (sym (same_Some other made.step e))
+
+  met-at : {other : Step} → Some other ≡ Some made.step → made.found ≡ slice_index a.words (index layout (place_of other))
+  met-at {other} e = made.move.met ∙ ap (λ (x : Step). slice_index a.words (index layout (place_of x))) (sym (same_Some other made.step e))
+
+  -- the frame's word as a step on it found it, and as it left it
+  frame-there : {other : Step} → Some other ≡ Some made.step → place_of other ≡ places.Frame s.frame → slice_index w.frames s.frame.0 ≡ made.found
+  frame-there {other} e place = ap (λ (p : _). read p w) (sym place) ∙ seen-word made e
+
+  -- ---- the parts
+
+  grab-keeps : (cycle : ℕ) (g : Grab) → g.frame ≡ s.frame → (x : GrabAt) → grabs.plan_at g.frame x ≡ Some made.step
+      → Keeps w now (Some (s.frame, cycle)) (claims_at s.frame (after_grab s.who s.frame cycle (record g { at = grabs.next_at g.frame x made.found })))
+  grab-keeps cycle g same grab_at.LoadAvailable e = by (made.found == 0)
+    where
+      by : (c : Bool) → Keeps w now (Some (s.frame, cycle)) (claims_at s.frame (after_grab s.who s.frame cycle (record g { at = cond c grab_at.LookAgain (grab_at.Reserve made.found) })))
+      by true = inr (inl refl)
+      by false = inr (inl refl)
+  grab-keeps cycle g same (grab_at.Reserve seen) e = by (made.found == seen) (made.found == 0)
+    where
+      by : (c d : Bool) → Keeps w now (Some (s.frame, cycle)) (claims_at s.frame (after_grab s.who s.frame cycle (record g { at = cond c grab_at.TakeBit (cond d grab_at.LookAgain (grab_at.Reserve made.found)) })))
+      by true d = inr (inl refl)
+      by false true = inr (inl refl)
+      by false false = inr (inl refl)
+  grab-keeps cycle g same grab_at.TakeBit e = by (grabs.has_bit g.frame made.found)
+    where
+      by : (c : Bool) → Keeps w now (Some (s.frame, cycle)) (claims_at s.frame (after_grab s.who s.frame cycle (record g { at = cond c grab_at.Adopt grab_at.Unreserve })))
+      by true = inr (inl refl)
+      by false = inr (inl refl)
+  grab-keeps cycle g same grab_at.Unreserve e = inr (inl refl)
+  grab-keeps cycle g same grab_at.Adopt e = by (is_ended cycle made.found) refl
+    where
+      by : (c : Bool) → is_ended cycle made.found ≡ c → Keeps w now (Some (s.frame, cycle)) (claims_at s.frame (cond c (at.Unlock cycle (unlocks.begin s.who s.frame None)) (at.Retire cycle)))
+      by true is = drops w now None s.frame cycle (λ pending. not-ended w s.frame cycle made.found (frame-there e (ap (λ (f : Frame). places.Frame f) same)) pending is)
+      by false is = inr (inl refl)
+  grab-keeps cycle g same grab_at.LookAgain e = absurd (none-some made.step e)
+  grab-keeps cycle g same (grab_at.Grabbed word) e = absurd (none-some made.step e)
+
+  module _ (cycle : ℕ) (m : Meet) (same : m.frame ≡ s.frame) (own : m.cycle ≡ cycle) where
+    abbrev old-claim : MeetAt → Option (Frame × ℕ)
+    old-claim x = claims_at s.frame (at.Meet cycle (record m { at = x }))
+
+    abbrev new-claim : MeetAt → Option (Frame × ℕ)
+    new-claim x = claims_at s.frame (after_meet cycle (record m { at = x }))
+
+    -- the word under the lock shows that the failure has ended
+    ended-now : Some (steps.LockFrame m.frame) ≡ Some made.step → is_ended m.cycle made.found ≡ true → Pending w s.frame cycle → ⊥
+    ended-now e is pending = not-ended w s.frame cycle made.found (frame-there e (ap (λ (f : Frame). places.Frame f) same)) pending (ap (λ (n : ℕ). is_ended n made.found) (sym own) ∙ is)
+
+    meet-keeps : (x : MeetAt) → meets.plan_at m.frame x ≡ Some made.step → Keeps w now (old-claim x) (new-claim (meets.next_at m.who m.frame m.cycle (meets.bare_at x) made.found made.got))
+    meet-keeps (meet_at.GetRef seen) e = by (made.found == seen) (owner_in seen)
+      where
+        by : (c : Bool) (o : Option Page) → Keeps w now (Some (s.frame, cycle)) (new-claim (cond c (meets.referenced o) (meet_at.Back false)))
+        by true None = inr (inl refl)
+        by true (Some page) = inr (inl refl)
+        by false o = inr (inl refl)
+    meet-keeps meet_at.LockFree e = by (is_free made.found) (is_ended m.cycle made.found) (meets.is_taken made.found) refl
+      where
+        by : (c d h : Bool) → is_ended m.cycle made.found ≡ d → Keeps w now (Some (s.frame, cycle)) (new-claim (cond c (meets.free_at made.got d h) meet_at.LockFree))
+        by false d h is = inr (inl refl)
+        by true true h is = drops w now None s.frame cycle (ended-now e is)
+        by true false true is = inr (inl refl)
+        by true false false is = inr (inl refl)
+    meet-keeps (meet_at.LockPage page) e = by (is_free made.found)
+      where
+        by : (c : Bool) → Keeps w now (Some (s.frame, cycle)) (new-claim (cond c (meet_at.LockOwned page made.got) (meet_at.LockPage page)))
+        by true = inr (inl refl)
+        by false = inr (inl refl)
+    meet-keeps (meet_at.LockOwned page shelf) e = by (is_free made.found) (is_ended m.cycle made.found) (meets.is_owner page made.found) made.got refl
+      where
+        by : (c d h : Bool) (got : Option BodyValue) → is_ended m.cycle made.found ≡ d → Keeps w now (Some (s.frame, cycle)) (new-claim (cond c (meets.owned_at page shelf got d h) (meet_at.LockOwned page shelf)))
+        by false d h got is = inr (inl refl)
+        by true true h got is = drops w now None s.frame cycle (ended-now e is)
+        by true false false got is = inr (inl refl)
+        by true false true None is = inr (inl refl)
+        by true false true (Some body) is = inr (inl refl)
+    meet-keeps (meet_at.Unlock body ended) e = inr (inl refl)
+    meet-keeps (meet_at.UnlockFrame page shelf body ended) e = inr (inl refl)
+    meet-keeps (meet_at.UnlockPage page shelf ended) e = inr (inl refl)
+    meet-keeps (meet_at.Release r ended) e = by (releases.next r made.found).at ended
+      where
+        by : (y : ReleaseAt) (d : Bool) → Keeps w now (cond d None (Some (s.frame, cycle))) (new-claim (meets.released_at (record (releases.next r made.found) { at = y }) d y))
+        by release_at.Put d = inr (inl refl)
+        by release_at.Give d = inr (inl refl)
+        by release_at.Unreserve d = inr (inl refl)
+        by release_at.Adopt d = inr (inl refl)
+        by release_at.Retire d = inr (inl refl)
+        by release_at.Back true = inl refl
+        by release_at.Back false = inr (inl refl)
+    meet-keeps (meet_at.Back ended) e = absurd (none-some made.step e)
+    meet-keeps meet_at.Free e = absurd (none-some made.step e)
+    meet-keeps (meet_at.Owned page body) e = absurd (none-some made.step e)
+
+  -- ---- a retired frame is handled
+
+  module _ (e : Some (steps.Retire s.frame) ≡ Some made.step) (held : hand_of (view_of a seat) ≡ empty_frame s.frame false true) where
+    abbrev the-lock : FrameLock
+    the-lock = record { frame = s.frame; owner = 0; handled = false; poisoned = true }
+
+    known : IsLocked w.frames (view_of a seat).refs the-lock
+    known = made.rule.rule.frames.frame_locks.known seat ((view_of a seat).refs, (view_of a seat).locks) (at_map (λ (v : View). (v.refs, v.locks)) a.views seat (view_of a seat) (me made)) 0 the-lock (ap (λ (h : Hand). slice_get h.locks 0) held)
+
+    unhandled : is_handled made.found ≡ false
+    unhandled = ap is_handled (same_Some made.found known.word (sym (frame-word layout a made.rule s.frame made.found made.fits.frame (met-at e)) ∙ known.there)) ∙ known.handled
+
+    word-now : slice_index now.frames s.frame.0 ≡ bit_xor made.found 5
+    word-now = ap (word_in s.frame) (after-is e) ∙ set-word layout a made.rule s.frame made.fits.frame made.found made.move.fits (met-at e) (bit_xor made.found 5)
+
+    handled-now : is_handled (bit_xor made.found 5) ≡ true
+    handled-now = same-number (handled_of (bit_xor made.found 5)) 1 (field-xor handled_bit made.found 5 ∙ ap (λ (n : ℕ). bit_xor n 1) (let other = eqb-false (handled_of made.found) 1 unhandled in zero-left other))
+      where
+        zero-left : handled_of made.found ≢ 1 → handled_of made.found ≡ 0
+        zero-left other = let small : handled_of made.found < 2 = omega arith in omega (arith, other, small)
+
+    retired : (cycle : ℕ) → Pending now s.frame cycle → ⊥
+    retired cycle pending = not-handled now s.frame cycle (bit_xor made.found 5) word-now pending handled-now
+
+  -- ---- what is looked at
+
+  look-keeps : (cycle : ℕ) → Some (steps.Load (places.Frame s.frame)) ≡ Some made.step → Keeps w now (Some (s.frame, cycle)) (claims_at s.frame (looked s.who s.frame cycle made.found))
+  look-keeps cycle e = kernel (is_kernel made.found) refl
+    where
+      there : slice_index w.frames s.frame.0 ≡ made.found
+      there = frame-there e refl
+
+      counted : (z : Bool) → Keeps w now (Some (s.frame, cycle)) (claims_at s.frame (cond z (at.Grab cycle (grabs.begin s.who s.frame)) (at.Meet cycle (meets.begin s.who s.frame cycle made.found))))
+      counted true = inr (inl refl)
+      counted false = inr (inl refl)
+
+      done : (d h : Bool) → is_ended cycle made.found ≡ d → is_handled made.found ≡ h
+          → Keeps w now (Some (s.frame, cycle)) (claims_at s.frame (cond (d || h) (at.Free cycle) (cond (count_of made.found == 0) (at.Grab cycle (grabs.begin s.who s.frame)) (at.Meet cycle (meets.begin s.who s.frame cycle made.found)))))
+      done true h ended is = drops w now None s.frame cycle (λ pending. not-ended w s.frame cycle made.found there pending ended)
+      done false true ended is = drops w now None s.frame cycle (λ pending. not-handled w s.frame cycle made.found there pending is)
+      done false false ended is = counted (count_of made.found == 0)
+
+      kernel : (k : Bool) → is_kernel made.found ≡ k
+          → Keeps w now (Some (s.frame, cycle)) (claims_at s.frame (cond k (at.Kernel cycle) (cond (is_done cycle made.found) (at.Free cycle) (cond (count_of made.found == 0) (at.Grab cycle (grabs.begin s.who s.frame)) (at.Meet cycle (meets.begin s.who s.frame cycle made.found))))))
+      kernel true is = drops w now None s.frame cycle (λ pending. not-kernel w s.frame cycle made.found there pending is)
+      kernel false is = done (is_ended cycle made.found) (is_handled made.found) refl refl
+
+  -- ---- the frame is poisoned
+
+  module _ (e : Some (steps.Poison s.frame s.hardware) ≡ Some made.step) (frame : Frame) (cycle : ℕ) (pending : Pending now frame cycle) where
+    abbrev Owned : ClaimAt → Type 0
+    Owned x = (claims_at s.frame x ≡ Some (frame, cycle)) ⊎ (Pending w frame cycle × (no-claim ≢ Some (frame, cycle)))
+
+    set-frames : now.frames ≡ set w.frames s.frame.0 (bit_or made.found 2)
+    set-frames = ap (λ (x : Words). x.frames) (after-is e)
+
+    -- of another frame
+    elsewhere : (x : ClaimAt) → frame.0 ≢ s.frame.0 → Owned x
+    elsewhere x other = inr (
+      record {
+        poisoned = ap is_poisoned (sym same) ∙ pending.poisoned;
+        handled = ap is_handled (sym same) ∙ pending.handled;
+        kernel = ap is_kernel (sym same) ∙ pending.kernel;
+        cycle_is = ap cycle_of (sym same) ∙ pending.cycle_is;
+      },
+      λ is. none-some (frame, cycle) is,
+    )
+      where
+        same : slice_index now.frames frame.0 ≡ slice_index w.frames frame.0
+        same = ap (λ (l : List ℕ). slice_index l frame.0) set-frames ∙ get_or-set_other w.frames s.frame.0 frame.0 (bit_or made.found 2) 0 other
+
+    module _ (same : frame.0 ≡ s.frame.0) where
+      there : slice_index w.frames frame.0 ≡ made.found
+      there = ap (λ (n : ℕ). slice_index w.frames n) same ∙ frame-there e refl
+
+      word-is : slice_index now.frames frame.0 ≡ bit_or made.found 2
+      word-is = ap (λ (n : ℕ). slice_index now.frames n) same ∙ ap (word_in s.frame) (after-is e) ∙ set-word layout a made.rule s.frame made.fits.frame made.found made.move.fits (met-at e) (bit_or made.found 2)
+
+      same-cycle : cycle_of made.found ≡ cycle
+      same-cycle = sym (fields-poison made.found).cycle ∙ sym (ap cycle_of word-is) ∙ pending.cycle_is
+
+      own-frame : (c : Bool) → is_poisoned made.found ≡ c → Owned (cond c at.Already (at.Count (cycle_of made.found)))
+      own-frame false is = inl (ap (λ (n : ℕ). claim-of (record { 0 = n }) (cycle_of made.found)) (sym same) ∙ ap (claim-of frame) same-cycle)
+      own-frame true is = inr (
+        record {
+          poisoned = ap is_poisoned there ∙ is;
+          handled = ap is_handled there ∙ ap (λ (n : ℕ). n == 1) (sym (fields-poison made.found).handled) ∙ sym (ap is_handled word-is) ∙ pending.handled;
+          kernel = ap is_kernel there ∙ ap (λ (n : ℕ). n == 1) (sym (fields-poison made.found).kernel) ∙ sym (ap is_kernel word-is) ∙ pending.kernel;
+          cycle_is = ap cycle_of there ∙ same-cycle;
+        },
+        λ is. none-some (frame, cycle) is,
+      )
+
+    poison-owns : Owned (poisoned made.found)
+    poison-owns = which (same-or frame.0 s.frame.0)
+      where
+        which : (frame.0 ≡ s.frame.0) ⊎ (frame.0 ≢ s.frame.0) → Owned (poisoned made.found)
+        which (inl same) = own-frame same (is_poisoned made.found) refl
+        which (inr other) = elsewhere (poisoned made.found) other
+
+  -- ---- every turn
+
+  mild-planned : {other : Step} → Some other ≡ Some made.step → IsMild other → IsMild made.step
+  mild-planned {other} e mild = subst IsMild (same_Some other made.step e) mild
+
+  claim-owns : (frame : Frame) (cycle : ℕ) → Pending now frame cycle → (claims t ≡ Some (frame, cycle)) ⊎ (Pending w frame cycle × (claims s ≢ Some (frame, cycle)))
+  claim-owns frame cycle pending = subst (λ (x : Claim). (claims x ≡ Some (frame, cycle)) ⊎ (Pending w frame cycle × (claims s ≢ Some (frame, cycle)))) (sym made.follows.0) (which s.at made.fits.at made.planned)
+    where
+      kept : (old new : Option (Frame × ℕ)) → IsMild made.step → Keeps w now old new → (new ≡ Some (frame, cycle)) ⊎ (Pending w frame cycle × (old ≢ Some (frame, cycle)))
+      kept old new mild keeps = owned-by w now old new frame cycle keeps (pending-kept made mild frame cycle pending) pending
+
+      which : (x : ClaimAt) → FitsAt layout (view_of a seat) s.who s.frame s.hardware x → plan_at s.who s.frame s.hardware x ≡ Some made.step
+          → (claims_at s.frame (next_at s.who s.frame (bare_at x) made.found made.got) ≡ Some (frame, cycle)) ⊎ (Pending w frame cycle × (claims_at s.frame x ≢ Some (frame, cycle)))
+      which at.Stop has e = kept None _ (mild-planned e tt) (inl refl)
+      which at.Poison has e = poison-owns e frame cycle pending
+      which (at.Count own) has e = kept (Some (s.frame, own)) (Some (s.frame, own)) (mild-planned e tt) (inr (inl refl))
+      which (at.Look own) has e = kept (Some (s.frame, own)) _ (mild-planned e tt) (look-keeps own e)
+      which (at.Grab own g) has e = kept (Some (s.frame, own)) _ (grab_costs.mild g made.step e) (grab-keeps own g has.0.frame_is g.at e)
+      which (at.Meet own m) has e = kept (claims_at s.frame (at.Meet own m)) _ (meet-mild m made.step e) (meet-keeps own m has.0.frame_is has.0.cycle_is m.at e)
+      which (at.Unlock own u) has e = kept None _ (unlocking.mild u made.step e) (inl refl)
+      which (at.Retire own) has e = kept (Some (s.frame, own)) None (mild-planned e tt) (drops-now w now None s.frame own (retired e has.0 own))
+      which at.GaveUp has e = absurd (none-some made.step e)
+      which at.Stopped has e = absurd (none-some made.step e)
+      which at.Already has e = absurd (none-some made.step e)
+      which (at.Free own) has e = absurd (none-some made.step e)
+      which (at.Kernel own) has e = absurd (none-some made.step e)
+      which (at.Owned own page body) has e = absurd (none-some made.step e)
+
+pub claim-ranked : IsRanked claim-member
+claim-ranked = record {
+  classes = claim-class;
+  small = λ layout a seat s rule fits. let few : cost s (words_at layout a) ≤ 0 + 8300 = claim-small 0 s.at (words_at layout a) in omega (arith, few);
+  falls = λ layout seat a b s t turn made goes. elim (claim-falls made 0 (omega arith) goes) [
+    | inl less ↦ inl less
+    | inr fails ↦ inr (failed fails.0 (let few : cost t (words_at layout b) ≤ 0 + 12 = fails.1 in omega (arith, few)))
+  ];
+  waits = λ layout seat a b s t turn made is quiet. claim-waits made 0 (omega arith) is quiet;
+  leaves = λ layout seat a b s t turn made aborts. inr (subst (λ (x : Claim). 1 < class x) (sym made.follows.0) (claim-leaves s made.found made.got aborts));
+  owns = λ layout seat a b s t turn frame cycle made going pending. claim-owns made frame cycle pending;
+}

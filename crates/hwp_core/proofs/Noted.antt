@@ -1,0 +1,104 @@
+-- The record gathered of a frame has the marks of the frame that the views list.
+use Rattle.std.proofs.Common.{◌≡◌, ◌⊎◌, inl, inr, ℕ, zero, suc, ◌<◌, ◌==◌, Bool, true, List, [], ◌∷◌, ◌++◌, Some, filter, flat_map, length, map, slice_get, refl, sym, ap, ◌∙◌, subst}
+use Rattle.std.proofs.lemmas.Bool.{eq-eqb, eqb-true}
+use Rattle.std.proofs.lemmas.Option.{none-some, same_Some, slice_get_within}
+use Rattle.hwp_geom.specs.declared.Cpu.{Cpu}
+use Rattle.hwp_geom.specs.declared.Frame.{Frame}
+use Rattle.hwp_geom.specs.declared.Layout.{Layout}
+use Rattle.hwp_geom.specs.Pairs.{Pairs}
+use Rattle.hwp_rule.specs.declared.Mark.{Mark}
+use Rattle.hwp_rule.specs.declared.State.{State}
+use Rattle.hwp_rule.specs.declared.View.{View}
+use Rattle.hwp_rule.specs.Lists.{SomeMember}
+use Rattle.hwp_rule.specs.Rule.{Holds}
+use Rattle.hwp_rule.proofs.Lists.{at_longer, at_map, map-was}
+use Rattle.hwp_step.specs.Boards.{AreSeated, view_of}
+use Rattle.hwp_report.specs.declared.MarkLine.{MarkLine}
+use Rattle.hwp_runs.specs.Ends.{AreMarks, IsListed, Tells}
+use Rattle.hwp_runs.proofs.Homes.{there-is}
+use Rattle.hwp_served.specs.Accounts.{IsNote, Note}
+use Rattle.hwp_served.proofs.Ending.{filter-has}
+use Rattle.hwp_served.proofs.Failed.{paired}
+use Rattle.hwp_served.proofs.Gathering.{AreNoted}
+use Rattle.hwp_served.proofs.Seats.{seat-place}
+use Rattle.hwp_served.proofs.Seen.{filter-is}
+use Rattle.hwp_core.specs.Records.{lines_of, record_of}
+
+-- ---- a member of lists put together is one of some list
+
+either : {A : Type 0} (xs ys : List A) (i : ℕ) (y : A) → slice_get (xs ++ ys) i ≡ Some y → SomeMember (λ (z : A). z ≡ y) xs ⊎ SomeMember (λ (z : A). z ≡ y) ys
+either [] ys i y there = inr (i, y, there, refl)
+either (x ∷ xs) ys zero y there = inl (zero, x, refl, same_Some x y there)
+either {A} (x ∷ xs) ys (suc i) y there = later (either xs ys i y there)
+  where
+    later : SomeMember (λ (z : A). z ≡ y) xs ⊎ SomeMember (λ (z : A). z ≡ y) ys → SomeMember (λ (z : A). z ≡ y) (x ∷ xs) ⊎ SomeMember (λ (z : A). z ≡ y) ys
+    later (inl some) = inl (suc some.0, some.1, some.2, some.3)
+    later (inr some) = inr some
+
+flat-was : {A B : Type 0} (f : A → List B) (l : List A) (i : ℕ) (y : B) → slice_get (flat_map f l) i ≡ Some y → SomeMember (λ (a : A). SomeMember (λ (z : B). z ≡ y) (f a)) l
+flat-was f [] i y there = absurd (none-some y there)
+flat-was {A} {B} f (a ∷ l) i y there = which (either (f a) (flat_map f l) i y there) (λ k at. flat-was f l k y at)
+  where
+    which : SomeMember (λ (z : B). z ≡ y) (f a) ⊎ SomeMember (λ (z : B). z ≡ y) (flat_map f l) → ((k : ℕ) → slice_get (flat_map f l) k ≡ Some y → SomeMember (λ (b : A). SomeMember (λ (z : B). z ≡ y) (f b)) l)
+        → SomeMember (λ (b : A). SomeMember (λ (z : B). z ≡ y) (f b)) (a ∷ l)
+    which (inl some) rest = (zero, a, refl, some)
+    which (inr some) rest = let found = rest some.0 (some.2 ∙ ap (λ z. Some z) some.3) in (suc found.0, found.1, found.2, found.3)
+
+behind : {A : Type 0} (xs ys : List A) (i : ℕ) (y : A) → slice_get ys i ≡ Some y → (n : ℕ) × (slice_get (xs ++ ys) n ≡ Some y)
+behind [] ys i y there = (i, there)
+behind (x ∷ xs) ys i y there = let rest = behind xs ys i y there in (suc rest.0, rest.1)
+
+flat-has : {A B : Type 0} (f : A → List B) (l : List A) (j k : ℕ) (a : A) (y : B) → slice_get l j ≡ Some a → slice_get (f a) k ≡ Some y → (n : ℕ) × (slice_get (flat_map f l) n ≡ Some y)
+flat-has f [] j k a y at there = absurd (none-some a at)
+flat-has f (x ∷ l) zero k a y at there = (k, at_longer (f x) (flat_map f l) k y (ap (λ b. slice_get (f b) k) (same_Some x a at) ∙ there))
+flat-has f (x ∷ l) (suc j) k a y at there = let rest = flat-has f l j k a y at there in behind (f x) (flat_map f l) rest.0 y rest.1
+
+-- the member beside one of a list of pairs
+beside : {A B : Type 0} (R : A → B → Type 0) (xs : List A) (ys : List B) (j : ℕ) (x : A) → Pairs R xs ys → slice_get xs j ≡ Some x → (y : B) × (slice_get ys j ≡ Some y) × R x y
+beside R [] ys j x pairs there = absurd (none-some x there)
+beside R (a ∷ xs) [] j x pairs there = absurd pairs
+beside {A} {B} R (a ∷ xs) (b ∷ ys) zero x pairs there = (b, refl, subst (λ (z : A). R z b) (same_Some a x there) pairs.0)
+beside R (a ∷ xs) (b ∷ ys) (suc j) x pairs there = beside R xs ys j x pairs.1 there
+
+module _ (layout : Layout) (seat : Cpu → ℕ) (last : State) (holds : Holds layout last) (seated : AreSeated layout last seat) (notes : List (List Note)) (are : AreNoted layout seat last notes) (frame : Frame) where
+  -- a note of the frame tells its mark
+  tells : (cpu : Cpu) → cpu.0 < layout.cpus → (k : ℕ) (note : Note) (m : Mark) → slice_get (view_of last (seat cpu)).marks k ≡ Some m → IsNote layout (view_of last (seat cpu)) note m → m.frame ≡ frame → Tells frame note.1 m
+  tells cpu inside k note m listed is of = subst (λ (x : MarkLine). Tells frame x m) (sym is.line) (of, refl, refl, (holds.undamaged (seat cpu) (view_of last (seat cpu)) (seated.there cpu inside)).marks k m listed)
+
+  told : (place : ℕ) (line : MarkLine) → slice_get (record_of frame notes) place ≡ Some line → (mark : Mark) × IsListed last.views mark × Tells frame line mark
+  told place line there =
+      let some = flat-was (lines_of frame) notes place line there in
+      let cpu : Cpu = record { 0 = some.0 } in
+      let view : View = view_of last (seat cpu) in
+      let inside : cpu.0 < layout.cpus = subst (λ (n : ℕ). some.0 < n) are.fit (slice_get_within notes some.0 some.1 some.2) in
+      let was = map-was (λ (n : Note). n.1) (filter (λ (n : Note). n.0.0 == frame.0) some.1) some.3.0 some.3.1 some.3.2 in
+      let note : Note = was.0 in
+      let kept = filter-is (λ (n : Note). n.0.0 == frame.0) some.1 some.3.0 note was.1 in
+      let by = beside (IsNote layout view) some.1 view.marks kept.0 note (are.noted some.0 some.1 some.2) kept.1 in
+      let mark : Mark = by.0 in
+      let number : note.0.0 ≡ frame.0 = eqb-true note.0.0 frame.0 kept.2 in
+      let of : mark.frame ≡ frame = sym by.2.frame ∙ (λ i. record { 0 = number i }) in
+      let told_so : Tells frame note.1 mark = tells cpu inside kept.0 note mark by.1 by.2 of in
+      (mark, (seat cpu, view.marks, at_map (λ (v : View). v.marks) last.views (seat cpu) view (seated.there cpu inside), (kept.0, mark, by.1, refl)), subst (λ (x : MarkLine). Tells frame x mark) (was.2 ∙ some.3.3) told_so)
+
+  listed : (mark : Mark) → IsListed last.views mark → mark.frame ≡ frame → SomeMember (λ (line : MarkLine). Tells frame line mark) (record_of frame notes)
+  listed mark (i, l, at, (j, m, there, same)) of =
+      let was = map-was (λ (v : View). v.marks) last.views i l at in
+      let v : View = was.0 in
+      let own : slice_get v.marks j ≡ Some mark = ap (λ (x : List Mark). slice_get x j) was.2 ∙ there ∙ ap (λ (x : Mark). Some x) same in
+      let cpu : Cpu = mark.stamp.who.cpu in
+      let place = seat-place layout seat last holds seated i v mark.stamp.who was.1 ((holds.rule.processors.commands.own i v was.1).marks j mark own) in
+      let view : View = view_of last (seat cpu) in
+      let is_view : v ≡ view = same_Some v view (sym was.1 ∙ ap (slice_get last.views) place.1 ∙ seated.there cpu place.0) in
+      let in_view : slice_get view.marks j ≡ Some mark = sym (ap (λ (x : View). slice_get x.marks j) is_view) ∙ own in
+      let list = there-is notes cpu.0 (subst (λ (n : ℕ). cpu.0 < n) (sym are.fit) place.0) in
+      let by = paired (IsNote layout view) list.0 view.marks j mark (are.noted cpu.0 list.0 list.1) in_view in
+      let note : Note = by.0 in
+      let number : note.0.0 ≡ frame.0 = ap (λ (f : Frame). f.0) (by.2.frame ∙ of) in
+      let kept = filter-has (λ (n : Note). n.0.0 == frame.0) list.0 j note by.1 (eq-eqb note.0.0 frame.0 number) in
+      let line = at_map (λ (n : Note). n.1) (filter (λ (n : Note). n.0.0 == frame.0) list.0) kept.0 note kept.1 in
+      let all = flat-has (lines_of frame) notes cpu.0 kept.0 list.0 note.1 list.1 line in
+      (all.0, note.1, all.1, tells cpu place.0 j note mark in_view by.2 of)
+
+  pub are-marks : AreMarks last.views frame (record_of frame notes)
+  are-marks = record { told = told; listed = listed }

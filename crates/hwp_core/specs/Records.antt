@@ -1,0 +1,26 @@
+-- The records of frames, gathered from what processors noted.
+use Rattle.std.specs.Prelude.{◌≡◌, ℕ, ◌==◌, List, [], ◌∷◌, ◌++◌, Some, filter, flat_map, length, map, slice_get, slice_index_or, slice_set}
+use Rattle.hwp_geom.specs.declared.Frame.{Frame}
+use Rattle.hwp_report.specs.declared.MarkLine.{MarkLine}
+use Rattle.hwp_served.specs.Accounts.{Note}
+
+-- the lines that a processor noted of a frame, and those that all did
+abbrev pub lines_of : Frame → List Note → List MarkLine
+lines_of frame own = map (λ (n : Note). n.1) (filter (λ (n : Note). n.0.0 == frame.0) own)
+
+abbrev pub record_of : Frame → List (List Note) → List MarkLine
+record_of frame notes = flat_map (lines_of frame) notes
+
+-- a line more in the record of its frame
+abbrev pub with_note : Note → List (List MarkLine) → List (List MarkLine)
+with_note note records = slice_set records note.0.0 (slice_index_or records note.0.0 [] ++ note.1 ∷ [])
+
+-- each record goes on by the lines noted of its frame
+pub record GoOn (own : List Note) (old new : List (List MarkLine)) : Type 0 where
+  pub size : length new ≡ length old
+  pub each : (frame : Frame) (was now : List MarkLine) → slice_get old frame.0 ≡ Some was → slice_get new frame.0 ≡ Some now → now ≡ was ++ lines_of frame own
+
+-- the record of each frame has the lines that processors noted of it
+pub record AreGathered (notes : List (List Note)) (count : ℕ) (records : List (List MarkLine)) : Type 0 where
+  pub size : length records ≡ count
+  pub each : (frame : Frame) (list : List MarkLine) → slice_get records frame.0 ≡ Some list → list ≡ record_of frame notes

@@ -1,0 +1,193 @@
+-- What a step of a command does beside entries: it takes the losses of a file, sets a policy, or leaves what the view lists of these.
+use Rattle.std.proofs.Common.{◌≡◌, inl, inr, ℕ, suc, ◌==◌, Bool, true, false, cond, List, [], ◌∷◌, ◌++◌, Option, Some, filter, map, refl, sym, ap, ◌∙◌}
+use Rattle.std.proofs.lemmas.Bool.{eqb-true}
+use Rattle.std.proofs.lemmas.List.{map-append}
+use Rattle.std.proofs.lemmas.List.Elements.{filter-append}
+use Rattle.std.proofs.lemmas.Option.{none-some}
+use Rattle.hwp_geom.specs.declared.FileNo.{FileNo}
+use Rattle.hwp_geom.specs.declared.Layout.{Layout}
+use Rattle.hwp_geom.specs.declared.Page.{Page}
+use Rattle.hwp_geom.specs.declared.Thread.{Thread}
+use Rattle.hwp_geom.specs.declared.Who.{Who}
+use Rattle.hwp_kill.specs.declared.Policy.{Policy}
+use Rattle.hwp_kill.specs.Prctl.{reply}
+use Rattle.hwp_words.specs.Names.{page_named}
+use Rattle.hwp_words.specs.Policies as words
+use Rattle.hwp_words.specs.Stops.{is_stopped}
+use Rattle.hwp_rule.specs.declared.Mark.{Mark}
+use Rattle.hwp_rule.specs.declared.Place.TheVariants as places
+use Rattle.hwp_rule.specs.declared.Reported.{Reported}
+use Rattle.hwp_rule.specs.declared.Setting.{Setting}
+use Rattle.hwp_rule.specs.declared.Step.{Step}
+use Rattle.hwp_rule.specs.declared.Step.TheVariants as steps
+use Rattle.hwp_rule.specs.declared.View.{View}
+use Rattle.hwp_rule.specs.Lists.{EachMember}
+use Rattle.hwp_rule.specs.Views.{noted, sighted, stamp_of}
+use Rattle.hwp_step.proofs.Stepping.{steps-planned}
+use Rattle.hwp_control.specs.declared.Nested.{Nested}
+use Rattle.hwp_control.specs.declared.Prctl.{Prctl}
+use Rattle.hwp_control.specs.declared.PrctlAnswer.TheVariants as prctl_answers
+use Rattle.hwp_control.specs.declared.nested.NestedAt.{NestedAt}
+use Rattle.hwp_control.specs.declared.nested.NestedAt.TheVariants as nested_at
+use Rattle.hwp_control.specs.declared.prctl.PrctlAt.{PrctlAt}
+use Rattle.hwp_control.specs.declared.prctl.PrctlAt.TheVariants as prctl_at
+use Rattle.hwp_control.specs.Nesteds as nesteds
+use Rattle.hwp_control.specs.Prctls as prctls
+use Rattle.hwp_evict.specs.declared.Fsync.{Fsync}
+use Rattle.hwp_evict.specs.declared.FsyncAnswer.TheVariants as fsync_answers
+use Rattle.hwp_evict.specs.declared.fsync.FsyncAt.{FsyncAt}
+use Rattle.hwp_evict.specs.declared.fsync.FsyncAt.TheVariants as fsync_at
+use Rattle.hwp_evict.specs.Fsyncs as fsyncs
+use Rattle.hwp_job.specs.declared.job.Job.{Job}
+use Rattle.hwp_job.specs.declared.job.Job.TheVariants as jobs
+use Rattle.hwp_job.specs.Done.{Grows, counts_owed, HasDone, marked_now, policies_now, taken_at, taken_now}
+use Rattle.hwp_job.specs.Jobs.{plan, who}
+use Rattle.hwp_job.specs.Settings.{set_at}
+use Rattle.hwp_job.specs.Stays.{IsAtStop, Stepped}
+use Rattle.hwp_job.proofs.Quiet.{Alike, PlansQuiet, access, evict, leaves, read}
+use Rattle.hwp_job.proofs.Setting.{ended, replied, stopped}
+use Rattle.hwp_job.proofs.Stopping.{quiet-step}
+
+module _ {layout : Layout} {old new : View} {j after : Job} (s : Stepped layout old new j after) where
+  -- a step after which the view lists the same
+  nothing : Alike old new → taken_now after ≡ taken_now j → policies_now after ≡ policies_now j → HasDone old new (who j) j after
+  nothing same taken set = record { marked = inl (same.marks, refl); taken = inl (same.reported, taken); set = inl (same.settings, set); counted = λ none. same.owed ∙ none }
+
+  quietly : PlansQuiet (plan j) → taken_now after ≡ taken_now j → policies_now after ≡ policies_now j → HasDone old new (who j) j after
+  quietly quiet taken set = nothing (leaves s.made (quiet-step quiet s.planned)) taken set
+
+-- the losses of a file
+module _ {layout : Layout} {old new : View} {f : Fsync} {after : Job} (s : Stepped layout old new (jobs.Fsync f) after) where
+  fsync-done : HasDone old new f.who (jobs.Fsync f) after
+  fsync-done = which f.at refl s.planned
+    where
+      by-stop : (b : Bool) → taken_at f.file (cond b (fsync_at.Over fsync_answers.Stopped) fsync_at.Report) ≡ []
+      by-stop true = refl
+      by-stop false = refl
+
+      by-count : (b : Bool) → (s.found == 0) ≡ b → taken_at f.file (fsync_at.Over (cond b fsync_answers.Done (fsync_answers.Eio s.found))) ≡ (f.file, s.found) ∷ []
+      by-count true is = ap (λ (n : ℕ). (f.file, n) ∷ []) (sym (eqb-true s.found 0 is))
+      by-count false is = refl
+
+      none : policies_now after ≡ []
+      none = ap policies_now s.follows.0
+
+      now : (x : FsyncAt) → f.at ≡ x → taken_now after ≡ taken_at f.file (fsyncs.next_at x s.found)
+      now x at = ap taken_now s.follows.0 ∙ ap (λ (y : FsyncAt). taken_at f.file (fsyncs.next_at y s.found)) at
+
+      which : (x : FsyncAt) → f.at ≡ x → fsyncs.plan_at f.file x ≡ Some s.step → HasDone old new f.who (jobs.Fsync f) after
+      which fsync_at.LoadStop at e = nothing s (leaves s.made (quiet-step {o = Some (steps.Load places.Stop)} tt e)) (now fsync_at.LoadStop at ∙ by-stop (is_stopped s.found) ∙ sym (ap (taken_at f.file) at)) none
+      which fsync_at.Report at e =
+          let own = steps-planned {other = steps.ReportLost f.file} e s.made in
+          record {
+            marked = inl (ap (λ (v : View). v.marks) own.told.next, refl);
+            taken = inr (record { stamp = stamp_of f.who (noted f.who old); file = f.file; count = s.found }, ap (λ (v : View). v.reported) own.told.next, refl,
+                now fsync_at.Report at ∙ by-count (s.found == 0) refl ∙ ap (λ (l : List (FileNo × ℕ)). l ++ (f.file, s.found) ∷ []) (sym (ap (taken_at f.file) at)));
+            set = inl (ap (λ (v : View). v.settings) own.told.next, none);
+            counted = λ none_. ap counts_owed own.told.next ∙ none_;
+          }
+      which (fsync_at.Over answer) at e = absurd (none-some s.step e)
+
+-- the policy of a thread
+module _ {layout : Layout} {old new : View} {p : Prctl} {after : Job} (s : Stepped layout old new (jobs.Prctl p) after) where
+  abbrev told_at : PrctlAt → List (Thread × Policy)
+  told_at x = map (λ (policy : Policy). (p.thread, policy)) (set_at x)
+
+  prctl-done : HasDone old new p.who (jobs.Prctl p) after
+  prctl-done = which p.at refl s.planned
+    where
+      none : taken_now after ≡ []
+      none = ap taken_now s.follows.0
+
+      now : (x : PrctlAt) → p.at ≡ x → policies_now after ≡ told_at (prctls.next_at p.arguments x s.found)
+      now x at = ap policies_now s.follows.0 ∙ ap (λ (y : PrctlAt). told_at (prctls.next_at p.arguments y s.found)) at
+
+      unset : (x : PrctlAt) → p.at ≡ x → set_at x ≡ [] → set_at (prctls.next_at p.arguments x s.found) ≡ [] → policies_now after ≡ policies_now (jobs.Prctl p)
+      unset x at before next = now x at ∙ ap (λ (l : List Policy). map (λ (policy : Policy). (p.thread, policy)) l) (next ∙ sym (ap set_at at ∙ before))
+
+      which : (x : PrctlAt) → p.at ≡ x → prctls.plan_at p.thread p.process x ≡ Some s.step → HasDone old new p.who (jobs.Prctl p) after
+      which prctl_at.LoadStop at e = nothing s (leaves s.made (quiet-step {o = Some (steps.Load places.Stop)} tt e)) none (unset prctl_at.LoadStop at refl (stopped p s.found (is_stopped s.found)))
+      which prctl_at.LoadProcess at e = nothing s (leaves s.made (quiet-step {o = Some (steps.Load (places.Process p.process))} tt e)) none (unset prctl_at.LoadProcess at refl (ended p s.found (page_named s.found)))
+      which prctl_at.LoadPolicy at e = nothing s (leaves s.made (quiet-step {o = Some (steps.Load (places.Policy p.thread))} tt e)) none
+          (unset prctl_at.LoadPolicy at refl (replied p s.found (words.settings_of s.found) (reply (words.policy_of s.found) p.arguments)))
+      which (prctl_at.SetPolicy policy settings) at e =
+          let own = steps-planned {other = steps.SetPolicy p.thread policy settings} e s.made in
+          record {
+            marked = inl (ap (λ (v : View). v.marks) own.told.next, refl);
+            taken = inl (ap (λ (v : View). v.reported) own.told.next, none);
+            set = inr (record { stamp = stamp_of p.who (noted p.who old); thread = p.thread; policy = policy }, ap (λ (v : View). v.settings) own.told.next, refl,
+                now (prctl_at.SetPolicy policy settings) at ∙ ap (λ (l : List (Thread × Policy)). l ++ (p.thread, policy) ∷ []) (sym (ap told_at at)));
+            counted = λ none_. ap counts_owed own.told.next ∙ none_;
+          }
+      which (prctl_at.Over answer) at e = absurd (none-some s.step e)
+
+-- a machine check inside a machine check does none of these
+module _ {layout : Layout} {old new : View} {n : Nested} {after : Job} (s : Stepped layout old new (jobs.Nested n) after) where
+  nested-done : HasDone old new n.who (jobs.Nested n) after
+  nested-done = which n.at s.planned
+    where
+      none : taken_now after ≡ []
+      none = ap taken_now s.follows.0
+
+      unset : policies_now after ≡ []
+      unset = ap policies_now s.follows.0
+
+      by : {A : Type 0} (f : View → A) (b : Bool) (x y : View) → f x ≡ f old → f y ≡ f old → f (cond b x y) ≡ f old
+      by f true x y e g = e
+      by f false x y e g = g
+
+
+      which : (x : NestedAt) → nesteds.plan_at n.who x ≡ Some s.step → HasDone old new n.who (jobs.Nested n) after
+      which nested_at.LoadStop e = nothing s (leaves s.made (quiet-step {o = Some (steps.Load places.Stop)} tt e)) none unset
+      which nested_at.Stop e =
+          let own = steps-planned {other = steps.Stop n.who.cpu} e s.made in
+          record {
+            marked = inl (ap (λ (v : View). v.marks) own.told.next ∙ by (λ (v : View). v.marks) (s.found == 0) (record (noted n.who old) { stops = old.stops ++ n.who ∷ [] }) (sighted n.who places.Stop s.found (noted n.who old)) refl refl, refl);
+            taken = inl (ap (λ (v : View). v.reported) own.told.next ∙ by (λ (v : View). v.reported) (s.found == 0) (record (noted n.who old) { stops = old.stops ++ n.who ∷ [] }) (sighted n.who places.Stop s.found (noted n.who old)) refl refl, none);
+            set = inl (ap (λ (v : View). v.settings) own.told.next ∙ by (λ (v : View). v.settings) (s.found == 0) (record (noted n.who old) { stops = old.stops ++ n.who ∷ [] }) (sighted n.who places.Stop s.found (noted n.who old)) refl refl, unset);
+            counted = λ none_. ap counts_owed own.told.next ∙ by counts_owed (s.found == 0) (record (noted n.who old) { stops = old.stops ++ n.who ∷ [] }) (sighted n.who places.Stop s.found (noted n.who old)) refl refl ∙ none_;
+          }
+      which (nested_at.Over answer) e = absurd (none-some s.step e)
+
+pub done : {layout : Layout} {old new : View} {j after : Job} → Stepped layout old new j after → HasDone old new (who j) j after
+done {j = jobs.Access a} s = quietly s (access a.request a.at) (ap taken_now s.follows.1) (ap policies_now s.follows.1)
+done {j = jobs.Evict e} s = quietly s (evict e.at) (ap taken_now s.follows.1) (ap policies_now s.follows.1)
+done {j = jobs.Fsync f} s = fsync-done s
+done {j = jobs.Prctl p} s = prctl-done s
+done {j = jobs.ReadStop r} s = quietly s (read r.at) (ap taken_now s.follows.0) (ap policies_now s.follows.0)
+done {j = jobs.Nested n} s = nested-done s
+
+-- at its beginning a command has done nothing
+pub untaken-at-start : (j : Job) → IsAtStop j → taken_now j ≡ []
+untaken-at-start (jobs.Access a) start = refl
+untaken-at-start (jobs.Evict e) start = refl
+untaken-at-start (jobs.Fsync f) start = ap (taken_at f.file) start
+untaken-at-start (jobs.Prctl p) start = refl
+untaken-at-start (jobs.ReadStop r) start = refl
+untaken-at-start (jobs.Nested n) start = refl
+
+pub unset-policies-at-start : (j : Job) → IsAtStop j → policies_now j ≡ []
+unset-policies-at-start (jobs.Access a) start = refl
+unset-policies-at-start (jobs.Evict e) start = refl
+unset-policies-at-start (jobs.Fsync f) start = refl
+unset-policies-at-start (jobs.Prctl p) start = ap (λ (x : PrctlAt). map (λ (policy : Policy). (p.thread, policy)) (set_at x)) start
+unset-policies-at-start (jobs.ReadStop r) start = refl
+unset-policies-at-start (jobs.Nested n) start = refl
+
+-- ---- what a view lists of a command
+
+module _ {A B : Type 0} (by : A → Who) (told : A → B) (test : Who → Bool) where
+  abbrev of_command : List A → List B
+  of_command l = map told (filter (λ (x : A). test (by x)) l)
+
+  -- what the view lists of the command grows as the command does it
+  pub grown : (old new : List A) (who : Who) (before after : List B) → test who ≡ true → Grows by told old new who before after → map told (filter (λ (x : A). test (by x)) old) ≡ before → map told (filter (λ (x : A). test (by x)) new) ≡ after
+  grown old new who before after own (inl (same, alike)) was = ap of_command same ∙ was ∙ sym alike
+  grown old new who before after own (inr (x, more, is, longer)) was =
+      ap of_command more ∙ ap (map told) (filter-append (λ (y : A). test (by y)) old (x ∷ [])) ∙ map-append told (filter (λ (y : A). test (by y)) old) (filter (λ (y : A). test (by y)) (x ∷ []))
+      ∙ ap (λ (b : Bool). of_command old ++ map told (cond b (x ∷ []) [])) (ap test is ∙ own) ∙ ap (λ (l : List B). l ++ told x ∷ []) was ∙ sym longer
+
+  -- it lists nothing of a command of which no member is
+  pub none-listed : (l : List A) → EachMember (λ (x : A). test (by x) ≡ false) l → map told (filter (λ (x : A). test (by x)) l) ≡ []
+  none-listed [] each = refl
+  none-listed (x ∷ xs) each = ap (λ (b : Bool). map told (cond b (x ∷ filter (λ (y : A). test (by y)) xs) (filter (λ (y : A). test (by y)) xs))) (each 0 x refl) ∙ none-listed xs (λ i y at. each (suc i) y at)

@@ -1,0 +1,345 @@
+//! `check`: legal reports, forged ones with the line and the rule that is told of each, and refused inputs.
+
+use crate::calls::{PAGES, POLICIES, STOPPED, STORE_AND_LOAD, STORED_AND_LOADED, WORKED};
+use crate::helpers::{call, leaves};
+use crate::processors;
+use std::alloc::Global;
+use std::process::Abort;
+
+/// `check` on a script with this text behind it says this, and ends with this status.
+fn says(rt: &impl Abort, alloc: Global, script: &str, text: &str, said: &str, status: u8) {
+    let mut input = String::from_str(alloc, script).expect(rt, "memory");
+    input.push_str(text).expect(rt, "memory");
+    let left = call(rt, alloc, &["check"], input.as_bytes(), &[], (4096, &[]));
+    leaves(rt, &left, false, status, said, "");
+}
+
+/// The reports of these scripts are legal.
+fn are_legal(rt: &impl Abort, alloc: Global, rows: &[(&str, &str)]) {
+    for (script, report) in rows {
+        says(rt, alloc, script, report, "legal\n", 0);
+    }
+}
+
+#[test]
+fn worked_reports_are_legal(rt: HostRuntime) {
+    are_legal(&rt, rt.alloc(), WORKED);
+    are_legal(&rt, rt.alloc(), PAGES);
+    are_legal(&rt, rt.alloc(), POLICIES);
+    are_legal(&rt, rt.alloc(), STOPPED);
+}
+
+#[test]
+fn reports_of_two_processors_are_legal(rt: HostRuntime) {
+    are_legal(&rt, rt.alloc(), processors::SHARED);
+    are_legal(&rt, rt.alloc(), processors::TAKEN);
+    are_legal(&rt, rt.alloc(), processors::STOPPED);
+}
+
+/// The text with this in place of line `number`, counted from 1; where it is empty the line is left out.
+fn with_line(rt: &impl Abort, alloc: Global, text: &str, number: u64, line: &str) -> String {
+    let mut out = String::new(alloc);
+    let mut at: u64 = 0;
+    for old in text.lines() {
+        at = at.saturating_add(1);
+        let kept = if at == number { line } else { old };
+        if !kept.is_empty() {
+            writeln!(out, "{kept}").expect(rt, "memory");
+        }
+    }
+    out
+}
+
+/// A report with one line forged isn't legal: rows of the line's number, what stands there, and what is said.
+fn are_told(
+    rt: &impl Abort,
+    alloc: Global,
+    script: &str,
+    report: &str,
+    rows: &[(u64, &str, &str)],
+) {
+    for (number, line, said) in rows {
+        let forged = with_line(rt, alloc, report, *number, line);
+        says(rt, alloc, script, forged.as_str(), said, 1);
+    }
+}
+
+const FORGED_STORE_AND_LOAD: &[(u64, &str, &str)] = &[
+    (13, "1 value 78 0 3", "not 13 3\n"),
+    (10, "load 0 1 0 5 0 78", "not 10 2\n"),
+    (14, "", "not 14 1\n"),
+    (1, "hwp-report 2", "not 1 1\n"),
+    (5, "frame 1 free bad 0", "not 5 1\n"),
+];
+
+#[test]
+fn a_forged_load_is_told(rt: HostRuntime) {
+    are_told(
+        &rt,
+        rt.alloc(),
+        STORE_AND_LOAD,
+        STORED_AND_LOADED,
+        FORGED_STORE_AND_LOAD,
+    );
+}
+
+/// A report whose two lines from `number` on change places.
+fn with_swapped(rt: &impl Abort, alloc: Global, text: &str, number: u64) -> String {
+    let mut out = String::new(alloc);
+    let mut held = "";
+    let mut at: u64 = 0;
+    for line in text.lines() {
+        at = at.saturating_add(1);
+        if at == number {
+            held = line;
+        } else {
+            writeln!(out, "{line}").expect(rt, "memory");
+            if at == number + 1 {
+                writeln!(out, "{held}").expect(rt, "memory");
+            }
+        }
+    }
+    out
+}
+
+/// What is said of each pair of lines that change places.
+const SWAPPED: &[&str] = &[
+    "not 1 1\n",
+    "not 2 1\n",
+    "not 3 1\n",
+    "not 4 1\n",
+    "not 6 1\n",
+    "not 6 1\n",
+    "not 7 2\n",
+    "not 8 2\n",
+    "not 9 2\n",
+    "not 10 1\n",
+    "not 11 1\n",
+    "not 12 3\n",
+    "not 13 1\n",
+];
+
+#[test]
+fn lines_that_change_places_are_told(rt: HostRuntime) {
+    let mut number: u64 = 0;
+    for said in SWAPPED {
+        number = number.saturating_add(1);
+        let swapped = with_swapped(&rt, rt.alloc(), STORED_AND_LOADED, number);
+        says(&rt, rt.alloc(), STORE_AND_LOAD, swapped.as_str(), said, 1);
+    }
+}
+
+/// So many lines of a text.
+fn front_of(rt: &impl Abort, alloc: Global, text: &str, lines: u64) -> String {
+    let mut out = String::new(alloc);
+    let mut at: u64 = 0;
+    for line in text.lines() {
+        if at < lines {
+            writeln!(out, "{line}").expect(rt, "memory");
+        }
+        at = at.saturating_add(1);
+    }
+    out
+}
+
+#[test]
+fn a_report_that_is_cut_is_told_at_its_end(rt: HostRuntime) {
+    for lines in 0..14 {
+        let front = front_of(&rt, rt.alloc(), STORED_AND_LOADED, lines);
+        let behind = lines + 1;
+        let said = format!(in rt.alloc(); "not {behind} 1\n").expect(&rt, "memory");
+        says(
+            &rt,
+            rt.alloc(),
+            STORE_AND_LOAD,
+            front.as_str(),
+            said.as_str(),
+            1,
+        );
+    }
+}
+
+#[test]
+fn a_forged_moment_is_told(rt: HostRuntime) {
+    let (script, report) = *PAGES.get(2).expect(&rt, "a row");
+    are_told(
+        &rt,
+        rt.alloc(),
+        script,
+        report,
+        &[(20, "2 notresident 0 0", "not 20 3\n")],
+    );
+}
+
+/// A load of a bad line, whose thread is signalled, and a load behind it.
+const BAD_LINE: &str = "\
+hwp 1\ncpus 1\nframes 2\nproc 0\nthread 0 0 0 handler\npage 0 anon\ntrans 0 0 0\ncpu 0\n\
+store 0 0 5 77\nbad 0 5\nload 0 0 5\nload 0 0 6\nend\n";
+
+const BAD_LINE_MET: &str = "\
+hwp-report 1\nstop none\ncount 1\nframe 0 handled bad 20 weak 0\npoisoned 0 0 2 hw anononly recovered\n\
+frame 1 free bad 0 weak 0\npage 0 6\nin 0 0\nmap 0 0 0\nstore 0 0 0 5 0 77\nmce 0 2 0 5 20\n\
+fail 0 2 anononly req 0 0 1\nsignal 0 0 ar 0\nload 0 3 0 6 sigbus 0\ncpu 0 5\n0 stored 0 2\n1 done\n\
+2 event 0 bd80000000000134 140 86 S9 recovered\n2 sigbus 0 4\n3 sigbus 0 5\nend\n";
+
+const FORGED_BAD_LINE: &[(u64, &str, &str)] = &[
+    (3, "count 0", "not 3 6\n"),
+    (6, "frame 1 free bad 1 weak 0", "not 6 9\n"),
+    (2, "stop 0 3 panic 0", "not 2 8\n"),
+    (10, "store 0 0 0 5 0 78", "not 10 2\n"),
+    (12, "fail 0 2 anononly opt - 0 1", "not 12 2\n"),
+    (
+        18,
+        "2 event 0 bd80000000000134 140 86 S9 delayed",
+        "not 18 3\n",
+    ),
+    (19, "2 sigbus 0 3", "not 19 3\n"),
+    (20, "3 value 0 0 5", "not 20 3\n"),
+];
+
+#[test]
+fn a_forged_failure_is_told(rt: HostRuntime) {
+    says(&rt, rt.alloc(), BAD_LINE, BAD_LINE_MET, "legal\n", 0);
+    are_told(&rt, rt.alloc(), BAD_LINE, BAD_LINE_MET, FORGED_BAD_LINE);
+}
+
+/// A software failure that signals the thread whose policy is early.
+const INJECTED: &str = "\
+hwp 1\ncpus 1\nframes 2\nearly 1\nproc 0\nthread 0 0 0 handler\nthread 1 0 0 handler\npage 0 anon\ntrans 0 0 0\n\
+cpu 0\nprctl 0 33 1 0 0 0\nprctl 1 33 1 1 0 0\nstore 1 0 0 5\ninject 0\nend\n";
+
+const INJECTED_REPORT: &str = "\
+hwp-report 1\nstop none\ncount 1\nframe 0 handled bad 0 weak 0\npoisoned 0 0 3 sw anononly recovered\n\
+frame 1 free bad 0 weak 0\npage 0 4\nin 0 2\nmap 0 2 0\nstore 0 2 0 0 0 5\nfail 0 3 anononly opt - 2 1\n\
+seen 0 late 1\nseen 1 early 1\nsignal 0 1 ao 0\ncpu 0 4\n0 done\n1 done\n2 stored 0 2\n3 recovered\nend\n";
+
+#[test]
+fn a_forged_policy_is_told(rt: HostRuntime) {
+    says(&rt, rt.alloc(), INJECTED, INJECTED_REPORT, "legal\n", 0);
+    are_told(
+        &rt,
+        rt.alloc(),
+        INJECTED,
+        INJECTED_REPORT,
+        &[(13, "seen 1 early 0", "not 13 4\n")],
+    );
+}
+
+/// A file loses what was stored in a page of it.
+const LOST: &str = "\
+hwp 1\ncpus 1\nframes 3\nfile 0\nproc 0\nproc 1\nthread 0 0 0 handler\nthread 1 1 0 handler\npage 0 file 0 fill 9\n\
+trans 0 0 0\ntrans 1 1 0\ncpu 0\nprctl 1 33 1 1 0 0\nstore 0 0 2 70\nload 1 1 2\nbad 0 2\nload 0 0 2\nfsync 0\nfsync 0\n\
+load 1 1 2\nend\n";
+
+const LOST_REPORT: &str = "\
+hwp-report 1\nstop none\ncount 1\nfile 0 lost 0\nframe 0 handled bad 4 weak 0\npoisoned 0 0 4 hw filedirty recovered\n\
+frame 1 free bad 0 weak 0\nframe 2 free bad 0 weak 0\npage 0 8\nin 0 1\nmap 0 1 0\nstore 0 1 0 2 0 70\nmap 0 2 1\n\
+load 0 2 1 2 0 70\nmce 0 4 0 2 4\nfail 0 4 filedirty req 0 1 2\nseen 1 early 1\nsignal 0 0 ar 0\nsignal 1 1 ao 1\n\
+load 0 7 1 2 sigbus 1\ncpu 0 9\n0 done\n1 stored 0 2\n2 value 70 0 4\n3 done\n\
+4 event 0 bd80000000000134 80 86 S9 recovered\n4 sigbus 0 6\n5 eio 1\n6 done\n7 sigbus 0 7\nend\n";
+
+#[test]
+fn a_forged_loss_is_told(rt: HostRuntime) {
+    says(&rt, rt.alloc(), LOST, LOST_REPORT, "legal\n", 0);
+    are_told(
+        &rt,
+        rt.alloc(),
+        LOST,
+        LOST_REPORT,
+        &[(4, "file 0 lost 5", "not 4 7\n")],
+    );
+}
+
+/// The report of a store and a load, with a stop by a machine check that no line shows.
+const STOPPED_BY_NOTHING: &str = "\
+hwp-report 1\nstop 0 1 severity S3 0 be00000000000134 1 1 user\ncount 0\nframe 0 page 0 bad 0 weak 0\n\
+frame 1 free bad 0 weak 0\npage 0 3\nin 0 0\nmap 0 0 0\nstore 0 0 0 5 0 77\ncpu 0 2\n0 stored 0 2\n1 stopped\nend\n";
+
+#[test]
+fn a_stop_by_nothing_is_told(rt: HostRuntime) {
+    says(
+        &rt,
+        rt.alloc(),
+        STORE_AND_LOAD,
+        STOPPED_BY_NOTHING,
+        "not 2 8\n",
+        1,
+    );
+}
+
+/// Behind the script nothing is skipped.
+const OTHER_TEXTS: &[(&str, &str)] = &[
+    ("", "not 1 1\n"),
+    ("\n", "not 1 1\n"),
+    ("# a comment\nhwp-report 1\n", "not 1 1\n"),
+    ("hwp-report 1\nstop none\n\n", "not 3 1\n"),
+    ("hwp-report 1\ncount 0\nstop none\n", "not 2 1\n"),
+];
+
+#[test]
+fn a_text_that_is_no_report_breaks_the_first_rule(rt: HostRuntime) {
+    for (text, said) in OTHER_TEXTS {
+        says(&rt, rt.alloc(), STORE_AND_LOAD, text, said, 1);
+    }
+}
+
+/// The script ends with its first line `end`, also where spaces or other lines of it stand around.
+#[test]
+fn spaces_may_stand_around_the_end_of_a_script(rt: HostRuntime) {
+    says(
+        &rt,
+        rt.alloc(),
+        "hwp 1\n#end\n# end\ncpus 1\nframes 1\n  end \n",
+        "hwp-report 1\nstop none\ncount 0\nframe 0 free bad 0 weak 0\ncpu 0 0\nend\n",
+        "legal\n",
+        0,
+    );
+}
+
+/// `check` refuses each input, and tells what stands beside it.
+const REFUSED: &[(&str, &str)] = &[
+    ("", "script line 1: BadHeader\n"),
+    ("hwp 1\ncpus 1\nend\n", "script line 3: WrongPlace\n"),
+    ("hwp 1\ncpus 1\nframes 2\n", "script line 3: NoEnd\n"),
+    (
+        "hwp 1\ncpus 1\nframes 1\nhwp-report 1\nend\n",
+        "script line 4: UnknownWord\n",
+    ),
+];
+
+#[test]
+fn check_refuses_what_is_no_script(rt: HostRuntime) {
+    for (input, told) in REFUSED {
+        let left = call(
+            &rt,
+            rt.alloc(),
+            &["check"],
+            input.as_bytes(),
+            &[],
+            (4096, &[]),
+        );
+        leaves(&rt, &left, false, 3, "", told);
+    }
+}
+
+/// `check` refuses so many spaces.
+fn is_too_long(rt: &impl Abort, alloc: Global, bytes: usize) {
+    let long = vec![in alloc; b' '; bytes].expect(rt, "memory");
+    let left = call(rt, alloc, &["check"], long.as_slice(), &[], (4096, &[]));
+    leaves(rt, &left, false, 3, "", "script line 0: TooLong\n");
+}
+
+#[test]
+fn a_byte_too_many_is_refused(rt: HostRuntime) {
+    is_too_long(&rt, rt.alloc(), 1_048_577);
+    is_too_long(&rt, rt.alloc(), 17_825_793);
+}
+
+#[test]
+fn check_tells_faults_of_its_source_and_its_sink(rt: HostRuntime) {
+    let script = STORE_AND_LOAD.as_bytes();
+    let unread = call(&rt, rt.alloc(), &["check"], script, &[2], (4096, &[]));
+    leaves(&rt, &unread, false, 4, "", "read fault\n");
+    let cut = call(&rt, rt.alloc(), &["check"], script, &[], (4, &[2]));
+    leaves(&rt, &cut, false, 5, "not ", "write fault\n");
+}
