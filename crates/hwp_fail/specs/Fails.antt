@@ -42,6 +42,9 @@ use Rattle.hwp_fail.specs.declared.fail.FailAnswer.TheVariants as answers
 abbrev pub start : Who → Frame → Bool → Bool → FailAt
 start who frame hardware recovery = at.Claim (claims.begin who frame hardware recovery)
 
+abbrev pub begin : Global → Who → Frame → Option Thread → Bool → Bool → Fail
+begin alloc who frame required hardware recovery = record { alloc = alloc; who = who; frame = frame; required = required; at = start who frame hardware recovery }
+
 abbrev pub plan_at : FailAt → Option Step
 plan_at (at.Claim c) = claims.plan c
 plan_at (at.Act cycle a) = acts.plan a

@@ -1,1 +1,2 @@
 pub mod Fails
+pub mod Injects

@@ -2,7 +2,7 @@ ghost use Rattle.std.specs.Prelude.{◌≡◌, true};
 ghost use Rattle.hwp_act.specs.Acts as acts;
 ghost use Rattle.hwp_claim.specs.Claims as claims;
 ghost use Rattle.hwp_fail.specs.Fails.{
-  start,
+  begin,
   answer,
   acted_on,
   after_act,
@@ -70,8 +70,7 @@ impl Fail {
         required: Option<Thread>,
         hardware: bool,
     ) -> Fail
-        ensures begun { (result.who ≡ who) × (result.frame ≡ frame) × (result.required ≡ required) }
-        ensures starts { result.at ≡ start who frame hardware layout.now.recovery }
+        ensures { result ≡ begin alloc who frame required hardware layout.now.recovery }
     {
         Fail {
             alloc,

@@ -2,7 +2,9 @@
 use Rattle.hwp_page.specs.declared.At.{At}
 use Rattle.hwp_report.specs.declared.Answer.{Answer}
 use Rattle.hwp_report.specs.declared.Answer.TheVariants as answers
+use Rattle.hwp_page.specs.Situations.{outcome_of}
 use Rattle.hwp_law.specs.Answers.{reply_answer}
+use Rattle.hwp_law.specs.Records.{outcome_answer}
 use Rattle.hwp_control.specs.declared.NestedAnswer.{NestedAnswer}
 use Rattle.hwp_control.specs.declared.NestedAnswer.TheVariants as nested
 use Rattle.hwp_control.specs.declared.PrctlAnswer.{PrctlAnswer}
@@ -17,6 +19,8 @@ use Rattle.hwp_evict.specs.declared.Refusal.{Refusal}
 use Rattle.hwp_evict.specs.declared.Refusal.TheVariants as refusals
 use Rattle.hwp_fault.specs.declared.AccessAnswer.{AccessAnswer}
 use Rattle.hwp_fault.specs.declared.AccessAnswer.TheVariants as access
+use Rattle.hwp_fail.specs.declared.FailAnswer.{FailAnswer}
+use Rattle.hwp_fail.specs.declared.FailAnswer.TheVariants as fail
 
 abbrev pub access_answer : AccessAnswer → Answer
 access_answer (access.Value word page place) = answers.Value word (record { page = page; entry = place })
@@ -55,3 +59,8 @@ read_stop_answer read_stop.Stopped = answers.Stopped
 abbrev pub nested_answer : NestedAnswer → Answer
 nested_answer nested.Shutdown = answers.Stopped
 nested_answer nested.Stopped = answers.Stopped
+
+abbrev pub fail_answer : FailAnswer → Answer
+fail_answer fail.Stopped = answers.Stopped
+fail_answer fail.Already = answers.Already
+fail_answer (fail.Done situation cycle at signalled) = outcome_answer (outcome_of situation)

@@ -1,5 +1,7 @@
 -- The task that a command begins as.
+use Rattle.std.specs.declared.alloc.Global.{Global}
 use Rattle.std.specs.Prelude.{◌≡◌, ℕ, ◌<◌, Bool, true, false, Some, length, slice_get}
+use Rattle.hwp_geom.specs.declared.Frame.{Frame}
 use Rattle.hwp_geom.specs.declared.Layout.{Layout}
 use Rattle.hwp_geom.specs.declared.Page.{Page}
 use Rattle.hwp_geom.specs.declared.Proc.{Proc}
@@ -22,17 +24,17 @@ use Rattle.hwp_evict.specs.Fsyncs as fsyncs
 use Rattle.hwp_fault.specs.declared.AccessKind.{AccessKind}
 use Rattle.hwp_fault.specs.declared.AccessKind.TheVariants as kinds
 use Rattle.hwp_fault.specs.Accesses as accesses
+use Rattle.hwp_fail.specs.Injects as injects
 use Rattle.hwp_job.specs.declared.job.Job.{Job}
 use Rattle.hwp_job.specs.declared.job.Job.TheVariants as jobs
 
--- processors run the command: all are supported by which no memory fails
+-- processors run the command: all but those of errors of the hardware, `soft` and `unpoison`
 abbrev pub is_supported : Command → Bool
 is_supported (commands.Bad frame line) = false
 is_supported (commands.Weak frame line) = false
 is_supported (commands.Scrub first last) = false
 is_supported (commands.RaiseUser thread ripv eipv) = false
 is_supported (commands.RaiseKernel ripv eipv) = false
-is_supported (commands.Inject frame) = false
 is_supported (commands.Soft frame) = false
 is_supported (commands.Unpoison frame) = false
 is_supported command = true
@@ -58,6 +60,12 @@ pub record BeginsPrctl (layout : Layout) (who : Who) (thread : Thread) (args : P
   pub within : decl.process.0 < layout.procs
   pub job_is : j ≡ jobs.Prctl (prctls.begin who thread decl.process (arguments args))
 
+-- a failure of a frame of the layout
+pub record BeginsInject (layout : Layout) (who : Who) (frame : Frame) (j : Job) : Type 0 where
+  pub within : frame.0 < layout.frames
+  pub alloc : Global
+  pub job_is : j ≡ jobs.Inject (injects.begin alloc who frame)
+
 -- the task is at the beginning of the command
 abbrev pub Begins : Layout → Who → Command → Job → Type 0
 Begins layout who (commands.Load thread slot line) j = BeginsAccess layout who thread slot line kinds.Load j
@@ -71,5 +79,6 @@ Begins layout who (commands.Out page) j = BeginsEviction layout who page evictio
 Begins layout who (commands.Fsync file) j = (file.0 < layout.files) × (j ≡ jobs.Fsync (fsyncs.begin who file))
 Begins layout who (commands.Prctl thread args) j = BeginsPrctl layout who thread args j
 Begins layout who (commands.Log status addr misc) j = j ≡ jobs.ReadStop (read_stops.begin who)
+Begins layout who (commands.Inject frame) j = BeginsInject layout who frame j
 Begins layout who commands.RaiseNested j = j ≡ jobs.Nested (nesteds.begin who)
 Begins layout who _ j = ⊥

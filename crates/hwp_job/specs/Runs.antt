@@ -19,6 +19,7 @@ use Rattle.hwp_control.specs.ReadStops as read_stops
 use Rattle.hwp_evict.specs.Evicts as evicts
 use Rattle.hwp_evict.specs.Fsyncs as fsyncs
 use Rattle.hwp_fault.specs.Accesses as accesses
+use Rattle.hwp_fail.specs.Injects as injects
 use Rattle.hwp_job.specs.declared.job.Job.{Job}
 use Rattle.hwp_job.specs.declared.job.Job.TheVariants as jobs
 use Rattle.hwp_job.specs.Begins.{Begins}
@@ -31,6 +32,7 @@ anew (jobs.Fsync f) = jobs.Fsync (fsyncs.begin f.who f.file)
 anew (jobs.Prctl p) = jobs.Prctl (prctls.begin p.who p.thread p.process p.arguments)
 anew (jobs.ReadStop r) = jobs.ReadStop (read_stops.begin r.who)
 anew (jobs.Nested n) = jobs.Nested (nesteds.begin n.who)
+anew (jobs.Inject i) = jobs.Inject (injects.begin i.alloc i.who i.frame)
 
 -- the task is of the command: begun anew, it is what the command begins as
 abbrev pub Runs : Layout → Who → Command → Job → Type 0

@@ -20,7 +20,6 @@ use Rattle.hwp_form.specs.declared.Command.{Command}
 use Rattle.hwp_report.specs.declared.Answer.TheVariants as answers
 use Rattle.hwp_law.specs.Commands.{process_of_thread}
 use Rattle.hwp_law.specs.Policies.{settings}
-use Rattle.hwp_control.specs.declared.Nested.{Nested}
 use Rattle.hwp_control.specs.declared.NestedAnswer.TheVariants as nested_answers
 use Rattle.hwp_control.specs.declared.PrctlAnswer.TheVariants as prctl_answers
 use Rattle.hwp_control.specs.declared.nested.NestedAt.TheVariants as nested_at
@@ -30,6 +29,12 @@ use Rattle.hwp_control.specs.declared.read_stop.ReadStopAt.TheVariants as read_s
 use Rattle.hwp_evict.specs.declared.evict.EvictAt.TheVariants as evict_at
 use Rattle.hwp_evict.specs.declared.fsync.FsyncAt.TheVariants as fsync_at
 use Rattle.hwp_fault.specs.declared.access.AccessAt.TheVariants as access_at
+use Rattle.hwp_claim.specs.declared.claim.Claim.{Claim}
+use Rattle.hwp_claim.specs.declared.claim.ClaimAt.TheVariants as claim_at
+use Rattle.hwp_fail.specs.declared.fail.Fail.{Fail}
+use Rattle.hwp_fail.specs.declared.fail.FailAt.TheVariants as fail_at
+use Rattle.hwp_fail.specs.declared.FailAnswer.TheVariants as fail_answers
+use Rattle.hwp_fail.specs.declared.inject.InjectAt.TheVariants as inject_at
 use Rattle.hwp_job.specs.declared.job.Job.{Job}
 use Rattle.hwp_job.specs.declared.job.Job.TheVariants as jobs
 use Rattle.hwp_job.specs.Jobs.{Fits, Next, answer, bare, plan, put, who}
@@ -60,18 +65,30 @@ IsAtStop (jobs.Fsync f) = f.at ≡ fsync_at.LoadStop
 IsAtStop (jobs.Prctl p) = p.at ≡ prctl_at.LoadStop
 IsAtStop (jobs.ReadStop r) = r.at ≡ read_stop_at.LoadStop
 IsAtStop (jobs.Nested n) = n.at ≡ nested_at.LoadStop
+IsAtStop (jobs.Inject i) = i.at ≡ inject_at.LoadStop
 
 -- on a machine that has stopped the command has no other answer: it has yet to look, or is answered `stopped`
 abbrev pub EndsStopped : Job → Type 0
 EndsStopped j = IsAtStop j ⊎ (answer j ≡ Some answers.Stopped)
 
--- the command, a machine check inside a machine check, stopped the machine with this step
+-- the step of the command is to stop the machine: a machine check inside a machine check, or a failure on a machine that doesn't
+-- recover
+abbrev pub IsStopping : Job → Type 0
+IsStopping (jobs.Nested n) = n.at ≡ nested_at.Stop
+IsStopping (jobs.Inject i) = (f : Fail) × (c : Claim) × (i.at ≡ inject_at.Fail f) × (f.at ≡ fail_at.Claim c) × (c.at ≡ claim_at.Stop)
+IsStopping _ = ⊥
+
+-- the command that could stop the machine found it stopped by that step, or stopped it
+abbrev pub HasStopped : Job → Type 0
+HasStopped (jobs.Nested n) = n.at ≡ nested_at.Over (Some nested_answers.Shutdown)
+HasStopped (jobs.Inject i) = (f : Fail) × (i.at ≡ inject_at.Fail f) × (f.at ≡ fail_at.Over fail_answers.Stopped)
+HasStopped _ = ⊥
+
+-- the command stopped the machine with this step
 pub record StopsItself (j after : Job) (old new : View) : Type 0 where
-  pub nested : Nested
-  pub job_is : j ≡ jobs.Nested nested
-  pub at_is : nested.at ≡ nested_at.Stop
-  pub after_is : after ≡ jobs.Nested (record nested { at = nested_at.Over (Some nested_answers.Shutdown) })
-  pub stops_are : new.stops ≡ old.stops ++ nested.who ∷ []
+  pub stopping : IsStopping j
+  pub has : HasStopped after
+  pub stops_are : new.stops ≡ old.stops ++ who j ∷ []
 
 -- ---- threads that can't set their policy
 

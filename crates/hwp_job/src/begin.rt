@@ -9,11 +9,13 @@ ghost use Rattle.hwp_job.specs.Begins.{Begins, BeginsAccess, BeginsPrctl, is_sup
 use crate::job::Job;
 use hwp_control::{Nested, Prctl, ReadStop};
 use hwp_evict::{Evict, Fsync};
+use hwp_fail::Inject;
 use hwp_fault::{Access, AccessKind};
 use hwp_form::{Command, PrctlArgs};
 use hwp_geom::{Layout, Line, Page, Thread, VSlot, Who};
+use std::alloc::Global;
 
-/// Whether processors run the command yet: all are supported by which no memory fails.
+/// Whether processors run the command yet: all do but those of errors of the hardware, `soft` and `unpoison`.
 pub fn is_supported(command: Command) -> bool
     ensures { result ≡ is_supported command }
 {
@@ -24,7 +26,6 @@ pub fn is_supported(command: Command) -> bool
             | Command::Scrub { .. }
             | Command::RaiseUser { .. }
             | Command::RaiseKernel { .. }
-            | Command::Inject { .. }
             | Command::Soft { .. }
             | Command::Unpoison { .. }
     )
@@ -32,7 +33,7 @@ pub fn is_supported(command: Command) -> bool
 
 impl Job {
     /// The command at its beginning.
-    pub fn new(layout: &Layout, who: Who, command: Command) -> Job
+    pub fn new(alloc: Global, layout: &Layout, who: Who, command: Command) -> Job
         requires sound { IsSound layout.now }
         requires of { IsCommandOf layout.now who.cpu.0 command }
         requires supported { is_supported command ≡ true }
@@ -60,12 +61,12 @@ impl Job {
             Command::Prctl { thread, args } => call(layout, who, thread, args),
             Command::Log { .. } => Job::ReadStop(ReadStop::new(who)),
             Command::RaiseNested => Job::Nested(Nested::new(who)),
+            Command::Inject { frame } => Job::Inject(Inject::new(alloc, who, frame)),
             Command::Bad { .. }
             | Command::Weak { .. }
             | Command::Scrub { .. }
             | Command::RaiseUser { .. }
             | Command::RaiseKernel { .. }
-            | Command::Inject { .. }
             | Command::Soft { .. }
             | Command::Unpoison { .. } => unreachable!(),
         }

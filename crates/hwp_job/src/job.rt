@@ -2,11 +2,12 @@ ghost use Rattle.std.specs.Prelude.{◌≡◌};
 
 use hwp_control::{Nested, NestedAnswer, Prctl, PrctlAnswer, ReadStop, ReadStopAnswer};
 use hwp_evict::{Evict, EvictAnswer, Fsync, FsyncAnswer, Refusal};
+use hwp_fail::{FailAnswer, Inject};
 use hwp_fault::{Access, AccessAnswer};
 use hwp_geom::{Frame, Layout, Who};
 use hwp_kill::Reply;
-use hwp_page::{At, Body};
-use hwp_report::{Answer, MarkLine};
+use hwp_page::{At, Body, Outcome};
+use hwp_report::{Answer, How, MarkLine};
 use hwp_rule::Step;
 use hwp_step::{Machine, Ranked, Scheduled, Turn};
 
@@ -25,6 +26,8 @@ pub enum Job {
     ReadStop(ReadStop),
     /// A machine check inside a machine check.
     Nested(Nested),
+    /// A failure of a frame.
+    Inject(Inject),
 }
 
 impl Job {
@@ -42,20 +45,25 @@ impl Job {
             Job::Prctl(prctl) => prctl.answer().map(|answer| prctl_answer(answer)),
             Job::ReadStop(read) => read.answer().map(|answer| read_stop_answer(answer)),
             Job::Nested(nested) => nested.answer().map(|answer| nested_answer(answer)),
+            Job::Inject(inject) => inject.answer().map(|answer| fail_answer(answer)),
         }
     }
 
-    /// The line that the command adds to the record of a frame, when it is over; no command does so yet.
+    /// The line that the command adds to the record of a frame, when it is over: only a memory failure does so.
     pub fn note(&self) -> Option<(Frame, MarkLine)>
         ensures { result ≡ note self.now }
     {
-        let _ = self;
-        None
+        match self {
+            Job::Inject(inject) => note_of(inject.who(), inject.frame(), inject.answer()),
+            _ => None,
+        }
     }
 }
 
-ghost use Rattle.hwp_job.specs.Answers.{access_answer, evict_answer, fsync_answer, nested_answer, prctl_answer, read_stop_answer, refusal_answer};
+ghost use Rattle.hwp_job.specs.Done.{note_of};
+ghost use Rattle.hwp_job.specs.Answers.{access_answer, evict_answer, fail_answer, fsync_answer, nested_answer, prctl_answer, read_stop_answer, refusal_answer};
 ghost use Rattle.hwp_law.specs.Answers.{reply_answer};
+ghost use Rattle.hwp_law.specs.Records.{outcome_answer};
 
 /// What a report's line says of an access.
 fn access_answer(answer: AccessAnswer) -> Answer
@@ -150,6 +158,46 @@ fn nested_answer(answer: NestedAnswer) -> Answer
     }
 }
 
+/// What it says of a memory failure.
+fn fail_answer(answer: FailAnswer) -> Answer
+    ensures { result ≡ fail_answer answer }
+{
+    match answer {
+        FailAnswer::Stopped => Answer::Stopped,
+        FailAnswer::Already => Answer::Already,
+        FailAnswer::Done { situation, .. } => outcome_answer(situation.outcome()),
+    }
+}
+
+/// What it says of the outcome of a memory failure.
+fn outcome_answer(outcome: Outcome) -> Answer
+    ensures { result ≡ outcome_answer outcome }
+{
+    match outcome {
+        Outcome::Recovered => Answer::Recovered,
+        Outcome::Delayed => Answer::Delayed,
+        Outcome::Ignored => Answer::Ignored,
+    }
+}
+
+/// What the record of a frame says of its failure, where that poisoned it.
+fn note_of(who: Who, frame: Frame, answer: Option<FailAnswer>) -> Option<(Frame, MarkLine)>
+    ensures { result ≡ note_of who frame answer }
+{
+    let Some(FailAnswer::Done {
+        situation, cycle, ..
+    }) = answer
+    else {
+        return None;
+    };
+    let how = How::Failure {
+        hardware: false,
+        situation,
+        outcome: situation.outcome(),
+    };
+    Some((frame, MarkLine::Poisoned { cycle, who, how }))
+}
+
 impl Machine for Job {
     ghost use Rattle.std.specs.Prelude.{◌≡◌};
     ghost use Rattle.hwp_job.specs.Jobs.{Fits, Next, Shows, bare, plan, put, who};
@@ -176,6 +224,7 @@ impl Machine for Job {
             Job::Prctl(prctl) => prctl.who(),
             Job::ReadStop(read) => read.who(),
             Job::Nested(nested) => nested.who(),
+            Job::Inject(inject) => inject.who(),
         }
     }
 
@@ -187,6 +236,7 @@ impl Machine for Job {
             Job::Prctl(prctl) => prctl.plan(),
             Job::ReadStop(read) => read.plan(),
             Job::Nested(nested) => nested.plan(),
+            Job::Inject(inject) => inject.plan(),
         }
     }
 
@@ -198,6 +248,7 @@ impl Machine for Job {
             Job::Prctl(prctl) => prctl.give(),
             Job::ReadStop(read) => read.give(),
             Job::Nested(nested) => nested.give(),
+            Job::Inject(inject) => inject.give(),
         }
     }
 
@@ -209,21 +260,21 @@ impl Machine for Job {
             Job::Prctl(prctl) => prctl.settle(layout, found, body),
             Job::ReadStop(read) => read.settle(layout, found, body),
             Job::Nested(nested) => nested.settle(layout, found, body),
+            Job::Inject(inject) => inject.settle(layout, found, body),
         }
     }
 }
 
 impl Ranked for Job {
-    ghost use Rattle.std.specs.Prelude.{false, None};
-    ghost use Rattle.hwp_job.specs.Jobs.{class, cost};
+    ghost use Rattle.hwp_job.specs.Jobs.{aborts, claims, class, cost};
 
     ghost class_of = { λ j. class j };
 
     ghost cost = { λ j words. cost j words };
 
-    ghost aborts = { λ j. false };
+    ghost aborts = { λ j. aborts j };
 
-    ghost claims = { λ j. None };
+    ghost claims = { λ j. claims j };
 
     fn class(&self) -> u8 {
         match self {
@@ -233,6 +284,7 @@ impl Ranked for Job {
             Job::Prctl(prctl) => prctl.class(),
             Job::ReadStop(read) => read.class(),
             Job::Nested(nested) => nested.class(),
+            Job::Inject(inject) => inject.class(),
         }
     }
 
@@ -248,6 +300,7 @@ impl Scheduled for Job {
             Job::Prctl(prctl) => prctl.is_over(),
             Job::ReadStop(read) => read.is_over(),
             Job::Nested(nested) => nested.is_over(),
+            Job::Inject(inject) => inject.is_over(),
         }
     }
 

@@ -1,6 +1,6 @@
 -- The commands of one processor as one task: in all that it plans, shows and needs it is the command that runs, until that is
 -- answered; then the next one begins.
-use Rattle.std.specs.Prelude.{◌≡◌, ℕ, ◌+◌, ◌-◌, ◌*◌, ◌<◌, ◌≤◌, true, List, [], ◌∷◌, ◌++◌, Option, Some, None, All, length, option_map, slice_get, vec_capacity}
+use Rattle.std.specs.Prelude.{◌≡◌, ℕ, ◌+◌, ◌-◌, ◌*◌, ◌<◌, ◌≤◌, Bool, true, false, List, [], ◌∷◌, ◌++◌, Option, Some, None, All, length, option_map, slice_get, vec_capacity}
 use Rattle.std.specs.Arc.{arc_value}
 use Rattle.std.specs.List.{cons_option}
 use Rattle.hwp_geom.specs.declared.Cpu.{Cpu}
@@ -95,6 +95,21 @@ class p = class_of p.job
 abbrev pub cost_of : Option Job → Words → ℕ
 cost_of (Some j) words = jobs.cost j words
 cost_of None words = 0
+
+-- what the command that runs claims, and whether it gives up what it has begun
+abbrev pub claims_of : Option Job → Option (Frame × ℕ)
+claims_of (Some j) = jobs.claims j
+claims_of None = None
+
+abbrev pub claims : Processor → Option (Frame × ℕ)
+claims p = claims_of p.job
+
+abbrev pub aborts_of : Option Job → Bool
+aborts_of (Some j) = jobs.aborts j
+aborts_of None = false
+
+abbrev pub aborts : Processor → Bool
+aborts p = aborts_of p.job
 
 -- each command that isn't answered costs more than all turns of one, and the one that runs its turns beside
 abbrev pub cost : Processor → Words → ℕ

@@ -18,17 +18,14 @@ use Rattle.hwp_rule.specs.Lists.{EachMember, StartsWith}
 use Rattle.hwp_rule.specs.Views.{no_debts}
 use Rattle.hwp_step.specs.Hands.{hand_of, empty}
 use Rattle.hwp_known.specs.Known.{HasMadeNone}
-use Rattle.hwp_control.specs.declared.Nested.{Nested}
-use Rattle.hwp_control.specs.declared.NestedAnswer.TheVariants as nested_answers
-use Rattle.hwp_control.specs.declared.nested.NestedAt.TheVariants as nested_at
 use Rattle.hwp_law.specs.Policies.{settings}
 use Rattle.hwp_law.specs.Stops.{StaysStopped}
 use Rattle.hwp_job.specs.declared.job.Job.{Job}
-use Rattle.hwp_job.specs.declared.job.Job.TheVariants.{Nested as NestedJob}
 use Rattle.hwp_job.specs.Done.{HasCounted, marked_now, policies_now, taken_now}
 use Rattle.hwp_job.specs.Jobs as jobs
 use Rattle.hwp_job.specs.Runs.{NoneBad, Runs}
 use Rattle.hwp_job.specs.Settings.{policies_in}
+use Rattle.hwp_job.specs.Stays as stays
 use Rattle.hwp_job.specs.Stays.{EndsStopped, IsHalted, KnowsPolicies}
 use Rattle.hwp_served.specs.Accounts.{IsNote, Note, frames_marked, losses_taken, policies_set}
 use Rattle.hwp_served.specs.Owed.{OwesOwn}
@@ -71,12 +68,10 @@ pub record Serves (layout : Layout) (view : View) (cpu : Cpu) (list : List Comma
   pub halted : HasStopped rows → IsHalted view
   pub none_bad : NoneBad view
 
--- the command that runs, a machine check inside a machine check, has stopped the machine, and no line before it is `stopped`
+-- the command that runs has stopped the machine, and no line before it is `stopped`
 pub record HasStoppedIt (rows : List CpuLine) (j : Job) (who : Who) : Type 0 where
-  pub nested : Nested
-  pub job_is : j ≡ NestedJob nested
-  pub at_is : nested.at ≡ nested_at.Over (Some nested_answers.Shutdown)
-  pub who_is : nested.who ≡ who
+  pub has : stays.HasStopped j
+  pub who_is : jobs.who j ≡ who
   pub first : HasStopped rows → ⊥
 
 -- the command after those that are answered runs, and knows what those left

@@ -17,6 +17,7 @@ use std::sync::Arc;
 /// The commands of one processor, which run one after the other. Each is answered by a line.
 #[derive(Drop)]
 pub struct Processor {
+    alloc: Global,
     layout: Arc<Layout, Global>,
     cpu: Cpu,
     commands: List<Command>,
@@ -41,12 +42,13 @@ impl Processor {
         ensures { IfOk result (λ p. AtBeginning (arc_value layout.now) cpu commands.now p) }
     {
         Ok(Processor {
+            alloc,
             layout: layout.clone()?,
             cpu,
             commands: List::from_vec(Vec::from_slice(alloc, commands)?),
             lines: Vec::with_capacity(alloc, commands.len())?,
             notes: Vec::with_capacity(alloc, commands.len())?,
-            job: begin(layout, cpu, commands, 0),
+            job: begin(alloc, layout, cpu, commands, 0),
         })
     }
 
@@ -88,7 +90,7 @@ impl Processor {
         };
         self.lines.push_reserved(line);
         let commands = self.commands.as_slice();
-        self.job = begin(&self.layout, self.cpu, commands, number + 1);
+        self.job = begin(self.alloc, &self.layout, self.cpu, commands, number + 1);
     }
 }
 
@@ -105,7 +107,13 @@ fn add(notes: &mut Vec<(Frame, MarkLine)>, note: Option<(Frame, MarkLine)>)
 }
 
 /// The command of this number at its beginning; `None` past the last.
-fn begin(layout: &Layout, cpu: Cpu, commands: &[Command], number: usize) -> Option<Job>
+fn begin(
+    alloc: Global,
+    layout: &Layout,
+    cpu: Cpu,
+    commands: &[Command],
+    number: usize,
+) -> Option<Job>
     requires sound { IsSound layout.now }
     requires commands { AreCommands layout.now cpu commands.now }
     requires inside { number ≤ length commands.now }
@@ -118,7 +126,7 @@ fn begin(layout: &Layout, cpu: Cpu, commands: &[Command], number: usize) -> Opti
         cpu,
         seq: number as u32,
     };
-    Some(Job::new(layout, who, *command))
+    Some(Job::new(alloc, layout, who, *command))
 }
 
 impl Machine for Processor {
@@ -178,16 +186,15 @@ impl Machine for Processor {
 }
 
 impl Ranked for Processor {
-    ghost use Rattle.std.specs.Prelude.{false, None};
-    ghost use Rattle.hwp_processor.specs.Processors.{class, cost};
+    ghost use Rattle.hwp_processor.specs.Processors.{aborts, claims, class, cost};
 
     ghost class_of = { λ p. class p };
 
     ghost cost = { λ p words. cost p words };
 
-    ghost aborts = { λ p. false };
+    ghost aborts = { λ p. aborts p };
 
-    ghost claims = { λ p. None };
+    ghost claims = { λ p. claims p };
 
     fn class(&self) -> u8 {
         match &self.job {
