@@ -227,19 +227,39 @@ const REFUSED: &[(&str, &str)] = &[
         "hwp 1\n# a comment\n\ncpus 9\n",
         "script line 4: OverLimit\n",
     ),
-    (
-        "hwp 1\ncpus 1\nframes 2\ncpu 0\nbad 0 1\nend\n",
-        "script line 0: NotBuilt\n",
-    ),
-    (
-        "hwp 1\ncpus 2\nframes 2\ncpu 1\nlog 0x0 0x0 0x0\ninject 0\nschedule 0\nend\n",
-        "script line 0: NotBuilt\n",
-    ),
 ];
 
 #[test]
 fn a_refused_script_leaves_nothing_on_out(rt: HostRuntime) {
     refuses(&rt, rt.alloc(), REFUSED);
+}
+
+/// Commands that aren't supported.
+const UNSUPPORTED: &[&str] = &[
+    "bad 0 1",
+    "weak 0 1",
+    "scrub 0 1",
+    "raise user 0 1 1",
+    "raise kernel 1 1",
+    "soft 0",
+    "unpoison 0",
+];
+
+/// The script of the command, behind others that are supported, is refused.
+fn is_not_built(rt: &impl Abort, alloc: Global, command: &str) {
+    let front =
+        "hwp 1\ncpus 2\nframes 2\nproc 0\nthread 0 0 1 handler\ncpu 0\nlog 0x0 0x0 0x0\ncpu 1\ninject 0\n";
+    let mut script = String::from_str(alloc, front).expect(rt, "memory");
+    writeln!(script, "{command}\nend").expect(rt, "memory");
+    let left = step(rt, alloc, script.as_bytes());
+    leaves(rt, &left, false, 3, "", "script line 0: NotBuilt\n");
+}
+
+#[test]
+fn commands_that_are_not_supported_are_refused(rt: HostRuntime) {
+    for command in UNSUPPORTED {
+        is_not_built(&rt, rt.alloc(), command);
+    }
 }
 
 #[test]

@@ -1,6 +1,8 @@
 //! `check`: legal reports, forged ones with the line and the rule that is told of each, and refused inputs.
 
 use crate::calls::{PAGES, POLICIES, STOPPED, STORE_AND_LOAD, STORED_AND_LOADED, WORKED};
+use crate::contests::{ASKED_FOR, IN_USE};
+use crate::failures::{EARLY_THREAD, EARLY_THREAD_SIGNALLED, FRAMES, KILLED, PANICS, SITUATIONS};
 use crate::helpers::{call, leaves};
 use crate::processors;
 use std::alloc::Global;
@@ -34,6 +36,16 @@ fn reports_of_two_processors_are_legal(rt: HostRuntime) {
     are_legal(&rt, rt.alloc(), processors::SHARED);
     are_legal(&rt, rt.alloc(), processors::TAKEN);
     are_legal(&rt, rt.alloc(), processors::STOPPED);
+}
+
+#[test]
+fn reports_of_failures_are_legal(rt: HostRuntime) {
+    are_legal(&rt, rt.alloc(), SITUATIONS);
+    are_legal(&rt, rt.alloc(), FRAMES);
+    are_legal(&rt, rt.alloc(), KILLED);
+    are_legal(&rt, rt.alloc(), PANICS);
+    are_legal(&rt, rt.alloc(), IN_USE);
+    are_legal(&rt, rt.alloc(), ASKED_FOR);
 }
 
 /// The text with this in place of line `number`, counted from 1; where it is empty the line is left out.
@@ -203,24 +215,13 @@ fn a_forged_failure_is_told(rt: HostRuntime) {
     are_told(&rt, rt.alloc(), BAD_LINE, BAD_LINE_MET, FORGED_BAD_LINE);
 }
 
-/// A software failure that signals the thread whose policy is early.
-const INJECTED: &str = "\
-hwp 1\ncpus 1\nframes 2\nearly 1\nproc 0\nthread 0 0 0 handler\nthread 1 0 0 handler\npage 0 anon\ntrans 0 0 0\n\
-cpu 0\nprctl 0 33 1 0 0 0\nprctl 1 33 1 1 0 0\nstore 1 0 0 5\ninject 0\nend\n";
-
-const INJECTED_REPORT: &str = "\
-hwp-report 1\nstop none\ncount 1\nframe 0 handled bad 0 weak 0\npoisoned 0 0 3 sw anononly recovered\n\
-frame 1 free bad 0 weak 0\npage 0 4\nin 0 2\nmap 0 2 0\nstore 0 2 0 0 0 5\nfail 0 3 anononly opt - 2 1\n\
-seen 0 late 1\nseen 1 early 1\nsignal 0 1 ao 0\ncpu 0 4\n0 done\n1 done\n2 stored 0 2\n3 recovered\nend\n";
-
 #[test]
 fn a_forged_policy_is_told(rt: HostRuntime) {
-    says(&rt, rt.alloc(), INJECTED, INJECTED_REPORT, "legal\n", 0);
     are_told(
         &rt,
         rt.alloc(),
-        INJECTED,
-        INJECTED_REPORT,
+        EARLY_THREAD,
+        EARLY_THREAD_SIGNALLED,
         &[(13, "seen 1 early 0", "not 13 4\n")],
     );
 }
