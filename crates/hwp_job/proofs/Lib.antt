@@ -3,6 +3,7 @@ pub mod Running
 pub mod Ending
 pub mod OfKind
 pub mod Quiet
+pub mod Injecting
 pub mod Stopping
 pub mod Setting
 pub mod Barring
