@@ -1,2 +1,3 @@
 pub mod Marks
 pub mod Failing
+pub mod Injecting
