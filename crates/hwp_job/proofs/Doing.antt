@@ -1,6 +1,6 @@
 -- What a step of a command does beside entries: it poisons a frame or counts that, takes the losses of a file, sets a policy, or
 -- leaves what the view lists of these.
-use Rattle.std.proofs.Common.{◌≡◌, inl, inr, ℕ, suc, ◌+◌, ◌-◌, ◌<◌, ◌==◌, Bool, true, false, cond, List, [], ◌∷◌, ◌++◌, Option, Some, filter, map, refl, sym, ap, ◌∙◌, arith}
+use Rattle.std.proofs.Common.{◌≡◌, inl, inr, ℕ, suc, ◌+◌, ◌-◌, ◌<◌, ◌==◌, Bool, true, false, cond, List, [], ◌∷◌, ◌++◌, Option, Some, option_map, filter, map, refl, sym, ap, ◌∙◌, arith}
 use Rattle.std.proofs.lemmas.Bool.{eqb-true}
 use Rattle.std.proofs.lemmas.List.{map-append}
 use Rattle.std.proofs.lemmas.List.Elements.{filter-append}
@@ -17,6 +17,7 @@ use Rattle.hwp_words.specs.Frames.{cycle_of}
 use Rattle.hwp_words.specs.Names.{page_named}
 use Rattle.hwp_words.specs.Policies as words
 use Rattle.hwp_words.specs.Stops.{is_stopped}
+use Rattle.hwp_report.specs.declared.Answer.{Answer}
 use Rattle.hwp_rule.specs.declared.Mark.{Mark}
 use Rattle.hwp_rule.specs.declared.MarkKind.TheVariants as mark_kinds
 use Rattle.hwp_rule.specs.declared.Place.TheVariants as places
@@ -42,11 +43,18 @@ use Rattle.hwp_evict.specs.declared.FsyncAnswer.TheVariants as fsync_answers
 use Rattle.hwp_evict.specs.declared.fsync.FsyncAt.{FsyncAt}
 use Rattle.hwp_evict.specs.declared.fsync.FsyncAt.TheVariants as fsync_at
 use Rattle.hwp_evict.specs.Fsyncs as fsyncs
+use Rattle.hwp_fail.specs.declared.fail.FailAt.{FailAt}
+use Rattle.hwp_fail.specs.declared.fail.FailAt.TheVariants as fail_at
 use Rattle.hwp_fail.specs.declared.inject.Inject.{Inject}
+use Rattle.hwp_fail.specs.declared.inject.InjectAt.{InjectAt}
+use Rattle.hwp_fail.specs.declared.inject.InjectAt.TheVariants as inject_at
+use Rattle.hwp_fail.specs.Fails as fails
+use Rattle.hwp_fail.specs.Injects as injects
 use Rattle.hwp_job.specs.declared.job.Job.{Job}
 use Rattle.hwp_job.specs.declared.job.Job.TheVariants as jobs
-use Rattle.hwp_job.specs.Done.{Grows, counts_owed, HasDone, marked_at, marked_now, owed_at, owed_now, policies_now, taken_at, taken_now}
-use Rattle.hwp_job.specs.Jobs.{plan, who}
+use Rattle.hwp_job.specs.Answers.{fail_answer}
+use Rattle.hwp_job.specs.Done.{Grows, counts_owed, HasDone, marked_at, marked_now, owed_at, owed_by_fail, owed_now, policies_now, taken_at, taken_now}
+use Rattle.hwp_job.specs.Jobs.{answer, plan, who}
 use Rattle.hwp_job.specs.Settings.{set_at}
 use Rattle.hwp_job.specs.Stays.{IsAtStop, Stepped}
 use Rattle.hwp_job.proofs.Injecting.{Account, account_now, HasPoisoned, IsCount, IsPoison, IsStepOf, Still, count-leaves, count-view, poison-leaves, poison-view, step-of, stop-leaves}
@@ -266,6 +274,20 @@ unmarked-at-start _ start = refl
 pub unowed-at-start : (j : Job) → IsAtStop j → owed_now j ≡ 0
 unowed-at-start (jobs.Inject i) start = ap owed_at start
 unowed-at-start _ start = refl
+
+-- once a command is answered it has counted each frame that it marked
+pub unowed-at-end : (j : Job) {a : Answer} → answer j ≡ Some a → owed_now j ≡ 0
+unowed-at-end (jobs.Inject i) {a} is = which i.at is
+  where
+    by : (y : FailAt) → option_map fail_answer (fails.answer_at y) ≡ Some a → owed_by_fail y ≡ 0
+    by (fail_at.Over answer) is_ = refl
+    by _ is_ = absurd (none-some a is_)
+
+    which : (x : InjectAt) → option_map fail_answer (injects.answer_at x) ≡ Some a → owed_at x ≡ 0
+    which inject_at.LoadStop is_ = refl
+    which (inject_at.Fail f) is_ = by f.at is_
+    which inject_at.Stopped is_ = refl
+unowed-at-end _ is = refl
 
 -- ---- what a view lists of a command
 

@@ -4,6 +4,7 @@ use Rattle.std.specs.Option.{option_map}
 use Rattle.std.proofs.lemmas.Option.{none-some, same_Some}
 use Rattle.hwp_geom.specs.declared.Frame.{Frame}
 use Rattle.hwp_geom.specs.declared.Layout.{Layout}
+use Rattle.hwp_geom.specs.declared.Thread.{Thread}
 use Rattle.hwp_geom.specs.declared.Who.{Who}
 use Rattle.hwp_report.specs.declared.Answer.{Answer}
 use Rattle.hwp_rule.specs.declared.View.{View}
@@ -51,6 +52,7 @@ use Rattle.hwp_fault.specs.Accesses as accesses
 use Rattle.hwp_fault.proofs.Accessing as accessing
 use Rattle.hwp_job.specs.declared.job.Job.{Job}
 use Rattle.hwp_job.specs.declared.job.Job.TheVariants as jobs
+use Rattle.hwp_job.specs.Done.{marked_at, marked_by_fail, marked_now, marked_over}
 use Rattle.hwp_job.specs.Jobs.{Fits, answer, plan}
 
 -- the answer of the task itself
@@ -102,13 +104,14 @@ nested-over n {x} is = which n.at is
     which (nested_at.Over other) some = ap nested_at.Over some
     which _ none = absurd (none-some x none)
 
--- what a memory failure that is over knows: it holds nothing, owes no loss and plans no step, it has its cause, and but for `stopped`
--- the machine recovers
+-- what a memory failure that is over knows: it holds nothing, owes no loss and plans no step; its answer has its cause, and says what
+-- it has marked; and but for `stopped` the machine recovers
 pub record InjectEnded (layout : Layout) (view : View) (i : Inject) (x : FailAnswer) : Type 0 where
   pub hand_is : hand_of view ≡ empty
   pub paid : view.owed.losses ≡ []
-  pub over : fails.FitsOver layout view i.who i.frame x
+  pub over : fails.FitsOver layout view i.who i.frame None x
   pub plan_is : injects.plan i ≡ None
+  pub marked : marked_now (jobs.Inject i) ≡ marked_over i.frame x
   pub recovery : (x ≡ fail_answers.Stopped) ⊎ (layout.recovery ≡ true)
 
 pub inject-ended : {layout : Layout} {view : View} (i : Inject) {x : FailAnswer} → injects.Fits layout view i → injects.answer i ≡ Some x → InjectEnded layout view i x
@@ -116,7 +119,7 @@ inject-ended {layout} {view} i {x} fits is = which i.at refl fits.at is
   where
     which : (y : InjectAt) → i.at ≡ y → injects.FitsAt layout view i.who i.frame y → injects.answer_at y ≡ Some x → InjectEnded layout view i x
     which inject_at.LoadStop at has e = absurd (none-some x e)
-    which inject_at.Stopped at has e = subst (InjectEnded layout view i) (same_Some fail_answers.Stopped x e) (record { hand_is = has.0; paid = has.1; over = has.2; plan_is = ap injects.plan_at at; recovery = inl refl })
+    which inject_at.Stopped at has e = subst (InjectEnded layout view i) (same_Some fail_answers.Stopped x e) (record { hand_is = has.0; paid = has.1; over = has.2; plan_is = ap injects.plan_at at; marked = ap (marked_at i.frame) at; recovery = inl refl })
     which (inject_at.Fail f) at has e = by f.at refl has.fail.at e
       where
         recovers : (answer : FailAnswer) → layout.recovery ≡ injects.recovers_at (fail_at.Over answer) → (answer ≡ fail_answers.Stopped) ⊎ (layout.recovery ≡ true)
@@ -124,12 +127,14 @@ inject-ended {layout} {view} i {x} fits is = which i.at refl fits.at is
         recovers fail_answers.Already so = inr so
         recovers (fail_answers.Done situation cycle place signalled) so = inr so
 
-        by : (y : FailAt) → f.at ≡ y → fails.FitsAt layout view f.who f.frame y → fails.answer_at y ≡ Some x → InjectEnded layout view i x
+        by : (y : FailAt) → f.at ≡ y → fails.FitsAt layout view f.who f.frame f.required y → fails.answer_at y ≡ Some x → InjectEnded layout view i x
         by (fail_at.Over answer) over known said = subst (InjectEnded layout view i) (same_Some answer x said) (record {
           hand_is = known.0;
           paid = known.1;
-          over = subst (λ (n : Frame). fails.FitsOver layout view i.who n answer) has.frame_is (subst (λ (w : Who). fails.FitsOver layout view w f.frame answer) has.own known.2);
+          over = subst (λ (r : Option Thread). fails.FitsOver layout view i.who i.frame r answer) has.unrequired
+              (subst (λ (n : Frame). fails.FitsOver layout view i.who n f.required answer) has.frame_is (subst (λ (w : Who). fails.FitsOver layout view w f.frame f.required answer) has.own known.2));
           plan_is = ap injects.plan_at at ∙ ap fails.plan_at over;
+          marked = ap (marked_at i.frame) at ∙ ap (marked_by_fail i.frame) over;
           recovery = recovers answer (has.recovery ∙ ap injects.recovers_at over);
         })
         by _ over known said = absurd (none-some x said)

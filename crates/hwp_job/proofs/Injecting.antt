@@ -293,7 +293,7 @@ module _ {layout : Layout} {old new : View} {i : Inject} {after : Job} (s : Step
       which inject_at.Stopped at has e follows = absurd (none-some s.step e)
       which (inject_at.Fail f) at has e follows = by f.at refl has.fail.at e follows.follows.1
         where
-          by : (y : FailAt) → f.at ≡ y → fails.FitsAt layout old f.who f.frame y → fails.plan_at y ≡ Some s.step → fails.FollowsAt f.who f.frame f.required (fails.bare_at y) s.found s.got follows.after.at s.turn → IsStepOf i after s.step s.found old
+          by : (y : FailAt) → f.at ≡ y → fails.FitsAt layout old f.who f.frame f.required y → fails.plan_at y ≡ Some s.step → fails.FollowsAt f.who f.frame f.required (fails.bare_at y) s.found s.got follows.after.at s.turn → IsStepOf i after s.step s.found old
           by (fail_at.Claim c) is known p next = claim-step f at has follows c is known next.0 c.at refl known.claim.at p
           by (fail_at.Act cycle a) is known p next = inl (act-step f at has follows cycle a is p next)
           by (fail_at.Over answer) is known p next = absurd (none-some s.step p)

@@ -9,3 +9,4 @@ pub mod Setting
 pub mod Barring
 pub mod Staying
 pub mod Doing
+pub mod Refusing

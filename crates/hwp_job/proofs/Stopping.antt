@@ -138,7 +138,7 @@ module _ {a : Answer} where
   over-inject (inject_at.Fail f) is = over-fail f.at is
   over-inject inject_at.Stopped is = refl
 
-  answered-over : (j : Job) → answer j ≡ Some a → plan j ≡ None
+  pub answered-over : (j : Job) → answer j ≡ Some a → plan j ≡ None
   answered-over (jobs.Access x) is = over-access x.request x.at is
   answered-over (jobs.Evict x) is = over-evict x.at is
   answered-over (jobs.Fsync x) is = over-fsync x.file x.at is
@@ -146,6 +146,12 @@ module _ {a : Answer} where
   answered-over (jobs.ReadStop x) is = over-read x.at is
   answered-over (jobs.Nested x) is = over-nested x.who x.at is
   answered-over (jobs.Inject x) is = over-inject x.at is
+
+-- a command that has stopped the machine is answered `stopped`
+pub has-stopped : (j : Job) → HasStopped j → answer j ≡ Some answers.Stopped
+has-stopped (jobs.Nested n) has = ap (λ (x : NestedAt). option_map nested_answer (nesteds.answer_at x)) has
+has-stopped (jobs.Inject i) has = ap (λ (x : InjectAt). option_map fail_answer (injects.answer_at x)) has.1 ∙ ap (λ (x : FailAt). option_map fail_answer (fails.answer_at x)) has.2
+has-stopped _ has = absurd has
 
 -- where the command can have no other answer, its answer is `stopped`
 pub only-stopped : (j : Job) {a : Answer} → EndsStopped j → answer j ≡ Some a → a ≡ answers.Stopped
