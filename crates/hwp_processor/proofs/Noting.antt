@@ -1,6 +1,6 @@
 -- What a processor's view lists of its commands beside entries, and its notes: over a step, when a command is answered, and when the
 -- next one begins.
-use Rattle.std.proofs.Common.{◌≡◌, ◌≢◌, inl, inr, ℕ, suc, ◌+◌, ◌<◌, ◌≤◌, false, List, [], ◌∷◌, ◌++◌, Option, Some, None, length, map, append_assoc, append-nil, refl, sym, ap, ◌∙◌, subst, arith}
+use Rattle.std.proofs.Common.{◌≡◌, ◌≢◌, inl, inr, ℕ, suc, ◌+◌, ◌<◌, ◌≤◌, false, List, [], ◌∷◌, ◌++◌, length, append_assoc, append-nil, refl, sym, ap, ◌∙◌, subst, arith}
 use Rattle.std.specs.List.{cons_option}
 use Rattle.std.proofs.lemmas.Bool.{false_from_ne_true}
 use Rattle.std.proofs.lemmas.List.{length-map, map-append, nil_from_length}
@@ -32,10 +32,10 @@ use Rattle.hwp_served.specs.Causes.{IsCaused}
 use Rattle.hwp_served.specs.Owed.{OwesOwn, losses_by}
 use Rattle.hwp_served.specs.Served.{IsOneOf}
 use Rattle.hwp_served.proofs.Accounting.{marks-own, note-stays, reported-own, settings-own}
-use Rattle.hwp_served.proofs.Deeds.{is_inject}
+use Rattle.hwp_served.proofs.deeds.Deeds.{is_inject}
 use Rattle.hwp_served.proofs.Failed.{same-who}
-use Rattle.hwp_served.proofs.Marked.{same-self}
-use Rattle.hwp_served.proofs.Owing.{lossless, owes-own}
+use Rattle.hwp_served.proofs.losses.Owing.{lossless, owes-own}
+use Rattle.hwp_served.proofs.marks.Marked.{same-self}
 use Rattle.hwp_processor.specs.Processors.{at_number}
 use Rattle.hwp_processor.specs.Serving.{AreNoted, HasAccount, IsListed}
 
