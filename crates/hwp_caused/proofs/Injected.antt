@@ -71,7 +71,7 @@ paged situations.Kernel is = absurd is
 paged _ is = (refl, refl)
 
 module _ (layout : Layout) (view : View) (who : Who) (frame : Frame) where
-  came : (situation : Situation) (place : Option At) (signalled : Bool) → fails.HasDone layout view who frame None situation place signalled → HasFailed layout view who frame situation
+  pub came : (situation : Situation) (place : Option At) (signalled : Bool) → fails.HasDone layout view who frame None situation place signalled → HasFailed layout view who frame situation
   came situations.Free None signalled has = record { kernel = sym (get_or_from_slice_get layout.kernel frame.0 false false has.1); entered = has.0 }
   came situations.Kernel None signalled has = record { kernel = sym (get_or_from_slice_get layout.kernel frame.0 true false has.1); entered = has.0 }
   came situation None signalled has = absurd has.1

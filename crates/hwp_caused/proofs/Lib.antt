@@ -5,3 +5,4 @@ mod Called
 pub mod Injected
 pub mod Causing
 pub mod Accounted
+pub mod Noted

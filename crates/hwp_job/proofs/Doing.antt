@@ -103,8 +103,12 @@ module _ {layout : Layout} {old new : View} {f : Fsync} {after : Job} (s : Stepp
           let own = steps-planned {other = steps.ReportLost f.file} e s.made in
           record {
             marked = inl (ap (λ (v : View). v.marks) own.told.next, ap (λ (a : Account). a.0) unmarked);
-            taken = inr (record { stamp = stamp_of f.who (noted f.who old); file = f.file; count = s.found }, ap (λ (v : View). v.reported) own.told.next, refl,
-                now fsync_at.Report at ∙ by-count (s.found == 0) refl ∙ ap (λ (l : List (FileNo × ℕ)). l ++ (f.file, s.found) ∷ []) (sym (ap (taken_at f.file) at)));
+            taken = inr (
+              record { stamp = stamp_of f.who (noted f.who old); file = f.file; count = s.found },
+              ap (λ (v : View). v.reported) own.told.next,
+              refl,
+              now fsync_at.Report at ∙ by-count (s.found == 0) refl ∙ ap (λ (l : List (FileNo × ℕ)). l ++ (f.file, s.found) ∷ []) (sym (ap (taken_at f.file) at)),
+            );
             set = inl (ap (λ (v : View). v.settings) own.told.next, none);
             counted = λ has. ap counts_owed own.told.next ∙ has ∙ sym (ap (λ (a : Account). a.1) unmarked);
           }
@@ -140,8 +144,12 @@ module _ {layout : Layout} {old new : View} {p : Prctl} {after : Job} (s : Stepp
           record {
             marked = inl (ap (λ (v : View). v.marks) own.told.next, ap (λ (a : Account). a.0) unmarked);
             taken = inl (ap (λ (v : View). v.reported) own.told.next, none);
-            set = inr (record { stamp = stamp_of p.who (noted p.who old); thread = p.thread; policy = policy }, ap (λ (v : View). v.settings) own.told.next, refl,
-                now (prctl_at.SetPolicy policy settings) at ∙ ap (λ (l : List (Thread × Policy)). l ++ (p.thread, policy) ∷ []) (sym (ap told_at at)));
+            set = inr (
+              record { stamp = stamp_of p.who (noted p.who old); thread = p.thread; policy = policy },
+              ap (λ (v : View). v.settings) own.told.next,
+              refl,
+              now (prctl_at.SetPolicy policy settings) at ∙ ap (λ (l : List (Thread × Policy)). l ++ (p.thread, policy) ∷ []) (sym (ap told_at at)),
+            );
             counted = λ has. ap counts_owed own.told.next ∙ has ∙ sym (ap (λ (a : Account). a.1) unmarked);
           }
       which (prctl_at.Over answer) at e = absurd (none-some s.step e)
@@ -198,8 +206,12 @@ module _ {layout : Layout} {old new : View} {i : Inject} {after : Job} (s : Step
         counted = λ has. ap counts_owed (poison-view s poison false was) ∙ has ∙ ap (λ (a : Account). a.1) (poison.before ∙ sym now);
       }
       by (inr (goes_on, now)) = record {
-        marked = inr (record { stamp = stamp_of i.who (noted i.who old); frame = i.frame; cycle = cycle_of s.found; kind = mark_kinds.Poisoned false }, ap (λ (v : View). v.marks) (poison-view s poison true goes_on), refl,
-            ap (λ (a : Account). a.0) now ∙ ap (λ (l : List Frame). l ++ i.frame ∷ []) (sym (ap (λ (a : Account). a.0) poison.before)));
+        marked = inr (
+          record { stamp = stamp_of i.who (noted i.who old); frame = i.frame; cycle = cycle_of s.found; kind = mark_kinds.Poisoned false },
+          ap (λ (v : View). v.marks) (poison-view s poison true goes_on),
+          refl,
+          ap (λ (a : Account). a.0) now ∙ ap (λ (l : List Frame). l ++ i.frame ∷ []) (sym (ap (λ (a : Account). a.0) poison.before)),
+        );
         taken = inl (left.reported, none-taken);
         set = inl (left.settings, none-set);
         counted = λ has. let was : counts_owed old ≡ 0 = has ∙ ap (λ (a : Account). a.1) poison.before in

@@ -1,10 +1,11 @@
 -- A command as one task keeps the laws that the task of its kind keeps.
-use Rattle.std.proofs.Common.{◌≡◌, ◌≢◌, ℕ, ◌+◌, ◌<◌, ◌≤◌, ◌⊎◌, inl, inr, true, false, Option, Some, None, refl, sym, ap, ◌∙◌, subst, arith}
-use Rattle.std.proofs.lemmas.Bool.{both_ways}
+use Rattle.std.proofs.Common.{◌≡◌, ◌≢◌, ℕ, ◌+◌, ◌<◌, ◌≤◌, ◌⊎◌, inl, inr, true, false, Option, Some, None, option_map, refl, sym, ap, ◌∙◌, subst, arith}
+use Rattle.std.proofs.lemmas.Bool.{both_ways, false_from_ne_true}
 use Rattle.std.proofs.lemmas.Option.{none-some}
 use Rattle.hwp_geom.specs.declared.Frame.{Frame}
 use Rattle.hwp_geom.specs.declared.Layout.{Layout}
 use Rattle.hwp_page.specs.History.{BodyValue}
+use Rattle.hwp_report.specs.declared.Answer.{Answer}
 use Rattle.hwp_rule.specs.declared.State.{State}
 use Rattle.hwp_rule.specs.declared.Step.{Step}
 use Rattle.hwp_rule.specs.declared.View.{View}
@@ -38,13 +39,21 @@ use Rattle.hwp_fault.specs.declared.Access.{Access}
 use Rattle.hwp_fault.specs.Accesses as accesses
 use Rattle.hwp_fault.proofs.Accessing as accessing
 use Rattle.hwp_fault.proofs.AccessCosts.{access-mild, access-ranked, access-tells}
-use Rattle.hwp_fail.specs.declared.Inject.{Inject}
+use Rattle.hwp_fail.specs.declared.fail.FailAt.{FailAt}
+use Rattle.hwp_fail.specs.declared.fail.FailAt.TheVariants as fail_at
+use Rattle.hwp_fail.specs.declared.FailAnswer.{FailAnswer}
+use Rattle.hwp_fail.specs.declared.inject.Inject.{Inject}
+use Rattle.hwp_fail.specs.declared.inject.InjectAt.{InjectAt}
+use Rattle.hwp_fail.specs.declared.inject.InjectAt.TheVariants as inject_at
+use Rattle.hwp_fail.specs.Fails as fails
 use Rattle.hwp_fail.specs.Injects as injects
 use Rattle.hwp_fail.proofs.Injecting as injecting
 use Rattle.hwp_fail.proofs.InjectCosts.{inject-ranked, inject-tells}
 use Rattle.hwp_job.specs.declared.job.Job.{Job}
 use Rattle.hwp_job.specs.declared.job.Job.TheVariants as jobs
-use Rattle.hwp_job.specs.Jobs.{Fits, Next, Shows, aborts, bare, claims, class, cost, plan, put, who}
+use Rattle.hwp_job.specs.Answers.{fail_answer}
+use Rattle.hwp_job.specs.Jobs.{Fits, Next, Shows, aborts, answer, bare, claims, class, cost, plan, put, who}
+use Rattle.hwp_job.proofs.Refusing.{refused-unanswered}
 
 -- ---- tasks
 
@@ -243,18 +252,53 @@ mild (jobs.Inject i) step other is = absurd (other tt)
 abbrev Owns : Layout → State → State → Job → Job → Frame → ℕ → Type 0
 Owns layout a b s t frame cycle = (claims t ≡ Some (frame, cycle)) ⊎ (Pending (words_at layout a) frame cycle × (claims s ≢ Some (frame, cycle)))
 
-owns-none : (layout : Layout) (seat : ℕ) (a b : State) (s t : Job) (turn : Turn) (frame : Frame) (cycle : ℕ) → (IsFailure s → ⊥) → claims s ≡ None → Made job-member layout seat a b s t turn → Pending (words_at layout b) frame cycle → Owns layout a b s t frame cycle
-owns-none layout seat a b s t turn frame cycle other none made pending = inr (pending-kept made (mild s made.step other made.planned) frame cycle pending, λ claimed. none-some (frame, cycle) (sym none ∙ claimed))
+owns-none : (layout : Layout) (seat : ℕ) (a b : State) (s t : Job) (turn : Turn) (frame : Frame) (cycle : ℕ) → (IsFailure s → ⊥) → claims s ≡ None → Made job-member layout seat a b s t turn → Pending (words_at layout b) frame cycle
+    → Pending (words_at layout a) frame cycle × (claims s ≢ Some (frame, cycle))
+owns-none layout seat a b s t turn frame cycle other none made pending = (pending-kept made (mild s made.step other made.planned) frame cycle pending, λ claimed. none-some (frame, cycle) (sym none ∙ claimed))
 
 owns : (layout : Layout) (seat : ℕ) (a b : State) (s t : Job) (turn : Turn) (frame : Frame) (cycle : ℕ) → Made job-member layout seat a b s t turn → is_refused turn ≡ false → Pending (words_at layout b) frame cycle → Owns layout a b s t frame cycle
 owns layout seat a b (jobs.Inject x) t turn frame cycle made going pending =
     let m = of-inject made in subst (λ (j : Job). Owns layout a b (jobs.Inject x) j frame cycle) (sym m.after_is) (inject-ranked.owns layout seat a b x m.after turn frame cycle m.made going pending)
-owns layout seat a b (jobs.Access x) t turn frame cycle made going pending = owns-none layout seat a b (jobs.Access x) t turn frame cycle (λ no_. no_) refl made pending
-owns layout seat a b (jobs.Evict x) t turn frame cycle made going pending = owns-none layout seat a b (jobs.Evict x) t turn frame cycle (λ no_. no_) refl made pending
-owns layout seat a b (jobs.Fsync x) t turn frame cycle made going pending = owns-none layout seat a b (jobs.Fsync x) t turn frame cycle (λ no_. no_) refl made pending
-owns layout seat a b (jobs.Prctl x) t turn frame cycle made going pending = owns-none layout seat a b (jobs.Prctl x) t turn frame cycle (λ no_. no_) refl made pending
-owns layout seat a b (jobs.ReadStop x) t turn frame cycle made going pending = owns-none layout seat a b (jobs.ReadStop x) t turn frame cycle (λ no_. no_) refl made pending
-owns layout seat a b (jobs.Nested x) t turn frame cycle made going pending = owns-none layout seat a b (jobs.Nested x) t turn frame cycle (λ no_. no_) refl made pending
+owns layout seat a b (jobs.Access x) t turn frame cycle made going pending = inr (owns-none layout seat a b (jobs.Access x) t turn frame cycle (λ no_. no_) refl made pending)
+owns layout seat a b (jobs.Evict x) t turn frame cycle made going pending = inr (owns-none layout seat a b (jobs.Evict x) t turn frame cycle (λ no_. no_) refl made pending)
+owns layout seat a b (jobs.Fsync x) t turn frame cycle made going pending = inr (owns-none layout seat a b (jobs.Fsync x) t turn frame cycle (λ no_. no_) refl made pending)
+owns layout seat a b (jobs.Prctl x) t turn frame cycle made going pending = inr (owns-none layout seat a b (jobs.Prctl x) t turn frame cycle (λ no_. no_) refl made pending)
+owns layout seat a b (jobs.ReadStop x) t turn frame cycle made going pending = inr (owns-none layout seat a b (jobs.ReadStop x) t turn frame cycle (λ no_. no_) refl made pending)
+owns layout seat a b (jobs.Nested x) t turn frame cycle made going pending = inr (owns-none layout seat a b (jobs.Nested x) t turn frame cycle (λ no_. no_) refl made pending)
+
+-- an answered failure has come to an end, and was refused no memory
+unclaimed : (x : InjectAt) {r : Answer} → option_map fail_answer (injects.answer_at x) ≡ Some r → injects.claims_at x ≡ None
+unclaimed inject_at.LoadStop is = refl
+unclaimed inject_at.Stopped is = refl
+unclaimed (inject_at.Fail f) {r} is = which f.at is
+  where
+    which : (y : FailAt) → option_map fail_answer (fails.answer_at y) ≡ Some r → fails.claims_at f.frame y ≡ None
+    which (fail_at.Over answer) said = refl
+    which _ said = absurd (none-some r said)
+
+-- a command that is answered leaves no failure of its own
+pub owns-answered : (layout : Layout) (seat : ℕ) (a b : State) (s t : Job) (turn : Turn) (frame : Frame) (cycle : ℕ) {r : Answer} → Made job-member layout seat a b s t turn → answer t ≡ Some r → Pending (words_at layout b) frame cycle
+    → Pending (words_at layout a) frame cycle × (claims s ≢ Some (frame, cycle))
+owns-answered layout seat a b (jobs.Inject x) t turn frame cycle {r} made is pending = which (inject-ranked.owns layout seat a b x m.after turn frame cycle m.made going pending)
+  where
+    m : IsTurnOf inject-member jobs.Inject layout seat a b x t turn
+    m = of-inject made
+
+    said : option_map fail_answer (injects.answer m.after) ≡ Some r
+    said = sym (ap answer m.after_is) ∙ is
+
+    going : is_refused turn ≡ false
+    going = false_from_ne_true (is_refused turn) (λ refused. none-some r (sym (ap (λ (o : Option FailAnswer). option_map fail_answer o) (refused-unanswered layout x m.after m.made.found m.made.got turn m.made.follows refused)) ∙ said))
+
+    which : (injects.claims m.after ≡ Some (frame, cycle)) ⊎ (Pending (words_at layout a) frame cycle × (injects.claims x ≢ Some (frame, cycle))) → Pending (words_at layout a) frame cycle × (injects.claims x ≢ Some (frame, cycle))
+    which (inl claimed) = absurd (none-some (frame, cycle) (sym (unclaimed m.after.at said) ∙ claimed))
+    which (inr was) = was
+owns-answered layout seat a b (jobs.Access x) t turn frame cycle made is pending = owns-none layout seat a b (jobs.Access x) t turn frame cycle (λ no_. no_) refl made pending
+owns-answered layout seat a b (jobs.Evict x) t turn frame cycle made is pending = owns-none layout seat a b (jobs.Evict x) t turn frame cycle (λ no_. no_) refl made pending
+owns-answered layout seat a b (jobs.Fsync x) t turn frame cycle made is pending = owns-none layout seat a b (jobs.Fsync x) t turn frame cycle (λ no_. no_) refl made pending
+owns-answered layout seat a b (jobs.Prctl x) t turn frame cycle made is pending = owns-none layout seat a b (jobs.Prctl x) t turn frame cycle (λ no_. no_) refl made pending
+owns-answered layout seat a b (jobs.ReadStop x) t turn frame cycle made is pending = owns-none layout seat a b (jobs.ReadStop x) t turn frame cycle (λ no_. no_) refl made pending
+owns-answered layout seat a b (jobs.Nested x) t turn frame cycle made is pending = owns-none layout seat a b (jobs.Nested x) t turn frame cycle (λ no_. no_) refl made pending
 
 pub ranked : IsRanked job-member
 ranked = record { classes = classes; small = small; falls = falls; waits = waits; leaves = leaves; owns = owns }

@@ -350,11 +350,13 @@ policies-end layout list view by command j a runs fits is there knows thread = w
   where
     -- the policies of the commands up to this one are the first of all
     front : (l : List Policy) → l ≡ settings thread (take by.seq list) ++ filter_map (setting_of thread) (command ∷ []) → StartsWith l (settings thread list)
-    front l so = (settings thread (drop (by.seq + 1) list),
-        ap (settings thread) (front-and-rest (by.seq + 1) list) ∙ filter_map-append (setting_of thread) (take (by.seq + 1) list) (drop (by.seq + 1) list)
-        ∙ ap (λ (m : List Policy). m ++ settings thread (drop (by.seq + 1) list)) (
-            ap (settings thread) (take_more list by.seq command (slice_get_within list by.seq command there) ∙ ap (λ (c : Command). take by.seq list ++ c ∷ []) (get_or_from_slice_get list by.seq command command there))
-            ∙ filter_map-append (setting_of thread) (take by.seq list) (command ∷ []) ∙ sym so))
+    front l so = (
+      settings thread (drop (by.seq + 1) list),
+      ap (settings thread) (front-and-rest (by.seq + 1) list) ∙ filter_map-append (setting_of thread) (take (by.seq + 1) list) (drop (by.seq + 1) list)
+          ∙ ap (λ (m : List Policy). m ++ settings thread (drop (by.seq + 1) list)) (
+          ap (settings thread) (take_more list by.seq command (slice_get_within list by.seq command there) ∙ ap (λ (c : Command). take by.seq list ++ c ∷ []) (get_or_from_slice_get list by.seq command command there))
+          ∙ filter_map-append (setting_of thread) (take by.seq list) (command ∷ []) ∙ sym so),
+    )
 
     none : set_now thread j ≡ [] → StartsWith (policies_in thread view) (settings thread list)
     none unset_ = let was = knows.starts thread in subst (λ (l : List Policy). StartsWith l (settings thread list)) (sym (was.2 ∙ ap (λ (l : List Policy). was.0 ++ l) unset_ ∙ append-nil was.0)) was.1
@@ -368,8 +370,11 @@ pub policies-next : (layout : Layout) (list : List Command) (view : View) (by : 
     → (later : Who) (k : Job) → later.seq ≡ by.seq + 1 → IsAtStop k → KnowsPolicies layout list view later k
 policies-next layout list view by command j a runs fits is there knows later k next start = record {
   each = λ thread. each thread (knows.each thread);
-  starts = λ thread. (policies_in thread view, policies-end layout list view by command j a runs fits is there knows thread,
-      sym (append-nil (policies_in thread view)) ∙ ap (λ (l : List Policy). policies_in thread view ++ l) (sym (unset-at-start thread k start)));
+  starts = λ thread. (
+    policies_in thread view,
+    policies-end layout list view by command j a runs fits is there knows thread,
+    sym (append-nil (policies_in thread view)) ∙ ap (λ (l : List Policy). policies_in thread view ++ l) (sym (unset-at-start thread k start)),
+  );
   few = few;
 }
   where

@@ -153,6 +153,10 @@ has-stopped (jobs.Nested n) has = ap (λ (x : NestedAt). option_map nested_answe
 has-stopped (jobs.Inject i) has = ap (λ (x : InjectAt). option_map fail_answer (injects.answer_at x)) has.1 ∙ ap (λ (x : FailAt). option_map fail_answer (fails.answer_at x)) has.2
 has-stopped _ has = absurd has
 
+-- and as a memory failure it is of a machine that doesn't recover
+pub unrecovered : (layout : Layout) (view : View) (i : Inject) → injects.Fits layout view i → HasStopped (jobs.Inject i) → layout.recovery ≡ false
+unrecovered layout view i fits (f, at, over) = (subst (injects.FitsAt layout view i.who i.frame) at fits.at).recovery ∙ ap injects.recovers_at over
+
 -- where the command can have no other answer, its answer is `stopped`
 pub only-stopped : (j : Job) {a : Answer} → EndsStopped j → answer j ≡ Some a → a ≡ answers.Stopped
 only-stopped j {a} (inl start) is = absurd (none-some a (sym (unanswered j start) ∙ is))
@@ -326,7 +330,6 @@ looks (jobs.Nested n) after s halted start =
     let word : is_stopped s.found ≡ true = stop-word (steps-planned {other = steps.Load places.Stop} (sym (ap (nesteds.plan_at n.who) start) ∙ s.planned) s.made) halted in
     ap answer s.follows.0 ∙ ap (λ (x : NestedAt). option_map nested_answer (nesteds.answer_at (nesteds.next_at x s.found))) start
     ∙ ap (λ (b : Bool). option_map nested_answer (nesteds.answer_at (cond b (nested_at.Over (Some nested_answers.Stopped)) nested_at.Stop))) word
-
 looks {layout} (jobs.Inject i) after s halted start =
     let word : is_stopped s.found ≡ true = stop-word (steps-planned {other = steps.Load places.Stop} (sym (ap injects.plan_at start) ∙ s.planned) s.made) halted in
     let at = subst (λ (x : InjectAt). injects.FollowsAt layout i.alloc i.who i.frame (injects.bare_at x) s.found s.got s.follows.0.at s.turn) start s.follows.2.1 in
