@@ -48,7 +48,7 @@ use Rattle.hwp_fail.specs.declared.inject.InjectAt.TheVariants as inject_at
 use Rattle.hwp_fail.specs.Fails as fails
 use Rattle.hwp_fail.specs.Injects as injects
 use Rattle.hwp_fail.proofs.Injecting as injecting
-use Rattle.hwp_fail.proofs.InjectCosts.{inject-ranked, inject-tells}
+use Rattle.hwp_fail.proofs.InjectRank.{inject-member, inject-ranked, inject-tells}
 use Rattle.hwp_job.specs.declared.job.Job.{Job}
 use Rattle.hwp_job.specs.declared.job.Job.TheVariants as jobs
 use Rattle.hwp_job.specs.Answers.{fail_answer}
@@ -107,9 +107,6 @@ evict-member = member (λ e. e.who) evicts.plan evicts.put evicts.bare (λ layou
 
 abbrev fsync-member : Member Fsync
 fsync-member = member (λ f. f.who) fsyncs.plan (λ f. None) (λ f. f) (λ layout f found got after turn. (after ≡ fsyncs.next f found) × (turn ≡ fsyncs.turn f found)) fsyncs.Fits (λ f. 4) fsyncs.cost (λ f. false) (λ f. None)
-
-abbrev inject-member : Member Inject
-inject-member = member (λ i. i.who) injects.plan injects.put injects.bare injects.Follows injects.Fits injects.class injects.cost injects.aborts injects.claims
 
 -- a turn of a command is one of the task of its kind
 pub record IsTurnOf {S : Type 0} (m : Member S) (of : S → Job) (layout : Layout) (seat : ℕ) (a b : State) (s : S) (t : Job) (turn : Turn) : Type 0 where
