@@ -1,5 +1,5 @@
 -- The thread that needs the page now stays the same while a failure acts.
-use Rattle.std.proofs.Common.{◌≡◌, ◌⊎◌, inl, inr, Bool, true, false, cond, List, Option, Some, None, is_none, sym, ap, ◌∙◌, subst}
+use Rattle.std.proofs.Common.{◌≡◌, inl, inr, Bool, true, false, cond, List, Option, Some, None, is_none, sym, ap, ◌∙◌, subst}
 use Rattle.std.proofs.lemmas.Option.{none-some, same_Some}
 use Rattle.hwp_geom.specs.declared.Frame.{Frame}
 use Rattle.hwp_geom.specs.declared.Page.{Page}
@@ -22,7 +22,7 @@ use Rattle.hwp_act.specs.declared.failing.Entered.{Entered}
 use Rattle.hwp_act.specs.declared.read_policies.ReadPolicies.{ReadPolicies}
 use Rattle.hwp_act.specs.Abandons as abandons
 use Rattle.hwp_act.specs.Acting.{IsFor}
-use Rattle.hwp_act.specs.Acts.{AfterRead, AfterReadAt, Enters, Follows, FollowsAt, Starts, abandoned_at, after_abandon, after_clear, after_give_up, answer, answer_at, bare, bare_at}
+use Rattle.hwp_act.specs.Acts.{AfterRead, AfterReadAt, Enters, Follows, FollowsAt, Starts, abandoned_at, after_clear, answer, answer_at, bare, bare_at}
 use Rattle.hwp_act.specs.Reads as reads
 
 clear-for : (who : Who) (page : Page) (frame : Frame) (c : Clear) (entered : Entered) (required : Option Thread) → entered.failed.required ≡ required → IsFor required (after_clear who page frame c entered)

@@ -1,33 +1,28 @@
 -- The failure that a `Claim` begins is claimed until it is ended; and the rank of the task.
-use Rattle.std.proofs.Common.{◌≡◌, ◌≢◌, ◌⊎◌, inl, inr, ℕ, ◌+◌, ◌*◌, ◌/◌, ◌%◌, ◌^◌, ◌<◌, ◌≤◌, ◌==◌, ◌&&◌, ◌||◌, Bool, true, false, not, cond, List, [], ◌∷◌, Option, Some, None, is_none, get_or, set, slice_get, slice_index, refl, sym, ap, ◌∙◌, subst, arith, bit_or, bit_xor}
-use Rattle.std.proofs.lemmas.Bool.{both_ways, eqb-false}
+use Rattle.std.proofs.Common.{◌≡◌, ◌≢◌, ◌⊎◌, inl, inr, ℕ, ◌+◌, ◌<◌, ◌≤◌, ◌==◌, ◌&&◌, ◌||◌, Bool, true, false, not, cond, List, Option, Some, None, set, slice_get, slice_index, refl, sym, ap, ◌∙◌, subst, arith, bit_or}
+use Rattle.std.proofs.lemmas.Bool.{both_ways}
 use Rattle.std.proofs.lemmas.List.{get_or-set_other}
 use Rattle.std.proofs.lemmas.Option.{none-some, same_Some}
 use Rattle.hwp_geom.specs.declared.Frame.{Frame}
 use Rattle.hwp_geom.specs.declared.Layout.{Layout}
 use Rattle.hwp_geom.specs.declared.Page.{Page}
 use Rattle.hwp_page.specs.History.{BodyValue}
-use Rattle.hwp_words.specs.Frames.{count_of, cycle_of, handled_bit, handled_of, is_handled, is_kernel, is_poisoned}
-use Rattle.hwp_words.proofs.FieldLaws.{field-xor}
-use Rattle.hwp_words.proofs.FrameSteps.{FieldsAre, fields-poison}
+use Rattle.hwp_words.specs.Frames.{count_of, cycle_of, is_handled, is_kernel, is_poisoned}
+use Rattle.hwp_words.proofs.FrameSteps.{fields-poison}
 use Rattle.hwp_rule.specs.declared.FrameLock.{FrameLock}
 use Rattle.hwp_rule.specs.declared.Place.TheVariants as places
 use Rattle.hwp_rule.specs.declared.State.{State}
 use Rattle.hwp_rule.specs.declared.Step.{Step}
 use Rattle.hwp_rule.specs.declared.Step.TheVariants as steps
-use Rattle.hwp_rule.specs.declared.View.{View}
 use Rattle.hwp_rule.specs.Served.{IsMild}
-use Rattle.hwp_rule.specs.Steps.{place_of, word_after}
-use Rattle.hwp_rule.specs.Words.{Words, index, put as put_word, read}
-use Rattle.hwp_rule.specs.parts.Locks.{IsLocked}
-use Rattle.hwp_rule.proofs.Lists.{at_map, same-number, same-or}
-use Rattle.hwp_rule.proofs.Meeting.{frame-word}
+use Rattle.hwp_rule.specs.Steps.{place_of}
+use Rattle.hwp_rule.specs.Words.{Words, read}
+use Rattle.hwp_rule.proofs.Lists.{same-number, same-or}
 use Rattle.hwp_step.specs.declared.Turn.{Turn}
 use Rattle.hwp_step.specs.Boards.{view_of}
-use Rattle.hwp_step.specs.Hands.{Hand, hand_of}
+use Rattle.hwp_step.specs.Hands.{Hand}
 use Rattle.hwp_step.specs.Ranks.{Made, IsRanked, Pending, words_at}
-use Rattle.hwp_step.proofs.Ranking.{failed, me, pending-kept, words-after}
-use Rattle.hwp_hold.specs.declared.release.Release.{Release}
+use Rattle.hwp_step.proofs.Ranking.{failed, pending-kept}
 use Rattle.hwp_hold.specs.declared.release.ReleaseAt.{ReleaseAt}
 use Rattle.hwp_hold.specs.declared.release.ReleaseAt.TheVariants as release_at
 use Rattle.hwp_hold.specs.Holds.{is_free}
@@ -47,7 +42,7 @@ use Rattle.hwp_claim.specs.declared.meet.MeetAt.TheVariants as meet_at
 use Rattle.hwp_claim.specs.Grabs as grabs
 use Rattle.hwp_claim.specs.Meets as meets
 use Rattle.hwp_claim.specs.Meets.{is_ended, owner_in, word_in}
-use Rattle.hwp_claim.specs.Claims.{plan, plan_at, put_at, bare, bare_at, stopped, poisoned, is_done, looked, after_grab, after_meet, after_unlock, next, next_at, Fits, FitsAt, class, claims, claims_at, has_ended_at, aborts, cost}
+use Rattle.hwp_claim.specs.Claims.{plan_at, bare_at, poisoned, is_done, looked, after_grab, after_meet, next_at, FitsAt, class, claims, claims_at, cost}
 use Rattle.hwp_claim.proofs.GrabCosts as grab_costs
 use Rattle.hwp_claim.proofs.MeetCosts.{after-is, meet-mild, met-at, set-word}
 use Rattle.hwp_claim.proofs.Retiring.{Keeps, claim-of, drops, drops-now, owned-by, retired}

@@ -1,5 +1,5 @@
 -- A claim is kept until its failure isn't pending any more: by its task's own retire, or as a word shows.
-use Rattle.std.proofs.Common.{◌≡◌, ◌≢◌, ◌⊎◌, inl, inr, ℕ, ◌<◌, true, false, Option, Some, None, slice_get, slice_index, refl, sym, ap, ◌∙◌, subst, arith, bit_xor}
+use Rattle.std.proofs.Common.{◌≡◌, ◌≢◌, ◌⊎◌, inl, inr, ℕ, ◌<◌, true, false, Option, Some, None, slice_get, slice_index, sym, ap, ◌∙◌, subst, arith, bit_xor}
 use Rattle.std.proofs.lemmas.Bool.{both_ways, eqb-false}
 use Rattle.std.proofs.lemmas.Option.{none-some, same_Some}
 use Rattle.hwp_geom.specs.declared.Frame.{Frame}

@@ -1,21 +1,16 @@
 -- What a failure goes on with once its frame is claimed, and once its page is acted on: no more turns, and the same claim.
-use Rattle.std.proofs.Common.{◌≡◌, ◌⊎◌, inl, inr, ℕ, ◌<◌, ◌≤◌, Bool, true, false, cond, List, Option, Some, None, is_none, slice_get, refl, sym, ap, ◌∙◌, subst, arith}
-use Rattle.std.proofs.lemmas.Bool.{both_ways}
-use Rattle.std.proofs.lemmas.Option.{none-some}
+use Rattle.std.proofs.Common.{◌≡◌, inl, inr, ℕ, ◌<◌, ◌≤◌, Bool, true, false, cond, List, Option, Some, None, is_none, refl, sym, ap, ◌∙◌, subst, arith}
 use Rattle.hwp_geom.specs.declared.Frame.{Frame}
 use Rattle.hwp_geom.specs.declared.Page.{Page}
 use Rattle.hwp_geom.specs.declared.Thread.{Thread}
 use Rattle.hwp_geom.specs.declared.Who.{Who}
 use Rattle.hwp_kill.specs.declared.Seen.{Seen}
-use Rattle.hwp_kill.specs.declared.Signal.{Signal}
 use Rattle.hwp_page.specs.History.{BodyValue}
 use Rattle.hwp_rule.specs.Words.{Words}
 use Rattle.hwp_evict.specs.declared.clear.Clear.{Clear}
-use Rattle.hwp_act.specs.declared.abandon.Failed.{Failed}
 use Rattle.hwp_act.specs.declared.act.Act.{Act}
 use Rattle.hwp_act.specs.declared.act.ActAt.{ActAt}
 use Rattle.hwp_act.specs.declared.act.ActAt.TheVariants as act_at
-use Rattle.hwp_act.specs.declared.failing.Entered.{Entered}
 use Rattle.hwp_act.specs.declared.read_policies.ReadPolicies.{ReadPolicies}
 use Rattle.hwp_act.specs.Abandons as abandons
 use Rattle.hwp_act.specs.Acts as acts
@@ -28,13 +23,12 @@ use Rattle.hwp_fail.specs.declared.fail.FailAt.{FailAt}
 use Rattle.hwp_fail.specs.declared.fail.FailAt.TheVariants as at
 use Rattle.hwp_fail.specs.declared.fail.FailAnswer.{FailAnswer}
 use Rattle.hwp_fail.specs.declared.fail.FailAnswer.TheVariants as answers
-use Rattle.hwp_fail.specs.declared.fail.Fail.{Fail}
 use Rattle.hwp_page.specs.declared.Situation.TheVariants as situations
-use Rattle.hwp_fail.specs.Fails.{Acts, AfterClaim, aborts_at, acted_on, after_act, claims_at, class_at, cost_at, has_retired_at, pageless}
+use Rattle.hwp_fail.specs.Fails.{Acts, AfterClaim, aborts_at, after_act, claims_at, class_at, cost_at, has_retired_at, pageless}
 
 -- ---- a frame that isn't retired yet
 
-clear-on : (who : Who) (page : Page) (frame : Frame) (c : Clear) (entered : Entered) → has_retired_at (acts.after_clear who page frame c entered) ≡ false
+clear-on : (who : Who) (page : Page) (frame : Frame) (c : Clear) (entered : _) → has_retired_at (acts.after_clear who page frame c entered) ≡ false
 clear-on who page frame c entered = which (is_none c.next)
   where
     which : (b : Bool) → has_retired_at (cond b (act_at.Abandon (abandons.begin who page frame c.count entered.losses entered.failed entered.body)) (act_at.Clear c entered.losses entered.failed entered.body)) ≡ false
@@ -44,7 +38,7 @@ clear-on who page frame c entered = which (is_none c.next)
 enters-on : (who : Who) (page : Page) (frame : Frame) (required : Option Thread) (body : BodyValue) (seen : List Seen) (x : ActAt) → acts.Enters who page frame required body seen x → has_retired_at x ≡ false
 enters-on who page frame required body seen x is = ap has_retired_at is.next_is ∙ clear-on who page frame is.clear is.entered
 
-pub cleared-on : (who : Who) (page : Page) (frame : Frame) (c : Clear) (entered : Entered) (x : ActAt) → acts.IsCleared who page frame c entered x → has_retired_at x ≡ false
+pub cleared-on : (who : Who) (page : Page) (frame : Frame) (c : Clear) (entered : _) (x : ActAt) → acts.IsCleared who page frame c entered x → has_retired_at x ≡ false
 cleared-on who page frame c entered x is = ap has_retired_at is.next_is ∙ clear-on who page frame is.after entered
 
 pub read-on : (who : Who) (page : Page) (frame : Frame) (r : ReadPolicies) (x : ActAt) → acts.AfterRead who page frame r x → has_retired_at x ≡ false

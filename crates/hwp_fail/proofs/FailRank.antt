@@ -1,15 +1,13 @@
 -- Each turn of a `Fail` lowers its cost, or leaves a failure fewer, and its failure stays its own until it is ended.
-use Rattle.std.proofs.Common.{◌≡◌, ◌≢◌, ◌⊎◌, inl, inr, ℕ, ◌<◌, ◌≤◌, min, Bool, true, false, cond, [], ◌∷◌, List, Option, Some, None, is_none, slice_get, refl, sym, ap, ◌∙◌, subst, arith}
+use Rattle.std.proofs.Common.{◌≡◌, ◌≢◌, ◌⊎◌, inl, inr, ℕ, ◌+◌, ◌<◌, ◌≤◌, min, Bool, true, false, cond, List, Option, Some, None, is_none, slice_get, refl, sym, ap, ◌∙◌, subst, arith}
 use Rattle.std.proofs.lemmas.Bool.{both_ways}
-use Rattle.std.proofs.lemmas.Option.{none-some, same_Some}
+use Rattle.std.proofs.lemmas.Option.{none-some}
 use Rattle.hwp_geom.specs.declared.FileNo.{FileNo}
 use Rattle.hwp_geom.specs.declared.Frame.{Frame}
 use Rattle.hwp_geom.specs.declared.Layout.{Layout}
-use Rattle.hwp_geom.specs.declared.Thread.{Thread}
 use Rattle.hwp_geom.specs.declared.Who.{Who}
 use Rattle.hwp_kill.specs.declared.Signal.{Signal}
 use Rattle.hwp_page.specs.History.{BodyValue}
-use Rattle.hwp_rule.specs.declared.FrameLock.{FrameLock}
 use Rattle.hwp_rule.specs.declared.State.{State}
 use Rattle.hwp_rule.specs.declared.Step.{Step}
 use Rattle.hwp_rule.specs.declared.Step.TheVariants as steps
@@ -82,22 +80,22 @@ left-retired x = which x.at refl
     which abandon_at.Retire is = refl
     which abandon_at.UnlockPage is = refl
 
+abbrev gives-at : GiveUp → GiveUpAt → ActAt
+gives-at g z = acts.after_give_up (record g { at = z })
+
 -- a command that gives up goes on with that until it has given up
 gives-on : (g : GiveUp) {step : Step} (found : ℕ) → give_ups.plan g ≡ Some step → is_refused (give_ups.turn (give_ups.bare g)) ≡ false → has_retired_at (acts.after_give_up (give_ups.next (give_ups.bare g) found)) ≡ false
 gives-on g {step} found e going = which g.at e going
   where
-    abbrev after : GiveUpAt → ActAt
-    after z = acts.after_give_up (record g { at = z })
-
-    unheld : (u : Unhold) (b : Bool) → is_none (unholds.plan u) ≡ b → has_retired_at (after (cond b give_up_at.GiveUp (give_up_at.Unhold u))) ≡ false
+    unheld : (u : Unhold) (b : Bool) → is_none (unholds.plan u) ≡ b → has_retired_at (gives-at g (cond b give_up_at.GiveUp (give_up_at.Unhold u))) ≡ false
     unheld u true is = refl
     unheld u false is = ap (λ (b : Bool). has_retired_at (cond b (act_at.Over None) (act_at.GiveUp (record g { at = give_up_at.Unhold u })))) is
 
-    unlocked : (u : Unlock) (b : Bool) → is_none (unlocks.plan u) ≡ b → has_retired_at (after (cond b give_up_at.GiveUp (give_up_at.Unlock u))) ≡ false
+    unlocked : (u : Unlock) (b : Bool) → is_none (unlocks.plan u) ≡ b → has_retired_at (gives-at g (cond b give_up_at.GiveUp (give_up_at.Unlock u))) ≡ false
     unlocked u true is = refl
     unlocked u false is = ap (λ (b : Bool). has_retired_at (cond b (act_at.Over None) (act_at.GiveUp (record g { at = give_up_at.Unlock u })))) is
 
-    which : (z : GiveUpAt) → give_ups.plan_at z ≡ Some step → is_refused (give_ups.turn_at (give_ups.bare_at z)) ≡ false → has_retired_at (after (give_ups.next_at (give_ups.bare_at z) found)) ≡ false
+    which : (z : GiveUpAt) → give_ups.plan_at z ≡ Some step → is_refused (give_ups.turn_at (give_ups.bare_at z)) ≡ false → has_retired_at (gives-at g (give_ups.next_at (give_ups.bare_at z) found)) ≡ false
     which (give_up_at.Unhold u) e going = unheld (unholds.next (unholds.bare u) found) (is_none (unholds.plan (unholds.next (unholds.bare u) found))) refl
     which (give_up_at.Unlock u) e going = unlocked (unlocks.next (unlocks.bare u) found) (is_none (unlocks.plan (unlocks.next (unlocks.bare u) found))) refl
     which give_up_at.GiveUp e going = absurd (both_ways true going refl)

@@ -1,5 +1,5 @@
 -- The class of a `Fail` tells what it holds, and a failure that it claims isn't over.
-use Rattle.std.proofs.Common.{◌≡◌, ◌≢◌, ℕ, ◌≤◌, Bool, true, false, cond, Option, Some, None, is_none, refl, sym, ap, ◌∙◌, arith}
+use Rattle.std.proofs.Common.{◌≡◌, ◌≢◌, ℕ, ◌≤◌, Bool, true, false, Option, Some, None, is_none, refl, sym, ap, ◌∙◌, arith}
 use Rattle.std.proofs.lemmas.Bool.{both_ways}
 use Rattle.std.proofs.lemmas.Option.{none-some}
 use Rattle.hwp_geom.specs.declared.Frame.{Frame}
@@ -11,7 +11,6 @@ use Rattle.hwp_rule.specs.declared.View.{View}
 use Rattle.hwp_step.specs.Classes.{TellsClass}
 use Rattle.hwp_step.specs.Hands.{empty, hand_of}
 use Rattle.hwp_hold.proofs.Telling.{no-frame, no-page}
-use Rattle.hwp_act.specs.declared.abandon.Failed.{Failed}
 use Rattle.hwp_act.specs.declared.act.Act.{Act}
 use Rattle.hwp_act.specs.declared.act.ActAt.{ActAt}
 use Rattle.hwp_act.specs.declared.act.ActAt.TheVariants as act_at
@@ -22,7 +21,6 @@ use Rattle.hwp_evict.specs.Clears as clears
 use Rattle.hwp_claim.specs.declared.claim.Claim.{Claim}
 use Rattle.hwp_claim.specs.declared.claim.ClaimAt.{ClaimAt}
 use Rattle.hwp_claim.specs.declared.claim.ClaimAt.TheVariants as claim_at
-use Rattle.hwp_claim.specs.declared.ClaimAnswer.TheVariants as claim_answers
 use Rattle.hwp_claim.specs.Claims as claims
 use Rattle.hwp_fail.specs.declared.fail.Fail.{Fail}
 use Rattle.hwp_fail.specs.declared.fail.FailAt.{FailAt}
@@ -33,7 +31,7 @@ use Rattle.hwp_fail.proofs.FailRank.{fail-member}
 use Rattle.hwp_fail.proofs.Failing.{fail-tells}
 
 -- no step comes of what is under way
-stuck : {o : Option Step} → is_none o ≡ false → o ≡ None → ⊥
+stuck : {A : Type 0} {o : Option A} → is_none o ≡ false → o ≡ None → ⊥
 stuck {o} on none = both_ways (is_none o) on (ap is_none none)
 
 abbrev Idle : View → Option Step → Type 0

@@ -1,6 +1,5 @@
 -- The laws of `Fail`: its steps can be made, and what follows them fits.
-use Rattle.std.proofs.Common.{◌≡◌, ◌⊎◌, ℕ, ◌<◌, ◌≤◌, Bool, true, false, cond, List, [], Option, Some, None, is_none, slice_get, refl, sym, ap, ◌∙◌, subst, arith}
-use Rattle.std.proofs.lemmas.Bool.{both_ways}
+use Rattle.std.proofs.Common.{◌≡◌, ℕ, ◌<◌, Bool, true, false, Option, Some, None, slice_get, refl, sym, ap, ◌∙◌, subst}
 use Rattle.std.proofs.lemmas.Option.{none-some, same_Some}
 use Rattle.hwp_geom.specs.declared.Frame.{Frame}
 use Rattle.hwp_geom.specs.declared.Layout.{Layout}
@@ -12,18 +11,14 @@ use Rattle.hwp_page.specs.declared.PageState.{PageState}
 use Rattle.hwp_page.specs.History.{BodyValue}
 use Rattle.hwp_rule.specs.declared.Step.{Step}
 use Rattle.hwp_rule.specs.declared.View.{View}
-use Rattle.hwp_rule.specs.Views.{noted}
 use Rattle.hwp_step.specs.declared.Turn.{Turn}
 use Rattle.hwp_step.specs.Calls.{CanMake, IsOnTurn, Steps, logs}
-use Rattle.hwp_step.specs.Hands.{empty, hand_of}
-use Rattle.hwp_step.proofs.Stepping.{content_of, on-turn-after}
+use Rattle.hwp_step.proofs.Stepping.{on-turn-after}
 use Rattle.hwp_known.specs.Known.{HasMadeNone}
-use Rattle.hwp_hold.specs.Holds.{HoldsPage}
 use Rattle.hwp_hold.proofs.Telling.{Tells, empty-tells}
 use Rattle.hwp_evict.proofs.Judging.{is-cached, state-is}
 use Rattle.hwp_act.specs.declared.abandon.Failed.{Failed}
 use Rattle.hwp_act.specs.declared.act.Act.{Act}
-use Rattle.hwp_act.specs.declared.act.ActAt.{ActAt}
 use Rattle.hwp_act.specs.Abandoned.{HasFailed}
 use Rattle.hwp_act.specs.Acting as acting
 use Rattle.hwp_act.specs.Acting.{IsClean}
@@ -40,14 +35,11 @@ use Rattle.hwp_claim.specs.declared.ClaimAnswer.{ClaimAnswer}
 use Rattle.hwp_claim.specs.declared.ClaimAnswer.TheVariants as claim_answers
 use Rattle.hwp_claim.specs.Claims as claims
 use Rattle.hwp_claim.specs.Claims.{HasMarked}
-use Rattle.hwp_claim.specs.Meets.{HoldsPoisoned}
 use Rattle.hwp_claim.proofs.Claiming as claiming
 use Rattle.hwp_fail.specs.declared.fail.Fail.{Fail}
 use Rattle.hwp_fail.specs.declared.fail.FailAt.{FailAt}
 use Rattle.hwp_fail.specs.declared.fail.FailAt.TheVariants as at
-use Rattle.hwp_fail.specs.declared.fail.FailAnswer.{FailAnswer}
-use Rattle.hwp_fail.specs.declared.fail.FailAnswer.TheVariants as answers
-use Rattle.hwp_fail.specs.Fails.{plan, plan_at, put, put_at, bare, bare_at, after_act, after_act_by, Acts, AfterClaim, AfterClaimBy, IsCached, Shows, ShowsAt, ActsOn, Follows, FollowsAt, IsClaiming, IsActing, FitsOver, Fits, FitsAt, class, class_at}
+use Rattle.hwp_fail.specs.Fails.{plan, plan_at, put, put_at, bare, bare_at, after_act, after_act_by, Acts, AfterClaim, AfterClaimBy, IsCached, Shows, ShowsAt, Follows, FollowsAt, Fits, FitsAt, class, class_at}
 use Rattle.hwp_fail.proofs.Marks.{marks-kept}
 
 pub can : (layout : Layout) (view : View) (f : Fail) (step : Step) → Fits layout view f → plan f ≡ Some step → CanMake layout f.who step (put f) view
