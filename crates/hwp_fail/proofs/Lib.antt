@@ -4,3 +4,4 @@ pub mod FailLeaves
 pub mod FailRank
 pub mod FailTells
 pub mod Injecting
+pub mod InjectRank

@@ -1,5 +1,6 @@
 -- A memory failure of a frame: the task's states, its steps and what they come to.
 use Rattle.std.specs.Prelude.{◌≡◌, ℕ, ◌<◌, Bool, true, false, cond, [], Option, Some, None, slice_get}
+use Rattle.std.specs.declared.alloc.Global.{Global}
 use Rattle.hwp_geom.specs.declared.Frame.{Frame}
 use Rattle.hwp_geom.specs.declared.Layout.{Layout}
 use Rattle.hwp_geom.specs.declared.Page.{Page}
