@@ -1,6 +1,6 @@
 -- What a step of a command does beside entries: it poisons a frame or counts that, takes the losses of a file, sets a policy, or
 -- leaves what the view lists of these.
-use Rattle.std.proofs.Common.{◌≡◌, inl, inr, ℕ, suc, ◌+◌, ◌-◌, ◌<◌, ◌==◌, Bool, true, false, cond, List, [], ◌∷◌, ◌++◌, Option, Some, option_map, filter, map, refl, sym, ap, ◌∙◌, arith}
+use Rattle.std.proofs.Common.{◌≡◌, inl, inr, ℕ, suc, ◌+◌, ◌-◌, ◌<◌, ◌==◌, Bool, true, false, cond, List, [], ◌∷◌, ◌++◌, Some, option_map, filter, map, refl, sym, ap, ◌∙◌, arith}
 use Rattle.std.proofs.lemmas.Bool.{eqb-true}
 use Rattle.std.proofs.lemmas.List.{map-append}
 use Rattle.std.proofs.lemmas.List.Elements.{filter-append}
@@ -8,7 +8,6 @@ use Rattle.std.proofs.lemmas.Option.{none-some}
 use Rattle.hwp_geom.specs.declared.FileNo.{FileNo}
 use Rattle.hwp_geom.specs.declared.Frame.{Frame}
 use Rattle.hwp_geom.specs.declared.Layout.{Layout}
-use Rattle.hwp_geom.specs.declared.Page.{Page}
 use Rattle.hwp_geom.specs.declared.Thread.{Thread}
 use Rattle.hwp_geom.specs.declared.Who.{Who}
 use Rattle.hwp_kill.specs.declared.Policy.{Policy}
@@ -18,12 +17,8 @@ use Rattle.hwp_words.specs.Names.{page_named}
 use Rattle.hwp_words.specs.Policies as words
 use Rattle.hwp_words.specs.Stops.{is_stopped}
 use Rattle.hwp_report.specs.declared.Answer.{Answer}
-use Rattle.hwp_rule.specs.declared.Mark.{Mark}
 use Rattle.hwp_rule.specs.declared.MarkKind.TheVariants as mark_kinds
 use Rattle.hwp_rule.specs.declared.Place.TheVariants as places
-use Rattle.hwp_rule.specs.declared.Reported.{Reported}
-use Rattle.hwp_rule.specs.declared.Setting.{Setting}
-use Rattle.hwp_rule.specs.declared.Step.{Step}
 use Rattle.hwp_rule.specs.declared.Step.TheVariants as steps
 use Rattle.hwp_rule.specs.declared.View.{View}
 use Rattle.hwp_rule.specs.Lists.{EachMember}
@@ -31,7 +26,6 @@ use Rattle.hwp_rule.specs.Views.{noted, sighted, stamp_of}
 use Rattle.hwp_step.proofs.Stepping.{steps-planned}
 use Rattle.hwp_control.specs.declared.Nested.{Nested}
 use Rattle.hwp_control.specs.declared.Prctl.{Prctl}
-use Rattle.hwp_control.specs.declared.PrctlAnswer.TheVariants as prctl_answers
 use Rattle.hwp_control.specs.declared.nested.NestedAt.{NestedAt}
 use Rattle.hwp_control.specs.declared.nested.NestedAt.TheVariants as nested_at
 use Rattle.hwp_control.specs.declared.prctl.PrctlAt.{PrctlAt}
