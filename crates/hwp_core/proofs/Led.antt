@@ -11,7 +11,7 @@ use Rattle.hwp_sched.specs.Order.{running}
 use Rattle.hwp_runs.specs.Turns.{Leads}
 use Rattle.hwp_runs.proofs.Leading.{leads-hold, leads-ordered}
 use Rattle.hwp_served.specs.Accounts.{Note}
-use Rattle.hwp_served.proofs.Gathering.{AreNoted}
+use Rattle.hwp_served.proofs.lines.Gathering.{AreNoted}
 use Rattle.hwp_core.specs.Closing.{IsEnded}
 use Rattle.hwp_core.specs.Runs.{IsPlayed, own_seat, processors}
 use Rattle.hwp_core.proofs.Closable.{are-noted, ended-of}

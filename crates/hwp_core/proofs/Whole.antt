@@ -14,7 +14,7 @@ use Rattle.hwp_runs.specs.Ends.{EndsWith}
 use Rattle.hwp_runs.specs.Turns.{Leads}
 use Rattle.hwp_served.specs.Accounts.{Note}
 use Rattle.hwp_served.specs.Runs.{AreServed, IsRecord, IsRunOf}
-use Rattle.hwp_served.proofs.Gathering.{gathered}
+use Rattle.hwp_served.proofs.lines.Gathering.{gathered}
 use Rattle.hwp_served.proofs.Holding.{report-of-run}
 use Rattle.hwp_served.proofs.Lawful.{law-holds}
 use Rattle.hwp_served.proofs.Showing.{report-shown, scrubs-shown}

@@ -33,9 +33,9 @@ use Rattle.hwp_served.specs.Causes.{IsCaused}
 use Rattle.hwp_served.specs.Owed.{OwesOwn, losses_by}
 use Rattle.hwp_served.specs.Served.{IsOneOf}
 use Rattle.hwp_served.proofs.Accounting.{marks-own, note-stays, reported-own, settings-own}
-use Rattle.hwp_served.proofs.Deeds.{is_inject}
+use Rattle.hwp_served.proofs.deeds.Deeds.{is_inject}
 use Rattle.hwp_served.proofs.Failed.{same-who}
-use Rattle.hwp_served.proofs.Owing.{lossless, owes-own}
+use Rattle.hwp_served.proofs.losses.Owing.{lossless, owes-own}
 use Rattle.hwp_processor.specs.Processors.{at_number}
 use Rattle.hwp_processor.specs.Serving.{AreNoted, HasAccount, IsListed}
 

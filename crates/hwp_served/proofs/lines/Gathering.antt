@@ -1,5 +1,5 @@
 -- The record of a frame can be gathered: the notes of the frame, processor by processor. While none is revived there is one at most.
-use Rattle.std.proofs.Common.{◌≡◌, ◌≢◌, ℕ, ◌+◌, ◌<◌, ◌≤◌, ◌==◌, ◌&&◌, Bool, true, false, cond, List, [], ◌∷◌, Some, filter, flat_map, length, map, slice_get, refl, sym, ap, ◌∙◌, arith}
+use Rattle.std.proofs.Common.{◌≡◌, ◌≢◌, ℕ, ◌+◌, ◌<◌, ◌≤◌, ◌==◌, ◌&&◌, Bool, true, false, cond, List, [], ◌∷◌, Some, filter, length, map, slice_get, refl, sym, ap, ◌∙◌, arith}
 use Rattle.std.specs.Int.{from_bool}
 use Rattle.std.specs.List.{count_by, sum_by}
 use Rattle.std.proofs.lemmas.Bool.{and_from, eq-eqb, eqb-true, false_from_ne_true}
@@ -21,18 +21,11 @@ use Rattle.hwp_rule.proofs.Lists.{at_map, sum-map, sum-zero}
 use Rattle.hwp_step.specs.Boards.{AreSeated, view_of}
 use Rattle.hwp_report.specs.declared.MarkLine.{MarkLine}
 use Rattle.hwp_runs.proofs.Homes.{there-is}
-use Rattle.hwp_served.specs.Accounts.{IsNote, Note}
+use Rattle.hwp_served.specs.Accounts.{IsNote, Note, lines_of, record_of}
 use Rattle.hwp_served.specs.Runs.{IsRecord, notes_on}
-use Rattle.hwp_served.proofs.MarkWords.{counts_in, mark-first, marks-few}
+use Rattle.hwp_served.proofs.marks.MarkWords.{counts_in, mark-first, marks-few}
 use Rattle.hwp_served.proofs.Seats.{seat-place}
 use Rattle.hwp_served.proofs.Sums.{below-same, flat-sum, list-below, sum-one, sum-same, sum-split}
-
--- the lines that a processor noted of a frame, and those that all did
-abbrev pub lines_of : Frame → List Note → List MarkLine
-lines_of frame own = map (λ (n : Note). n.1) (filter (λ (n : Note). n.0.0 == frame.0) own)
-
-abbrev pub record_of : Frame → List (List Note) → List MarkLine
-record_of frame notes = flat_map (lines_of frame) notes
 
 lines-same : (frame : Frame) (test : MarkLine → Bool) (own : List Note) → count_by test (lines_of frame own) ≡ notes_on frame test own
 lines-same frame test [] = refl

@@ -39,7 +39,7 @@ use Rattle.hwp_script.specs.declared.Command.{Command}
 use Rattle.hwp_report.specs.declared.Answer.{Answer}
 use Rattle.hwp_served.specs.Causes.{IsCaused}
 use Rattle.hwp_served.specs.Owed.{OwesOwn, loss_of, losses_by}
-use Rattle.hwp_served.proofs.Deeds.{are-deeds, is_inject, is_sound}
+use Rattle.hwp_served.proofs.deeds.Deeds.{are-deeds, is_inject, is_sound}
 
 -- ---- entries past those that are listed
 

@@ -22,7 +22,7 @@ use Rattle.hwp_law.specs.Policies.{arguments, setting_of}
 use Rattle.hwp_law.specs.Seen.{is_done, settings_done}
 use Rattle.hwp_runs.proofs.Homes.{there-is}
 use Rattle.hwp_served.specs.Accounts.{is_same, set_by, set_for}
-use Rattle.hwp_served.proofs.PolicyCounts.{is_before, made_before}
+use Rattle.hwp_served.proofs.policies.PolicyCounts.{is_before, made_before}
 
 -- how many of these are of the thread
 abbrev pub are_of : Thread → List (Thread × Policy) → ℕ

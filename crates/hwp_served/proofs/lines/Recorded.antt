@@ -35,17 +35,17 @@ use Rattle.hwp_runs.proofs.Homes.{there-is}
 use Rattle.hwp_served.specs.Accounts.{frames_marked, is_same, marked_by}
 use Rattle.hwp_served.specs.Causes.{HasFailed, IsEntered}
 use Rattle.hwp_served.specs.Runs.{IsRunOf}
-use Rattle.hwp_served.proofs.CountedEntries.{entries-inside, entries-outside}
-use Rattle.hwp_served.proofs.CountedMarks.{marks-inside, marks-outside}
+use Rattle.hwp_served.proofs.deeds.CountedEntries.{entries-inside, entries-outside}
+use Rattle.hwp_served.proofs.marks.CountedMarks.{marks-inside, marks-outside}
 use Rattle.hwp_served.proofs.Ending.{IsEnd, IsOf, command-of, filter-has, list-of, rows-of, served-of}
 use Rattle.hwp_served.proofs.Failed.{one-situation, same-who}
 use Rattle.hwp_served.proofs.Holding.{ended, holds}
-use Rattle.hwp_served.proofs.Marked.{same-self}
-use Rattle.hwp_served.proofs.RecordLines.{same-situation}
-use Rattle.hwp_served.proofs.Records.{has-poisoned, no-hardware}
+use Rattle.hwp_served.proofs.marks.Marked.{same-self}
+use Rattle.hwp_served.proofs.lines.RecordLines.{same-situation}
+use Rattle.hwp_served.proofs.lines.Records.{has-poisoned, no-hardware}
 use Rattle.hwp_served.proofs.Seen.{filter-is}
-use Rattle.hwp_served.proofs.SoundDeeds.{IsNoFailure, sound-deeds}
-use Rattle.hwp_served.proofs.Sound.{entries-none, no-required, no-soft}
+use Rattle.hwp_served.proofs.deeds.SoundDeeds.{IsNoFailure, sound-deeds}
+use Rattle.hwp_served.proofs.deeds.Sound.{entries-none, no-required, no-soft}
 
 -- a command poisoned no frame, or one
 marked-which : (command : Command) (answer : Answer) → (marked_by command answer ≡ []) ⊎ ((frame : Frame) × (marked_by command answer ≡ frame ∷ []))

@@ -30,8 +30,8 @@ use Rattle.hwp_served.specs.Causes.{IsCaused, SawProcess}
 use Rattle.hwp_served.specs.Runs.{IsRunOf}
 use Rattle.hwp_served.proofs.Along.{run-keeps}
 use Rattle.hwp_served.proofs.Ending.{IsEnd, own-view}
-use Rattle.hwp_served.proofs.EndingKept.{ends-kept}
-use Rattle.hwp_served.proofs.EndingSeen.{KnowEnds}
+use Rattle.hwp_served.proofs.endings.EndingKept.{ends-kept}
+use Rattle.hwp_served.proofs.endings.EndingSeen.{KnowEnds}
 use Rattle.hwp_served.proofs.Holding.{ended}
 use Rattle.hwp_served.proofs.Showing.{answers-of, process-command}
 use Rattle.hwp_served.proofs.Shown.{process-is}

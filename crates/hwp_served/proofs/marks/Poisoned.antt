@@ -29,9 +29,9 @@ use Rattle.hwp_served.specs.Causes.{FoundPoisoned}
 use Rattle.hwp_served.specs.Runs.{place_in}
 use Rattle.hwp_served.proofs.Ending.{IsEnd, own-view}
 use Rattle.hwp_served.proofs.Failed.{same-who}
-use Rattle.hwp_served.proofs.MarkWords.{mark-first}
-use Rattle.hwp_served.proofs.Marked.{noted-line, same-self}
-use Rattle.hwp_served.proofs.PoisonSeen.{AreMarkedBy}
+use Rattle.hwp_served.proofs.marks.MarkWords.{mark-first}
+use Rattle.hwp_served.proofs.marks.Marked.{noted-line, same-self}
+use Rattle.hwp_served.proofs.marks.PoisonSeen.{AreMarkedBy}
 
 abbrev is_by_command : MarkKind → Bool
 is_by_command (kinds.Poisoned hardware) = true

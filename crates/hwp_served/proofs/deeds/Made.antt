@@ -18,7 +18,7 @@ use Rattle.hwp_law.specs.Entries.{AreMadeBy, CanStandIn, Makes}
 use Rattle.hwp_law.specs.Places.{command_at, entry_at}
 use Rattle.hwp_law.specs.States.{entry_named}
 use Rattle.hwp_runs.proofs.Reported.{entry-listed}
-use Rattle.hwp_served.proofs.Deeds.{IsDeed, are-deeds, is_mild}
+use Rattle.hwp_served.proofs.deeds.Deeds.{IsDeed, are-deeds, is_mild}
 use Rattle.hwp_served.proofs.Ending.{IsEnd, IsOf, of-deeds, of-made}
 
 -- what there is has the property

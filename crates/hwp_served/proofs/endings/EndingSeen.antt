@@ -34,7 +34,7 @@ use Rattle.hwp_rule.proofs.NotLater.{one-view}
 use Rattle.hwp_rule.proofs.WordsByKind.{word-there, words-read}
 use Rattle.hwp_served.specs.Accounts.{is_same}
 use Rattle.hwp_served.proofs.Failed.{same-who}
-use Rattle.hwp_served.proofs.Marked.{same-self}
+use Rattle.hwp_served.proofs.marks.Marked.{same-self}
 
 -- ---- what is kept
 

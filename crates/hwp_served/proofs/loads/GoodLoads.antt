@@ -36,7 +36,7 @@ use Rattle.hwp_served.specs.Loads.{AreGoodLoads, Inspects}
 use Rattle.hwp_served.specs.Runs.{IsRunOf}
 use Rattle.hwp_served.proofs.AllowedThere.{allowed-there, had-so}
 use Rattle.hwp_served.proofs.Holding.{nothing}
-use Rattle.hwp_served.proofs.Inspected.{all-inspected, mask_of}
+use Rattle.hwp_served.proofs.loads.Inspected.{all-inspected, mask_of}
 use Rattle.hwp_served.proofs.Lawful.{law-holds}
 
 -- A run whose last board is the report's, where nothing is held, and whose report keeps the law.

@@ -27,14 +27,14 @@ use Rattle.hwp_law.specs.Records.{ends_poisoned, is_poisoning}
 use Rattle.hwp_runs.specs.Ends.{IsFrameOn, place_in, place_owned}
 use Rattle.hwp_runs.proofs.Placed.{owned-named}
 use Rattle.hwp_served.specs.Runs.{IsRunOf}
-use Rattle.hwp_served.proofs.Clean.{run-clean}
+use Rattle.hwp_served.proofs.lines.Clean.{run-clean}
 use Rattle.hwp_served.proofs.Ending.{IsEnd}
 use Rattle.hwp_served.proofs.Holding.{ended}
-use Rattle.hwp_served.proofs.MarkWords.{mark-poisons}
-use Rattle.hwp_served.proofs.Poisoned.{one-line}
-use Rattle.hwp_served.proofs.PoisonSeen.{marked-word}
-use Rattle.hwp_served.proofs.RecordLines.{of-mark}
-use Rattle.hwp_served.proofs.Records.{record-is}
+use Rattle.hwp_served.proofs.marks.MarkWords.{mark-poisons}
+use Rattle.hwp_served.proofs.marks.Poisoned.{one-line}
+use Rattle.hwp_served.proofs.marks.PoisonSeen.{marked-word}
+use Rattle.hwp_served.proofs.lines.RecordLines.{of-mark}
+use Rattle.hwp_served.proofs.lines.Records.{record-is}
 use Rattle.hwp_served.proofs.Showing.{answers-of}
 use Rattle.hwp_served.proofs.Sums.{list-below}
 

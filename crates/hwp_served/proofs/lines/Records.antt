@@ -38,10 +38,10 @@ use Rattle.hwp_served.specs.Runs.{IsRunOf}
 use Rattle.hwp_served.proofs.Ending.{IsEnd, command-of, filter-has, list-of, rows-of, served-of}
 use Rattle.hwp_served.proofs.Failed.{one-situation}
 use Rattle.hwp_served.proofs.Holding.{ended}
-use Rattle.hwp_served.proofs.Made.{command-is}
-use Rattle.hwp_served.proofs.Marked.{same-self}
-use Rattle.hwp_served.proofs.Poisoned.{one-line}
-use Rattle.hwp_served.proofs.RecordLines.{IsOfMark, of-mark}
+use Rattle.hwp_served.proofs.deeds.Made.{command-is}
+use Rattle.hwp_served.proofs.marks.Marked.{same-self}
+use Rattle.hwp_served.proofs.marks.Poisoned.{one-line}
+use Rattle.hwp_served.proofs.lines.RecordLines.{IsOfMark, of-mark}
 use Rattle.hwp_served.proofs.Showing.{answer-told, eventless}
 
 -- where no member passes a test, none is left

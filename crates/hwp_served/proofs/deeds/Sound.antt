@@ -17,9 +17,9 @@ use Rattle.hwp_law.specs.Events.{is_check}
 use Rattle.hwp_law.specs.Lines.{is_same_command}
 use Rattle.hwp_law.specs.Pairings.{entries_of, is_required, is_soft, situation_number}
 use Rattle.hwp_law.specs.Places.{entry_at}
-use Rattle.hwp_served.proofs.Deeds.{is_mild}
+use Rattle.hwp_served.proofs.deeds.Deeds.{is_mild}
 use Rattle.hwp_served.proofs.Ending.{IsEnd}
-use Rattle.hwp_served.proofs.Made.{does}
+use Rattle.hwp_served.proofs.deeds.Made.{does}
 
 and-false : (b : Bool) → (b && false) ≡ false
 and-false true = refl

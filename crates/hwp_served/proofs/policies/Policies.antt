@@ -49,12 +49,12 @@ use Rattle.hwp_served.specs.Runs.{IsRunOf}
 use Rattle.hwp_served.specs.Served.{IsServed}
 use Rattle.hwp_served.proofs.Along.{run-keeps}
 use Rattle.hwp_served.proofs.Ending.{IsEnd, IsOf, command-of, list-of, own-view, rows-of, served-of}
-use Rattle.hwp_served.proofs.Gone.{names-inside}
+use Rattle.hwp_served.proofs.endings.Gone.{names-inside}
 use Rattle.hwp_served.proofs.Holding.{ended}
-use Rattle.hwp_served.proofs.Made.{does}
-use Rattle.hwp_served.proofs.PolicyCounts.{made_before, number-back, number_in}
-use Rattle.hwp_served.proofs.PolicyDone.{are_of, before-done, set-count, set_of, step-count}
-use Rattle.hwp_served.proofs.PolicySeen.{IsPoliced, KnowPolicies, agrees, policies-kept}
+use Rattle.hwp_served.proofs.deeds.Made.{does}
+use Rattle.hwp_served.proofs.policies.PolicyCounts.{made_before, number-back, number_in}
+use Rattle.hwp_served.proofs.policies.PolicyDone.{are_of, before-done, set-count, set_of, step-count}
+use Rattle.hwp_served.proofs.policies.PolicySeen.{IsPoliced, KnowPolicies, agrees, policies-kept}
 use Rattle.hwp_served.proofs.Showing.{answer-told}
 
 -- ---- policies

@@ -35,8 +35,8 @@ use Rattle.hwp_served.proofs.Along.{run-keeps}
 use Rattle.hwp_served.proofs.Ending.{IsEnd, list-of, rows-of, served-of}
 use Rattle.hwp_served.proofs.Holding.{ended, nothing}
 use Rattle.hwp_served.proofs.HomePages.{home-sum}
-use Rattle.hwp_served.proofs.LossesTold.{reported_of, told-reported}
-use Rattle.hwp_served.proofs.Reporting.{AreReportsOwn, reports-kept}
+use Rattle.hwp_served.proofs.losses.LossesTold.{reported_of, told-reported}
+use Rattle.hwp_served.proofs.losses.Reporting.{AreReportsOwn, reports-kept}
 use Rattle.hwp_served.proofs.Seats.{seat-place}
 use Rattle.hwp_served.proofs.Sums.{below-same, flat-sum, list-below, sum-one, sum-same, sum-split}
 

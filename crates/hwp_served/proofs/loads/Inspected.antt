@@ -41,7 +41,7 @@ use Rattle.hwp_runs.proofs.Adding.{Adds, AddsMade, adds}
 use Rattle.hwp_runs.proofs.Leading.{leads-on}
 use Rattle.hwp_served.specs.Loads.{HasPageIn, Inspects}
 use Rattle.hwp_served.proofs.Adding.{OneMore, adds-by}
-use Rattle.hwp_served.proofs.BodiesBy.{bodies-so}
+use Rattle.hwp_served.proofs.loads.BodiesBy.{bodies-so}
 
 -- the bad lines that an entry rests on
 abbrev pub mask_of : What → Option ℕ

@@ -28,8 +28,8 @@ use Rattle.hwp_served.specs.Accounts.{IsNote, is_same}
 use Rattle.hwp_served.specs.Causes.{HasFailed}
 use Rattle.hwp_served.proofs.Ending.{IsEnd, list-of, notes-of, own-view, rows-of}
 use Rattle.hwp_served.proofs.Failed.{one-situation, paired, same-who}
-use Rattle.hwp_served.proofs.Marked.{noted-line, noted_so, same-self}
-use Rattle.hwp_served.proofs.Poisoned.{one-line}
+use Rattle.hwp_served.proofs.marks.Marked.{noted-line, noted_so, same-self}
+use Rattle.hwp_served.proofs.marks.Poisoned.{one-line}
 
 -- ---- a situation by its number
 

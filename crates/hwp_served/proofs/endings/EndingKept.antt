@@ -40,8 +40,8 @@ use Rattle.hwp_runs.proofs.Adding.{AddsLength, AddsMade, AddsNothing, adds}
 use Rattle.hwp_runs.proofs.Homes.{home-within}
 use Rattle.hwp_served.proofs.Adding.{Adds, OneMore, adds-by}
 use Rattle.hwp_served.proofs.Along.{IsKept}
-use Rattle.hwp_served.proofs.EndingSeen.{AreFresh, IsFresh, IsUnended, KnowEnds, StaysEnded, not-going, process-word}
-use Rattle.hwp_served.proofs.HandsAfter.{hands-after}
+use Rattle.hwp_served.proofs.endings.EndingSeen.{AreFresh, IsFresh, IsUnended, KnowEnds, StaysEnded, not-going, process-word}
+use Rattle.hwp_served.proofs.endings.HandsAfter.{hands-after}
 
 drop-front : {A : Type 0} (n : ℕ) (xs ys : List A) → n ≤ length xs → drop n (xs ++ ys) ≡ drop n xs ++ ys
 drop-front zero xs ys few = refl

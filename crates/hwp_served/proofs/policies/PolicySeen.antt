@@ -38,8 +38,8 @@ use Rattle.hwp_rule.proofs.WordsByKind.{word-there, words-read}
 use Rattle.hwp_runs.proofs.Homes.{there-is}
 use Rattle.hwp_served.proofs.Adding.{Adds, OneMore, adds-by}
 use Rattle.hwp_served.proofs.Along.{IsKept}
-use Rattle.hwp_served.proofs.Gone.{names-inside}
-use Rattle.hwp_served.proofs.PolicyCounts.{before-all, before-most, is_before, made_before, number-back, number_in}
+use Rattle.hwp_served.proofs.endings.Gone.{names-inside}
+use Rattle.hwp_served.proofs.policies.PolicyCounts.{before-all, before-most, is_before, made_before, number-back, number_in}
 
 -- ---- what is kept
 
