@@ -1,5 +1,5 @@
 -- The laws of `Inject`: its steps can be made, and what follows them fits.
-use Rattle.std.proofs.Common.{◌≡◌, ℕ, ◌<◌, ◌==◌, Bool, true, false, cond, [], Option, Some, None, is_none, inl, refl, sym, ap, ◌∙◌, subst}
+use Rattle.std.proofs.Common.{◌≡◌, ℕ, ◌<◌, ◌==◌, Bool, true, false, cond, Option, Some, None, is_none, inl, refl, sym, ap, ◌∙◌, subst}
 use Rattle.std.proofs.lemmas.Option.{none-some}
 use Rattle.std.specs.declared.alloc.Global.{Global}
 use Rattle.hwp_geom.specs.declared.Frame.{Frame}
@@ -9,16 +9,13 @@ use Rattle.hwp_geom.specs.Layout.{IsSound}
 use Rattle.hwp_page.specs.History.{BodyValue}
 use Rattle.hwp_words.specs.Frames.{count_of, cycle_of, is_kernel, is_poisoned}
 use Rattle.hwp_words.specs.Stops.{is_stopped}
-use Rattle.hwp_rule.specs.declared.Mark.{Mark}
 use Rattle.hwp_rule.specs.declared.Place.TheVariants as places
 use Rattle.hwp_rule.specs.declared.Step.{Step}
 use Rattle.hwp_rule.specs.declared.Step.TheVariants as steps
 use Rattle.hwp_rule.specs.declared.View.{View}
 use Rattle.hwp_step.specs.declared.Turn.{Turn}
 use Rattle.hwp_step.specs.Calls.{CanMake, IsOnTurn, Steps, logs}
-use Rattle.hwp_step.specs.Hands.{hand_of, empty}
 use Rattle.hwp_step.proofs.Stepping.{can-make, hand-planned, on-turn-after, steps-planned}
-use Rattle.hwp_known.specs.Known.{HasMadeNone}
 use Rattle.hwp_known.proofs.Listing.{deeds-same}
 use Rattle.hwp_known.proofs.Seeing.{saw-load}
 use Rattle.hwp_hold.specs.declared.unlock.Unlock.{Unlock}
@@ -49,7 +46,7 @@ use Rattle.hwp_fail.specs.declared.inject.Inject.{Inject}
 use Rattle.hwp_fail.specs.declared.inject.InjectAt.{InjectAt}
 use Rattle.hwp_fail.specs.declared.inject.InjectAt.TheVariants as at
 use Rattle.hwp_fail.specs.Fails as fails
-use Rattle.hwp_fail.specs.Injects.{FailsOn, Fits, FitsAt, Follows, FollowsAt, IsAtRest, IsFailing, Shows, ShowsAt, bare, bare_at, class, class_at, loaded, plan, plan_at, put, put_at, recovers_at, recovers_in}
+use Rattle.hwp_fail.specs.Injects.{Fits, FitsAt, Follows, FollowsAt, IsAtRest, IsFailing, Shows, ShowsAt, bare, bare_at, loaded, plan, plan_at, put, put_at, recovers_at, recovers_in}
 use Rattle.hwp_fail.proofs.Failing as failing
 
 pub can : (layout : Layout) (view : View) (i : Inject) (step : Step) → Fits layout view i → plan i ≡ Some step → CanMake layout i.who step (put i) view
@@ -73,43 +70,35 @@ module _ {layout : Layout} {old new : View} {who : Who} {found : ℕ} {got : Opt
 
 -- a failure begins
 begun : {layout : Layout} {view : View} (who : Who) (frame : Frame) (alloc : Global) → IsOnTurn view who → IsSound layout → frame.0 < layout.frames → IsAtRest view who → IsFailing layout view who frame (fails.begin alloc who frame None false layout.recovery)
-begun {layout} {view} who frame alloc on sound inside rest = which layout.recovery refl
+begun {layout} {view} who frame alloc on sound inside rest = record {
+  fail = record {
+    on_turn = on;
+    sound = sound;
+    frame = inside;
+    at = record {
+      claim = record { on_turn = on; frame = inside; unreported = refl; made = rest.made; paid = rest.paid; at = holds layout.recovery };
+      own = refl;
+      frame_is = refl;
+      unanswered = answers layout.recovery;
+    };
+  };
+  own = refl;
+  frame_is = refl;
+  unrequired = refl;
+  recovery = recovers layout.recovery;
+}
   where
-    which : (b : Bool) → layout.recovery ≡ b → IsFailing layout view who frame (fails.begin alloc who frame None false b)
-    which true is = record {
-      fail = record {
-        on_turn = on;
-        sound = sound;
-        frame = inside;
-        at = record {
-          claim = record { on_turn = on; frame = inside; unreported = refl; made = rest.made; paid = rest.paid; at = (rest.hand_is, rest.unmarked) };
-          own = refl;
-          frame_is = refl;
-          unanswered = refl;
-        };
-      };
-      own = refl;
-      frame_is = refl;
-      unrequired = refl;
-      recovery = is;
-    }
-    which false is = record {
-      fail = record {
-        on_turn = on;
-        sound = sound;
-        frame = inside;
-        at = record {
-          claim = record { on_turn = on; frame = inside; unreported = refl; made = rest.made; paid = rest.paid; at = (rest.hand_is, rest.unmarked) };
-          own = refl;
-          frame_is = refl;
-          unanswered = refl;
-        };
-      };
-      own = refl;
-      frame_is = refl;
-      unrequired = refl;
-      recovery = is;
-    }
+    holds : (b : Bool) → claims.FitsAt layout view who frame false (claims.start b)
+    holds true = (rest.hand_is, rest.unmarked)
+    holds false = (rest.hand_is, rest.unmarked)
+
+    answers : (b : Bool) → claims.answer_at (claims.start b) ≡ None
+    answers true = refl
+    answers false = refl
+
+    recovers : (b : Bool) → b ≡ recovers_in (claims.start b)
+    recovers true = refl
+    recovers false = refl
 
 -- ---- whether the machine recovers
 

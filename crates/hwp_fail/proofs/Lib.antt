@@ -1,3 +1,7 @@
 pub mod Marks
 pub mod Failing
+pub mod FailLeaves
+pub mod FailRank
+pub mod FailTells
 pub mod Injecting
+pub mod InjectRank

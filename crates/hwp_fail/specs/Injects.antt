@@ -1,5 +1,5 @@
 -- A memory failure that a command brings about: the task's states, its steps and what they come to.
-use Rattle.std.specs.Prelude.{◌≡◌, ℕ, ◌+◌, ◌<◌, Bool, true, false, cond, [], Option, Some, None}
+use Rattle.std.specs.Prelude.{◌≡◌, ℕ, ◌<◌, Bool, true, false, cond, [], Option, Some, None}
 use Rattle.std.specs.declared.alloc.Global.{Global}
 use Rattle.hwp_geom.specs.declared.Frame.{Frame}
 use Rattle.hwp_geom.specs.declared.Layout.{Layout}
@@ -121,7 +121,7 @@ pub record IsFailing (layout : Layout) (view : View) (who : Who) (frame : Frame)
 abbrev pub FitsAt : Layout → View → Who → Frame → InjectAt → Type 0
 FitsAt layout view who frame at.LoadStop = IsAtRest view who
 FitsAt layout view who frame (at.Fail f) = IsFailing layout view who frame f
-FitsAt layout view who frame at.Stopped = (hand_of view ≡ empty) × (view.owed.losses ≡ []) × fails.FitsOver layout view who frame answers.Stopped
+FitsAt layout view who frame at.Stopped = (hand_of view ≡ empty) × (view.owed.losses ≡ []) × fails.FitsOver layout view who frame None answers.Stopped
 
 pub record Fits (layout : Layout) (view : View) (i : Inject) : Type 0 where
   pub on_turn : IsOnTurn view i.who

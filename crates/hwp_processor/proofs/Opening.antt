@@ -19,6 +19,7 @@ use Rattle.hwp_law.specs.Policies.{settings}
 use Rattle.hwp_served.specs.Served.{AreAnswered}
 use Rattle.hwp_processor.specs.Processors.{BeginsAt, at_number}
 use Rattle.hwp_processor.specs.Serving.{FitsAt, IsDone, IsListed, IsRunning, Serves}
+use Rattle.hwp_processor.proofs.Lines.{past-end}
 use Rattle.hwp_processor.proofs.Noting.{account-starts, noted-starts}
 
 module _ (layout : Layout) (cpu : Cpu) (list : List Command) (few : length list ≤ command_limit) where
@@ -58,13 +59,13 @@ module _ (layout : Layout) (cpu : Cpu) (list : List Command) (few : length list 
     command = command;
     there = there;
     runs = begins-runs layout (at_number cpu 0) command j begins;
-    fits = begins-fits layout view (at_number cpu 0) command j begins (record { on_turn = first-turn; hand_is = refl; made = refl; left = left know (begins-stop layout (at_number cpu 0) command j begins) (let within : 0 < length list = slice_get_within list 0 command there in omega (arith, few, within)) });
+    fits = begins-fits layout view (at_number cpu 0) command j begins (record { on_turn = first-turn; hand_is = refl; paid = refl; made = refl; unmarked = refl; left = left know (begins-stop layout (at_number cpu 0) command j begins) (let within : 0 < length list = slice_get_within list 0 command there in omega (arith, few, within)) });
     policies = know;
     stopped = λ some. inl (begins-stop layout (at_number cpu 0) command j begins);
     stops = λ i who at. absurd (none-some who at);
     listed = listed 1;
     account = account-starts view cpu 0 j (listed 0) refl (begins-stop layout (at_number cpu 0) command j begins);
-    noted = noted-starts layout view cpu 0 [] j (listed 0) tt;
+    noted = noted-starts layout view cpu 0 [] j (listed 0) (begins-stop layout (at_number cpu 0) command j begins) tt;
   }
     where
       know : KnowsPolicies layout list view (at_number cpu 0) j
@@ -73,7 +74,7 @@ module _ (layout : Layout) (cpu : Cpu) (list : List Command) (few : length list 
   done : slice_get list 0 ≡ None → IsDone layout view cpu list [] []
   done none = record {
     serves = serves;
-    all = sym (let most : length list ≤ 0 = empty list none in omega arith);
+    all = sym (let most : length list ≤ 0 = past-end list 0 none in omega arith);
     made = λ k past. refl;
     hand_is = refl;
     owed = refl;
@@ -82,10 +83,6 @@ module _ (layout : Layout) (cpu : Cpu) (list : List Command) (few : length list 
     noted = tt;
     policies = λ thread. (settings thread list, refl);
   }
-    where
-      empty : (l : List Command) → slice_get l 0 ≡ None → length l ≤ 0
-      empty [] is = omega arith
-      empty (c ∷ cs) is = absurd (none-some c (sym is))
 
   pub begun : (x : Option Job) → BeginsAt layout (at_number cpu 0) (slice_get list 0) x → FitsAt layout view cpu list [] [] x
   begun x begins = which (slice_get list 0) refl x begins

@@ -106,7 +106,7 @@ fn with_swapped(rt: &impl Abort, alloc: Global, text: &str, number: u64) -> Stri
             held = line;
         } else {
             writeln!(out, "{line}").expect(rt, "memory");
-            if at == number + 1 {
+            if at == number.saturating_add(1) {
                 writeln!(out, "{held}").expect(rt, "memory");
             }
         }
