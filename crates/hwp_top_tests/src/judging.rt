@@ -56,26 +56,26 @@ const POISONED: &str = "hwp-report 1\nstop none\ncount 1\n";
 const RACES: &[Race] = &[
     // a store, and a load of the same page
     Race {
-        front: "hwp 1\ncpus 2\nframes 1\nproc 0\nproc 1\nthread 0 0 0 handler\nthread 1 1 1 handler\npage 0 anon\n\
-trans 0 0 0\ntrans 1 1 0\ncpu 0\nstore 0 0 0 7\nload 0 0 0\ncpu 1\nload 1 1 0\nstore 1 1 0 8\nschedule",
+        front: "hwp 1\ncpus 2\nframes 1\nproc 0\nproc 1\nthread 0 0 0 handler\nthread 1 1 1 handler\npage 0 anon\ntrans 0 0 0\n\
+trans 1 1 0\ncpu 0\nstore 0 0 0 7\nload 0 0 0\ncpu 1\nload 1 1 0\nstore 1 1 0 8\nschedule",
         head: SOUND,
     },
     // a page that is swapped out under a load
     Race {
-        front: "hwp 1\ncpus 2\nframes 1\nproc 0\nproc 1\nthread 0 0 0 handler\nthread 1 1 1 handler\npage 0 anon\n\
-trans 0 0 0\ntrans 1 1 0\ncpu 0\nout 0\nstore 0 0 0 7\ncpu 1\nload 1 1 0\nout 0\nschedule",
+        front: "hwp 1\ncpus 2\nframes 1\nproc 0\nproc 1\nthread 0 0 0 handler\nthread 1 1 1 handler\npage 0 anon\ntrans 0 0 0\n\
+trans 1 1 0\ncpu 0\nout 0\nstore 0 0 0 7\ncpu 1\nload 1 1 0\nout 0\nschedule",
         head: SOUND,
     },
     // a translation that is freed under a load through it
     Race {
-        front: "hwp 1\ncpus 2\nframes 1\nproc 0\nthread 0 0 0 handler\nthread 1 0 1 handler\npage 0 anon\n\
-trans 0 0 0\ncpu 0\nfree 0\nstore 0 0 0 7\nfree 0\ncpu 1\nload 1 0 0\nload 1 0 0\nschedule",
+        front: "hwp 1\ncpus 2\nframes 1\nproc 0\nthread 0 0 0 handler\nthread 1 0 1 handler\npage 0 anon\ntrans 0 0 0\ncpu 0\n\
+free 0\nstore 0 0 0 7\nfree 0\ncpu 1\nload 1 0 0\nload 1 0 0\nschedule",
         head: SOUND,
     },
     // two pages
     Race {
-        front: "hwp 1\ncpus 2\nframes 1\nproc 0\nproc 1\nthread 0 0 0 handler\nthread 1 1 1 handler\npage 0 anon\n\
-page 1 anon\ntrans 0 0 0\ntrans 1 1 1\ncpu 0\nstore 0 0 0 7\nout 0\ncpu 1\nstore 1 1 0 8\nout 1\nschedule",
+        front: "hwp 1\ncpus 2\nframes 1\nproc 0\nproc 1\nthread 0 0 0 handler\nthread 1 1 1 handler\npage 0 anon\npage 1 anon\n\
+trans 0 0 0\ntrans 1 1 1\ncpu 0\nstore 0 0 0 7\nout 0\ncpu 1\nstore 1 1 0 8\nout 1\nschedule",
         head: SOUND,
     },
     // a page of a file
@@ -95,14 +95,14 @@ fn every_order_of_ten_turns_gives_a_legal_report(rt: HostRuntime) {
 const FAILING: &[Race] = &[
     // the frame is free, and the other processor takes one
     Race {
-        front: "hwp 1\ncpus 2\nframes 2\nproc 0\nthread 0 0 1 handler\npage 0 anon\ntrans 0 0 0\ncpu 0\ninject 0\n\
-cpu 1\nstore 0 0 0 7\nload 0 0 0\nschedule",
+        front: "hwp 1\ncpus 2\nframes 2\nproc 0\nthread 0 0 1 handler\npage 0 anon\ntrans 0 0 0\ncpu 0\ninject 0\ncpu 1\n\
+store 0 0 0 7\nload 0 0 0\nschedule",
         head: POISONED,
     },
     // its page is swapped out, and comes back
     Race {
-        front: "hwp 1\ncpus 2\nframes 2\nproc 0\nproc 1\nthread 0 0 0 handler\nthread 1 1 1 handler\npage 0 anon\n\
-trans 0 0 0\ntrans 1 1 0\ncpu 0\nstore 0 0 0 7\ninject 0\nload 0 0 0\ncpu 1\nout 0\nload 1 1 0\nschedule 0.",
+        front: "hwp 1\ncpus 2\nframes 2\nproc 0\nproc 1\nthread 0 0 0 handler\nthread 1 1 1 handler\npage 0 anon\ntrans 0 0 0\n\
+trans 1 1 0\ncpu 0\nstore 0 0 0 7\ninject 0\nload 0 0 0\ncpu 1\nout 0\nload 1 1 0\nschedule 0.",
         head: POISONED,
     },
     // a dirty page of a file is stored to, and written back
@@ -121,8 +121,8 @@ prctl 1 34 0 0 0 0\nschedule 0. 1.",
     },
     // the machine doesn't recover
     Race {
-        front: "hwp 1\ncpus 2\nframes 2\nrecovery 0\nproc 0\nthread 0 0 1 handler\npage 0 anon\ntrans 0 0 0\ncpu 0\n\
-inject 0\ninject 1\ncpu 1\nload 0 0 0\ninject 0\nschedule",
+        front: "hwp 1\ncpus 2\nframes 2\nrecovery 0\nproc 0\nthread 0 0 1 handler\npage 0 anon\ntrans 0 0 0\ncpu 0\ninject 0\n\
+inject 1\ncpu 1\nload 0 0 0\ninject 0\nschedule",
         head: "hwp-report 1\nstop ",
     },
 ];
@@ -137,15 +137,14 @@ const BOTH_FAILING: &[Race] = &[
     // an anonymous page
     Race {
         front: "hwp 1\ncpus 2\nframes 2\nearly 1\nproc 0\nproc 1\nthread 0 0 0 handler\nthread 1 1 1 nohandler\npage 0 anon\n\
-trans 0 0 0\ntrans 1 1 0\ncpu 0\nstore 0 0 0 7\ninject 0\nload 0 0 0\ncpu 1\nload 1 1 0\ninject 0\nload 1 1 0\n\
-schedule 0. 1.",
+trans 0 0 0\ntrans 1 1 0\ncpu 0\nstore 0 0 0 7\ninject 0\nload 0 0 0\ncpu 1\nload 1 1 0\ninject 0\nload 1 1 0\nschedule 0. 1.",
         head: POISONED,
     },
     // a dirty page of a file
     Race {
         front: "hwp 1\ncpus 2\nframes 2\nfile 0\nproc 0\nproc 1\nthread 0 0 0 handler\nthread 1 1 1 handler\n\
-page 0 file 0 fill 9\ntrans 0 0 0\ntrans 1 1 0\ncpu 0\nstore 0 0 0 7\ninject 0\nfsync 0\ncpu 1\nload 1 1 0\ninject 0\n\
-fsync 0\nschedule 0. 1.",
+page 0 file 0 fill 9\ntrans 0 0 0\ntrans 1 1 0\ncpu 0\nstore 0 0 0 7\ninject 0\nfsync 0\ncpu 1\nload 1 1 0\ninject 0\nfsync 0\n\
+schedule 0. 1.",
         head: POISONED,
     },
 ];
