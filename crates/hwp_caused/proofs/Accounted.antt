@@ -1,21 +1,23 @@
 -- What a command has done beside its entries is what its answer says.
-use Rattle.std.proofs.Common.{◌≡◌, ℕ, Bool, true, List, [], ◌∷◌, ◌++◌, Option, Some, map, refl, sym, ap, ◌∙◌, subst}
+use Rattle.std.proofs.Common.{◌≡◌, [], ◌∷◌, Some, map, refl, sym, ap, ◌∙◌, subst}
 use Rattle.hwp_geom.specs.declared.FileNo.{FileNo}
 use Rattle.hwp_geom.specs.declared.Frame.{Frame}
 use Rattle.hwp_geom.specs.declared.Layout.{Layout}
 use Rattle.hwp_geom.specs.declared.Thread.{Thread}
 use Rattle.hwp_geom.specs.declared.Who.{Who}
 use Rattle.hwp_kill.specs.declared.Policy.{Policy}
-use Rattle.hwp_kill.specs.declared.Reply.{Reply}
 use Rattle.hwp_kill.specs.declared.Reply.TheVariants as replies
 use Rattle.hwp_kill.specs.Prctl.{policy_set}
+use Rattle.hwp_page.specs.declared.Outcome.{Outcome}
+use Rattle.hwp_page.specs.declared.Outcome.TheVariants as outcomes
+use Rattle.hwp_page.specs.Situations.{outcome_of}
 use Rattle.hwp_rule.specs.declared.View.{View}
 use Rattle.hwp_form.specs.declared.Command.{Command}
 use Rattle.hwp_form.specs.declared.Command.TheVariants as commands
 use Rattle.hwp_form.specs.declared.PrctlArgs.{PrctlArgs}
 use Rattle.hwp_report.specs.declared.Answer.{Answer}
-use Rattle.hwp_report.specs.declared.Answer.TheVariants as answers
 use Rattle.hwp_law.specs.Policies.{arguments}
+use Rattle.hwp_law.specs.Records.{outcome_answer}
 use Rattle.hwp_control.specs.declared.Prctl.{Prctl}
 use Rattle.hwp_control.specs.declared.PrctlAnswer.{PrctlAnswer}
 use Rattle.hwp_control.specs.declared.PrctlAnswer.TheVariants as prctl_answers
@@ -27,17 +29,20 @@ use Rattle.hwp_evict.specs.declared.FsyncAnswer.{FsyncAnswer}
 use Rattle.hwp_evict.specs.declared.FsyncAnswer.TheVariants as fsync_answers
 use Rattle.hwp_evict.specs.declared.fsync.FsyncAt.TheVariants as fsync_at
 use Rattle.hwp_evict.specs.Fsyncs as fsyncs
+use Rattle.hwp_fail.specs.declared.FailAnswer.{FailAnswer}
+use Rattle.hwp_fail.specs.declared.FailAnswer.TheVariants as fail_answers
 use Rattle.hwp_job.specs.declared.Job.{Job}
 use Rattle.hwp_job.specs.declared.Job.TheVariants as jobs
-use Rattle.hwp_job.specs.Answers.{fsync_answer, prctl_answer}
+use Rattle.hwp_job.specs.Answers.{fail_answer, fsync_answer, prctl_answer}
 use Rattle.hwp_job.specs.Begins.{BeginsPrctl}
-use Rattle.hwp_job.specs.Done.{marked_now, policies_now, taken_at, taken_now}
+use Rattle.hwp_job.specs.Done.{marked_now, marked_over, policies_now, taken_at, taken_now}
 use Rattle.hwp_job.specs.Jobs.{Fits, answer}
 use Rattle.hwp_job.specs.Runs.{Runs, anew}
 use Rattle.hwp_job.specs.Settings.{set_at}
 use Rattle.hwp_job.proofs.Ending.{fsync-over, mapped, prctl-over}
 use Rattle.hwp_job.proofs.OfKind.{of-access, of-evict, of-fsync, of-nested, of-prctl, of-read-stop}
 use Rattle.hwp_job.proofs.Staying.{set-says}
+use Rattle.hwp_caused.proofs.Injected.{KnowsFailure, knows-failure}
 use Rattle.hwp_served.specs.Accounts.{IsAccounted, frames_marked, losses_taken, marked_by, policies_set, set_by, set_for, taken_by}
 
 -- ---- the losses of a file
@@ -91,11 +96,27 @@ prctl-set {layout} view {who} {thread} {args} j {a} runs fits is =
     fit : prctls.Fits layout view task.0
     fit = subst (Fits layout view) task.1 fits
 
+-- ---- the frame that fails
+
+failed-so : (frame : Frame) (x : FailAnswer) → marked_over frame x ≡ marked_by (commands.Inject frame) (fail_answer x)
+failed-so frame fail_answers.Stopped = refl
+failed-so frame fail_answers.Already = refl
+failed-so frame (fail_answers.Done situation cycle place signalled) = which (outcome_of situation)
+  where
+    which : (o : Outcome) → frame ∷ [] ≡ marked_by (commands.Inject frame) (outcome_answer o)
+    which outcomes.Recovered = refl
+    which outcomes.Delayed = refl
+    which outcomes.Ignored = refl
+
+inject-marked : {layout : Layout} {view : View} {who : Who} {frame : Frame} {j : Job} {a : Answer} → KnowsFailure layout view who frame j a → marked_now j ≡ marked_by (commands.Inject frame) a
+inject-marked {frame = frame} k =
+    ap marked_now k.job_is ∙ k.ended.marked ∙ failed-so k.inject.frame k.own ∙ ap (λ (f : Frame). marked_by (commands.Inject f) (fail_answer k.own)) k.frame_is ∙ ap (marked_by (commands.Inject frame)) k.answer_is
+
 -- ---- each command
 
 -- a command that does none of these
 abbrev DoesNone : Job → Type 0
-DoesNone j = (taken_now j ≡ []) × (policies_now j ≡ [])
+DoesNone j = (marked_now j ≡ []) × (taken_now j ≡ []) × (policies_now j ≡ [])
 
 record DoesSo (command : Command) (j : Job) (a : Answer) : Type 0 where
   marked : marked_now j ≡ marked_by command a
@@ -103,21 +124,22 @@ record DoesSo (command : Command) (j : Job) (a : Answer) : Type 0 where
   set : policies_now j ≡ set_by command a
 
 by-kind : {j k : Job} → j ≡ k → DoesNone k → DoesNone j
-by-kind is none = (ap taken_now is ∙ none.0, ap policies_now is ∙ none.1)
+by-kind is none = (ap marked_now is ∙ none.0, ap taken_now is ∙ none.1, ap policies_now is ∙ none.2)
 
 does : (layout : Layout) (view : View) (who : Who) (command : Command) (j : Job) {a : Answer} → Runs layout who command j → Fits layout view j → answer j ≡ Some a → DoesSo command j a
-does layout view who (commands.Load thread slot line) j runs fits is = let none = by-kind (of-access j runs.job_is).1 (refl, refl) in record { marked = refl; taken = none.0; set = none.1 }
-does layout view who (commands.Fetch thread slot line) j runs fits is = let none = by-kind (of-access j runs.job_is).1 (refl, refl) in record { marked = refl; taken = none.0; set = none.1 }
-does layout view who (commands.KLoad thread slot line) j runs fits is = let none = by-kind (of-access j runs.job_is).1 (refl, refl) in record { marked = refl; taken = none.0; set = none.1 }
-does layout view who (commands.Store thread slot line word) j runs fits is = let none = by-kind (of-access j runs.job_is).1 (refl, refl) in record { marked = refl; taken = none.0; set = none.1 }
-does layout view who (commands.Free slot) j runs fits is = let none = by-kind (of-evict j runs.1.job_is).1 (refl, refl) in record { marked = refl; taken = none.0; set = none.1 }
-does layout view who (commands.Drop page) j runs fits is = let none = by-kind (of-evict j runs.job_is).1 (refl, refl) in record { marked = refl; taken = none.0; set = none.1 }
-does layout view who (commands.Sync page) j runs fits is = let none = by-kind (of-evict j runs.job_is).1 (refl, refl) in record { marked = refl; taken = none.0; set = none.1 }
-does layout view who (commands.Out page) j runs fits is = let none = by-kind (of-evict j runs.job_is).1 (refl, refl) in record { marked = refl; taken = none.0; set = none.1 }
-does layout view who (commands.Fsync file) j runs fits is = record { marked = refl; taken = fsync-taken j runs.1 is; set = ap policies_now (of-fsync j runs.1).1 }
-does layout view who (commands.Prctl thread args) j runs fits is = record { marked = refl; taken = ap taken_now (of-prctl j runs.job_is).1; set = prctl-set view j runs fits is }
-does layout view who (commands.Log status addr misc) j runs fits is = let none = by-kind (of-read-stop j runs).1 (refl, refl) in record { marked = refl; taken = none.0; set = none.1 }
-does layout view who commands.RaiseNested j runs fits is = let none = by-kind (of-nested j runs).1 (refl, refl) in record { marked = refl; taken = none.0; set = none.1 }
+does layout view who (commands.Load thread slot line) j runs fits is = let none = by-kind (of-access j runs.job_is).1 (refl, refl, refl) in record { marked = none.0; taken = none.1; set = none.2 }
+does layout view who (commands.Fetch thread slot line) j runs fits is = let none = by-kind (of-access j runs.job_is).1 (refl, refl, refl) in record { marked = none.0; taken = none.1; set = none.2 }
+does layout view who (commands.KLoad thread slot line) j runs fits is = let none = by-kind (of-access j runs.job_is).1 (refl, refl, refl) in record { marked = none.0; taken = none.1; set = none.2 }
+does layout view who (commands.Store thread slot line word) j runs fits is = let none = by-kind (of-access j runs.job_is).1 (refl, refl, refl) in record { marked = none.0; taken = none.1; set = none.2 }
+does layout view who (commands.Free slot) j runs fits is = let none = by-kind (of-evict j runs.1.job_is).1 (refl, refl, refl) in record { marked = none.0; taken = none.1; set = none.2 }
+does layout view who (commands.Drop page) j runs fits is = let none = by-kind (of-evict j runs.job_is).1 (refl, refl, refl) in record { marked = none.0; taken = none.1; set = none.2 }
+does layout view who (commands.Sync page) j runs fits is = let none = by-kind (of-evict j runs.job_is).1 (refl, refl, refl) in record { marked = none.0; taken = none.1; set = none.2 }
+does layout view who (commands.Out page) j runs fits is = let none = by-kind (of-evict j runs.job_is).1 (refl, refl, refl) in record { marked = none.0; taken = none.1; set = none.2 }
+does layout view who (commands.Fsync file) j runs fits is = record { marked = ap marked_now (of-fsync j runs.1).1; taken = fsync-taken j runs.1 is; set = ap policies_now (of-fsync j runs.1).1 }
+does layout view who (commands.Prctl thread args) j runs fits is = record { marked = ap marked_now (of-prctl j runs.job_is).1; taken = ap taken_now (of-prctl j runs.job_is).1; set = prctl-set view j runs fits is }
+does layout view who (commands.Log status addr misc) j runs fits is = let none = by-kind (of-read-stop j runs).1 (refl, refl, refl) in record { marked = none.0; taken = none.1; set = none.2 }
+does layout view who (commands.Inject frame) j runs fits is = let k = knows-failure j runs fits is in record { marked = inject-marked k; taken = ap taken_now k.job_is; set = ap policies_now k.job_is }
+does layout view who commands.RaiseNested j runs fits is = let none = by-kind (of-nested j runs).1 (refl, refl, refl) in record { marked = none.0; taken = none.1; set = none.2 }
 does layout view who _ j runs fits is = absurd runs
 
 -- where the view lists of the command what it has done, its answer says so

@@ -14,6 +14,7 @@ use Rattle.hwp_job.specs.Settings.{HasReplied, IsCounted}
 use Rattle.hwp_served.specs.Causes.{IsCaused}
 use Rattle.hwp_caused.proofs.Accessed.{fetch-caused, kload-caused, knows-access, load-caused, store-caused}
 use Rattle.hwp_caused.proofs.Called.{fsync-caused, log-caused, nested-caused, prctl-caused}
+use Rattle.hwp_caused.proofs.Injected.{inject-caused, knows-failure}
 use Rattle.hwp_caused.proofs.Evicted.{drop-caused, free-caused, knows-eviction, out-caused, sync-caused}
 
 pub caused : (layout : Layout) (list : List Command) (view : View) (who : Who) (command : Command) (j : Job) {a : Answer} → Runs layout who command j → Fits layout view j → answer j ≡ Some a → NoneBad view
@@ -29,5 +30,6 @@ caused layout list view who (commands.Out page) j runs fits is none counted = ou
 caused layout list view who (commands.Fsync file) j runs fits is none counted = fsync-caused layout list view j runs.1 fits is
 caused layout list view who (commands.Prctl thread args) j runs fits is none counted = prctl-caused list view j runs fits is counted
 caused layout list view who (commands.Log status addr misc) j runs fits is none counted = log-caused layout list view status addr misc j runs fits is
+caused layout list view who (commands.Inject frame) j runs fits is none counted = inject-caused list j (knows-failure j runs fits is)
 caused layout list view who commands.RaiseNested j runs fits is none counted = nested-caused layout list view j runs fits is
 caused layout list view who _ j runs fits is none counted = absurd runs

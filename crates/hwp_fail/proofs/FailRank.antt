@@ -254,7 +254,7 @@ fail-class f = which f.at
     which (at.Act cycle c) = pressed (acts.class c) (act-ranked.classes c)
     which (at.Over answer) = (omega arith, omega arith)
 
-fail-small : (f : Fail) (w : Words) → cost f w ≤ 8871
+pub fail-small : (f : Fail) (w : Words) → cost f w ≤ 8871
 fail-small f w = which f.at
   where
     which : (x : FailAt) → cost_at x w ≤ 8871

@@ -12,7 +12,6 @@ use Rattle.hwp_rule.specs.declared.State.{State}
 use Rattle.hwp_rule.specs.declared.Step.TheVariants as steps
 use Rattle.hwp_rule.specs.declared.View.{View}
 use Rattle.hwp_rule.specs.Moves.{Move}
-use Rattle.hwp_rule.specs.Rule.{Holds}
 use Rattle.hwp_rule.specs.Served.{IsMild}
 use Rattle.hwp_rule.specs.Words.{Words}
 use Rattle.hwp_step.specs.declared.Turn.{Turn}
@@ -20,7 +19,7 @@ use Rattle.hwp_step.specs.declared.Turn.TheVariants.{Moved}
 use Rattle.hwp_step.specs.Boards.{view_of}
 use Rattle.hwp_step.specs.Calls.{logs, rec_of}
 use Rattle.hwp_step.specs.Classes.{TellsClass}
-use Rattle.hwp_step.specs.Ranks.{CostFalls, HasFailed, HasFrame, HasPage, IsRanked, Made, Member, OtherHand, Pending, Quiet, failure_weight, failures_left, is_refused, is_waits, member, top, words_at}
+use Rattle.hwp_step.specs.Ranks.{CostFalls, HasFailed, HasFrame, HasPage, IsRanked, Made, Member, OtherHand, Pending, Quiet, failure_weight, failures_left, is_refused, is_waits, member, words_at}
 use Rattle.hwp_step.proofs.Ranking.{pending-kept}
 use Rattle.hwp_hold.proofs.Telling.{no-frame, no-page}
 use Rattle.hwp_fail.specs.declared.fail.Fail.{Fail}
@@ -29,7 +28,7 @@ use Rattle.hwp_fail.specs.declared.inject.InjectAt.{InjectAt}
 use Rattle.hwp_fail.specs.declared.inject.InjectAt.TheVariants as at
 use Rattle.hwp_fail.specs.Fails as fails
 use Rattle.hwp_fail.specs.Injects.{Fits, FitsAt, Follows, FollowsAt, IsFailing, aborts, aborts_at, bare, bare_at, claims, claims_at, class, class_at, cost, cost_at, loaded, plan, plan_at, put, put_at}
-use Rattle.hwp_fail.proofs.FailRank.{fail-member, fail-ranked}
+use Rattle.hwp_fail.proofs.FailRank.{fail-member, fail-ranked, fail-small}
 use Rattle.hwp_fail.proofs.FailTells.{fail-tells-class}
 
 abbrev pub inject-member : Member Inject
@@ -43,13 +42,14 @@ inject-class i = which i.at
     which (at.Fail f) = fail-ranked.classes f
     which at.Stopped = (omega arith, omega arith)
 
-inject-small : (layout : Layout) (a : State) (seat : ℕ) (i : Inject) → Holds layout a → Fits layout (view_of a seat) i → cost i (words_at layout a) < top
-inject-small layout a seat i rule fits = which i.at fits.at
+-- the turns of a failure are few
+pub inject-below : (i : Inject) (w : Words) → cost i w ≤ 8871
+inject-below i w = which i.at
   where
-    which : (x : InjectAt) → FitsAt layout (view_of a seat) i.who i.frame x → cost_at x (words_at layout a) < top
-    which at.LoadStop has = omega arith
-    which (at.Fail f) has = fail-ranked.small layout a seat f rule has.fail
-    which at.Stopped has = omega arith
+    which : (x : InjectAt) → cost_at x w ≤ 8871
+    which at.LoadStop = omega arith
+    which (at.Fail f) = fail-small f w
+    which at.Stopped = omega arith
 
 -- what follows the stop word costs one turn at most, and claims no failure
 after-stop : (recovery : Bool) (alloc : Global) (who : Who) (frame : Frame) (found : ℕ) (w : Words) → cost_at (loaded recovery alloc who frame found) w < 2
@@ -135,7 +135,7 @@ module _ {layout : Layout} {seat : ℕ} {a b : State} {s t : Inject} {turn : Tur
 pub inject-ranked : IsRanked inject-member
 inject-ranked = record {
   classes = inject-class;
-  small = inject-small;
+  small = λ layout a seat s rule fits. let few : cost s (words_at layout a) ≤ 8871 = inject-below s (words_at layout a) in omega (arith, few);
   falls = λ layout seat a b s t turn made goes. falls made goes;
   waits = λ layout seat a b s t turn made is quiet. waits-at made s.at t.at made.planned made.fits.at made.move made.follows.1 is quiet;
   leaves = λ layout seat a b s t turn made gives. leaves-at made s.at t.at made.planned made.fits.at made.move made.follows.1 gives;

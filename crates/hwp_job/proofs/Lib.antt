@@ -3,8 +3,10 @@ pub mod Running
 pub mod Ending
 pub mod OfKind
 pub mod Quiet
+pub mod Injecting
 pub mod Stopping
 pub mod Setting
 pub mod Barring
 pub mod Staying
 pub mod Doing
+pub mod Refusing

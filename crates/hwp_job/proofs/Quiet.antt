@@ -1,9 +1,10 @@
--- Steps that set no policy, take or add no losses, neither mark nor count a frame and don't stop the machine leave what a view lists
--- of these; and all tasks but three make only such.
+-- Steps that set no policy, take no losses, neither mark nor count a frame and don't stop the machine leave what a view lists of
+-- these; and most tasks make only such.
 use Rattle.std.proofs.Common.{◌≡◌, ℕ, ◌==◌, Bool, true, false, cond, Option, Some, None, refl, ap, ◌∙◌}
 use Rattle.hwp_geom.specs.declared.Frame.{Frame}
 use Rattle.hwp_geom.specs.declared.Layout.{Layout}
 use Rattle.hwp_geom.specs.declared.Page.{Page}
+use Rattle.hwp_geom.specs.declared.Thread.{Thread}
 use Rattle.hwp_geom.specs.declared.VSlot.{VSlot}
 use Rattle.hwp_geom.specs.declared.Who.{Who}
 use Rattle.hwp_page.specs.History.{BodyValue}
@@ -67,9 +68,26 @@ use Rattle.hwp_fault.specs.declared.Touch.{Touch}
 use Rattle.hwp_fault.specs.Accesses as accesses
 use Rattle.hwp_fault.specs.Faults as faults
 use Rattle.hwp_fault.specs.MapIns as map_ins
+use Rattle.hwp_act.specs.declared.abandon.AbandonAt.{AbandonAt}
+use Rattle.hwp_act.specs.declared.abandon.AbandonAt.TheVariants as abandon_at
+use Rattle.hwp_act.specs.declared.act.Act.{Act}
+use Rattle.hwp_act.specs.declared.act.ActAt.{ActAt}
+use Rattle.hwp_act.specs.declared.act.ActAt.TheVariants as act_at
+use Rattle.hwp_act.specs.Abandons as abandons
+use Rattle.hwp_act.specs.Acts as acts
+use Rattle.hwp_act.specs.Reads as reads
+use Rattle.hwp_claim.specs.declared.claim.ClaimAt.{ClaimAt}
+use Rattle.hwp_claim.specs.declared.claim.ClaimAt.TheVariants as claim_at
+use Rattle.hwp_claim.specs.declared.grab.GrabAt.{GrabAt}
+use Rattle.hwp_claim.specs.declared.grab.GrabAt.TheVariants as grab_at
+use Rattle.hwp_claim.specs.declared.meet.MeetAt.{MeetAt}
+use Rattle.hwp_claim.specs.declared.meet.MeetAt.TheVariants as meet_at
+use Rattle.hwp_claim.specs.Claims as claims
+use Rattle.hwp_claim.specs.Grabs as grabs
+use Rattle.hwp_claim.specs.Meets as meets
 use Rattle.hwp_job.specs.Done.{counts_owed}
 
--- the step sets no policy, takes or adds no losses, neither marks nor counts a frame and doesn't stop the machine
+-- the step sets no policy, takes no losses, neither marks nor counts a frame and doesn't stop the machine
 abbrev pub IsQuiet : Step → Type 0
 IsQuiet (steps.Stop cpu) = ⊥
 IsQuiet (steps.SetPolicy thread policy settings) = ⊥
@@ -78,7 +96,6 @@ IsQuiet (steps.Poison frame hardware) = ⊥
 IsQuiet (steps.Revive frame seen) = ⊥
 IsQuiet (steps.CountPoison hardware) = ⊥
 IsQuiet steps.Uncount = ⊥
-IsQuiet (steps.Lose file body) = ⊥
 IsQuiet step = Unit {0}
 
 abbrev pub PlansQuiet : Option Step → Type 0
@@ -136,7 +153,8 @@ by-quiet layout who (steps.Kill process page body) found content v quiet =
 by-quiet layout who (steps.SetPolicy thread policy settings) found content v quiet = absurd quiet
 by-quiet layout who (steps.CountPoison hardware) found content v quiet = absurd quiet
 by-quiet layout who steps.Uncount found content v quiet = absurd quiet
-by-quiet layout who (steps.Lose file body) found content v quiet = absurd quiet
+by-quiet layout who (steps.Lose file body) found content v quiet =
+    let is = lists-alike layout who (log_of body.value) (body_of body.value.page v) v in record { settings = is.settings; stops = is.stops; marks = is.marks; reported = is.reported; owed = is.owed }
 by-quiet layout who _ found content v quiet = record { settings = refl; stops = refl; marks = refl; reported = refl; owed = refl }
 
 -- the settings and stops after such a step
@@ -266,3 +284,76 @@ evict (evict_at.Over answer) = tt
 pub read : (x : ReadStopAt) → PlansQuiet (read_stops.plan_at x)
 read read_stop_at.LoadStop = tt
 read (read_stop_at.Over answer) = tt
+
+-- ---- parts of a memory failure
+
+grab : (frame : Frame) (x : GrabAt) → PlansQuiet (grabs.plan_at frame x)
+grab frame grab_at.LoadAvailable = tt
+grab frame (grab_at.Reserve seen) = tt
+grab frame grab_at.TakeBit = tt
+grab frame grab_at.Unreserve = tt
+grab frame grab_at.Adopt = tt
+grab frame grab_at.LookAgain = tt
+grab frame (grab_at.Grabbed word) = tt
+
+meet : (frame : Frame) (x : MeetAt) → PlansQuiet (meets.plan_at frame x)
+meet frame (meet_at.GetRef seen) = tt
+meet frame meet_at.LockFree = tt
+meet frame (meet_at.LockPage page) = tt
+meet frame (meet_at.LockOwned page shelf) = tt
+meet frame (meet_at.Unlock body ended) = tt
+meet frame (meet_at.UnlockFrame page shelf body ended) = tt
+meet frame (meet_at.UnlockPage page shelf ended) = tt
+meet frame (meet_at.Release r ended) = release r.frame r.count r.at
+meet frame (meet_at.Back ended) = tt
+meet frame meet_at.Free = tt
+meet frame (meet_at.Owned page body) = tt
+
+-- a claim that neither stops the machine nor poisons its frame or counts that
+abbrev pub IsQuietAt : ClaimAt → Type 0
+IsQuietAt claim_at.Stop = ⊥
+IsQuietAt claim_at.Poison = ⊥
+IsQuietAt (claim_at.Count cycle) = ⊥
+IsQuietAt x = Unit {0}
+
+pub claim : (who : Who) (frame : Frame) (hardware : Bool) (x : ClaimAt) → IsQuietAt x → PlansQuiet (claims.plan_at who frame hardware x)
+claim who frame hardware claim_at.Stop quiet = absurd quiet
+claim who frame hardware claim_at.Poison quiet = absurd quiet
+claim who frame hardware (claim_at.Count cycle) quiet = absurd quiet
+claim who frame hardware (claim_at.Look cycle) quiet = tt
+claim who frame hardware (claim_at.Grab cycle g) quiet = grab g.frame g.at
+claim who frame hardware (claim_at.Meet cycle m) quiet = meet m.frame m.at
+claim who frame hardware (claim_at.Unlock cycle u) quiet = unlock u.at
+claim who frame hardware (claim_at.Retire cycle) quiet = tt
+claim who frame hardware claim_at.GaveUp quiet = tt
+claim who frame hardware claim_at.Stopped quiet = tt
+claim who frame hardware claim_at.Already quiet = tt
+claim who frame hardware (claim_at.Free cycle) quiet = tt
+claim who frame hardware (claim_at.Kernel cycle) quiet = tt
+claim who frame hardware (claim_at.Owned cycle page body) quiet = tt
+
+read-policies : (next : Option Thread) → PlansQuiet (reads.plan_at next)
+read-policies None = tt
+read-policies (Some thread) = tt
+
+abandon : (page : Page) (frame : Frame) (count : ℕ) (body : Option BodyValue) (x : AbandonAt) → PlansQuiet (abandons.plan_at page frame count body x)
+abandon page frame count body abandon_at.SetCache = tt
+abandon page frame count body abandon_at.SetOwner = tt
+abandon page frame count None (abandon_at.Lose file) = tt
+abandon page frame count (Some b) (abandon_at.Lose file) = tt
+abandon page frame count None (abandon_at.Kill number process) = tt
+abandon page frame count (Some b) (abandon_at.Kill number process) = tt
+abandon page frame count body abandon_at.PutRef = tt
+abandon page frame count body abandon_at.Retire = tt
+abandon page frame count body abandon_at.UnlockPage = tt
+abandon page frame count body abandon_at.Over = tt
+
+pub act : (a : Act) → PlansQuiet (acts.plan a)
+act a = which a.at
+  where
+    which : (x : ActAt) → PlansQuiet (acts.plan_at x)
+    which (act_at.Read r) = read-policies r.next
+    which (act_at.Clear c losses failed body) = clear c.barred c.next
+    which (act_at.Abandon b) = abandon b.page b.frame b.count b.body b.at
+    which (act_at.GiveUp g) = give-up g.at
+    which (act_at.Over failed) = tt

@@ -1,5 +1,6 @@
 -- A task stays one of its command, from the beginning on; and a command that may begin fits.
 use Rattle.std.proofs.Common.{◌≡◌, ℕ, Option, refl, sym, ap, ◌∙◌, subst}
+use Rattle.hwp_geom.specs.declared.Frame.{Frame}
 use Rattle.hwp_geom.specs.declared.Layout.{Layout}
 use Rattle.hwp_geom.specs.declared.Page.{Page}
 use Rattle.hwp_geom.specs.declared.Thread.{Thread}
@@ -13,11 +14,12 @@ use Rattle.hwp_rule.specs.declared.View.{View}
 use Rattle.hwp_step.specs.declared.Turn.{Turn}
 use Rattle.hwp_evict.specs.declared.Evict.{Evict}
 use Rattle.hwp_evict.specs.declared.Eviction.{Eviction}
+use Rattle.hwp_fail.specs.declared.Inject.{Inject}
 use Rattle.hwp_fault.specs.declared.Access.{Access}
 use Rattle.hwp_fault.specs.declared.AccessKind.{AccessKind}
 use Rattle.hwp_job.specs.declared.job.Job.{Job}
 use Rattle.hwp_job.specs.declared.job.Job.TheVariants as jobs
-use Rattle.hwp_job.specs.Begins.{Begins, BeginsAccess, BeginsEviction, BeginsPrctl}
+use Rattle.hwp_job.specs.Begins.{Begins, BeginsAccess, BeginsEviction, BeginsInject, BeginsPrctl}
 use Rattle.hwp_job.specs.Jobs.{Fits, Next, bare, who}
 use Rattle.hwp_job.specs.Runs.{AtRest, Runs, anew}
 
@@ -40,6 +42,7 @@ begins-anew layout who (commands.Fsync file) j begun = new-so begun.1 refl
 begins-anew layout who (commands.Prctl thread args) j begun = new-so begun.job_is refl
 begins-anew layout who (commands.Log status addr misc) j begun = new-so begun refl
 begins-anew layout who commands.RaiseNested j begun = new-so begun refl
+begins-anew layout who (commands.Inject frame) j begun = new-so begun.job_is refl
 begins-anew layout who _ j begun = absurd begun
 
 pub begins-runs : (layout : Layout) (who : Who) (command : Command) (j : Job) → Begins layout who command j → Runs layout who command j
@@ -53,6 +56,7 @@ next-anew layout found got turn (jobs.Fsync f) after next = ap anew next.0
 next-anew layout found got turn (jobs.Prctl p) after next = ap anew next.0
 next-anew layout found got turn (jobs.ReadStop r) after next = ap anew next.0
 next-anew layout found got turn (jobs.Nested n) after next = ap anew next.0
+next-anew layout found got turn (jobs.Inject i) after next = ap anew next.1 ∙ ap (λ (x : Inject). anew (jobs.Inject x)) next.2.0
 
 pub runs-on : (layout : Layout) (who : Who) (command : Command) (j after : Job) (found : ℕ) (got : Option BodyValue) (turn : Turn) → Runs layout who command j → Next layout (bare j) found got after turn → Runs layout who command after
 runs-on layout who command j after found got turn runs next = subst (Begins layout who command) (sym (next-anew layout found got turn j after next)) runs
@@ -65,6 +69,7 @@ anew-who (jobs.Fsync f) = refl
 anew-who (jobs.Prctl p) = refl
 anew-who (jobs.ReadStop r) = refl
 anew-who (jobs.Nested n) = refl
+anew-who (jobs.Inject i) = refl
 
 begins-who : (layout : Layout) (by : Who) (command : Command) (j : Job) → Begins layout by command j → who j ≡ by
 begins-who layout by (commands.Load thread slot line) j begun = ap who begun.job_is
@@ -79,6 +84,7 @@ begins-who layout by (commands.Fsync file) j begun = ap who begun.1
 begins-who layout by (commands.Prctl thread args) j begun = ap who begun.job_is
 begins-who layout by (commands.Log status addr misc) j begun = ap who begun
 begins-who layout by commands.RaiseNested j begun = ap who begun
+begins-who layout by (commands.Inject frame) j begun = ap who begun.job_is
 begins-who layout by _ j begun = absurd begun
 
 pub runs-who : (layout : Layout) (by : Who) (command : Command) (j : Job) → Runs layout by command j → who j ≡ by
@@ -106,6 +112,14 @@ module _ {layout : Layout} {view : View} {who : Who} (rest : AtRest view who) {j
     at = rest.left thread;
   })
 
+  inject-fits : {frame : Frame} → BeginsInject layout who frame j → Fits layout view j
+  inject-fits begun = subst (Fits layout view) (sym begun.job_is) (record {
+    on_turn = rest.on_turn;
+    sound = begun.sound;
+    frame = begun.within;
+    at = record { hand_is = rest.hand_is; paid = rest.paid; made = rest.made; unmarked = rest.unmarked };
+  })
+
 pub begins-fits : (layout : Layout) (view : View) (who : Who) (command : Command) (j : Job) → Begins layout who command j → AtRest view who → Fits layout view j
 begins-fits layout view who (commands.Load thread slot line) j begun rest = access-fits rest begun
 begins-fits layout view who (commands.Fetch thread slot line) j begun rest = access-fits rest begun
@@ -119,5 +133,6 @@ begins-fits layout view who (commands.Fsync file) j begun rest =
     subst (Fits layout view) (sym begun.1) (record { on_turn = rest.on_turn; file = begun.0; hand_is = rest.hand_is; made_none = rest.made; at = tt })
 begins-fits layout view who (commands.Prctl thread args) j begun rest = prctl-fits rest begun
 begins-fits layout view who (commands.Log status addr misc) j begun rest = subst (Fits layout view) (sym begun) (record { on_turn = rest.on_turn; hand_is = rest.hand_is; made = rest.made; at = tt })
+begins-fits layout view who (commands.Inject frame) j begun rest = inject-fits rest begun
 begins-fits layout view who commands.RaiseNested j begun rest = subst (Fits layout view) (sym begun) (record { on_turn = rest.on_turn; hand_is = rest.hand_is; made = rest.made; at = tt })
 begins-fits layout view who _ j begun rest = absurd begun

@@ -1,5 +1,5 @@
 -- The policies that a view lists after a step: those before it, and what the command has set with it.
-use Rattle.std.proofs.Common.{◌≡◌, ℕ, ◌==◌, Bool, true, false, cond, List, [], ◌∷◌, ◌++◌, Option, Some, None, map, append-nil, refl, sym, ap, ◌∙◌}
+use Rattle.std.proofs.Common.{◌≡◌, inl, inr, ℕ, ◌==◌, Bool, true, false, cond, List, [], ◌∷◌, ◌++◌, Option, Some, None, map, append-nil, refl, sym, ap, ◌∙◌}
 use Rattle.std.proofs.lemmas.List.{map-append}
 use Rattle.std.proofs.lemmas.List.Elements.{filter-append}
 use Rattle.std.proofs.lemmas.Option.{none-some}
@@ -34,11 +34,13 @@ use Rattle.hwp_evict.specs.declared.Fsync.{Fsync}
 use Rattle.hwp_evict.specs.declared.fsync.FsyncAt.{FsyncAt}
 use Rattle.hwp_evict.specs.declared.fsync.FsyncAt.TheVariants as fsync_at
 use Rattle.hwp_evict.specs.Fsyncs as fsyncs
+use Rattle.hwp_fail.specs.declared.inject.Inject.{Inject}
 use Rattle.hwp_job.specs.declared.job.Job.{Job}
 use Rattle.hwp_job.specs.declared.job.Job.TheVariants as jobs
 use Rattle.hwp_job.specs.Jobs.{plan}
 use Rattle.hwp_job.specs.Settings.{policies_in, set_at, set_now}
 use Rattle.hwp_job.specs.Stays.{Stepped}
+use Rattle.hwp_job.proofs.Injecting.{IsStepOf, count-leaves, poison-leaves, step-of, stop-leaves}
 use Rattle.hwp_job.proofs.Quiet.{access, evict, leaves, read}
 use Rattle.hwp_job.proofs.Stopping.{quiet-step}
 
@@ -61,6 +63,7 @@ unset-before thread (jobs.Prctl p) {step} is = ap (λ (l : List Policy). cond (p
     which (prctl_at.Over answer) e = absurd (none-some step e)
 unset-before thread (jobs.ReadStop r) is = refl
 unset-before thread (jobs.Nested n) is = refl
+unset-before thread (jobs.Inject i) is = refl
 
 module _ (thread : Thread) (old new : View) (after : Job) where
   -- a step that leaves the settings, by a command that has set nothing
@@ -142,6 +145,17 @@ module _ {layout : Layout} {old new : View} {f : Fsync} {after : Job} (s : Stepp
       which fsync_at.Report e = ap (λ (v : View). v.settings) (steps-planned {other = steps.ReportLost f.file} e s.made).told.next
       which (fsync_at.Over answer) e = absurd (none-some s.step e)
 
+-- nor does a memory failure
+module _ {layout : Layout} {old new : View} {i : Inject} {after : Job} (s : Stepped layout old new (jobs.Inject i) after) where
+  inject-leaves : new.settings ≡ old.settings
+  inject-leaves = which (step-of s)
+    where
+      which : IsStepOf i after s.step s.found old → new.settings ≡ old.settings
+      which (inl silent) = (leaves s.made silent.quiet).settings
+      which (inr (inl stop)) = (stop-leaves s stop).settings
+      which (inr (inr (inl poison))) = (poison-leaves s poison).settings
+      which (inr (inr (inr count))) = (count-leaves s count).settings
+
 pub settings-after : {layout : Layout} {old new : View} {j after : Job} → Stepped layout old new j after → (thread : Thread) → policies_in thread new ≡ policies_in thread old ++ set_now thread after
 settings-after {old = old} {new = new} {j = jobs.Access a} {after = after} s thread = kept thread old new after (leaves s.made (quiet-step (access a.request a.at) s.planned)).settings (ap (set_now thread) s.follows.1)
 settings-after {old = old} {new = new} {j = jobs.Evict e} {after = after} s thread = kept thread old new after (leaves s.made (quiet-step (evict e.at) s.planned)).settings (ap (set_now thread) s.follows.1)
@@ -149,3 +163,4 @@ settings-after {old = old} {new = new} {j = jobs.Fsync f} {after = after} s thre
 settings-after {old = old} {new = new} {j = jobs.Prctl p} {after = after} s thread = call-sets s thread
 settings-after {old = old} {new = new} {j = jobs.ReadStop r} {after = after} s thread = kept thread old new after (leaves s.made (quiet-step (read r.at) s.planned)).settings (ap (set_now thread) s.follows.0)
 settings-after {old = old} {new = new} {j = jobs.Nested n} {after = after} s thread = kept thread old new after (nested-leaves s) (ap (set_now thread) s.follows.0)
+settings-after {old = old} {new = new} {j = jobs.Inject i} {after = after} s thread = kept thread old new after (inject-leaves s) (ap (set_now thread) s.follows.1)

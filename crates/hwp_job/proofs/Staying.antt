@@ -57,6 +57,7 @@ unset-at-start thread (jobs.Fsync f) start = refl
 unset-at-start thread (jobs.Prctl p) start = ap (λ (x : PrctlAt). cond (p.thread.0 == thread.0) (set_at x) []) start ∙ either-same (p.thread.0 == thread.0) []
 unset-at-start thread (jobs.ReadStop r) start = refl
 unset-at-start thread (jobs.Nested n) start = refl
+unset-at-start thread (jobs.Inject i) start = refl
 
 unreplied-at-start : (thread : Thread) (j : Job) → IsAtStop j → HasNotReplied thread j
 unreplied-at-start thread (jobs.Access a) start = tt
@@ -65,6 +66,7 @@ unreplied-at-start thread (jobs.Fsync f) start = tt
 unreplied-at-start thread (jobs.Prctl p) start = λ own. subst IsNotPast (sym start) tt
 unreplied-at-start thread (jobs.ReadStop r) start = tt
 unreplied-at-start thread (jobs.Nested n) start = tt
+unreplied-at-start thread (jobs.Inject i) start = tt
 
 -- a thread that is barred stays so in the command that begins
 barred-at-start : (layout : Layout) (view : View) (thread : Thread) (j : Job) → IsAtStop j → IsBarred layout view thread → CannotReply layout view thread j
@@ -197,6 +199,7 @@ begins-call layout by (commands.Fsync file) j begins = ap is_call begins.1
 begins-call layout by (commands.Prctl thread args) j begins = ap is_call begins.job_is
 begins-call layout by (commands.Log status addr misc) j begins = ap is_call begins
 begins-call layout by commands.RaiseNested j begins = ap is_call begins
+begins-call layout by (commands.Inject frame) j begins = ap is_call begins.job_is
 begins-call layout by _ j begins = absurd begins
 
 anew-call : (j : Job) → is_call (anew j) ≡ is_call j
@@ -206,6 +209,7 @@ anew-call (jobs.Fsync f) = refl
 anew-call (jobs.Prctl p) = refl
 anew-call (jobs.ReadStop r) = refl
 anew-call (jobs.Nested n) = refl
+anew-call (jobs.Inject i) = refl
 
 -- a command that is no call sets nothing
 no-call : (thread : Thread) (j : Job) → is_call j ≡ false → set_now thread j ≡ []
@@ -215,6 +219,7 @@ no-call thread (jobs.Fsync f) is = refl
 no-call thread (jobs.Prctl p) is = absurd (true≢false is)
 no-call thread (jobs.ReadStop r) is = refl
 no-call thread (jobs.Nested n) is = refl
+no-call thread (jobs.Inject i) is = refl
 
 no-setting : (thread : Thread) (command : Command) → is_prctl command ≡ false → setting_of thread command ≡ None
 no-setting thread (commands.Prctl other args) is = absurd (true≢false is)
@@ -345,11 +350,13 @@ policies-end layout list view by command j a runs fits is there knows thread = w
   where
     -- the policies of the commands up to this one are the first of all
     front : (l : List Policy) → l ≡ settings thread (take by.seq list) ++ filter_map (setting_of thread) (command ∷ []) → StartsWith l (settings thread list)
-    front l so = (settings thread (drop (by.seq + 1) list),
-        ap (settings thread) (front-and-rest (by.seq + 1) list) ∙ filter_map-append (setting_of thread) (take (by.seq + 1) list) (drop (by.seq + 1) list)
-        ∙ ap (λ (m : List Policy). m ++ settings thread (drop (by.seq + 1) list)) (
-            ap (settings thread) (take_more list by.seq command (slice_get_within list by.seq command there) ∙ ap (λ (c : Command). take by.seq list ++ c ∷ []) (get_or_from_slice_get list by.seq command command there))
-            ∙ filter_map-append (setting_of thread) (take by.seq list) (command ∷ []) ∙ sym so))
+    front l so = (
+      settings thread (drop (by.seq + 1) list),
+      ap (settings thread) (front-and-rest (by.seq + 1) list) ∙ filter_map-append (setting_of thread) (take (by.seq + 1) list) (drop (by.seq + 1) list)
+          ∙ ap (λ (m : List Policy). m ++ settings thread (drop (by.seq + 1) list)) (
+          ap (settings thread) (take_more list by.seq command (slice_get_within list by.seq command there) ∙ ap (λ (c : Command). take by.seq list ++ c ∷ []) (get_or_from_slice_get list by.seq command command there))
+          ∙ filter_map-append (setting_of thread) (take by.seq list) (command ∷ []) ∙ sym so),
+    )
 
     none : set_now thread j ≡ [] → StartsWith (policies_in thread view) (settings thread list)
     none unset_ = let was = knows.starts thread in subst (λ (l : List Policy). StartsWith l (settings thread list)) (sym (was.2 ∙ ap (λ (l : List Policy). was.0 ++ l) unset_ ∙ append-nil was.0)) was.1
@@ -363,8 +370,11 @@ pub policies-next : (layout : Layout) (list : List Command) (view : View) (by : 
     → (later : Who) (k : Job) → later.seq ≡ by.seq + 1 → IsAtStop k → KnowsPolicies layout list view later k
 policies-next layout list view by command j a runs fits is there knows later k next start = record {
   each = λ thread. each thread (knows.each thread);
-  starts = λ thread. (policies_in thread view, policies-end layout list view by command j a runs fits is there knows thread,
-      sym (append-nil (policies_in thread view)) ∙ ap (λ (l : List Policy). policies_in thread view ++ l) (sym (unset-at-start thread k start)));
+  starts = λ thread. (
+    policies_in thread view,
+    policies-end layout list view by command j a runs fits is there knows thread,
+    sym (append-nil (policies_in thread view)) ∙ ap (λ (l : List Policy). policies_in thread view ++ l) (sym (unset-at-start thread k start)),
+  );
   few = few;
 }
   where

@@ -7,6 +7,9 @@ use Rattle.hwp_geom.specs.declared.Who.{Who}
 use Rattle.hwp_kill.specs.declared.Reply.{Reply}
 use Rattle.hwp_kill.specs.declared.Reply.TheVariants as replies
 use Rattle.hwp_page.specs.declared.At.{At}
+use Rattle.hwp_page.specs.declared.Outcome.{Outcome}
+use Rattle.hwp_page.specs.declared.Outcome.TheVariants as outcomes
+use Rattle.hwp_page.specs.Situations.{outcome_of}
 use Rattle.hwp_page.specs.History.{BodyValue}
 use Rattle.hwp_words.specs.Stops.{is_stopped, stopper_of}
 use Rattle.hwp_rule.specs.declared.Log.{Log}
@@ -28,6 +31,7 @@ use Rattle.hwp_form.specs.declared.Command.TheVariants as commands
 use Rattle.hwp_report.specs.declared.Answer.{Answer}
 use Rattle.hwp_report.specs.declared.Answer.TheVariants as answers
 use Rattle.hwp_law.specs.Answers.{reply_answer}
+use Rattle.hwp_law.specs.Records.{outcome_answer}
 use Rattle.hwp_control.specs.declared.Nested.{Nested}
 use Rattle.hwp_control.specs.declared.NestedAnswer.TheVariants as nested_answers
 use Rattle.hwp_control.specs.declared.Prctl.{Prctl}
@@ -56,16 +60,28 @@ use Rattle.hwp_evict.specs.declared.fsync.FsyncAt.{FsyncAt}
 use Rattle.hwp_evict.specs.declared.fsync.FsyncAt.TheVariants as fsync_at
 use Rattle.hwp_evict.specs.Evicts as evicts
 use Rattle.hwp_evict.specs.Fsyncs as fsyncs
+use Rattle.hwp_claim.specs.Claims.{IsStopped}
+use Rattle.hwp_fail.specs.declared.fail.FailAt.{FailAt}
+use Rattle.hwp_fail.specs.declared.fail.FailAt.TheVariants as fail_at
+use Rattle.hwp_fail.specs.declared.FailAnswer.{FailAnswer}
+use Rattle.hwp_fail.specs.declared.FailAnswer.TheVariants as fail_answers
+use Rattle.hwp_fail.specs.declared.inject.Inject.{Inject}
+use Rattle.hwp_fail.specs.declared.inject.InjectAt.{InjectAt}
+use Rattle.hwp_fail.specs.declared.inject.InjectAt.TheVariants as inject_at
+use Rattle.hwp_fail.specs.Fails as fails
+use Rattle.hwp_fail.specs.Injects as injects
 use Rattle.hwp_fault.specs.declared.AccessAnswer.TheVariants as access_answers
 use Rattle.hwp_fault.specs.declared.access.AccessAt.{AccessAt}
 use Rattle.hwp_fault.specs.declared.access.AccessAt.TheVariants as access_at
 use Rattle.hwp_fault.specs.Accesses as accesses
 use Rattle.hwp_job.specs.declared.job.Job.{Job}
 use Rattle.hwp_job.specs.declared.job.Job.TheVariants as jobs
-use Rattle.hwp_job.specs.Answers.{access_answer, evict_answer, fsync_answer, nested_answer, prctl_answer, read_stop_answer, refusal_answer}
+use Rattle.hwp_job.specs.Answers.{access_answer, evict_answer, fail_answer, fsync_answer, nested_answer, prctl_answer, read_stop_answer, refusal_answer}
 use Rattle.hwp_job.specs.Begins.{Begins}
-use Rattle.hwp_job.specs.Jobs.{Fits, answer, plan}
-use Rattle.hwp_job.specs.Stays.{EndsStopped, IsAtStop, IsHalted, Stepped, StopsItself}
+use Rattle.hwp_job.specs.Jobs.{Fits, answer, plan, who}
+use Rattle.hwp_job.specs.Stays.{EndsStopped, HasStopped, IsAtStop, IsHalted, IsStopping, Stepped, StopsItself}
+use Rattle.hwp_job.proofs.Ending.{InjectEnded, inject-ended, mapped}
+use Rattle.hwp_job.proofs.Injecting.{IsStepOf, count-leaves, poison-leaves, step-of}
 use Rattle.hwp_job.proofs.Quiet.{PlansQuiet, IsQuiet, access, evict, leaves, read}
 
 -- ---- answers
@@ -85,6 +101,7 @@ unanswered (jobs.Fsync f) is = ap (λ (x : FsyncAt). option_map fsync_answer (fs
 unanswered (jobs.Prctl p) is = ap (λ (x : PrctlAt). option_map prctl_answer (prctls.answer_at x)) is
 unanswered (jobs.ReadStop r) is = ap (λ (x : ReadStopAt). option_map read_stop_answer (read_stops.answer_at x)) is
 unanswered (jobs.Nested n) is = ap (λ (x : NestedAt). option_map nested_answer (nesteds.answer_at x)) is
+unanswered (jobs.Inject i) is = ap (λ (x : InjectAt). option_map fail_answer (injects.answer_at x)) is
 
 -- and one that is answered makes no step
 module _ {a : Answer} where
@@ -112,13 +129,33 @@ module _ {a : Answer} where
   over-nested w (nested_at.Over b) is = refl
   over-nested w _ is = absurd (none-some a is)
 
-  answered-over : (j : Job) → answer j ≡ Some a → plan j ≡ None
+  over-fail : (x : FailAt) → option_map fail_answer (fails.answer_at x) ≡ Some a → fails.plan_at x ≡ None
+  over-fail (fail_at.Over b) is = refl
+  over-fail _ is = absurd (none-some a is)
+
+  over-inject : (x : InjectAt) → option_map fail_answer (injects.answer_at x) ≡ Some a → injects.plan_at x ≡ None
+  over-inject inject_at.LoadStop is = absurd (none-some a is)
+  over-inject (inject_at.Fail f) is = over-fail f.at is
+  over-inject inject_at.Stopped is = refl
+
+  pub answered-over : (j : Job) → answer j ≡ Some a → plan j ≡ None
   answered-over (jobs.Access x) is = over-access x.request x.at is
   answered-over (jobs.Evict x) is = over-evict x.at is
   answered-over (jobs.Fsync x) is = over-fsync x.file x.at is
   answered-over (jobs.Prctl x) is = over-prctl x.thread x.process x.at is
   answered-over (jobs.ReadStop x) is = over-read x.at is
   answered-over (jobs.Nested x) is = over-nested x.who x.at is
+  answered-over (jobs.Inject x) is = over-inject x.at is
+
+-- a command that has stopped the machine is answered `stopped`
+pub has-stopped : (j : Job) → HasStopped j → answer j ≡ Some answers.Stopped
+has-stopped (jobs.Nested n) has = ap (λ (x : NestedAt). option_map nested_answer (nesteds.answer_at x)) has
+has-stopped (jobs.Inject i) has = ap (λ (x : InjectAt). option_map fail_answer (injects.answer_at x)) has.1 ∙ ap (λ (x : FailAt). option_map fail_answer (fails.answer_at x)) has.2
+has-stopped _ has = absurd has
+
+-- and as a memory failure it is of a machine that doesn't recover
+pub unrecovered : (layout : Layout) (view : View) (i : Inject) → injects.Fits layout view i → HasStopped (jobs.Inject i) → layout.recovery ≡ false
+unrecovered layout view i fits (f, at, over) = (subst (injects.FitsAt layout view i.who i.frame) at fits.at).recovery ∙ ap injects.recovers_at over
 
 -- where the command can have no other answer, its answer is `stopped`
 pub only-stopped : (j : Job) {a : Answer} → EndsStopped j → answer j ≡ Some a → a ≡ answers.Stopped
@@ -129,13 +166,21 @@ abbrev starts : NestedAt → Bool
 starts nested_at.LoadStop = true
 starts _ = false
 
+abbrev starts_inject : InjectAt → Bool
+starts_inject inject_at.LoadStop = true
+starts_inject _ = false
+
 -- and it stops the machine no more
+not-stopping : (j : Job) → EndsStopped j → IsStopping j → ⊥
+not-stopping (jobs.Nested n) (inl start) stopping = true≢false (sym (ap starts start) ∙ ap starts stopping)
+not-stopping (jobs.Nested n) (inr stopped) stopping = none-some answers.Stopped (sym (ap (λ (x : NestedAt). option_map nested_answer (nesteds.answer_at x)) stopping) ∙ stopped)
+not-stopping (jobs.Inject i) (inl start) (f, c, at, is, stop) = true≢false (sym (ap starts_inject start) ∙ ap starts_inject at)
+not-stopping (jobs.Inject i) (inr stopped) (f, c, at, is, stop) =
+    none-some answers.Stopped (sym (ap (λ (x : InjectAt). option_map fail_answer (injects.answer_at x)) at ∙ ap (λ (x : FailAt). option_map fail_answer (fails.answer_at x)) is) ∙ stopped)
+not-stopping _ ends stopping = absurd stopping
+
 pub no-own-stop : {j after : Job} {old new : View} → EndsStopped j → StopsItself j after old new → ⊥
-no-own-stop {j} ends own = which (subst EndsStopped own.job_is ends)
-  where
-    which : EndsStopped (jobs.Nested own.nested) → ⊥
-    which (inl start) = true≢false (sym (ap starts start) ∙ ap starts own.at_is)
-    which (inr stopped) = none-some answers.Stopped (sym (ap (λ (x : NestedAt). option_map nested_answer (nesteds.answer_at x)) own.at_is) ∙ stopped)
+no-own-stop {j} ends own = not-stopping j ends own.stopping
 
 -- ---- the stop word
 
@@ -188,11 +233,9 @@ module _ {layout : Layout} {old new : View} {n : Nested} {after : Job} (s : Step
           by : (b : Bool) → (s.found == 0) ≡ b → (new.stops ≡ old.stops) ⊎ StopsItself (jobs.Nested n) after old new
           by false zero = inl (stops-by false zero)
           by true zero = inr (record {
-            nested = n;
-            job_is = refl;
-            at_is = at;
-            after_is = s.follows.0 ∙ ap (λ (x : NestedAt). jobs.Nested (record n { at = nesteds.next_at x s.found })) at
-                ∙ ap (λ (b : Bool). jobs.Nested (record n { at = nested_at.Over (cond b (Some nested_answers.Shutdown) (cond (is_stopped s.found) (Some nested_answers.Stopped) None)) })) zero;
+            stopping = at;
+            has = subst HasStopped (sym s.follows.0) (ap (λ (x : NestedAt). nesteds.next_at x s.found) at
+                ∙ ap (λ (b : Bool). nested_at.Over (cond b (Some nested_answers.Shutdown) (cond (is_stopped s.found) (Some nested_answers.Stopped) None))) zero);
             stops_are = stops-by true zero;
           })
       which (nested_at.Over b) at e = absurd (none-some s.step e)
@@ -215,6 +258,24 @@ fsync-stops {layout} {old} {new} {f} s = which f.at s.planned
     which fsync_at.Report e = ap (λ (v : View). v.stops) (steps-planned {other = steps.ReportLost f.file} e s.made).told.next
     which (fsync_at.Over b) e = absurd (none-some s.step e)
 
+module _ {layout : Layout} {old new : View} {i : Inject} {after : Job} (s : Stepped layout old new (jobs.Inject i) after) where
+  inject-stops : (new.stops ≡ old.stops) ⊎ StopsItself (jobs.Inject i) after old new
+  inject-stops = which (step-of s)
+    where
+      which : IsStepOf i after s.step s.found old → (new.stops ≡ old.stops) ⊎ StopsItself (jobs.Inject i) after old new
+      which (inl silent) = inl (leaves s.made silent.quiet).stops
+      which (inr (inl stop)) = by (s.found == 0) refl
+        where
+          stops-by : (b : Bool) → (s.found == 0) ≡ b → new.stops ≡ (cond b (record (noted i.who old) { stops = old.stops ++ i.who ∷ [] }) (sighted i.who places.Stop s.found (noted i.who old))).stops
+          stops-by b zero = ap (λ (v : View). v.stops) (steps-planned stop.step_is s.made).told.next
+              ∙ ap (λ (c : Bool). (cond c (record (noted i.who old) { stops = old.stops ++ i.who ∷ [] }) (sighted i.who places.Stop s.found (noted i.who old))).stops) zero
+
+          by : (b : Bool) → (s.found == 0) ≡ b → (new.stops ≡ old.stops) ⊎ StopsItself (jobs.Inject i) after old new
+          by false zero = inl (stops-by false zero)
+          by true zero = inr (record { stopping = stop.stopping; has = stop.has zero; stops_are = stops-by true zero })
+      which (inr (inr (inl poison))) = inl (poison-leaves s poison).stops
+      which (inr (inr (inr count))) = inl (count-leaves s count).stops
+
 -- a step leaves the stops of the view, or is the stop of a command that stops the machine itself
 pub stops-after : {layout : Layout} {old new : View} {j after : Job} → Stepped layout old new j after → (new.stops ≡ old.stops) ⊎ StopsItself j after old new
 stops-after {j = jobs.Access a} s = by-quiet s (access a.request a.at)
@@ -223,6 +284,7 @@ stops-after {j = jobs.Fsync f} s = inl (fsync-stops s)
 stops-after {j = jobs.Prctl p} s = inl (prctl-stops s)
 stops-after {j = jobs.ReadStop r} s = by-quiet s (read r.at)
 stops-after {j = jobs.Nested n} s = nested-stops s
+stops-after {j = jobs.Inject i} s = inject-stops s
 
 -- ---- a machine that has stopped
 
@@ -232,7 +294,7 @@ module _ {layout : Layout} {old new : View} {j after : Job} (s : Stepped layout 
     where
       which : (new.stops ≡ old.stops) ⊎ StopsItself j after old new → SomeMember P new.stops
       which (inl same) = subst (SomeMember P) (sym same) some
-      which (inr own) = subst (SomeMember P) (sym own.stops_are) (some-push P old.stops own.nested.who some)
+      which (inr own) = subst (SomeMember P) (sym own.stops_are) (some-push P old.stops (who j) some)
 
   -- what was shown is still shown
   still-halted : IsHalted old → IsHalted new
@@ -268,6 +330,11 @@ looks (jobs.Nested n) after s halted start =
     let word : is_stopped s.found ≡ true = stop-word (steps-planned {other = steps.Load places.Stop} (sym (ap (nesteds.plan_at n.who) start) ∙ s.planned) s.made) halted in
     ap answer s.follows.0 ∙ ap (λ (x : NestedAt). option_map nested_answer (nesteds.answer_at (nesteds.next_at x s.found))) start
     ∙ ap (λ (b : Bool). option_map nested_answer (nesteds.answer_at (cond b (nested_at.Over (Some nested_answers.Stopped)) nested_at.Stop))) word
+looks {layout} (jobs.Inject i) after s halted start =
+    let word : is_stopped s.found ≡ true = stop-word (steps-planned {other = steps.Load places.Stop} (sym (ap injects.plan_at start) ∙ s.planned) s.made) halted in
+    let at = subst (λ (x : InjectAt). injects.FollowsAt layout i.alloc i.who i.frame (injects.bare_at x) s.found s.got s.follows.0.at s.turn) start s.follows.2.1 in
+    ap answer s.follows.1 ∙ ap (λ (x : InjectAt). option_map fail_answer (injects.answer_at x)) at.0
+    ∙ ap (λ (b : Bool). option_map fail_answer (injects.answer_at (cond b inject_at.Stopped (inject_at.Fail (fails.begin i.alloc i.who i.frame None false layout.recovery))))) word
 
 -- on a machine that has stopped, a command that comes to `stopped` alone still does after its step
 pub halted-stays : {layout : Layout} {old new : View} {j after : Job} → Stepped layout old new j after → IsHalted old → EndsStopped j → IsHalted new × EndsStopped after
@@ -292,6 +359,7 @@ begins-stop layout by (commands.Fsync file) j begins = subst IsAtStop (sym begin
 begins-stop layout by (commands.Prctl thread args) j begins = subst IsAtStop (sym begins.job_is) refl
 begins-stop layout by (commands.Log status addr misc) j begins = subst IsAtStop (sym begins) refl
 begins-stop layout by commands.RaiseNested j begins = subst IsAtStop (sym begins) refl
+begins-stop layout by (commands.Inject frame) j begins = subst IsAtStop (sym begins.job_is) refl
 begins-stop layout by _ j begins = absurd begins
 
 -- what a command saw of the stop word
@@ -348,6 +416,20 @@ module _ (layout : Layout) (view : View) where
   nested-halts n (nested_at.Over (Some nested_answers.Stopped)) fits is = halts fits
   nested-halts n _ fits is = absurd (none-some _ is)
 
+  came : (o : Outcome) → says_stopped (Some (outcome_answer o)) ≡ false
+  came outcomes.Recovered = refl
+  came outcomes.Delayed = refl
+  came outcomes.Ignored = refl
+
+  inject-halts : (i : Inject) (x : FailAnswer) → InjectEnded layout view i x → fail_answer x ≡ answers.Stopped → IsHalted view
+  inject-halts i fail_answers.Stopped ended is = which ended.over.2
+    where
+      which : IsStopped view i.who → IsHalted view
+      which (inl saw) = halts saw
+      which (inr own) = inr (own.0, own.1, own.2, tt)
+  inject-halts i fail_answers.Already ended is = absurd (other _ refl (ap (λ (a : Answer). Some a) is))
+  inject-halts i (fail_answers.Done situation cycle at signalled) ended is = absurd (other _ (came (outcome_of situation)) (ap (λ (a : Answer). Some a) is))
+
 -- a command that is answered `stopped` shows that the machine has stopped
 pub stopped-halts : (layout : Layout) (view : View) (j : Job) → Fits layout view j → answer j ≡ Some answers.Stopped → IsHalted view
 stopped-halts layout view (jobs.Access a) fits is = access-halts layout view a.request a.at fits.at is
@@ -356,3 +438,4 @@ stopped-halts layout view (jobs.Fsync f) fits is = fsync-halts layout view f f.a
 stopped-halts layout view (jobs.Prctl p) fits is = prctl-halts layout view p p.at fits.at is
 stopped-halts layout view (jobs.ReadStop r) fits is = read-halts layout view r r.at fits.at is
 stopped-halts layout view (jobs.Nested n) fits is = nested-halts layout view n n.at fits.at is
+stopped-halts layout view (jobs.Inject i) fits is = let own = mapped _ (injects.answer i) is in inject-halts layout view i own.0 (inject-ended i fits own.1) own.2

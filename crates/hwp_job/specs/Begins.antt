@@ -9,6 +9,7 @@ use Rattle.hwp_geom.specs.declared.Thread.{Thread}
 use Rattle.hwp_geom.specs.declared.ThreadDecl.{ThreadDecl}
 use Rattle.hwp_geom.specs.declared.VSlot.{VSlot}
 use Rattle.hwp_geom.specs.declared.Who.{Who}
+use Rattle.hwp_geom.specs.Layout.{IsSound}
 use Rattle.hwp_form.specs.declared.Command.{Command}
 use Rattle.hwp_form.specs.declared.Command.TheVariants as commands
 use Rattle.hwp_form.specs.declared.PrctlArgs.{PrctlArgs}
@@ -62,6 +63,7 @@ pub record BeginsPrctl (layout : Layout) (who : Who) (thread : Thread) (args : P
 
 -- a failure of a frame of the layout
 pub record BeginsInject (layout : Layout) (who : Who) (frame : Frame) (j : Job) : Type 0 where
+  pub sound : IsSound layout
   pub within : frame.0 < layout.frames
   pub alloc : Global
   pub job_is : j ≡ jobs.Inject (injects.begin alloc who frame)

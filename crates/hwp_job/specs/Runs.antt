@@ -1,5 +1,5 @@
 -- Which command a task is of, whatever state it is in, and what a processor has where a command begins.
-use Rattle.std.specs.Prelude.{◌≡◌}
+use Rattle.std.specs.Prelude.{◌≡◌, []}
 use Rattle.hwp_geom.specs.declared.Frame.{Frame}
 use Rattle.hwp_geom.specs.declared.Layout.{Layout}
 use Rattle.hwp_geom.specs.declared.Thread.{Thread}
@@ -12,6 +12,7 @@ use Rattle.hwp_rule.specs.Lists.{EachMember}
 use Rattle.hwp_step.specs.Calls.{IsOnTurn}
 use Rattle.hwp_step.specs.Hands.{hand_of, empty}
 use Rattle.hwp_known.specs.Known.{HasMadeNone}
+use Rattle.hwp_claim.specs.Claims.{HasMarkedNone}
 use Rattle.hwp_control.specs.Nesteds as nesteds
 use Rattle.hwp_control.specs.Prctls as prctls
 use Rattle.hwp_control.specs.Prctls.{HasSettingLeft}
@@ -38,11 +39,14 @@ anew (jobs.Inject i) = jobs.Inject (injects.begin i.alloc i.who i.frame)
 abbrev pub Runs : Layout → Who → Command → Job → Type 0
 Runs layout who command j = Begins layout who command (anew j)
 
--- the processor holds nothing, and may begin the command, which has made no entry yet; each thread can be set once more
+-- the processor holds nothing and owes no loss, and may begin the command, which has made no entry and marked no frame yet; each
+-- thread can be set once more
 pub record AtRest (view : View) (who : Who) : Type 0 where
   pub on_turn : IsOnTurn view who
   pub hand_is : hand_of view ≡ empty
+  pub paid : view.owed.losses ≡ []
   pub made : HasMadeNone view who
+  pub unmarked : HasMarkedNone view who
   pub left : (thread : Thread) → HasSettingLeft thread view
 
 -- no step of the processor was shown a bad line

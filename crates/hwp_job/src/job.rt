@@ -184,9 +184,13 @@ fn outcome_answer(outcome: Outcome) -> Answer
 fn note_of(who: Who, frame: Frame, answer: Option<FailAnswer>) -> Option<(Frame, MarkLine)>
     ensures { result ≡ note_of who frame answer }
 {
-    let Some(FailAnswer::Done {
-        situation, cycle, ..
-    }) = answer
+    let Some(
+        FailAnswer::Done {
+            situation,
+            cycle,
+            ..
+        },
+    ) = answer
     else {
         return None;
     };

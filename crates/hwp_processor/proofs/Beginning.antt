@@ -15,6 +15,7 @@ use Rattle.hwp_report.specs.declared.Answer.{Answer}
 use Rattle.hwp_report.specs.declared.Answer.TheVariants as answers
 use Rattle.hwp_report.specs.declared.CpuLine.{CpuLine}
 use Rattle.hwp_report.specs.declared.CpuLine.TheVariants as lines
+use Rattle.hwp_rule.specs.declared.Debts.{Debts}
 use Rattle.hwp_rule.specs.declared.Mark.{Mark}
 use Rattle.hwp_rule.specs.declared.Part.{Part}
 use Rattle.hwp_rule.specs.declared.Reported.{Reported}
@@ -27,24 +28,22 @@ use Rattle.hwp_step.specs.Calls.{IsLater, IsOnTurn}
 use Rattle.hwp_step.specs.Hands.{Hand, hand_of, empty}
 use Rattle.hwp_known.specs.Known.{HasMadeNone}
 use Rattle.hwp_known.proofs.Listing.{made-none}
-use Rattle.hwp_control.specs.declared.Nested.{Nested}
-use Rattle.hwp_control.specs.declared.nested.NestedAt.{NestedAt}
-use Rattle.hwp_control.specs.Nesteds as nesteds
 use Rattle.hwp_job.specs.declared.job.Job.{Job}
 use Rattle.hwp_job.specs.declared.job.Job.TheVariants as kinds
-use Rattle.hwp_job.specs.Answers.{nested_answer}
 use Rattle.hwp_job.specs.Begins.{Begins}
 use Rattle.hwp_job.specs.Done.{note}
 use Rattle.hwp_job.specs.Jobs as jobs
 use Rattle.hwp_job.specs.Runs.{Runs}
+use Rattle.hwp_job.specs.Stays as stays
 use Rattle.hwp_job.specs.Stays.{IsHalted, KnowsPolicies, Stepped}
 use Rattle.hwp_job.proofs.Ending.{ends}
+use Rattle.hwp_job.proofs.OfKind.{of-access, of-evict, of-fsync, of-inject, of-prctl, of-read-stop}
 use Rattle.hwp_job.proofs.Running.{begins-fits, begins-runs, runs-who}
 use Rattle.hwp_job.proofs.Staying.{counted, left, policies-end, policies-next}
-use Rattle.hwp_job.proofs.Stopping.{begins-stop, only-stopped, stopped-halts}
+use Rattle.hwp_job.proofs.Stopping.{begins-stop, has-stopped, only-stopped, stopped-halts, unrecovered}
 use Rattle.hwp_served.specs.Accounts.{IsAccounted, IsNote, Note}
 use Rattle.hwp_served.specs.Causes.{IsCaused}
-use Rattle.hwp_served.specs.Served.{IsOneOf, IsOwnStop}
+use Rattle.hwp_served.specs.Served.{CanStop, IsOneOf, IsOwnStop}
 use Rattle.hwp_served.proofs.Staying.{made-none-later}
 use Rattle.hwp_caused.proofs.Accounted.{accounted}
 use Rattle.hwp_caused.proofs.Causing.{caused}
@@ -52,7 +51,7 @@ use Rattle.hwp_processor.specs.Processors.{BeginsAt, at_number}
 use Rattle.hwp_processor.specs.Serving.{AreNoted, FitsAt, HasAccount, HasStopped, HasStoppedIt, IsDone, IsListed, IsRunning, Serves}
 use Rattle.hwp_processor.proofs.Carrying.{can, carried, other, own}
 use Rattle.hwp_processor.proofs.Lines.{answered-more, at_front, own-more, past-end, stays-more, stopped-was}
-use Rattle.hwp_processor.proofs.Noting.{account-starts, noted-end, noted-starts, owes-nothing}
+use Rattle.hwp_processor.proofs.Noting.{account-starts, noted-end, noted-starts, owes-nothing, unmarked-starts}
 
 -- ---- the turn
 
@@ -64,6 +63,7 @@ on-turn layout view (kinds.Fsync f) fits = fits.on_turn
 on-turn layout view (kinds.Prctl p) fits = fits.on_turn
 on-turn layout view (kinds.ReadStop r) fits = fits.on_turn
 on-turn layout view (kinds.Nested n) fits = fits.on_turn
+on-turn layout view (kinds.Inject i) fits = fits.on_turn
 
 -- a processor that has come to a command may make steps of the next one, with no body in hand
 next-turn : (view : View) (cpu : Cpu) (n : ℕ) → view.bodies ≡ [] → IsOnTurn view (at_number cpu n) → IsOnTurn view (at_number cpu (n + 1))
@@ -76,48 +76,39 @@ next-turn view cpu n none on = record {
     later : SomeMember (λ (p : Part). (p.cpu ≡ cpu) × (p.latest ≤ n)) view.parts → SomeMember (λ (p : Part). (p.cpu ≡ cpu) × (p.latest ≤ n + 1)) view.parts
     later (i, p, there, h) = let few : p.latest ≤ n = h.1 in (i, p, there, (h.0, omega (arith, few)))
 
--- ---- a machine check inside a machine check
+-- ---- a command that stops the machine
 
-abbrev is_nested : Job → Bool
-is_nested (kinds.Nested n) = true
-is_nested j = false
+-- is one that can
+can-stop : (layout : Layout) (view : View) (who : Who) (command : Command) (j : Job) → Runs layout who command j → jobs.Fits layout view j → stays.HasStopped j → CanStop layout command
+can-stop layout view who (commands.Load thread slot line) j runs fits has = absurd (subst stays.HasStopped (of-access j runs.job_is).1 has)
+can-stop layout view who (commands.Fetch thread slot line) j runs fits has = absurd (subst stays.HasStopped (of-access j runs.job_is).1 has)
+can-stop layout view who (commands.KLoad thread slot line) j runs fits has = absurd (subst stays.HasStopped (of-access j runs.job_is).1 has)
+can-stop layout view who (commands.Store thread slot line word) j runs fits has = absurd (subst stays.HasStopped (of-access j runs.job_is).1 has)
+can-stop layout view who (commands.Free slot) j runs fits has = absurd (subst stays.HasStopped (of-evict j runs.1.job_is).1 has)
+can-stop layout view who (commands.Drop page) j runs fits has = absurd (subst stays.HasStopped (of-evict j runs.job_is).1 has)
+can-stop layout view who (commands.Sync page) j runs fits has = absurd (subst stays.HasStopped (of-evict j runs.job_is).1 has)
+can-stop layout view who (commands.Out page) j runs fits has = absurd (subst stays.HasStopped (of-evict j runs.job_is).1 has)
+can-stop layout view who (commands.Fsync file) j runs fits has = absurd (subst stays.HasStopped (of-fsync j runs.1).1 has)
+can-stop layout view who (commands.Prctl thread args) j runs fits has = absurd (subst stays.HasStopped (of-prctl j runs.job_is).1 has)
+can-stop layout view who (commands.Log status addr misc) j runs fits has = absurd (subst stays.HasStopped (of-read-stop j runs).1 has)
+can-stop layout view who commands.RaiseNested j runs fits has = tt
+can-stop layout view who (commands.Inject frame) j runs fits has = let task = of-inject j runs.job_is in unrecovered layout view task.0 (subst (jobs.Fits layout view) task.1 fits) (subst stays.HasStopped task.1 has)
+can-stop layout view who command j runs fits has = absurd runs
 
-other-kind : {A : Type 0} (n : Nested) (j : Job) → kinds.Nested n ≡ j → is_nested j ≡ false → A
-other-kind n j is other = absurd (both_ways true (ap is_nested is ∙ other) refl)
-
--- is the task of the command that says so alone
-nested-begins : (layout : Layout) (who : Who) (n : Nested) (command : Command) → Begins layout who command (kinds.Nested n) → command ≡ commands.RaiseNested
-nested-begins layout who n (commands.Load thread slot line) begun = other-kind n _ begun.job_is refl
-nested-begins layout who n (commands.Fetch thread slot line) begun = other-kind n _ begun.job_is refl
-nested-begins layout who n (commands.KLoad thread slot line) begun = other-kind n _ begun.job_is refl
-nested-begins layout who n (commands.Store thread slot line word) begun = other-kind n _ begun.job_is refl
-nested-begins layout who n (commands.Free slot) begun = other-kind n _ begun.1.job_is refl
-nested-begins layout who n (commands.Drop page) begun = other-kind n _ begun.job_is refl
-nested-begins layout who n (commands.Sync page) begun = other-kind n _ begun.job_is refl
-nested-begins layout who n (commands.Out page) begun = other-kind n _ begun.job_is refl
-nested-begins layout who n (commands.Fsync file) begun = other-kind n _ begun.1 refl
-nested-begins layout who n (commands.Prctl thread args) begun = other-kind n _ begun.job_is refl
-nested-begins layout who n (commands.Log status addr misc) begun = other-kind n _ begun refl
-nested-begins layout who n commands.RaiseNested begun = refl
-nested-begins layout who n command begun = absurd begun
-
--- the one that stopped the machine is answered `stopped`, as the first of its processor
+-- the one that stopped it is answered `stopped`, as the first of its processor
 module _ (layout : Layout) (view : View) (cpu : Cpu) (list : List Command) (rows : List CpuLine) (notes : List Note) (k : Job) (a : Answer) (run : IsRunning layout view cpu list rows notes k) (has : jobs.answer k ≡ Some a) where
   own-stop : (who : Who) → HasStoppedIt rows k who → IsOwnStop layout cpu list (rows ++ lines.Answer (length rows) a ∷ []) who
   own-stop who it = subst (IsOwnStop layout cpu list (rows ++ lines.Answer (length rows) a ∷ [])) (sym named) (record {
     cpu_is = refl;
-    command = commands.RaiseNested;
-    can = tt;
-    there = run.there ∙ ap (λ (c : Command). Some c) (nested-begins layout (at_number cpu (length rows)) (nesteds.begin it.nested.who) run.command (subst (λ (j : Job). Runs layout (at_number cpu (length rows)) run.command j) it.job_is run.runs));
-    answered = at_last rows (lines.Answer (length rows) a) ∙ ap (λ (x : Answer). Some (lines.Answer (length rows) x)) stopped;
+    command = run.command;
+    can = can-stop layout view (at_number cpu (length rows)) run.command k run.runs run.fits it.has;
+    there = run.there;
+    answered = at_last rows (lines.Answer (length rows) a) ∙ ap (λ (x : Answer). Some (lines.Answer (length rows) x)) (same_Some a answers.Stopped (sym has ∙ has-stopped k it.has));
     first = λ i less is. it.first (i, i, at_front rows (lines.Answer (length rows) a ∷ []) i (lines.Answer i answers.Stopped) less is);
   })
     where
       named : who ≡ at_number cpu (length rows)
-      named = sym it.who_is ∙ sym (ap jobs.who it.job_is) ∙ runs-who layout (at_number cpu (length rows)) run.command k run.runs
-
-      stopped : a ≡ answers.Stopped
-      stopped = same_Some a answers.Stopped (sym has ∙ ap jobs.answer it.job_is ∙ ap (λ (x : NestedAt). option_map nested_answer (nesteds.answer_at x)) it.at_is)
+      named = sym it.who_is ∙ runs-who layout (at_number cpu (length rows)) run.command k run.runs
 
 -- ---- the answer
 
@@ -146,10 +137,10 @@ module _ (layout : Layout) (old new : View) (cpu : Cpu) (list : List Command) (r
   account = accounted layout new (at_number cpu n) now.command k now.runs now.fits has now.account.marked now.account.taken now.account.set
 
   unowing : new.owed ≡ no_debts
-  unowing = owes-nothing layout list new (at_number cpu n) now.command k a now.runs because now.account
+  unowing = owes-nothing layout list new (at_number cpu n) now.command k a now.runs now.fits has because now.account
 
   noting : Pairs (IsNote layout new) more new.marks
-  noting = noted-end layout new cpu n notes k now.noted
+  noting = noted-end layout new cpu n notes k now.fits has (runs-who layout (at_number cpu n) now.command k now.runs) now.noted
 
   serves : Serves layout new cpu list longer
   serves = record {
@@ -209,7 +200,9 @@ module _ (layout : Layout) (old new : View) (cpu : Cpu) (list : List Command) (r
     fits = begins-fits layout new (at_number cpu (n + 1)) command b begins (record {
       on_turn = next-turn new cpu n (ap (λ (h : Hand). h.bodies) nothing) (subst (IsOnTurn new) (runs-who layout (at_number cpu n) now.command k now.runs) (on-turn layout new k now.fits));
       hand_is = nothing;
+      paid = ap (λ (d : Debts). d.losses) unowing;
       made = later-none (n + 1) (omega arith);
+      unmarked = unmarked-starts new cpu (n + 1) now.listed;
       left = left know (begins-stop layout (at_number cpu (n + 1)) command b begins) (let within : n + 1 < length list = slice_get_within list (n + 1) command there in omega (arith, few, within));
     });
     policies = subst (λ (i : ℕ). KnowsPolicies layout list new (at_number cpu i) b) (sym number) know;
@@ -217,7 +210,7 @@ module _ (layout : Layout) (old new : View) (cpu : Cpu) (list : List Command) (r
     stops = λ i who at. inl (stops i who at);
     listed = subst (λ (i : ℕ). IsListed new cpu (i + 1)) (sym number) (record { marked = later (λ (m : Mark). m.stamp.who) new.marks now.listed.marked; taken = later (λ (r : Reported). r.stamp.who) new.reported now.listed.taken; set = later (λ (g : Setting). g.stamp.who) new.settings now.listed.set });
     account = subst (λ (i : ℕ). HasAccount new (at_number cpu i) b) (sym number) (account-starts new cpu (n + 1) b now.listed unowing (begins-stop layout (at_number cpu (n + 1)) command b begins));
-    noted = subst (λ (i : ℕ). AreNoted layout new cpu i more b) (sym number) (noted-starts layout new cpu (n + 1) more b now.listed noting);
+    noted = subst (λ (i : ℕ). AreNoted layout new cpu i more b) (sym number) (noted-starts layout new cpu (n + 1) more b now.listed (begins-stop layout (at_number cpu (n + 1)) command b begins) noting);
   }
     where
       -- what is of the commands so far is of them and the next one

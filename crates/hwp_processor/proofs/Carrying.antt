@@ -11,17 +11,14 @@ use Rattle.hwp_rule.specs.declared.View.{View}
 use Rattle.hwp_rule.specs.Lists.{EachMember}
 use Rattle.hwp_rule.proofs.Lists.{at_push}
 use Rattle.hwp_step.specs.Calls.{CanMake}
-use Rattle.hwp_control.specs.declared.NestedAnswer.TheVariants as nested_answers
-use Rattle.hwp_control.specs.declared.nested.NestedAt.{NestedAt}
-use Rattle.hwp_control.specs.declared.nested.NestedAt.TheVariants as nested_at
-use Rattle.hwp_control.specs.Nesteds as nesteds
 use Rattle.hwp_job.specs.declared.job.Job.{Job}
 use Rattle.hwp_job.specs.Jobs as jobs
+use Rattle.hwp_job.specs.Runs.{Runs}
 use Rattle.hwp_job.specs.Stays.{Stepped, StopsItself}
 use Rattle.hwp_job.proofs.Jobbing as jobbing
 use Rattle.hwp_job.proofs.Running.{runs-on, runs-who}
 use Rattle.hwp_job.proofs.Staying.{policies-stay}
-use Rattle.hwp_job.proofs.Stopping.{halted-stays, no-own-stop, stops-after}
+use Rattle.hwp_job.proofs.Stopping.{answered-over, halted-stays, has-stopped, no-own-stop, stops-after}
 use Rattle.hwp_served.specs.Accounts.{Note}
 use Rattle.hwp_served.specs.Served.{IsOwnStop}
 use Rattle.hwp_served.proofs.Accounting.{account-stays}
@@ -34,7 +31,7 @@ use Rattle.hwp_processor.proofs.Noting.{account-on, listed-on, noted-on}
 
 -- a command that has stopped the machine makes no step
 over : (rows : List CpuLine) (who : Who) (j : Job) (step : Step) → HasStoppedIt rows j who → jobs.plan j ≡ Some step → ⊥
-over rows who j step it is = none-some step (sym (ap jobs.plan it.job_is ∙ ap (λ (x : NestedAt). nesteds.plan_at it.nested.who x) it.at_is) ∙ is)
+over rows who j step it is = none-some step (sym (answered-over j (has-stopped j it.has)) ∙ is)
 
 module _ (layout : Layout) (old new : View) (cpu : Cpu) (list : List Command) (rows : List CpuLine) (notes : List Note) (j k : Job) (run : IsRunning layout old cpu list rows notes j) (made : Stepped layout old new j k) where
   pub can : CanMake layout (jobs.who j) made.step (jobs.put j) old
@@ -42,6 +39,9 @@ module _ (layout : Layout) (old new : View) (cpu : Cpu) (list : List Command) (r
 
   pub own : jobs.who j ≡ at_number cpu (length rows)
   own = runs-who layout (at_number cpu (length rows)) run.command j run.runs
+
+  runs-still : Runs layout (at_number cpu (length rows)) run.command k
+  runs-still = runs-on layout (at_number cpu (length rows)) run.command j k made.found made.got made.turn run.runs made.follows
 
   -- another command of the processor is another
   pub other : (n : ℕ) → n ≢ length rows → at_number cpu n ≢ jobs.who j
@@ -65,26 +65,24 @@ module _ (layout : Layout) (old new : View) (cpu : Cpu) (list : List Command) (r
       before (inl first) = inl first
       before (inr it) = absurd (over rows who j made.step it made.planned)
 
-      by-it : (itself : StopsItself j k old new) → (slice_get old.stops i ≡ Some who) ⊎ (itself.nested.who ≡ who) → IsOwnStop layout cpu list rows who ⊎ HasStoppedIt rows k who
+      by-it : StopsItself j k old new → (slice_get old.stops i ≡ Some who) ⊎ (jobs.who j ≡ who) → IsOwnStop layout cpu list rows who ⊎ HasStoppedIt rows k who
       by-it itself (inl early) = before (run.stops i who early)
       by-it itself (inr last) = inr (record {
-        nested = record itself.nested { at = nested_at.Over (Some nested_answers.Shutdown) };
-        job_is = itself.after_is;
-        at_is = refl;
-        who_is = last;
+        has = itself.has;
+        who_is = runs-who layout (at_number cpu (length rows)) run.command k runs-still ∙ sym own ∙ last;
         first = λ some. no-own-stop (run.stopped some) itself;
       })
 
       which : (new.stops ≡ old.stops) ⊎ StopsItself j k old new → IsOwnStop layout cpu list rows who ⊎ HasStoppedIt rows k who
       which (inl same) = before (run.stops i who (sym (ap (λ (l : List Who). slice_get l i) same) ∙ there))
-      which (inr itself) = by-it itself (at_push old.stops itself.nested.who who i (sym (ap (λ (l : List Who). slice_get l i) itself.stops_are) ∙ there))
+      which (inr itself) = by-it itself (at_push old.stops (jobs.who j) who i (sym (ap (λ (l : List Who). slice_get l i) itself.stops_are) ∙ there))
 
   pub carried : IsRunning layout new cpu list rows notes k
   carried = record {
     serves = serves;
     command = run.command;
     there = run.there;
-    runs = runs-on layout (at_number cpu (length rows)) run.command j k made.found made.got made.turn run.runs made.follows;
+    runs = runs-still;
     fits = ((jobbing.stays layout old new j made.step made.found made.got made.fits made.planned made.made).1 k made.turn made.follows).0;
     policies = policies-stay made list (at_number cpu (length rows)) run.policies;
     stopped = λ some. (halted-stays made (run.serves.halted some) (run.stopped some)).1;

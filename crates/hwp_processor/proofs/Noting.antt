@@ -1,9 +1,10 @@
 -- What a processor's view lists of its commands beside entries, and its notes: over a step, when a command is answered, and when the
 -- next one begins.
-use Rattle.std.proofs.Common.{◌≡◌, ◌≢◌, inl, inr, ℕ, suc, ◌+◌, ◌<◌, ◌≤◌, false, List, [], ◌∷◌, ◌++◌, length, append_assoc, append-nil, refl, sym, ap, ◌∙◌, subst, arith}
+use Rattle.std.proofs.Common.{◌≡◌, ◌≢◌, inl, inr, ℕ, suc, ◌+◌, ◌<◌, ◌≤◌, Bool, false, cond, List, [], ◌∷◌, ◌++◌, Option, Some, None, filter, length, slice_get, append_assoc, append-nil, refl, sym, ap, ◌∙◌, subst, arith}
 use Rattle.std.specs.List.{cons_option}
 use Rattle.std.proofs.lemmas.Bool.{false_from_ne_true}
 use Rattle.std.proofs.lemmas.List.{length-map, map-append, nil_from_length}
+use Rattle.std.proofs.lemmas.List.Elements.{filter-append}
 use Rattle.std.proofs.lemmas.Option.{none-some}
 use Rattle.hwp_geom.specs.declared.Cpu.{Cpu}
 use Rattle.hwp_geom.specs.declared.Frame.{Frame}
@@ -18,24 +19,27 @@ use Rattle.hwp_rule.specs.Lists.{EachMember}
 use Rattle.hwp_rule.specs.Views.{no_debts}
 use Rattle.hwp_rule.proofs.Lists.{each-push}
 use Rattle.hwp_step.specs.Calls.{CanMake}
+use Rattle.hwp_claim.specs.Claims.{HasMarkedNone, is_own, marks_by}
 use Rattle.hwp_form.specs.declared.Command.{Command}
 use Rattle.hwp_form.specs.declared.Command.TheVariants as commands
+use Rattle.hwp_form.proofs.PairsLaws.{Pairs-push}
 use Rattle.hwp_report.specs.declared.Answer.{Answer}
 use Rattle.hwp_job.specs.declared.Job.{Job}
 use Rattle.hwp_job.specs.Done.{Grows, HasDone, counts_owed, marked_now, note, policies_now, taken_now}
 use Rattle.hwp_job.specs.Jobs as jobs
 use Rattle.hwp_job.specs.Runs.{Runs}
 use Rattle.hwp_job.specs.Stays.{IsAtStop, Stepped}
-use Rattle.hwp_job.proofs.Doing.{done, grown, none-listed, unset-policies-at-start, untaken-at-start}
+use Rattle.hwp_job.proofs.Doing.{done, grown, none-listed, unmarked-at-start, unowed-at-end, unowed-at-start, unset-policies-at-start, untaken-at-start}
 use Rattle.hwp_served.specs.Accounts.{IsNote, Note, is_same}
 use Rattle.hwp_served.specs.Causes.{IsCaused}
 use Rattle.hwp_served.specs.Owed.{OwesOwn, losses_by}
 use Rattle.hwp_served.specs.Served.{IsOneOf}
 use Rattle.hwp_served.proofs.Accounting.{marks-own, note-stays, reported-own, settings-own}
-use Rattle.hwp_served.proofs.deeds.Deeds.{is_inject}
 use Rattle.hwp_served.proofs.Failed.{same-who}
 use Rattle.hwp_served.proofs.losses.Owing.{lossless, owes-own}
 use Rattle.hwp_served.proofs.marks.Marked.{same-self}
+use Rattle.hwp_caused.proofs.Injected.{knows-failure}
+use Rattle.hwp_caused.proofs.Noted.{IsTold, told}
 use Rattle.hwp_processor.specs.Processors.{at_number}
 use Rattle.hwp_processor.specs.Serving.{AreNoted, HasAccount, IsListed}
 
@@ -102,25 +106,56 @@ module _ {layout : Layout} {old new : View} {cpu : Cpu} {n : ℕ} {j k : Job} (s
 
 -- ---- at the end of a command
 
--- all marks are noted
-pub noted-end : (layout : Layout) (view : View) (cpu : Cpu) (n : ℕ) (notes : List Note) (j : Job) → AreNoted layout view cpu n notes j → Pairs (IsNote layout view) (notes ++ cons_option (note j) []) view.marks
-noted-end layout view cpu n notes j are =
-    subst (λ (l : List Mark). Pairs (IsNote layout view) (notes ++ []) l) (sym (are.all ∙ ap (λ (l : List Mark). are.earlier ++ l) unmarked ∙ append-nil are.earlier))
-    (subst (λ (l : List Note). Pairs (IsNote layout view) l are.earlier) (sym (append-nil notes)) are.noted)
-  where
-    unmarked : are.last ≡ []
-    unmarked = nil_from_length are.last (sym (length-map are.last (λ (m : Mark). m.frame)) ∙ ap length are.frames)
+later-one : (cpu : Cpu) (n : ℕ) (who : Who) → IsOneOf cpu n who → is_same (at_number cpu n) who ≡ false
+later-one cpu n who (own, less) = false_from_ne_true (is_same (at_number cpu n) who) (λ is. let same : who.seq ≡ n = ap (λ (w : Who). w.seq) (same-who (at_number cpu n) who is) in absurd (omega (arith, less, same)))
 
--- a command that runs brings about no failure
-no-inject : (layout : Layout) (who : Who) (command : Command) (j : Job) → Runs layout who command j → is_inject command ≡ false
-no-inject layout who (commands.Inject frame) j runs = absurd runs
-no-inject layout who command j runs = refl
+-- marks of which all are the command's, and of which none is
+all-own : (who : Who) (l : List Mark) → EachMember (λ (m : Mark). m.stamp.who ≡ who) l → filter (is_own who) l ≡ l
+all-own who [] own = refl
+all-own who (m ∷ ms) own = ap (λ (b : Bool). cond b (m ∷ filter (is_own who) ms) (filter (is_own who) ms)) (same-self who m.stamp.who (own 0 m refl)) ∙ ap (λ (l : List Mark). m ∷ l) (all-own who ms (λ i x there. own (suc i) x there))
+
+none-own : (cpu : Cpu) (n : ℕ) (l : List Mark) → EachMember (λ (m : Mark). IsOneOf cpu n m.stamp.who) l → filter (is_own (at_number cpu n)) l ≡ []
+none-own cpu n l before = nil_from_length (filter (is_own (at_number cpu n)) l) (
+    sym (length-map (filter (is_own (at_number cpu n)) l) (λ (m : Mark). m.frame))
+    ∙ ap length (none-listed (λ (m : Mark). m.stamp.who) (λ (m : Mark). m.frame) (is_same (at_number cpu n)) l (λ i m at. later-one cpu n m.stamp.who (before i m at)))
+    )
+
+-- a command that begins has marked no frame
+pub unmarked-starts : (view : View) (cpu : Cpu) (n : ℕ) → IsListed view cpu n → HasMarkedNone view (at_number cpu n)
+unmarked-starts view cpu n listed = none-own cpu n view.marks listed.marked
+
+-- all marks are noted
+pub noted-end : (layout : Layout) (view : View) (cpu : Cpu) (n : ℕ) (notes : List Note) (j : Job) {a : Answer} → jobs.Fits layout view j → jobs.answer j ≡ Some a → jobs.who j ≡ at_number cpu n → AreNoted layout view cpu n notes j
+    → Pairs (IsNote layout view) (notes ++ cons_option (note j) []) view.marks
+noted-end layout view cpu n notes j fits has own are = which (told layout view j fits has)
+  where
+    -- the notes and the marks are those before, and the last ones
+    noted-as : (o : Option Note) (last : List Mark) → note j ≡ o → are.last ≡ last → Pairs (IsNote layout view) (notes ++ cons_option o []) (are.earlier ++ last) → Pairs (IsNote layout view) (notes ++ cons_option (note j) []) view.marks
+    noted-as o last is last_is pairs = subst (λ (x : Option Note). Pairs (IsNote layout view) (notes ++ cons_option x []) view.marks) (sym is)
+        (subst (λ (l : List Mark). Pairs (IsNote layout view) (notes ++ cons_option o []) l) (sym (are.all ∙ ap (λ (l : List Mark). are.earlier ++ l) last_is)) pairs)
+
+    which : IsTold layout view j → Pairs (IsNote layout view) (notes ++ cons_option (note j) []) view.marks
+    which (inl (none, unmarked)) = noted-as None [] none (nil_from_length are.last (sym (length-map are.last (λ (m : Mark). m.frame)) ∙ ap length (are.frames ∙ unmarked)))
+        (subst (λ (l : List Mark). Pairs (IsNote layout view) (notes ++ []) l) (sym (append-nil are.earlier)) (subst (λ (l : List Note). Pairs (IsNote layout view) l are.earlier) (sym (append-nil notes)) are.noted))
+    which (inr (line, is, one)) = noted-as (Some line) (one.mark ∷ []) is last_is (Pairs-push (IsNote layout view) notes are.earlier line one.mark are.noted (one.tells (are.own 0 one.mark (ap (λ (l : List Mark). slice_get l 0) last_is) ∙ sym own)))
+      where
+        last_is : are.last ≡ one.mark ∷ []
+        last_is = sym (all-own (at_number cpu n) are.last are.own)
+            ∙ sym (filter-append (is_own (at_number cpu n)) are.earlier are.last ∙ ap (λ (l : List Mark). l ++ filter (is_own (at_number cpu n)) are.last) (none-own cpu n are.earlier are.before))
+            ∙ ap (filter (is_own (at_number cpu n))) (sym are.all) ∙ ap (λ (w : Who). marks_by w view) (sym own) ∙ one.marked
+
+-- a failure owes no loss when it is answered, and another command makes none
+no-loss : (layout : Layout) (list : List Command) (view : View) (who : Who) (command : Command) (j : Job) (a : Answer) → Runs layout who command j → jobs.Fits layout view j → jobs.answer j ≡ Some a → IsCaused layout list view who command a → OwesOwn who view
+    → length view.owed.losses ≡ 0
+no-loss layout list view who (commands.Inject frame) j a runs fits has caused owes = ap length (knows-failure j runs fits has).ended.paid
+no-loss layout list view who command j a runs fits has caused owes = let none : losses_by who view ≡ 0 = lossless layout list view who command a refl caused in omega (arith, owes, none)
 
 -- nothing is owed
-pub owes-nothing : (layout : Layout) (list : List Command) (view : View) (who : Who) (command : Command) (j : Job) (a : Answer) → Runs layout who command j → IsCaused layout list view who command a → HasAccount view who j → view.owed ≡ no_debts
-owes-nothing layout list view who command j a runs caused account =
-    let none : counts_owed view ≡ 0 = account.counted in
-    λ t. record { counts = counts none t; hardware = hardware none t; uncounts = uncounts none t; losses = nil_from_length view.owed.losses few t }
+pub owes-nothing : (layout : Layout) (list : List Command) (view : View) (who : Who) (command : Command) (j : Job) (a : Answer) → Runs layout who command j → jobs.Fits layout view j → jobs.answer j ≡ Some a → IsCaused layout list view who command a → HasAccount view who j
+    → view.owed ≡ no_debts
+owes-nothing layout list view who command j a runs fits has caused account =
+    let none : counts_owed view ≡ 0 = account.counted ∙ unowed-at-end j has in
+    λ t. record { counts = counts none t; hardware = hardware none t; uncounts = uncounts none t; losses = nil_from_length view.owed.losses (no-loss layout list view who command j a runs fits has caused account.losses) t }
   where
     counts : view.owed.counts + view.owed.hardware + view.owed.uncounts ≡ 0 → view.owed.counts ≡ 0
     counts none = omega (arith, none)
@@ -131,33 +166,24 @@ owes-nothing layout list view who command j a runs caused account =
     uncounts : view.owed.counts + view.owed.hardware + view.owed.uncounts ≡ 0 → view.owed.uncounts ≡ 0
     uncounts none = omega (arith, none)
 
-    few : length view.owed.losses ≡ 0
-    few =
-        let own : length view.owed.losses ≤ losses_by who view = account.losses in
-        let no_loss : losses_by who view ≡ 0 = lossless layout list view who command a (no-inject layout who command j runs) caused in
-        omega (arith, own, no_loss)
-
 -- ---- when a command begins
-
-later-one : (cpu : Cpu) (n : ℕ) (who : Who) → IsOneOf cpu n who → is_same (at_number cpu n) who ≡ false
-later-one cpu n who (own, less) = false_from_ne_true (is_same (at_number cpu n) who) (λ is. let same : who.seq ≡ n = ap (λ (w : Who). w.seq) (same-who (at_number cpu n) who is) in absurd (omega (arith, less, same)))
 
 pub account-starts : (view : View) (cpu : Cpu) (n : ℕ) (j : Job) → IsListed view cpu n → view.owed ≡ no_debts → IsAtStop j → HasAccount view (at_number cpu n) j
 account-starts view cpu n j listed owed start = record {
-  marked = none-listed (λ (m : Mark). m.stamp.who) (λ (m : Mark). m.frame) (is_same (at_number cpu n)) view.marks (λ i m at. later-one cpu n m.stamp.who (listed.marked i m at));
+  marked = none-listed (λ (m : Mark). m.stamp.who) (λ (m : Mark). m.frame) (is_same (at_number cpu n)) view.marks (λ i m at. later-one cpu n m.stamp.who (listed.marked i m at)) ∙ sym (unmarked-at-start j start);
   taken = none-listed (λ (r : Reported). r.stamp.who) (λ (r : Reported). (r.file, r.count)) (is_same (at_number cpu n)) view.reported (λ i r at. later-one cpu n r.stamp.who (listed.taken i r at)) ∙ sym (untaken-at-start j start);
   set = none-listed (λ (x : Setting). x.stamp.who) (λ (x : Setting). (x.thread, x.policy)) (is_same (at_number cpu n)) view.settings (λ i x at. later-one cpu n x.stamp.who (listed.set i x at)) ∙ sym (unset-policies-at-start j start);
-  counted = ap (λ d. d.counts + d.hardware + d.uncounts) owed;
+  counted = ap (λ d. d.counts + d.hardware + d.uncounts) owed ∙ sym (unowed-at-start j start);
   losses = let none : length view.owed.losses ≡ 0 = ap (λ d. length d.losses) owed in omega (arith, none);
 }
 
-pub noted-starts : (layout : Layout) (view : View) (cpu : Cpu) (n : ℕ) (notes : List Note) (j : Job) → IsListed view cpu n → Pairs (IsNote layout view) notes view.marks → AreNoted layout view cpu n notes j
-noted-starts layout view cpu n notes j listed noted = record {
+pub noted-starts : (layout : Layout) (view : View) (cpu : Cpu) (n : ℕ) (notes : List Note) (j : Job) → IsListed view cpu n → IsAtStop j → Pairs (IsNote layout view) notes view.marks → AreNoted layout view cpu n notes j
+noted-starts layout view cpu n notes j listed start noted = record {
   earlier = view.marks;
   last = [];
   all = sym (append-nil view.marks);
   noted = noted;
   before = listed.marked;
   own = λ i m at. absurd (none-some m at);
-  frames = refl;
+  frames = sym (unmarked-at-start j start);
 }

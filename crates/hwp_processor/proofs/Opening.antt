@@ -59,13 +59,13 @@ module _ (layout : Layout) (cpu : Cpu) (list : List Command) (few : length list 
     command = command;
     there = there;
     runs = begins-runs layout (at_number cpu 0) command j begins;
-    fits = begins-fits layout view (at_number cpu 0) command j begins (record { on_turn = first-turn; hand_is = refl; made = refl; left = left know (begins-stop layout (at_number cpu 0) command j begins) (let within : 0 < length list = slice_get_within list 0 command there in omega (arith, few, within)) });
+    fits = begins-fits layout view (at_number cpu 0) command j begins (record { on_turn = first-turn; hand_is = refl; paid = refl; made = refl; unmarked = refl; left = left know (begins-stop layout (at_number cpu 0) command j begins) (let within : 0 < length list = slice_get_within list 0 command there in omega (arith, few, within)) });
     policies = know;
     stopped = λ some. inl (begins-stop layout (at_number cpu 0) command j begins);
     stops = λ i who at. absurd (none-some who at);
     listed = listed 1;
     account = account-starts view cpu 0 j (listed 0) refl (begins-stop layout (at_number cpu 0) command j begins);
-    noted = noted-starts layout view cpu 0 [] j (listed 0) tt;
+    noted = noted-starts layout view cpu 0 [] j (listed 0) (begins-stop layout (at_number cpu 0) command j begins) tt;
   }
     where
       know : KnowsPolicies layout list view (at_number cpu 0) j

@@ -1,6 +1,7 @@
 -- The class of a processor tells what it holds.
-use Rattle.std.proofs.Common.{◌≡◌, ◌≢◌, ◌≤◌, Option, Some, None}
+use Rattle.std.proofs.Common.{◌≡◌, ◌≢◌, ℕ, ◌≤◌, Option, Some, None}
 use Rattle.std.proofs.lemmas.Option.{none-some}
+use Rattle.hwp_geom.specs.declared.Frame.{Frame}
 use Rattle.hwp_geom.specs.declared.Layout.{Layout}
 use Rattle.hwp_rule.specs.declared.View.{View}
 use Rattle.hwp_step.specs.Classes.{TellsClass}
@@ -9,12 +10,12 @@ use Rattle.hwp_control.proofs.Glancing.{no-frame, no-page}
 use Rattle.hwp_job.specs.declared.job.Job.{Job}
 use Rattle.hwp_job.proofs.Jobbing as jobbing
 use Rattle.hwp_processor.specs.declared.processor.Processor.{Processor}
-use Rattle.hwp_processor.specs.Processors.{class, class_of, plan, plan_of}
+use Rattle.hwp_processor.specs.Processors.{claims, claims_of, class, class_of, plan, plan_of}
 use Rattle.hwp_processor.specs.Serving.{Fits, FitsAt}
 use Rattle.hwp_processor.proofs.Ranking.{the-member}
 
 pub tells : TellsClass the-member
-tells = record { frame = frame; page = page; claim = λ layout view p f cycle fits claims. absurd (none-some (f, cycle) claims) }
+tells = record { frame = frame; page = page; claim = claim }
   where
     frame : (layout : Layout) (view : View) (p : Processor) → Fits layout view p → HasFrame view → (class p ≡ 1) × (plan p ≢ None)
     frame layout view p fits has = which p.job fits.at
@@ -29,3 +30,10 @@ tells = record { frame = frame; page = page; claim = λ layout view p f cycle fi
         which : (x : Option Job) → FitsAt layout view p.cpu p.commands p.lines.items p.notes.items x → (class_of x ≤ 2) × (plan_of x ≢ None)
         which (Some j) at = jobbing.tells.page layout view j at.fits has
         which None at = absurd (no-page view at.hand_is has)
+
+    claim : (layout : Layout) (view : View) (p : Processor) (f : Frame) (cycle : ℕ) → Fits layout view p → claims p ≡ Some (f, cycle) → (class p ≤ 3) × (plan p ≢ None)
+    claim layout view p f cycle fits has = which p.job fits.at has
+      where
+        which : (x : Option Job) → FitsAt layout view p.cpu p.commands p.lines.items p.notes.items x → claims_of x ≡ Some (f, cycle) → (class_of x ≤ 3) × (plan_of x ≢ None)
+        which (Some j) at is = jobbing.tells.claim layout view j f cycle at.fits is
+        which None at is = absurd (none-some (f, cycle) is)

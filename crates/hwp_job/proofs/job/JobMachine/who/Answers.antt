@@ -18,3 +18,6 @@ returns-in-ReadStop-clause-law c = record { can = can; stays = stays }
 
 pub returns-in-Nested-clause-law : goal.returns-in-Nested-clause-law
 returns-in-Nested-clause-law c = record { can = can; stays = stays }
+
+pub returns-in-Inject-clause-law : goal.returns-in-Inject-clause-law
+returns-in-Inject-clause-law c = record { can = can; stays = stays }
