@@ -1,6 +1,8 @@
 //! The top call over memory: worked scripts, refusals, and faults of the source and the sink at each call.
 
-use crate::helpers::{call, gives, leaves, refuses, step};
+ghost use Rattle.std.specs.Prelude.{◌<◌};
+
+use crate::helpers::{Left, call, gives, leaves, refuses, step};
 use std::alloc::Global;
 use std::process::Abort;
 use std::str;
@@ -78,22 +80,10 @@ fn worked_scripts_give_their_reports(rt: HostRuntime) {
 /// Each of the words is a usage.
 fn are_usage(rt: &impl Abort, alloc: Global, rows: &[&[&str]]) {
     for words in rows {
-        let left = call(
-            rt,
-            alloc,
-            words,
-            STORE_AND_LOAD.as_bytes(),
-            &[],
-            (4096, &[]),
-        );
-        leaves(
-            rt,
-            &left,
-            false,
-            2,
-            "",
-            "usage: hwp step|run|check|gen N|sum N\n",
-        );
+        let script = STORE_AND_LOAD.as_bytes();
+        let left = call(rt, alloc, words, script, &[], (4096, &[]));
+        let usage = "usage: hwp step|run|check|gen N|sum N\n";
+        leaves(rt, &left, false, 2, "", usage);
     }
 }
 
@@ -227,19 +217,39 @@ const REFUSED: &[(&str, &str)] = &[
         "hwp 1\n# a comment\n\ncpus 9\n",
         "script line 4: OverLimit\n",
     ),
-    (
-        "hwp 1\ncpus 1\nframes 2\ncpu 0\nbad 0 1\nend\n",
-        "script line 0: NotBuilt\n",
-    ),
-    (
-        "hwp 1\ncpus 2\nframes 2\ncpu 1\nlog 0x0 0x0 0x0\ninject 0\nschedule 0\nend\n",
-        "script line 0: NotBuilt\n",
-    ),
 ];
 
 #[test]
 fn a_refused_script_leaves_nothing_on_out(rt: HostRuntime) {
     refuses(&rt, rt.alloc(), REFUSED);
+}
+
+/// Commands that aren't supported.
+const UNSUPPORTED: &[&str] = &[
+    "bad 0 1",
+    "weak 0 1",
+    "scrub 0 1",
+    "raise user 0 1 1",
+    "raise kernel 1 1",
+    "soft 0",
+    "unpoison 0",
+];
+
+/// The script of the command, behind others that are supported, is refused.
+fn is_not_built(rt: &impl Abort, alloc: Global, command: &str) {
+    let front =
+        "hwp 1\ncpus 2\nframes 2\nproc 0\nthread 0 0 1 handler\ncpu 0\nlog 0x0 0x0 0x0\ncpu 1\ninject 0\n";
+    let mut script = String::from_str(alloc, front).expect(rt, "memory");
+    writeln!(script, "{command}\nend").expect(rt, "memory");
+    let left = step(rt, alloc, script.as_bytes());
+    leaves(rt, &left, false, 3, "", "script line 0: NotBuilt\n");
+}
+
+#[test]
+fn commands_that_are_not_supported_are_refused(rt: HostRuntime) {
+    for command in UNSUPPORTED {
+        is_not_built(&rt, rt.alloc(), command);
+    }
 }
 
 #[test]
@@ -249,16 +259,16 @@ fn a_byte_too_many_is_refused(rt: HostRuntime) {
     leaves(&rt, &left, false, 3, "", "script line 0: TooLong\n");
 }
 
+/// `step` on a store and a load, from a source and into a sink that fail so.
+fn step_through(rt: &impl Abort, alloc: Global, read: &[u64], sink: (usize, &[u64])) -> Left
+    requires { 0 < sink.0 }
+{
+    call(rt, alloc, &["step"], STORE_AND_LOAD.as_bytes(), read, sink)
+}
+
 /// A failing read of this number leaves nothing on `out`.
 fn is_fault(rt: &impl Abort, alloc: Global, read: u64) {
-    let left = call(
-        rt,
-        alloc,
-        &["step"],
-        STORE_AND_LOAD.as_bytes(),
-        &[read],
-        (4096, &[]),
-    );
+    let left = step_through(rt, alloc, &[read], (4096, &[]));
     leaves(rt, &left, false, 4, "", "read fault\n");
 }
 
@@ -270,14 +280,7 @@ fn a_failing_read_leaves_nothing_on_out(rt: HostRuntime) {
 
 /// Where the write of this number fails, of 16 bytes each, the front of the report that was written before stays.
 fn is_cut(rt: &impl Abort, alloc: Global, write: u64, front: &[u8]) {
-    let left = call(
-        rt,
-        alloc,
-        &["step"],
-        STORE_AND_LOAD.as_bytes(),
-        &[],
-        (16, &[write]),
-    );
+    let left = step_through(rt, alloc, &[], (16, &[write]));
     let front = str::from_utf8(front).ok().expect(rt, "a text");
     leaves(rt, &left, true, 5, front, "write fault\n");
 }
@@ -294,32 +297,14 @@ fn a_failing_write_leaves_a_front_of_the_report(rt: HostRuntime) {
 
 #[test]
 fn a_report_is_written_in_pieces(rt: HostRuntime) {
-    let left = call(
-        &rt,
-        rt.alloc(),
-        &["step"],
-        STORE_AND_LOAD.as_bytes(),
-        &[],
-        (16, &[]),
-    );
+    let left = step_through(&rt, rt.alloc(), &[], (16, &[]));
     leaves(&rt, &left, true, 0, STORED_AND_LOADED, "");
 }
 
 /// A report of one page and one free frame beside it, after one load through a translation.
 const LOADED_THROUGH_THE_LAST: &str = "\
-hwp-report 1
-stop none
-count 0
-frame 0 page 0 bad 0 weak 0
-frame 1 free bad 0 weak 0
-page 0 3
-in 0 0
-map 0 0 299
-load 0 0 299 0 0 0
-cpu 0 1
-0 value 0 0 2
-end
-";
+hwp-report 1\nstop none\ncount 0\nframe 0 page 0 bad 0 weak 0\nframe 1 free bad 0 weak 0\npage 0 3\nin 0 0\nmap 0 0 299\n\
+load 0 0 299 0 0 0\ncpu 0 1\n0 value 0 0 2\nend\n";
 
 #[test]
 fn many_declarations_are_served(rt: HostRuntime) {

@@ -1,6 +1,8 @@
 //! `check`: legal reports, forged ones with the line and the rule that is told of each, and refused inputs.
 
 use crate::calls::{PAGES, POLICIES, STOPPED, STORE_AND_LOAD, STORED_AND_LOADED, WORKED};
+use crate::contests::{ASKED_FOR, IN_USE};
+use crate::failures::{EARLY_THREAD, EARLY_THREAD_SIGNALLED, FRAMES, KILLED, PANICS, SITUATIONS};
 use crate::helpers::{call, leaves};
 use crate::processors;
 use std::alloc::Global;
@@ -27,6 +29,7 @@ fn worked_reports_are_legal(rt: HostRuntime) {
     are_legal(&rt, rt.alloc(), PAGES);
     are_legal(&rt, rt.alloc(), POLICIES);
     are_legal(&rt, rt.alloc(), STOPPED);
+    are_legal(&rt, rt.alloc(), MET);
 }
 
 #[test]
@@ -34,6 +37,16 @@ fn reports_of_two_processors_are_legal(rt: HostRuntime) {
     are_legal(&rt, rt.alloc(), processors::SHARED);
     are_legal(&rt, rt.alloc(), processors::TAKEN);
     are_legal(&rt, rt.alloc(), processors::STOPPED);
+}
+
+#[test]
+fn reports_of_failures_are_legal(rt: HostRuntime) {
+    are_legal(&rt, rt.alloc(), SITUATIONS);
+    are_legal(&rt, rt.alloc(), FRAMES);
+    are_legal(&rt, rt.alloc(), KILLED);
+    are_legal(&rt, rt.alloc(), PANICS);
+    are_legal(&rt, rt.alloc(), IN_USE);
+    are_legal(&rt, rt.alloc(), ASKED_FOR);
 }
 
 /// The text with this in place of line `number`, counted from 1; where it is empty the line is left out.
@@ -50,73 +63,53 @@ fn with_line(rt: &impl Abort, alloc: Global, text: &str, number: u64, line: &str
     out
 }
 
-/// A report with one line forged isn't legal: rows of the line's number, what stands there, and what is said.
-fn are_told(
-    rt: &impl Abort,
-    alloc: Global,
-    script: &str,
-    report: &str,
-    rows: &[(u64, &str, &str)],
-) {
-    for (number, line, said) in rows {
-        let forged = with_line(rt, alloc, report, *number, line);
-        says(rt, alloc, script, forged.as_str(), said, 1);
+/// A report and lines of it that are forged: the line's number, what stands there, and what is said.
+struct Forged {
+    script: &'static str,
+    report: &'static str,
+    lines: &'static [(u64, &'static str, &'static str)],
+}
+
+/// A report with one line forged isn't legal.
+fn are_told(rt: &impl Abort, alloc: Global, forged: &Forged) {
+    for (number, line, said) in forged.lines {
+        let report = with_line(rt, alloc, forged.report, *number, line);
+        says(rt, alloc, forged.script, report.as_str(), said, 1);
     }
 }
 
-const FORGED_STORE_AND_LOAD: &[(u64, &str, &str)] = &[
-    (13, "1 value 78 0 3", "not 13 3\n"),
-    (10, "load 0 1 0 5 0 78", "not 10 2\n"),
-    (14, "", "not 14 1\n"),
-    (1, "hwp-report 2", "not 1 1\n"),
-    (5, "frame 1 free bad 0", "not 5 1\n"),
-];
-
-#[test]
-fn a_forged_load_is_told(rt: HostRuntime) {
-    are_told(
-        &rt,
-        rt.alloc(),
-        STORE_AND_LOAD,
-        STORED_AND_LOADED,
-        FORGED_STORE_AND_LOAD,
-    );
-}
-
-/// A report whose two lines from `number` on change places.
-fn with_swapped(rt: &impl Abort, alloc: Global, text: &str, number: u64) -> String {
-    let mut out = String::new(alloc);
-    let mut held = "";
+/// Adds line `number` of a text, from 1, where it has one.
+fn put_line(rt: &impl Abort, out: &mut String, text: &str, number: u64) {
     let mut at: u64 = 0;
     for line in text.lines() {
         at = at.saturating_add(1);
         if at == number {
-            held = line;
-        } else {
             writeln!(out, "{line}").expect(rt, "memory");
-            if at == number.saturating_add(1) {
-                writeln!(out, "{held}").expect(rt, "memory");
-            }
         }
+    }
+}
+
+/// A report of fewer than 20 lines whose two lines from `number` on change places.
+fn with_swapped(rt: &impl Abort, alloc: Global, text: &str, number: u64) -> String {
+    let mut out = String::new(alloc);
+    let behind = number.saturating_add(1);
+    for at in 1..20_u64 {
+        let from = if at == number {
+            behind
+        } else if at == behind {
+            number
+        } else {
+            at
+        };
+        put_line(rt, &mut out, text, from);
     }
     out
 }
 
 /// What is said of each pair of lines that change places.
 const SWAPPED: &[&str] = &[
-    "not 1 1\n",
-    "not 2 1\n",
-    "not 3 1\n",
-    "not 4 1\n",
-    "not 6 1\n",
-    "not 6 1\n",
-    "not 7 2\n",
-    "not 8 2\n",
-    "not 9 2\n",
-    "not 10 1\n",
-    "not 11 1\n",
-    "not 12 3\n",
-    "not 13 1\n",
+    "not 1 1", "not 2 1", "not 3 1", "not 4 1", "not 6 1", "not 6 1", "not 7 2", "not 8 2",
+    "not 9 2", "not 10 1", "not 11 1", "not 12 3", "not 13 1",
 ];
 
 #[test]
@@ -125,19 +118,23 @@ fn lines_that_change_places_are_told(rt: HostRuntime) {
     for said in SWAPPED {
         number = number.saturating_add(1);
         let swapped = with_swapped(&rt, rt.alloc(), STORED_AND_LOADED, number);
-        says(&rt, rt.alloc(), STORE_AND_LOAD, swapped.as_str(), said, 1);
+        let said = format!(in rt.alloc(); "{said}\n").expect(&rt, "memory");
+        says(
+            &rt,
+            rt.alloc(),
+            STORE_AND_LOAD,
+            swapped.as_str(),
+            said.as_str(),
+            1,
+        );
     }
 }
 
 /// So many lines of a text.
 fn front_of(rt: &impl Abort, alloc: Global, text: &str, lines: u64) -> String {
     let mut out = String::new(alloc);
-    let mut at: u64 = 0;
-    for line in text.lines() {
-        if at < lines {
-            writeln!(out, "{line}").expect(rt, "memory");
-        }
-        at = at.saturating_add(1);
+    for at in 0..lines {
+        put_line(rt, &mut out, text, at.saturating_add(1));
     }
     out
 }
@@ -159,18 +156,6 @@ fn a_report_that_is_cut_is_told_at_its_end(rt: HostRuntime) {
     }
 }
 
-#[test]
-fn a_forged_moment_is_told(rt: HostRuntime) {
-    let (script, report) = *PAGES.get(2).expect(&rt, "a row");
-    are_told(
-        &rt,
-        rt.alloc(),
-        script,
-        report,
-        &[(20, "2 notresident 0 0", "not 20 3\n")],
-    );
-}
-
 /// A load of a bad line, whose thread is signalled, and a load behind it.
 const BAD_LINE: &str = "\
 hwp 1\ncpus 1\nframes 2\nproc 0\nthread 0 0 0 handler\npage 0 anon\ntrans 0 0 0\ncpu 0\n\
@@ -181,49 +166,6 @@ hwp-report 1\nstop none\ncount 1\nframe 0 handled bad 20 weak 0\npoisoned 0 0 2 
 frame 1 free bad 0 weak 0\npage 0 6\nin 0 0\nmap 0 0 0\nstore 0 0 0 5 0 77\nmce 0 2 0 5 20\n\
 fail 0 2 anononly req 0 0 1\nsignal 0 0 ar 0\nload 0 3 0 6 sigbus 0\ncpu 0 5\n0 stored 0 2\n1 done\n\
 2 event 0 bd80000000000134 140 86 S9 recovered\n2 sigbus 0 4\n3 sigbus 0 5\nend\n";
-
-const FORGED_BAD_LINE: &[(u64, &str, &str)] = &[
-    (3, "count 0", "not 3 6\n"),
-    (6, "frame 1 free bad 1 weak 0", "not 6 9\n"),
-    (2, "stop 0 3 panic 0", "not 2 8\n"),
-    (10, "store 0 0 0 5 0 78", "not 10 2\n"),
-    (12, "fail 0 2 anononly opt - 0 1", "not 12 2\n"),
-    (
-        18,
-        "2 event 0 bd80000000000134 140 86 S9 delayed",
-        "not 18 3\n",
-    ),
-    (19, "2 sigbus 0 3", "not 19 3\n"),
-    (20, "3 value 0 0 5", "not 20 3\n"),
-];
-
-#[test]
-fn a_forged_failure_is_told(rt: HostRuntime) {
-    says(&rt, rt.alloc(), BAD_LINE, BAD_LINE_MET, "legal\n", 0);
-    are_told(&rt, rt.alloc(), BAD_LINE, BAD_LINE_MET, FORGED_BAD_LINE);
-}
-
-/// A software failure that signals the thread whose policy is early.
-const INJECTED: &str = "\
-hwp 1\ncpus 1\nframes 2\nearly 1\nproc 0\nthread 0 0 0 handler\nthread 1 0 0 handler\npage 0 anon\ntrans 0 0 0\n\
-cpu 0\nprctl 0 33 1 0 0 0\nprctl 1 33 1 1 0 0\nstore 1 0 0 5\ninject 0\nend\n";
-
-const INJECTED_REPORT: &str = "\
-hwp-report 1\nstop none\ncount 1\nframe 0 handled bad 0 weak 0\npoisoned 0 0 3 sw anononly recovered\n\
-frame 1 free bad 0 weak 0\npage 0 4\nin 0 2\nmap 0 2 0\nstore 0 2 0 0 0 5\nfail 0 3 anononly opt - 2 1\n\
-seen 0 late 1\nseen 1 early 1\nsignal 0 1 ao 0\ncpu 0 4\n0 done\n1 done\n2 stored 0 2\n3 recovered\nend\n";
-
-#[test]
-fn a_forged_policy_is_told(rt: HostRuntime) {
-    says(&rt, rt.alloc(), INJECTED, INJECTED_REPORT, "legal\n", 0);
-    are_told(
-        &rt,
-        rt.alloc(),
-        INJECTED,
-        INJECTED_REPORT,
-        &[(13, "seen 1 early 0", "not 13 4\n")],
-    );
-}
 
 /// A file loses what was stored in a page of it.
 const LOST: &str = "\
@@ -238,16 +180,67 @@ load 0 2 1 2 0 70\nmce 0 4 0 2 4\nfail 0 4 filedirty req 0 1 2\nseen 1 early 1\n
 load 0 7 1 2 sigbus 1\ncpu 0 9\n0 done\n1 stored 0 2\n2 value 70 0 4\n3 done\n\
 4 event 0 bd80000000000134 80 86 S9 recovered\n4 sigbus 0 6\n5 eio 1\n6 done\n7 sigbus 0 7\nend\n";
 
+/// Reports of errors of the hardware.
+const MET: &[(&str, &str)] = &[(BAD_LINE, BAD_LINE_MET), (LOST, LOST_REPORT)];
+
+const FORGED: &[Forged] = &[
+    // a load, and lines that are none
+    Forged {
+        script: STORE_AND_LOAD,
+        report: STORED_AND_LOADED,
+        lines: &[
+            (13, "1 value 78 0 3", "not 13 3\n"),
+            (10, "load 0 1 0 5 0 78", "not 10 2\n"),
+            (14, "", "not 14 1\n"),
+            (1, "hwp-report 2", "not 1 1\n"),
+            (5, "frame 1 free bad 0", "not 5 1\n"),
+        ],
+    },
+    // a failure that a machine check brought about
+    Forged {
+        script: BAD_LINE,
+        report: BAD_LINE_MET,
+        lines: &[
+            (3, "count 0", "not 3 6\n"),
+            (6, "frame 1 free bad 1 weak 0", "not 6 9\n"),
+            (2, "stop 0 3 panic 0", "not 2 8\n"),
+            (10, "store 0 0 0 5 0 78", "not 10 2\n"),
+            (12, "fail 0 2 anononly opt - 0 1", "not 12 2\n"),
+            (
+                18,
+                "2 event 0 bd80000000000134 140 86 S9 delayed",
+                "not 18 3\n",
+            ),
+            (19, "2 sigbus 0 3", "not 19 3\n"),
+            (20, "3 value 0 0 5", "not 20 3\n"),
+        ],
+    },
+    // a policy that a failure saw
+    Forged {
+        script: EARLY_THREAD,
+        report: EARLY_THREAD_SIGNALLED,
+        lines: &[(13, "seen 1 early 0", "not 13 4\n")],
+    },
+    // a loss
+    Forged {
+        script: LOST,
+        report: LOST_REPORT,
+        lines: &[(4, "file 0 lost 5", "not 4 7\n")],
+    },
+];
+
 #[test]
-fn a_forged_loss_is_told(rt: HostRuntime) {
-    says(&rt, rt.alloc(), LOST, LOST_REPORT, "legal\n", 0);
-    are_told(
-        &rt,
-        rt.alloc(),
-        LOST,
-        LOST_REPORT,
-        &[(4, "file 0 lost 5", "not 4 7\n")],
-    );
+fn forged_lines_are_told(rt: HostRuntime) {
+    for forged in FORGED {
+        are_told(&rt, rt.alloc(), forged);
+    }
+}
+
+#[test]
+fn a_forged_moment_is_told(rt: HostRuntime) {
+    let (script, report) = *PAGES.get(2).expect(&rt, "a row");
+    let forged = with_line(&rt, rt.alloc(), report, 20, "2 notresident 0 0");
+    says(&rt, rt.alloc(), script, forged.as_str(), "not 20 3\n", 1);
 }
 
 /// The report of a store and a load, with a stop by a machine check that no line shows.
@@ -310,14 +303,8 @@ const REFUSED: &[(&str, &str)] = &[
 #[test]
 fn check_refuses_what_is_no_script(rt: HostRuntime) {
     for (input, told) in REFUSED {
-        let left = call(
-            &rt,
-            rt.alloc(),
-            &["check"],
-            input.as_bytes(),
-            &[],
-            (4096, &[]),
-        );
+        let input = input.as_bytes();
+        let left = call(&rt, rt.alloc(), &["check"], input, &[], (4096, &[]));
         leaves(&rt, &left, false, 3, "", told);
     }
 }

@@ -3,7 +3,6 @@
 ghost use Rattle.std.specs.Prelude.{◌<◌};
 
 use hwp_io::{MemSink, MemSource};
-use hwp_report::Report;
 use hwp_top::{Done, top};
 use std::alloc::Global;
 use std::process::Abort;
@@ -83,15 +82,4 @@ pub fn refuses(rt: &impl Abort, alloc: Global, rows: &[(&str, &str)]) {
         let left = step(rt, alloc, script.as_bytes());
         leaves(rt, &left, false, 3, "", told);
     }
-}
-
-/// The report of a script.
-pub fn report_of(rt: &impl Abort, alloc: Global, script: &[u8]) -> Report {
-    let words = words_of(rt, alloc, &["step"]);
-    let script = script.to_vec(alloc).expect(rt, "memory");
-    let mut src = MemSource::new(script, Vec::new(alloc));
-    let mut out = MemSink::new(alloc, 4096, Vec::new(alloc));
-    let mut err = MemSink::new(alloc, 4096, Vec::new(alloc));
-    let done = top(alloc, words.as_slice(), &mut src, &mut out, &mut err);
-    done.report.expect(rt, "a report")
 }

@@ -1,11 +1,15 @@
-//! Tests of the top call: worked scripts and their reports, on one processor and on several, refusals, faults of the source
-//! and the sink, and scripts made from a seed.
+//! Tests of the top call: worked scripts and their reports, on one processor and on several, memory failures, races,
+//! refusals, faults of the source and the sink, reports that are judged, and scripts made from a seed.
 #![tactic(auto)]
 
 #[cfg(test)]
 mod calls;
 #[cfg(test)]
 mod checking;
+#[cfg(test)]
+mod contests;
+#[cfg(test)]
+mod failures;
 #[cfg(test)]
 mod helpers;
 #[cfg(test)]

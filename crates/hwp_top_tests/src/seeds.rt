@@ -22,18 +22,10 @@ fn has_text(rt: &impl Abort, alloc: Global, bytes: &[u8], script: &Script) {
 fn writes_script(rt: &impl Abort, alloc: Global, word: &str, seed: u64) {
     let left = unread(rt, alloc, &["gen", word]);
     assert_eq!(rt; (left.reported, left.status), (false, 0));
-    has_text(
-        rt,
-        alloc,
-        left.out.bytes(),
-        &generate(alloc, seed).expect(rt, "memory"),
-    );
-    has_text(
-        rt,
-        alloc,
-        left.out.bytes(),
-        &read(alloc, left.out.bytes()).expect(rt, "a script"),
-    );
+    let script = generate(alloc, seed).expect(rt, "memory");
+    has_text(rt, alloc, left.out.bytes(), &script);
+    let again = read(alloc, left.out.bytes()).expect(rt, "a script");
+    has_text(rt, alloc, left.out.bytes(), &again);
 }
 
 #[test]
