@@ -1,5 +1,5 @@
 -- The run of a script: the processors' tasks as they begin, how they end, and the law of the report.
-use Rattle.std.specs.Prelude.{◌≡◌, ℕ, true, false, List, Some, None, All, length, slice_get}
+use Rattle.std.specs.Prelude.{◌≡◌, ℕ, true, List, Some, None, All, length, slice_get}
 use Rattle.hwp_geom.specs.Pairs.{Pairs}
 use Rattle.hwp_geom.specs.declared.Cpu.{Cpu}
 use Rattle.hwp_geom.specs.declared.Frame.{Frame}
@@ -18,16 +18,16 @@ use Rattle.hwp_served.specs.Accounts.{Note}
 use Rattle.hwp_served.specs.Runs.{AreServed}
 use Rattle.hwp_job.specs.Begins.{is_supported}
 use Rattle.hwp_processor.specs.declared.Processor.{Processor}
-use Rattle.hwp_processor.specs.Processors.{AtBeginning, Next, bare, class, cost, plan, put, who}
+use Rattle.hwp_processor.specs.Processors.{AtBeginning, Next, aborts, bare, claims, class, cost, plan, put, who}
 use Rattle.hwp_processor.specs.Serving.{Fits}
 
 -- all commands of all processors are supported
 abbrev pub AreSupported : Script → Type 0
 AreSupported script = All (All (λ (c : Command). is_supported c ≡ true)) script.lists
 
--- a processor as a task: it gives nothing up, and claims no failure
+-- a processor as a task
 abbrev pub processors : Member Processor
-processors = member (λ p. who p) (λ p. plan p) (λ p. put p) (λ p. bare p) (λ layout p found got after turn. Next layout p found got after turn) (λ layout view p. Fits layout view p) (λ p. class p) (λ p words. cost p words) (λ p. false) (λ p. None)
+processors = member (λ p. who p) (λ p. plan p) (λ p. put p) (λ p. bare p) (λ layout p found got after turn. Next layout p found got after turn) (λ layout view p. Fits layout view p) (λ p. class p) (λ p words. cost p words) (λ p. aborts p) (λ p. claims p)
 
 -- a processor's seat has its number
 abbrev pub own_seat : Cpu → ℕ

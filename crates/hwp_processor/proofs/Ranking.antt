@@ -27,7 +27,7 @@ use Rattle.hwp_control.proofs.Nesting as nesting
 use Rattle.hwp_control.proofs.Reading as reading
 use Rattle.hwp_evict.proofs.EvictCosts.{evict-below}
 use Rattle.hwp_evict.proofs.Fsyncing.{fsync-below}
-use Rattle.hwp_fail.proofs.InjectCosts.{inject-below}
+use Rattle.hwp_fail.proofs.InjectRank.{inject-below}
 use Rattle.hwp_fault.proofs.AccessCosts.{access-below}
 use Rattle.hwp_job.specs.declared.job.Job.{Job}
 use Rattle.hwp_job.specs.declared.job.Job.TheVariants as kinds
@@ -59,7 +59,7 @@ job-below w (kinds.Fsync f) few = let most = fsync-below f w in omega (arith, mo
 job-below w (kinds.Prctl p) few = let most = calling.small p in omega (arith, most)
 job-below w (kinds.ReadStop r) few = let most = reading.small r in omega (arith, most)
 job-below w (kinds.Nested n) few = let most = nesting.small n in omega (arith, most)
-job-below w (kinds.Inject i) few = inject-below w i
+job-below w (kinds.Inject i) few = let most = inject-below i w in omega (arith, most)
 
 left-below : (layout : Layout) (a : State) → Holds layout a → (x : Option Job) → cost_of x (words_at layout a) < 32768
 left-below layout a rule (Some j) = job-below (words_at layout a) j (few-frees layout a rule)
