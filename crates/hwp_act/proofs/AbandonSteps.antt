@@ -49,6 +49,7 @@ use Rattle.hwp_act.specs.declared.abandon.AbandonAt.{AbandonAt}
 use Rattle.hwp_act.specs.declared.abandon.AbandonAt.TheVariants as at
 use Rattle.hwp_act.specs.Abandons.{after_owner, kill_at, kill_from, owner_gone, snapshot}
 use Rattle.hwp_act.specs.Abandoned.{Carries, CanLoseOne, Failure, Fits, FitsAt, HasFailed, HaveEnded, IsAhead, IsListed, IsLostFile, IsNumbered, IsPast, IsUnlisted, entry_of, hand_at, what_of}
+use Rattle.hwp_act.proofs.FailureEntry.{of-page}
 use Rattle.hwp_act.proofs.Abandoning.{body-page, in-hand, list-is, loss-owed, losses-new, small-frame}
 
 -- a body whose entries are all listed
@@ -435,7 +436,13 @@ module _ {layout : Layout} {old new : View} (a : Abandon) {found : ℕ} {got : O
         ∙ ap (λ (b : Option BodyValue). record (putting (logs b) (page_held a.page None has.trans has.taken)) { pages = without (is_page_lock_of a.page) (page_held a.page None has.trans has.taken).pages }) has.carries.given_is
         ∙ page-freed a.page has.trans has.taken (log_of has.carries.body) (body-page a has.carries) has.carries.in_hand.own,
     ap (λ (v : View). v.owed.losses) own.told.next ∙ owes-none a has.carries bodies has.listing,
-    subst (HasFailed new a.who) (sym has.carries.entry.failed_is) (has.carries.f.required, has.carries.f.seen, has.carries.f.signals, made-all a has.carries bodies has.listing (page-lists (there a has.carries bodies) own), refl),
+    subst (HasFailed new a.who) (sym has.carries.entry.failed_is) (record {
+      seen = has.carries.f.seen;
+      signals = has.carries.f.signals;
+      made = made-all a has.carries bodies has.listing (page-lists (there a has.carries bodies) own);
+      signalled = refl;
+      paged = of-page (state_of layout has.carries.log) has.carries.f.situation has.carries.entry.allowed.actual;
+    }),
   )
     where
       bodies : old.bodies ≡ has.taken ∷ []

@@ -190,11 +190,11 @@ module _ {layout : Layout} {old new : View} (a : Act) {step : Step} {found : ℕ
 
 -- a page that goes on leaving its frame, and a command that goes on giving up
 module _ {layout : Layout} {new : View} (a : Act) where
-  abandon-stays : (x : Abandon) → x.who ≡ a.who → x.page ≡ a.page → abandoned.Fits layout new x → FitsAt layout new a.who a.page a.frame (after_abandon x)
-  abandon-stays x own its fit = which x.at fit.at refl
+  abandon-stays : (x : Abandon) → x.who ≡ a.who → x.page ≡ a.page → x.frame ≡ a.frame → abandoned.Fits layout new x → FitsAt layout new a.who a.page a.frame (after_abandon x)
+  abandon-stays x own its in-frame fit = which x.at fit.at refl
     where
-      still : is_none (abandons.plan x) ≡ false → IsAbandoning layout new a.who a.page x
-      still on = record { abandon = fit; own = own; page_is = its; under_way = on }
+      still : is_none (abandons.plan x) ≡ false → IsAbandoning layout new a.who a.page a.frame x
+      still on = record { abandon = fit; own = own; page_is = its; frame_is = in-frame; under_way = on }
 
       which : (z : AbandonAt) → abandoned.FitsAt layout new x z → x.at ≡ z → FitsAt layout new a.who a.page a.frame (abandoned_at x z)
       which abandon_at.Over has is = (has.0, has.1, fit.place ∙ its, subst (λ (w : Who). abandoned.HasFailed new w x.failed) own has.2)
@@ -233,7 +233,7 @@ both layout old new a step found got fits is made = let all = which a.at fits.at
     )
     which (at.Abandon x) has e made = (
       abandon_laws.shows layout old x has.abandon,
-      λ y turn follows. subst (FitsAt layout new a.who a.page a.frame) (sym follows.0) (abandon-stays a (abandons.next (abandons.bare x)) has.own has.page_is
+      λ y turn follows. subst (FitsAt layout new a.who a.page a.frame) (sym follows.0) (abandon-stays a (abandons.next (abandons.bare x)) has.own has.page_is has.frame_is
           (abandon_laws.moved layout old new x step found got has.abandon e (subst (λ (w : Who). Steps layout w step (logs (abandons.put x)) old new found got) (sym has.own) made))),
     )
     which (at.GiveUp g) has e made = (

@@ -95,7 +95,7 @@ module _ {layout : Layout} {view : View} {who : Who} {page : Page} {frame : Fram
       used = λ slot w t declared own there. word-is slot w t declared own there ∙ written-fits has.entry has.replay frame slot;
     }
 
-    leaves : IsAbandoning layout view who page (abandons.begin who page frame c.count losses failed body)
+    leaves : IsAbandoning layout view who page frame (abandons.begin who page frame c.count losses failed body)
     leaves = record {
       abandon = record {
         on_turn = on;
@@ -133,6 +133,7 @@ module _ {layout : Layout} {view : View} {who : Who} {page : Page} {frame : Fram
       };
       own = refl;
       page_is = refl;
+      frame_is = refl;
       under_way = refl;
     }
 

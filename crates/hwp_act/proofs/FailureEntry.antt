@@ -42,7 +42,7 @@ use Rattle.hwp_act.specs.declared.abandon.Failed.{Failed}
 use Rattle.hwp_act.specs.declared.abandon.Losses.{Losses}
 use Rattle.hwp_act.specs.declared.failing.Entered.{Entered}
 use Rattle.hwp_act.specs.Abandons.{endings_of, signals_now}
-use Rattle.hwp_act.specs.Abandoned.{Failure, HasFailure, IsLostFile, entry_of, what_of}
+use Rattle.hwp_act.specs.Abandoned.{Failure, HasFailure, IsLostFile, IsOfPage, entry_of, what_of}
 use Rattle.hwp_act.specs.Failing.{CanEnter, HasMadeEntry, bars_of, failure_of, lost_at}
 
 -- the one member of a list
@@ -74,6 +74,17 @@ acts-by s (File file fill) false back = record { cached = refl; maps = refl; bar
 acts-by s Anon dirty None = record { cached = refl; maps = refl; bar = refl }
 acts-by s Anon true (Some words) = record { cached = refl; maps = refl; bar = refl }
 acts-by s Anon false (Some words) = record { cached = refl; maps = refl; bar = refl }
+
+of-page-by : (kind : PageKind) (dirty : Bool) (back : Option (List ℕ)) → IsOfPage (situation_by kind dirty back)
+of-page-by (File file fill) true back = tt
+of-page-by (File file fill) false back = tt
+of-page-by Anon dirty None = tt
+of-page-by Anon true (Some words) = tt
+of-page-by Anon false (Some words) = tt
+
+-- what a failure finds of a page is of a page
+pub of-page : (s : PageState) (situation : _) → situation ≡ situation_of s → IsOfPage situation
+of-page s situation is = subst IsOfPage (sym is) (of-page-by s.kind s.dirty s.back)
 
 pub acts : (s : PageState) (situation : _) → situation ≡ situation_of s → Acts s (acted s situation) (bars_of situation)
 acts s situation is = subst (λ x. Acts s (acted s x) (bars_of x)) (sym is) (acts-by s s.kind s.dirty s.back)
@@ -161,5 +172,5 @@ module _ {layout : Layout} {page : Page} {frame : Frame} {body : BodyValue} (is 
     few = subst (λ (l : List Signal). length l ≤ signal_limit) (sym (ap (λ (e : Entered). e.losses.endings) made.is)) made.few;
     file_is = subst (IsLostFile layout page (failure_of body.state required seen made.signals)) (sym (ap (λ (e : Entered). e.losses.file) made.is)) (lost-right layout page body.state.kind body.state.dirty body.state.back required seen made.signals kind-is);
     failed_is = ap (λ (e : Entered). e.failed) made.is
-        ∙ ap (λ (p : Page). record { situation = situation_of body.state; at = record { page = p; entry = length body.log }; signalled = signals_now made.signals }) is.page_is;
+        ∙ ap (λ (p : Page). record { situation = situation_of body.state; required = required; at = record { page = p; entry = length body.log }; signalled = signals_now made.signals }) is.page_is;
   }

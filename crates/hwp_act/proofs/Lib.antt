@@ -10,3 +10,4 @@ pub mod Endings
 pub mod Reading
 pub mod Snapshots
 pub mod Starting
+pub mod Requiring

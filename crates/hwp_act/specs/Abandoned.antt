@@ -16,6 +16,7 @@ use Rattle.hwp_kill.specs.declared.Signal.{Signal}
 use Rattle.hwp_kill.specs.Limits.{signal_limit}
 use Rattle.hwp_page.specs.declared.Entry.{Entry}
 use Rattle.hwp_page.specs.declared.Situation.{Situation}
+use Rattle.hwp_page.specs.declared.Situation.TheVariants as situations
 use Rattle.hwp_page.specs.declared.What.{What}
 use Rattle.hwp_page.specs.declared.What.TheVariants as entries
 use Rattle.hwp_page.specs.History.{BodyValue}
@@ -56,10 +57,19 @@ what_of f = entries.Fail f.situation f.required f.seen f.signals
 abbrev pub entry_of : Who → Failure → Entry
 entry_of who f = record { who = who; what = what_of f }
 
--- the command made this entry and no other
-abbrev pub HasFailed : View → Who → Failed → Type 0
-HasFailed view who failed =
-    (required : Option Thread) × (seen : List Seen) × (signals : List Signal) × HasMade (λ (m : Made). ⊥) view who failed.at.page failed.at.entry (entries.Fail failed.situation required seen signals) × (failed.signalled ≡ signals_now signals)
+-- a page was in the frame
+abbrev pub IsOfPage : Situation → Type 0
+IsOfPage situations.Free = ⊥
+IsOfPage situations.Kernel = ⊥
+IsOfPage _ = Unit {0}
+
+-- the command made this entry and no other, of a page that was in the frame
+pub record HasFailed (view : View) (who : Who) (failed : Failed) : Type 0 where
+  pub seen : List Seen
+  pub signals : List Signal
+  pub made : HasMade (λ (m : Made). ⊥) view who failed.at.page failed.at.entry (entries.Fail failed.situation failed.required seen signals)
+  pub signalled : failed.signalled ≡ signals_now signals
+  pub paged : IsOfPage failed.situation
 
 -- the file that the failure costs content
 abbrev pub IsLostFile : Layout → Page → Failure → Option FileNo → Type 0
@@ -75,7 +85,7 @@ pub record HasFailure (layout : Layout) (who : Who) (page : Page) (log : Log) (f
   pub endings_are : losses.endings ≡ endings_of layout f.signals
   pub few : length losses.endings ≤ signal_limit
   pub file_is : IsLostFile layout page f losses.file
-  pub failed_is : failed ≡ record { situation = f.situation; at = record { page = page; entry = length log.entries }; signalled = signals_now f.signals }
+  pub failed_is : failed ≡ record { situation = f.situation; required = f.required; at = record { page = page; entry = length log.entries }; signalled = signals_now f.signals }
 
 -- the processes of the first signals have ended
 abbrev pub HaveEnded : List Signal → ℕ → InHand → Type 0

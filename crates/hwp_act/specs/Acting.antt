@@ -3,6 +3,7 @@ use Rattle.std.specs.Prelude.{◌≡◌, ℕ, ◌+◌, ◌<◌, ◌≤◌, true,
 use Rattle.hwp_geom.specs.declared.Frame.{Frame}
 use Rattle.hwp_geom.specs.declared.Layout.{Layout}
 use Rattle.hwp_geom.specs.declared.Page.{Page}
+use Rattle.hwp_geom.specs.declared.Thread.{Thread}
 use Rattle.hwp_geom.specs.declared.Who.{Who}
 use Rattle.hwp_page.specs.History.{BodyValue, IsReplay}
 use Rattle.hwp_rule.specs.declared.Log.{Log}
@@ -64,10 +65,11 @@ pub record IsClearing (layout : Layout) (view : View) (who : Who) (page : Page) 
   pub saw : HasSeen (drop seen view.sights) who (Some frame) (what_of f)
   pub clean : IsClean view who
 
-pub record IsAbandoning (layout : Layout) (view : View) (who : Who) (page : Page) (a : Abandon) : Type 0 where
+pub record IsAbandoning (layout : Layout) (view : View) (who : Who) (page : Page) (frame : Frame) (a : Abandon) : Type 0 where
   pub abandon : abandoned.Fits layout view a
   pub own : a.who ≡ who
   pub page_is : a.page ≡ page
+  pub frame_is : a.frame ≡ frame
   pub under_way : is_none (abandons.plan a) ≡ false
 
 pub record IsGivingUp (layout : Layout) (view : View) (who : Who) (g : GiveUp) : Type 0 where
@@ -83,7 +85,7 @@ FitsOver view who page (Some failed) = (hand_of view ≡ empty) × (view.owed.lo
 abbrev pub FitsAt : Layout → View → Who → Page → Frame → ActAt → Type 0
 FitsAt layout view who page frame (at.Read r) = IsReading layout view who page frame r
 FitsAt layout view who page frame (at.Clear c losses failed body) = IsClearing layout view who page frame c losses failed body × (is_none c.next ≡ false)
-FitsAt layout view who page frame (at.Abandon a) = IsAbandoning layout view who page a
+FitsAt layout view who page frame (at.Abandon a) = IsAbandoning layout view who page frame a
 FitsAt layout view who page frame (at.GiveUp g) = IsGivingUp layout view who g
 FitsAt layout view who page frame (at.Over failed) = FitsOver view who page failed
 
@@ -92,3 +94,12 @@ pub record Fits (layout : Layout) (view : View) (a : Act) : Type 0 where
   pub page : a.page.0 < length layout.pages
   pub frame : a.frame.0 < layout.frames
   pub at : FitsAt layout view a.who a.page a.frame a.at
+
+-- this thread, or none, needs the page now
+abbrev pub IsFor : Option Thread → ActAt → Type 0
+IsFor required (at.Read r) = r.required ≡ required
+IsFor required (at.Clear c losses failed body) = failed.required ≡ required
+IsFor required (at.Abandon a) = a.failed.required ≡ required
+IsFor required (at.GiveUp g) = Unit {0}
+IsFor required (at.Over None) = Unit {0}
+IsFor required (at.Over (Some failed)) = failed.required ≡ required

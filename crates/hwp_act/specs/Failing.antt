@@ -60,7 +60,7 @@ abbrev pub losses_by : BodyValue → Failure → Losses
 losses_by body f = record { file = lost_of body.state; endings = endings_of body.layout f.signals }
 
 abbrev pub failed_by : BodyValue → Failure → Failed
-failed_by body f = record { situation = f.situation; at = record { page = body.page; entry = length body.log }; signalled = signals_now f.signals }
+failed_by body f = record { situation = f.situation; required = f.required; at = record { page = body.page; entry = length body.log }; signalled = signals_now f.signals }
 
 -- the entry has the signals of the kill table
 pub record HasMadeEntry (who : Who) (required : Option Thread) (body : BodyValue) (seen : List Seen) (entered : Entered) : Type 0 where

@@ -1,7 +1,7 @@
 ghost use Rattle.std.specs.Prelude.{◌≡◌, is_none};
 ghost use Rattle.hwp_act.specs.Abandons.{begin, plan, answer, kill_at, after_owner};
 
-use hwp_geom::{FileNo, Frame, Layout, Page, Proc, Who};
+use hwp_geom::{FileNo, Frame, Layout, Page, Proc, Thread, Who};
 use hwp_kill::SignalList;
 use hwp_page::{At, Body, Situation};
 use hwp_rule::Step;
@@ -14,9 +14,11 @@ use std::snapshot::Snapshot;
 pub struct Failed {
     /// What it found.
     pub situation: Situation,
+    /// The thread that needs the page now.
+    pub required: Option<Thread>,
     /// Its entry.
     pub at: At,
-    /// Whether it signalled the thread that needs the page now.
+    /// Whether it signalled that thread.
     pub signalled: bool,
 }
 

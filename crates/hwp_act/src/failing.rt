@@ -110,6 +110,7 @@ pub(crate) fn enter(who: Who, required: Option<Thread>, body: Body, seen: List<S
     };
     let failed = Failed {
         situation,
+        required,
         at: At {
             page: body.page(),
             entry: body.len(),

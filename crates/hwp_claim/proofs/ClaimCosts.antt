@@ -1,33 +1,29 @@
 -- Each turn of a `Claim` lowers its cost, or poisons a frame, and its failure stays its own until it is ended.
-use Rattle.std.proofs.Common.{◌≡◌, ◌≢◌, ◌⊎◌, inl, inr, ℕ, ◌+◌, ◌*◌, ◌/◌, ◌%◌, ◌^◌, ◌<◌, ◌≤◌, ◌==◌, ◌&&◌, ◌||◌, min, Bool, true, false, not, cond, [], ◌∷◌, Option, Some, None, is_none, is_some, slice_get, slice_index, refl, sym, ap, ◌∙◌, subst, arith}
-use Rattle.std.proofs.lemmas.Bool.{both_ways, eqb-false, eqb-true}
+use Rattle.std.proofs.Common.{◌≡◌, ◌⊎◌, inl, inr, ℕ, ◌+◌, ◌/◌, ◌%◌, ◌<◌, ◌≤◌, ◌==◌, min, Bool, true, false, cond, Option, Some, None, is_none, slice_index, refl, sym, ap, ◌∙◌, subst, arith}
+use Rattle.std.proofs.lemmas.Bool.{both_ways, eqb-false}
 use Rattle.std.proofs.lemmas.Option.{none-some, same_Some}
 use Rattle.hwp_geom.specs.declared.Frame.{Frame}
 use Rattle.hwp_geom.specs.declared.Layout.{Layout}
-use Rattle.hwp_geom.specs.declared.Page.{Page}
 use Rattle.hwp_geom.specs.declared.Who.{Who}
 use Rattle.hwp_page.specs.History.{BodyValue}
-use Rattle.hwp_words.specs.Frames.{count_of, cycle_of, is_handled, is_kernel, is_poisoned, poison_of}
+use Rattle.hwp_words.specs.Frames.{count_of, cycle_of, is_kernel, is_poisoned}
 use Rattle.hwp_words.specs.Stops.{is_stopped}
 use Rattle.hwp_rule.specs.declared.Place.TheVariants as places
 use Rattle.hwp_rule.specs.declared.State.{State}
 use Rattle.hwp_rule.specs.declared.Step.{Step}
 use Rattle.hwp_rule.specs.declared.Step.TheVariants as steps
-use Rattle.hwp_rule.specs.declared.View.{View}
 use Rattle.hwp_rule.specs.Moves.{Move}
-use Rattle.hwp_rule.specs.Rule.{Holds}
 use Rattle.hwp_rule.specs.Steps.{place_of, word_after}
-use Rattle.hwp_rule.specs.Words.{Words, put as put_word, read}
+use Rattle.hwp_rule.specs.Words.{Words, read}
 use Rattle.hwp_step.specs.declared.Turn.{Turn}
 use Rattle.hwp_step.specs.declared.Turn.TheVariants.{Moved, Changed, NoMemory}
 use Rattle.hwp_step.specs.Boards.{view_of}
 use Rattle.hwp_step.specs.Calls.{logs, rec_of}
-use Rattle.hwp_step.specs.Hands.{Hand, hand_of}
-use Rattle.hwp_step.specs.Ranks.{Member, member, Made, IsRanked, Quiet, OtherHand, Pending, HasFailed, CostFalls, failures_left, failure_weight, is_waits, stale, words_at}
-use Rattle.hwp_step.proofs.Ranking.{met, pending-kept, poison-fails, words-after, words-kept}
+use Rattle.hwp_step.specs.Ranks.{Member, member, Made, Quiet, OtherHand, failures_left, is_waits, stale, words_at}
+use Rattle.hwp_step.proofs.Ranking.{met, poison-fails, words-kept}
 use Rattle.hwp_hold.specs.declared.unlock.Unlock.{Unlock}
 use Rattle.hwp_hold.specs.Unlocks as unlocks
-use Rattle.hwp_hold.proofs.Ranking.{met-own, stale-most}
+use Rattle.hwp_hold.proofs.Ranking.{met-own}
 use Rattle.hwp_hold.proofs.Unlocking.{unlock-class, unlock-falls, unlock-small}
 use Rattle.hwp_rule.proofs.Lists.{same-number}
 use Rattle.hwp_claim.specs.declared.claim.Claim.{Claim}
@@ -39,13 +35,11 @@ use Rattle.hwp_claim.specs.declared.grab.GrabAt.TheVariants as grab_at
 use Rattle.hwp_claim.specs.declared.meet.Meet.{Meet}
 use Rattle.hwp_claim.specs.declared.meet.MeetAt.{MeetAt}
 use Rattle.hwp_claim.specs.declared.meet.MeetAt.TheVariants as meet_at
-use Rattle.hwp_hold.specs.declared.release.Release.{Release}
 use Rattle.hwp_hold.specs.declared.release.ReleaseAt.{ReleaseAt}
 use Rattle.hwp_hold.specs.declared.release.ReleaseAt.TheVariants as release_at
-use Rattle.hwp_hold.specs.Releases as releases
 use Rattle.hwp_claim.specs.Grabs as grabs
 use Rattle.hwp_claim.specs.Meets as meets
-use Rattle.hwp_claim.specs.Claims.{plan, plan_at, put, put_at, bare, bare_at, stopped, poisoned, is_done, looked, grabbed, after_grab, after_grab_by, after_meet, after_meet_by, after_unlock, next, next_at, stop_turn, turn, turn_at, IsGrabbing, IsMeeting, Fits, FitsAt, class, class_at, claims, aborts, aborts_at, cost, cost_with}
+use Rattle.hwp_claim.specs.Claims.{plan, plan_at, put, put_at, bare, bare_at, stopped, poisoned, is_done, looked, after_grab, after_grab_by, after_meet, after_unlock, next, next_at, stop_turn, turn, turn_at, IsGrabbing, IsMeeting, Fits, FitsAt, class, class_at, claims, aborts, aborts_at, cost, cost_with}
 use Rattle.hwp_claim.proofs.GrabCosts.{grab-member, grab-falls, grab-leaves, grab-small, grab-waits, class-within}
 use Rattle.hwp_claim.proofs.MeetCosts.{meet-member, meet-class, meet-falls, meet-small, never-waits}
 

@@ -1,33 +1,28 @@
 -- The failure that a `Claim` begins is claimed until it is ended; and the rank of the task.
-use Rattle.std.proofs.Common.{◌≡◌, ◌≢◌, ◌⊎◌, inl, inr, ℕ, ◌+◌, ◌*◌, ◌/◌, ◌%◌, ◌^◌, ◌<◌, ◌≤◌, ◌==◌, ◌&&◌, ◌||◌, Bool, true, false, not, cond, List, [], ◌∷◌, Option, Some, None, is_none, get_or, set, slice_get, slice_index, refl, sym, ap, ◌∙◌, subst, arith, bit_or, bit_xor}
-use Rattle.std.proofs.lemmas.Bool.{both_ways, eqb-false}
+use Rattle.std.proofs.Common.{◌≡◌, ◌≢◌, ◌⊎◌, inl, inr, ℕ, ◌+◌, ◌<◌, ◌≤◌, ◌==◌, ◌&&◌, ◌||◌, Bool, true, false, not, cond, List, Option, Some, None, set, slice_get, slice_index, refl, sym, ap, ◌∙◌, subst, arith, bit_or}
+use Rattle.std.proofs.lemmas.Bool.{both_ways}
 use Rattle.std.proofs.lemmas.List.{get_or-set_other}
 use Rattle.std.proofs.lemmas.Option.{none-some, same_Some}
 use Rattle.hwp_geom.specs.declared.Frame.{Frame}
 use Rattle.hwp_geom.specs.declared.Layout.{Layout}
 use Rattle.hwp_geom.specs.declared.Page.{Page}
 use Rattle.hwp_page.specs.History.{BodyValue}
-use Rattle.hwp_words.specs.Frames.{count_of, cycle_of, handled_bit, handled_of, is_handled, is_kernel, is_poisoned}
-use Rattle.hwp_words.proofs.FieldLaws.{field-xor}
-use Rattle.hwp_words.proofs.FrameSteps.{FieldsAre, fields-poison}
+use Rattle.hwp_words.specs.Frames.{count_of, cycle_of, is_handled, is_kernel, is_poisoned}
+use Rattle.hwp_words.proofs.FrameSteps.{fields-poison}
 use Rattle.hwp_rule.specs.declared.FrameLock.{FrameLock}
 use Rattle.hwp_rule.specs.declared.Place.TheVariants as places
 use Rattle.hwp_rule.specs.declared.State.{State}
 use Rattle.hwp_rule.specs.declared.Step.{Step}
 use Rattle.hwp_rule.specs.declared.Step.TheVariants as steps
-use Rattle.hwp_rule.specs.declared.View.{View}
 use Rattle.hwp_rule.specs.Served.{IsMild}
-use Rattle.hwp_rule.specs.Steps.{place_of, word_after}
-use Rattle.hwp_rule.specs.Words.{Words, index, put as put_word, read}
-use Rattle.hwp_rule.specs.parts.Locks.{IsLocked}
-use Rattle.hwp_rule.proofs.Lists.{at_map, same-number, same-or}
-use Rattle.hwp_rule.proofs.Meeting.{frame-word}
+use Rattle.hwp_rule.specs.Steps.{place_of}
+use Rattle.hwp_rule.specs.Words.{Words, read}
+use Rattle.hwp_rule.proofs.Lists.{same-number, same-or}
 use Rattle.hwp_step.specs.declared.Turn.{Turn}
 use Rattle.hwp_step.specs.Boards.{view_of}
-use Rattle.hwp_step.specs.Hands.{Hand, hand_of}
+use Rattle.hwp_step.specs.Hands.{Hand}
 use Rattle.hwp_step.specs.Ranks.{Made, IsRanked, Pending, words_at}
-use Rattle.hwp_step.proofs.Ranking.{failed, me, pending-kept, words-after}
-use Rattle.hwp_hold.specs.declared.release.Release.{Release}
+use Rattle.hwp_step.proofs.Ranking.{failed, pending-kept}
 use Rattle.hwp_hold.specs.declared.release.ReleaseAt.{ReleaseAt}
 use Rattle.hwp_hold.specs.declared.release.ReleaseAt.TheVariants as release_at
 use Rattle.hwp_hold.specs.Holds.{is_free}
@@ -47,9 +42,10 @@ use Rattle.hwp_claim.specs.declared.meet.MeetAt.TheVariants as meet_at
 use Rattle.hwp_claim.specs.Grabs as grabs
 use Rattle.hwp_claim.specs.Meets as meets
 use Rattle.hwp_claim.specs.Meets.{is_ended, owner_in, word_in}
-use Rattle.hwp_claim.specs.Claims.{plan, plan_at, put_at, bare, bare_at, stopped, poisoned, is_done, looked, after_grab, after_meet, after_unlock, next, next_at, Fits, FitsAt, class, claims, claims_at, has_ended_at, aborts, cost}
+use Rattle.hwp_claim.specs.Claims.{plan_at, bare_at, poisoned, is_done, looked, after_grab, after_meet, next_at, FitsAt, class, claims, claims_at, cost}
 use Rattle.hwp_claim.proofs.GrabCosts as grab_costs
-use Rattle.hwp_claim.proofs.MeetCosts.{meet-mild, set-word}
+use Rattle.hwp_claim.proofs.MeetCosts.{after-is, meet-mild, met-at, set-word}
+use Rattle.hwp_claim.proofs.Retiring.{Keeps, claim-of, drops, drops-now, owned-by, retired}
 use Rattle.hwp_claim.proofs.ClaimCosts.{claim-class, claim-falls, claim-leaves, claim-member, claim-small, claim-waits, seen-word}
 
 -- ---- a word that shows that a failure isn't pending
@@ -67,40 +63,8 @@ module _ (w : Words) (frame : Frame) (cycle word : ℕ) (there : slice_index w.f
   not-kernel : is_kernel word ≡ true → ⊥
   not-kernel is = both_ways (is_kernel word) (sym (ap is_kernel there) ∙ pending.kernel) is
 
--- the claim stays, or there was none, or its failure isn't pending any more
-abbrev Keeps : Words → Words → Option (Frame × ℕ) → Option (Frame × ℕ) → Type 0
-Keeps w now old new = (old ≡ None) ⊎ (old ≡ new) ⊎ ((frame : Frame) (cycle : ℕ) → old ≡ Some (frame, cycle) → Pending w frame cycle → Pending now frame cycle → ⊥)
-
-drops : (w now : Words) (new : Option (Frame × ℕ)) (frame : Frame) (cycle : ℕ) → (Pending w frame cycle → ⊥) → Keeps w now (Some (frame, cycle)) new
-drops w now new frame cycle over = inr (inr (λ f c e before after. over (subst (λ (x : Frame × ℕ). Pending w x.0 x.1) (sym (same_Some (frame, cycle) (f, c) e)) before)))
-
-drops-now : (w now : Words) (new : Option (Frame × ℕ)) (frame : Frame) (cycle : ℕ) → (Pending now frame cycle → ⊥) → Keeps w now (Some (frame, cycle)) new
-drops-now w now new frame cycle over = inr (inr (λ f c e before after. over (subst (λ (x : Frame × ℕ). Pending now x.0 x.1) (sym (same_Some (frame, cycle) (f, c) e)) after)))
-
-abbrev claim-of : Frame → ℕ → Option (Frame × ℕ)
-claim-of frame cycle = Some (frame, cycle)
-
 abbrev no-claim : Option (Frame × ℕ)
 no-claim = None
-
--- a claim is of this failure, or it isn't
-claimed-or : (old : Option (Frame × ℕ)) (frame : Frame) (cycle : ℕ) → (old ≡ Some (frame, cycle)) ⊎ (old ≢ Some (frame, cycle))
-claimed-or None frame cycle = inr (λ e. none-some (frame, cycle) e)
-claimed-or (Some c) frame cycle = which (same-or c.0.0 frame.0) (same-or c.1 cycle)
-  where
-    which : (c.0.0 ≡ frame.0) ⊎ (c.0.0 ≢ frame.0) → (c.1 ≡ cycle) ⊎ (c.1 ≢ cycle) → (Some c ≡ Some (frame, cycle)) ⊎ (Some c ≢ Some (frame, cycle))
-    which (inl one) (inl other) = inl (ap (λ (n : ℕ). claim-of (record { 0 = n }) c.1) one ∙ ap (claim-of frame) other)
-    which (inr one) other = inr (λ e. one (ap (λ (x : Frame × ℕ). x.0.0) (same_Some c (frame, cycle) e)))
-    which (inl one) (inr other) = inr (λ e. other (ap (λ (x : Frame × ℕ). x.1) (same_Some c (frame, cycle) e)))
-
-owned-by : (w now : Words) (old new : Option (Frame × ℕ)) (frame : Frame) (cycle : ℕ) → Keeps w now old new → Pending w frame cycle → Pending now frame cycle → (new ≡ Some (frame, cycle)) ⊎ (Pending w frame cycle × (old ≢ Some (frame, cycle)))
-owned-by w now old new frame cycle (inl none) before after = inr (before, λ e. none-some (frame, cycle) (sym none ∙ e))
-owned-by w now old new frame cycle (inr (inl same)) before after = which (claimed-or old frame cycle)
-  where
-    which : (old ≡ Some (frame, cycle)) ⊎ (old ≢ Some (frame, cycle)) → (new ≡ Some (frame, cycle)) ⊎ (Pending w frame cycle × (old ≢ Some (frame, cycle)))
-    which (inl own) = inl (sym same ∙ own)
-    which (inr other) = inr (before, other)
-owned-by w now old new frame cycle (inr (inr over)) before after = inr (before, λ e. over frame cycle e before after)
 
 module _ {layout : Layout} {seat : ℕ} {a b : State} {s t : Claim} {turned : Turn} (made : Made claim-member layout seat a b s t turned) where
   abbrev w : Words
@@ -108,12 +72,6 @@ module _ {layout : Layout} {seat : ℕ} {a b : State} {s t : Claim} {turned : Tu
 
   abbrev now : Words
   now = words_at layout b
-
-  after-is : {other : Step} → Some other ≡ Some made.step → now ≡ put_word (place_of other) (word_after other made.found) w
-  after-is {other} e = words-after made ∙ ap (λ (x : Step). put_word (place_of x) (word_after x made.found) w) (sym (same_Some other made.step e))
-
-  met-at : {other : Step} → Some other ≡ Some made.step → made.found ≡ slice_index a.words (index layout (place_of other))
-  met-at {other} e = made.move.met ∙ ap (λ (x : Step). slice_index a.words (index layout (place_of x))) (sym (same_Some other made.step e))
 
   -- the frame's word as a step on it found it, and as it left it
   frame-there : {other : Step} → Some other ≡ Some made.step → place_of other ≡ places.Frame s.frame → slice_index w.frames s.frame.0 ≡ made.found
@@ -203,30 +161,6 @@ module _ {layout : Layout} {seat : ℕ} {a b : State} {s t : Claim} {turned : Tu
     meet-keeps meet_at.Free e = absurd (none-some made.step e)
     meet-keeps (meet_at.Owned page body) e = absurd (none-some made.step e)
 
-  -- ---- a retired frame is handled
-
-  module _ (e : Some (steps.Retire s.frame) ≡ Some made.step) (held : hand_of (view_of a seat) ≡ empty_frame s.frame false true) where
-    abbrev the-lock : FrameLock
-    the-lock = record { frame = s.frame; owner = 0; handled = false; poisoned = true }
-
-    known : IsLocked w.frames (view_of a seat).refs the-lock
-    known = made.rule.rule.frames.frame_locks.known seat ((view_of a seat).refs, (view_of a seat).locks) (at_map (λ (v : View). (v.refs, v.locks)) a.views seat (view_of a seat) (me made)) 0 the-lock (ap (λ (h : Hand). slice_get h.locks 0) held)
-
-    unhandled : is_handled made.found ≡ false
-    unhandled = ap is_handled (same_Some made.found known.word (sym (frame-word layout a made.rule s.frame made.found made.fits.frame (met-at e)) ∙ known.there)) ∙ known.handled
-
-    word-now : slice_index now.frames s.frame.0 ≡ bit_xor made.found 5
-    word-now = ap (word_in s.frame) (after-is e) ∙ set-word layout a made.rule s.frame made.fits.frame made.found made.move.fits (met-at e) (bit_xor made.found 5)
-
-    handled-now : is_handled (bit_xor made.found 5) ≡ true
-    handled-now = same-number (handled_of (bit_xor made.found 5)) 1 (field-xor handled_bit made.found 5 ∙ ap (λ (n : ℕ). bit_xor n 1) (let other = eqb-false (handled_of made.found) 1 unhandled in zero-left other))
-      where
-        zero-left : handled_of made.found ≢ 1 → handled_of made.found ≡ 0
-        zero-left other = let small : handled_of made.found < 2 = omega arith in omega (arith, other, small)
-
-    retired : (cycle : ℕ) → Pending now s.frame cycle → ⊥
-    retired cycle pending = not-handled now s.frame cycle (bit_xor made.found 5) word-now pending handled-now
-
   -- ---- what is looked at
 
   look-keeps : (cycle : ℕ) → Some (steps.Load (places.Frame s.frame)) ≡ Some made.step → Keeps w now (Some (s.frame, cycle)) (claims_at s.frame (looked s.who s.frame cycle made.found))
@@ -257,7 +191,7 @@ module _ {layout : Layout} {seat : ℕ} {a b : State} {s t : Claim} {turned : Tu
     Owned x = (claims_at s.frame x ≡ Some (frame, cycle)) ⊎ (Pending w frame cycle × (no-claim ≢ Some (frame, cycle)))
 
     set-frames : now.frames ≡ set w.frames s.frame.0 (bit_or made.found 2)
-    set-frames = ap (λ (x : Words). x.frames) (after-is e)
+    set-frames = ap (λ (x : Words). x.frames) (after-is made e)
 
     -- of another frame
     elsewhere : (x : ClaimAt) → frame.0 ≢ s.frame.0 → Owned x
@@ -279,7 +213,7 @@ module _ {layout : Layout} {seat : ℕ} {a b : State} {s t : Claim} {turned : Tu
       there = ap (λ (n : ℕ). slice_index w.frames n) same ∙ frame-there e refl
 
       word-is : slice_index now.frames frame.0 ≡ bit_or made.found 2
-      word-is = ap (λ (n : ℕ). slice_index now.frames n) same ∙ ap (word_in s.frame) (after-is e) ∙ set-word layout a made.rule s.frame made.fits.frame made.found made.move.fits (met-at e) (bit_or made.found 2)
+      word-is = ap (λ (n : ℕ). slice_index now.frames n) same ∙ ap (word_in s.frame) (after-is made e) ∙ set-word layout a made.rule s.frame made.fits.frame made.found made.move.fits (met-at made e) (bit_or made.found 2)
 
       same-cycle : cycle_of made.found ≡ cycle
       same-cycle = sym (fields-poison made.found).cycle ∙ sym (ap cycle_of word-is) ∙ pending.cycle_is
@@ -305,6 +239,9 @@ module _ {layout : Layout} {seat : ℕ} {a b : State} {s t : Claim} {turned : Tu
 
   -- ---- every turn
 
+  abbrev the-lock : FrameLock
+  the-lock = record { frame = s.frame; owner = 0; handled = false; poisoned = true }
+
   mild-planned : {other : Step} → Some other ≡ Some made.step → IsMild other → IsMild made.step
   mild-planned {other} e mild = subst IsMild (same_Some other made.step e) mild
 
@@ -323,7 +260,7 @@ module _ {layout : Layout} {seat : ℕ} {a b : State} {s t : Claim} {turned : Tu
       which (at.Grab own g) has e = kept (Some (s.frame, own)) _ (grab_costs.mild g made.step e) (grab-keeps own g has.0.frame_is g.at e)
       which (at.Meet own m) has e = kept (claims_at s.frame (at.Meet own m)) _ (meet-mild m made.step e) (meet-keeps own m has.0.frame_is has.0.cycle_is m.at e)
       which (at.Unlock own u) has e = kept None _ (unlocking.mild u made.step e) (inl refl)
-      which (at.Retire own) has e = kept (Some (s.frame, own)) None (mild-planned e tt) (drops-now w now None s.frame own (retired e has.0 own))
+      which (at.Retire own) has e = kept (Some (s.frame, own)) None (mild-planned e tt) (drops-now w now None s.frame own (retired made s.frame made.fits.frame e the-lock refl refl (ap (λ (h : Hand). slice_get h.locks 0) has.0) own))
       which at.GaveUp has e = absurd (none-some made.step e)
       which at.Stopped has e = absurd (none-some made.step e)
       which at.Already has e = absurd (none-some made.step e)

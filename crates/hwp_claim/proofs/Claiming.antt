@@ -1,26 +1,24 @@
 -- The laws of `Claim`.
-use Rattle.std.proofs.Common.{◌≡◌, inl, inr, ℕ, ◌+◌, ◌/◌, ◌%◌, ◌<◌, ◌≤◌, ◌==◌, ◌&&◌, ◌||◌, Bool, true, false, not, cond, min, List, [], ◌∷◌, ◌++◌, Option, Some, None, is_none, filter, map, length, get_or, slice_get, slice_index, refl, sym, ap, ◌∙◌, subst, arith}
+use Rattle.std.proofs.Common.{◌≡◌, inl, inr, ℕ, ◌+◌, ◌/◌, ◌%◌, ◌<◌, ◌≤◌, ◌==◌, ◌&&◌, ◌||◌, Bool, true, false, not, cond, List, [], ◌∷◌, ◌++◌, Option, Some, None, is_none, filter, length, get_or, slice_get, slice_index, refl, sym, ap, ◌∙◌, subst, arith}
 use Rattle.std.specs.Int.{from_bool}
 use Rattle.std.specs.List.{sum_by}
 use Rattle.std.proofs.lemmas.Bool.{both_ways, eqb-false, eqb-true, ne_eqb}
 use Rattle.std.proofs.lemmas.List.Elements.{filter-append}
 use Rattle.std.proofs.lemmas.List.Sums.{sum_by-append}
-use Rattle.std.proofs.lemmas.Option.{none-some, same_Some, slice_get-get_or}
+use Rattle.std.proofs.lemmas.Option.{none-some, slice_get-get_or}
 use Rattle.hwp_geom.specs.declared.Frame.{Frame}
 use Rattle.hwp_geom.specs.declared.Layout.{Layout}
 use Rattle.hwp_geom.specs.declared.Page.{Page}
 use Rattle.hwp_geom.specs.declared.Who.{Who}
 use Rattle.hwp_page.specs.History.{BodyValue}
 use Rattle.hwp_page.specs.Losses.{is_loss}
-use Rattle.hwp_words.specs.Frames.{count_of, cycle_of, is_handled, is_kernel, is_poisoned, poison_of}
+use Rattle.hwp_words.specs.Frames.{count_of, cycle_of, is_handled, is_kernel, is_poisoned}
 use Rattle.hwp_words.specs.Stops.{is_stopped}
-use Rattle.hwp_rule.specs.declared.FrameLock.{FrameLock}
 use Rattle.hwp_rule.specs.declared.Log.{Log}
 use Rattle.hwp_rule.specs.declared.Made.{Made}
 use Rattle.hwp_rule.specs.declared.Mark.{Mark}
 use Rattle.hwp_rule.specs.declared.MarkKind.TheVariants as mark_kinds
 use Rattle.hwp_rule.specs.declared.Place.TheVariants as places
-use Rattle.hwp_rule.specs.declared.Sight.{Sight}
 use Rattle.hwp_rule.specs.declared.State.{State}
 use Rattle.hwp_rule.specs.declared.Step.{Step}
 use Rattle.hwp_rule.specs.declared.Step.TheVariants as steps
@@ -28,17 +26,16 @@ use Rattle.hwp_rule.specs.declared.View.{View}
 use Rattle.hwp_rule.specs.Asks.{CanRetire, OwesCount}
 use Rattle.hwp_rule.specs.Lists.{SomeMember}
 use Rattle.hwp_rule.specs.Rule.{Holds, losing_of}
-use Rattle.hwp_rule.specs.Steps.{goes}
 use Rattle.hwp_rule.specs.Views.{is_lock_of, less_refs, marked, noted, owing_count, paying_count, poison_listed, sighted, stamp_of, without}
-use Rattle.hwp_rule.specs.Words.{index, words_of}
+use Rattle.hwp_rule.specs.Words.{index}
 use Rattle.hwp_rule.specs.parts.Counter.{is_poisoning}
 use Rattle.hwp_rule.proofs.Lists.{at_map, same-number, some-last}
 use Rattle.hwp_rule.proofs.Meeting.{frame-word}
 use Rattle.hwp_step.specs.declared.Turn.{Turn}
 use Rattle.hwp_step.specs.Calls.{CanMake, IsOnTurn, Steps, logs}
-use Rattle.hwp_step.specs.Hands.{Hand, hand_of, empty}
+use Rattle.hwp_step.specs.Hands.{hand_of, empty}
 use Rattle.hwp_step.proofs.Stepping.{on-turn-after, hand-planned, steps-planned, can-make}
-use Rattle.hwp_known.specs.Known.{HasMadeNone, IsShown, Saw, SawStop, is_by}
+use Rattle.hwp_known.specs.Known.{HasMadeNone, IsShown, SawStop, is_by}
 use Rattle.hwp_hold.specs.declared.unlock.Unlock.{Unlock}
 use Rattle.hwp_hold.specs.declared.unlock.UnlockAt.{UnlockAt}
 use Rattle.hwp_hold.specs.declared.unlock.UnlockAt.TheVariants as unlock_at
@@ -64,7 +61,7 @@ use Rattle.hwp_claim.specs.declared.meet.MeetAnswer.TheVariants as meet_answers
 use Rattle.hwp_claim.specs.Grabs as grabs
 use Rattle.hwp_claim.specs.Meets as meets
 use Rattle.hwp_claim.specs.Meets.{AsTaken, is_ended}
-use Rattle.hwp_claim.specs.Claims.{plan, plan_at, put, put_at, bare, bare_at, stopped, poisoned, is_done, looked, grabbed, after_grab, after_grab_by, after_meet, after_meet_by, owned_by, after_unlock, next, next_at, turn, Shows, ShowsAt, is_own, marks_by, HasMarkedNone, CanLoseOne, HasMarked, HasPoisoned, IsStopped, SawPoison, IsGrabbing, IsMeeting, IsUnlocking, IsUsers, Fits, FitsAt, pressing, class, class_at}
+use Rattle.hwp_claim.specs.Claims.{plan, plan_at, put, put_at, bare, bare_at, stopped, poisoned, is_done, looked, grabbed, after_grab, after_grab_by, after_meet, after_meet_by, owned_by, after_unlock, next, next_at, turn, Shows, ShowsAt, is_own, HasMarkedNone, HasMarked, HasPoisoned, IsGrabbing, IsMeeting, IsUnlocking, IsUsers, Fits, FitsAt, pressing, class, class_at}
 use Rattle.hwp_claim.proofs.Grabbing as grabbing
 use Rattle.hwp_claim.proofs.Meeting as meeting
 use Rattle.hwp_claim.proofs.Keeping.{Account, account_of, either, kept, grab-only, meet-only, unlock-only}

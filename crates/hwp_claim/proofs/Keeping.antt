@@ -1,5 +1,5 @@
 -- What a processor's steps leave: the entries that it made, its marks, and what it owes.
-use Rattle.std.proofs.Common.{◌≡◌, ℕ, ◌==◌, Bool, true, false, cond, List, [], ◌∷◌, ◌++◌, Option, Some, None, length, append-nil, refl, sym, ap, ◌∙◌, subst}
+use Rattle.std.proofs.Common.{◌≡◌, ℕ, ◌==◌, Bool, true, false, cond, List, [], ◌++◌, Option, Some, None, length, append-nil, refl, ap, ◌∙◌, subst}
 use Rattle.std.proofs.lemmas.Option.{none-some, same_Some}
 use Rattle.hwp_geom.specs.declared.Frame.{Frame}
 use Rattle.hwp_geom.specs.declared.Layout.{Layout}
@@ -18,7 +18,7 @@ use Rattle.hwp_rule.specs.declared.Step.TheVariants as steps
 use Rattle.hwp_rule.specs.declared.View.{View}
 use Rattle.hwp_rule.specs.Logs.{log_of}
 use Rattle.hwp_rule.specs.Steps.{goes}
-use Rattle.hwp_rule.specs.Views.{body_of, listed_of, loaded, losses_made, made_from, more_of, noted, put_home, stamp_of, taken, view_by}
+use Rattle.hwp_rule.specs.Views.{listed_of, loaded, losses_made, made_from, noted, put_home, stamp_of, taken, view_by}
 use Rattle.hwp_step.specs.Calls.{Steps, logs}
 use Rattle.hwp_step.proofs.Stepping.{content_of}
 use Rattle.hwp_hold.specs.declared.release.Release.{Release}

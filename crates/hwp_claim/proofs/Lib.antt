@@ -4,6 +4,7 @@ pub mod FrameSlots
 pub mod Leaving
 pub mod Meeting
 pub mod MeetCosts
+pub mod Retiring
 pub mod Keeping
 pub mod Claiming
 pub mod ClaimCosts

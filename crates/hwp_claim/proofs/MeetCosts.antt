@@ -70,13 +70,15 @@ module _ (layout : Layout) (a : State) (h : Holds layout a) (frame : Frame) (ins
   pub set-word : (x : ℕ) → word_in frame (put (places.Frame frame) x (words_at layout a)) ≡ x
   set-word x = get_or_from_slice_get _ frame.0 x 0 (set_here (words_at layout a).frames frame.0 x found there)
 
-module _ {layout : Layout} {seat : ℕ} {a b : State} {s t : Meet} {turn : Turn} (made : Made meet-member layout seat a b s t turn) where
-  after-is : {other : Step} → Some other ≡ Some made.step → words_at layout b ≡ put (place_of other) (word_after other made.found) (words_at layout a)
+-- the words after a step, and the word that it met
+module _ {S : Type 0} {m : Member S} {layout : Layout} {seat : ℕ} {a b : State} {s t : S} {turn : Turn} (made : Made m layout seat a b s t turn) where
+  pub after-is : {other : Step} → Some other ≡ Some made.step → words_at layout b ≡ put (place_of other) (word_after other made.found) (words_at layout a)
   after-is {other} e = words-after made ∙ ap (λ (x : Step). put (place_of x) (word_after x made.found) (words_at layout a)) (sym (same_Some other made.step e))
 
-  met-at : {other : Step} → Some other ≡ Some made.step → made.found ≡ slice_index a.words (index layout (place_of other))
+  pub met-at : {other : Step} → Some other ≡ Some made.step → made.found ≡ slice_index a.words (index layout (place_of other))
   met-at {other} e = made.move.met ∙ ap (λ (x : Step). slice_index a.words (index layout (place_of x))) (sym (same_Some other made.step e))
 
+module _ {layout : Layout} {seat : ℕ} {a b : State} {s t : Meet} {turn : Turn} (made : Made meet-member layout seat a b s t turn) where
   module _ (rest again : ℕ) (few : again ≤ rest + 4096) where
     -- the reference was got: the word is as it was, but for its count
     with-reference : (seen : ℕ) → Some (steps.GetRef s.frame seen 1) ≡ Some made.step → made.found ≡ seen → is_handled seen ≡ false → (o : Option Page) → owner_in seen ≡ o
@@ -84,14 +86,14 @@ module _ {layout : Layout} {seat : ℕ} {a b : State} {s t : Meet} {turn : Turn}
     with-reference seen e same unhandled o owner = which o owner
       where
         word : word_in s.frame (words_at layout b) ≡ (made.found + 1 * 16) % 2 ^ 64
-        word = ap (word_in s.frame) (after-is e) ∙ set-word layout a made.rule s.frame made.fits.frame made.found made.move.fits (met-at e) (word_after (steps.GetRef s.frame seen 1) made.found)
+        word = ap (word_in s.frame) (after-is made e) ∙ set-word layout a made.rule s.frame made.fits.frame made.found made.move.fits (met-at made e) (word_after (steps.GetRef s.frame seen 1) made.found)
             ∙ ap (λ (c : Bool). cond c ((seen + 1 * 16) % 2 ^ 64) made.found) (same-number made.found seen same) ∙ ap (λ (n : ℕ). (n + 1 * 16) % 2 ^ 64) (sym same)
 
         owner-now : owner_in (word_in s.frame (words_at layout b)) ≡ owner_in seen
-        owner-now = ap owner_in word ∙ same-owner layout a made.rule s.frame made.fits.frame made.found made.move.fits (met-at e) ∙ ap owner_in same
+        owner-now = ap owner_in word ∙ same-owner layout a made.rule s.frame made.fits.frame made.found made.move.fits (met-at made e) ∙ ap owner_in same
 
         handled-now : is_handled (word_in s.frame (words_at layout b)) ≡ false
-        handled-now = ap is_handled word ∙ same-handled layout a made.rule s.frame made.fits.frame made.found made.move.fits (met-at e) ∙ ap is_handled same ∙ unhandled
+        handled-now = ap is_handled word ∙ same-handled layout a made.rule s.frame made.fits.frame made.found made.move.fits (met-at made e) ∙ ap is_handled same ∙ unhandled
 
         which : (o : Option Page) → owner_in seen ≡ o → cost_with rest again s.frame (referenced o) (words_at layout b) < rest + 8
         which None none =
@@ -135,7 +137,7 @@ module _ {layout : Layout} {seat : ℕ} {a b : State} {s t : Meet} {turn : Turn}
     falls-at (at.LockPage page) e has shows goes = by (is_free made.found) goes
       where
         same : word_in s.frame (words_at layout b) ≡ word_in s.frame (words_at layout a)
-        same = ap (word_in s.frame) (after-is e)
+        same = ap (word_in s.frame) (after-is made e)
 
         by : (c : Bool) → is_waits (cond c Moved (Waits made.found)) ≡ false
             → cost_with rest again s.frame (cond c (at.LockOwned page made.got) (at.LockPage page)) (words_at layout b) < rest + 7 + stale (is_owner page (word_in s.frame (words_at layout a)))
@@ -183,9 +185,9 @@ module _ {layout : Layout} {seat : ℕ} {a b : State} {s t : Meet} {turn : Turn}
 
       which : (x : MeetAt) → plan_at s.frame x ≡ Some made.step → FitsAt layout (view_of a seat) s.who s.frame x → is_waits (turn_at (bare_at x) made.found) ≡ true → min (class_at x) 3 ≤ c → ⊥
       which (at.GetRef seen) e has waits least = both_ways true (sym waits ∙ changed (made.found == seen)) refl
-      which at.LockFree e has waits least = free made.found (frame-free layout a made.rule s.frame made.found made.fits.frame (met-at e) (no-lock quiet (omega (arith, least)) (ap (λ (h : Hand). h.locks) has))) waits
-      which (at.LockPage page) e has waits least = free made.found (page-free layout a made.rule page made.found has.1 (met-at e) (no-page quiet (omega (arith, least)) (ap (λ (h : Hand). h.pages) has.0))) waits
-      which (at.LockOwned page shelf) e has waits least = free made.found (frame-free layout a made.rule s.frame made.found made.fits.frame (met-at e)
+      which at.LockFree e has waits least = free made.found (frame-free layout a made.rule s.frame made.found made.fits.frame (met-at made e) (no-lock quiet (omega (arith, least)) (ap (λ (h : Hand). h.locks) has))) waits
+      which (at.LockPage page) e has waits least = free made.found (page-free layout a made.rule page made.found has.1 (met-at made e) (no-page quiet (omega (arith, least)) (ap (λ (h : Hand). h.pages) has.0))) waits
+      which (at.LockOwned page shelf) e has waits least = free made.found (frame-free layout a made.rule s.frame made.found made.fits.frame (met-at made e)
           (no-lock quiet (omega (arith, least)) (ap (λ (h : Hand). h.locks) has.hand_is ∙ paged-locks layout page s.frame has.cache _ has.seen))) waits
       which (at.Unlock body ended) e has waits least = both_ways true (sym waits) refl
       which (at.UnlockFrame page shelf body ended) e has waits least = both_ways true (sym waits) refl

@@ -1,5 +1,5 @@
 -- A frame poisoned and taken from those that use it, or could: the task's states, its steps and what they come to.
-use Rattle.std.specs.Prelude.{◌≡◌, ◌⊎◌, ℕ, ◌+◌, ◌/◌, ◌%◌, ◌<◌, ◌==◌, ◌&&◌, ◌||◌, Bool, true, false, not, cond, min, List, [], ◌∷◌, Option, Some, None, is_none, filter, slice_get}
+use Rattle.std.specs.Prelude.{◌≡◌, ◌⊎◌, ℕ, ◌+◌, ◌<◌, ◌==◌, ◌&&◌, ◌||◌, Bool, true, false, cond, min, List, [], ◌∷◌, Option, Some, None, is_none, filter, slice_get}
 use Rattle.std.specs.List.{sum_by}
 use Rattle.std.specs.Int.{from_bool}
 use Rattle.hwp_geom.specs.declared.Frame.{Frame}

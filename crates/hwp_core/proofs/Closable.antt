@@ -19,7 +19,7 @@ use Rattle.hwp_served.specs.Accounts.{Note}
 use Rattle.hwp_served.specs.Runs.{AreServed}
 use Rattle.hwp_served.specs.Served.{IsOwnStop, IsServed}
 use Rattle.hwp_served.proofs.Ending.{nothing-held, seat-view}
-use Rattle.hwp_served.proofs.Gathering.{AreNoted}
+use Rattle.hwp_served.proofs.lines.Gathering.{AreNoted}
 use Rattle.hwp_core.specs.Closing.{IsEnded, IsHalter, command_in}
 use Rattle.hwp_core.proofs.Noted.{are-marks}
 

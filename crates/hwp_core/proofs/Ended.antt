@@ -29,12 +29,11 @@ use Rattle.hwp_report.specs.declared.FrameLine.{FrameLine}
 use Rattle.hwp_report.specs.declared.Report.{Report}
 use Rattle.hwp_report.specs.declared.Stop.{Stop}
 use Rattle.hwp_runs.specs.Ends.{IsFrameOn, IsStopOn}
-use Rattle.hwp_served.specs.Accounts.{Note}
+use Rattle.hwp_served.specs.Accounts.{Note, record_of}
 use Rattle.hwp_served.specs.Runs.{IsCauseOf}
 use Rattle.hwp_served.specs.Served.{CanStop}
 use Rattle.hwp_plain.specs.Ends.{AreHistories}
 use Rattle.hwp_core.specs.Closing.{HasStopper, IsClosing, IsEnded, IsFirstStop, IsHalter, IsStopBy, IsStopCause, IsStopper, cause_in, cause_of, command_in, line_by, lines_by}
-use Rattle.hwp_core.specs.Records.{record_of}
 use Rattle.hwp_core.proofs.Tables.{length-made, made-at}
 
 -- a processor has one first stop

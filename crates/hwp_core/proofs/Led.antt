@@ -1,15 +1,17 @@
 -- The turns of a run lead to its last board, on which the run has ended.
-use Rattle.std.proofs.Common.{◌≡◌, List, length, subst}
+use Rattle.std.proofs.Common.{◌≡◌, List, length, sym, subst}
+use Rattle.hwp_geom.specs.declared.Layout.{Layout}
 use Rattle.hwp_rule.specs.Opening.{opening}
 use Rattle.hwp_rule.specs.Rule.{Holds}
 use Rattle.hwp_plain.specs.Boards.{Board}
+use Rattle.hwp_script.specs.declared.Command.{Command}
 use Rattle.hwp_script.specs.declared.Script.{Script}
 use Rattle.hwp_report.specs.declared.CpuLine.{CpuLine}
 use Rattle.hwp_sched.specs.Order.{running}
 use Rattle.hwp_runs.specs.Turns.{Leads}
 use Rattle.hwp_runs.proofs.Leading.{leads-hold, leads-ordered}
 use Rattle.hwp_served.specs.Accounts.{Note}
-use Rattle.hwp_served.proofs.Gathering.{AreNoted}
+use Rattle.hwp_served.proofs.lines.Gathering.{AreNoted}
 use Rattle.hwp_core.specs.Closing.{IsEnded}
 use Rattle.hwp_core.specs.Runs.{IsPlayed, own_seat, processors}
 use Rattle.hwp_core.proofs.Closable.{are-noted, ended-of}
@@ -27,5 +29,10 @@ module _ (script : Script) (board : Board) (cpus : List (List CpuLine)) (notes :
   pub board-noted : AreNoted script.layout own_seat board.state notes
   board-noted = are-noted script own_seat board.state cpus notes board-holds played.seated_last lists played.count played.noted played.served
 
-  pub board-ended : IsEnded script.layout script.lists board.state.views cpus notes
-  board-ended = ended-of script own_seat board.state cpus notes board-holds played.seated_last lists played.count played.noted played.served
+  -- so the run has ended, for the commands and the notes as the report is given them
+  pub board-ended : (given : List (List Command)) (noted : List (List Note)) → given ≡ script.lists → noted ≡ notes → IsEnded board.layout given board.state.views cpus noted
+  board-ended given noted given_are noted_are =
+      subst (λ (l : Layout). IsEnded l given board.state.views cpus noted) (sym played.layout_is)
+      (subst (λ (x : List (List Command)). IsEnded script.layout x board.state.views cpus noted) (sym given_are)
+      (subst (IsEnded script.layout script.lists board.state.views cpus) (sym noted_are)
+      (ended-of script own_seat board.state cpus notes board-holds played.seated_last lists played.count played.noted played.served)))

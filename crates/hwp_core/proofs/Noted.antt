@@ -16,13 +16,12 @@ use Rattle.hwp_step.specs.Boards.{AreSeated, view_of}
 use Rattle.hwp_report.specs.declared.MarkLine.{MarkLine}
 use Rattle.hwp_runs.specs.Ends.{AreMarks, IsListed, Tells}
 use Rattle.hwp_runs.proofs.Homes.{there-is}
-use Rattle.hwp_served.specs.Accounts.{IsNote, Note}
+use Rattle.hwp_served.specs.Accounts.{IsNote, Note, lines_of, record_of}
 use Rattle.hwp_served.proofs.Ending.{filter-has}
 use Rattle.hwp_served.proofs.Failed.{paired}
-use Rattle.hwp_served.proofs.Gathering.{AreNoted}
+use Rattle.hwp_served.proofs.lines.Gathering.{AreNoted}
 use Rattle.hwp_served.proofs.Seats.{seat-place}
 use Rattle.hwp_served.proofs.Seen.{filter-is}
-use Rattle.hwp_core.specs.Records.{lines_of, record_of}
 
 -- ---- a member of lists put together is one of some list
 

@@ -2,6 +2,7 @@
 use Rattle.std.proofs.Common.{◌≡◌, List, length, sym, ap, ◌∙◌, subst}
 use Rattle.hwp_geom.specs.declared.Layout.{Layout}
 use Rattle.hwp_plain.specs.Boards.{Board}
+use Rattle.hwp_script.specs.declared.Command.{Command}
 use Rattle.hwp_script.specs.declared.Script.{Script}
 use Rattle.hwp_report.specs.declared.CpuLine.{CpuLine}
 use Rattle.hwp_report.specs.declared.Report.{Report}
@@ -13,7 +14,7 @@ use Rattle.hwp_runs.specs.Ends.{EndsWith}
 use Rattle.hwp_runs.specs.Turns.{Leads}
 use Rattle.hwp_served.specs.Accounts.{Note}
 use Rattle.hwp_served.specs.Runs.{AreServed, IsRecord, IsRunOf}
-use Rattle.hwp_served.proofs.Gathering.{gathered}
+use Rattle.hwp_served.proofs.lines.Gathering.{gathered}
 use Rattle.hwp_served.proofs.Holding.{report-of-run}
 use Rattle.hwp_served.proofs.Lawful.{law-holds}
 use Rattle.hwp_served.proofs.Showing.{report-shown, scrubs-shown}
@@ -22,9 +23,12 @@ use Rattle.hwp_core.specs.Runs.{IsCoreRun, IsPlayed, own_seat}
 use Rattle.hwp_core.proofs.Led.{board-holds, board-led, board-noted}
 
 module _ (script : Script) (board : Board) (cpus : List (List CpuLine)) (notes : List (List Note)) (lists : length script.lists ≡ script.layout.cpus) (played : IsPlayed script board cpus notes)
-    (report : Report) (closing : IsClosing board.layout board.state script.lists cpus notes report) where
+    (given : List (List Command)) (noted : List (List Note)) (given_are : given ≡ script.lists) (noted_are : noted ≡ notes)
+    (report : Report) (closing : IsClosing board.layout board.state given cpus noted report) where
   closed : IsClosing script.layout board.state script.lists cpus notes report
-  closed = subst (λ (l : Layout). IsClosing l board.state script.lists cpus notes report) played.layout_is closing
+  closed = subst (λ (n : List (List Note)). IsClosing script.layout board.state script.lists cpus n report) noted_are
+      (subst (λ (c : List (List Command)). IsClosing script.layout board.state c cpus noted report) given_are
+      (subst (λ (l : Layout). IsClosing l board.state given cpus noted report) played.layout_is closing))
 
   run-of : IsRunOf script own_seat played.turns board.state report
   run-of = record {

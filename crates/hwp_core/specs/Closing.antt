@@ -22,10 +22,9 @@ use Rattle.hwp_report.specs.declared.Stop.{Stop}
 use Rattle.hwp_report.specs.declared.StopCause.{StopCause}
 use Rattle.hwp_report.specs.declared.StopCause.TheVariants as causes
 use Rattle.hwp_runs.specs.Ends.{AreMarks, EndsWith, place_in}
-use Rattle.hwp_served.specs.Accounts.{Note}
+use Rattle.hwp_served.specs.Accounts.{Note, record_of}
 use Rattle.hwp_served.specs.Runs.{IsCauseOf}
 use Rattle.hwp_served.specs.Served.{CanStop}
-use Rattle.hwp_core.specs.Records.{record_of}
 
 -- the line of a frame as its words say it, with this record
 abbrev pub line_with : Words → ℕ → List MarkLine → FrameLine

@@ -1,15 +1,8 @@
 -- The records of frames, gathered from what processors noted.
-use Rattle.std.specs.Prelude.{◌≡◌, ℕ, ◌==◌, List, [], ◌∷◌, ◌++◌, Some, filter, flat_map, length, map, slice_get, slice_index_or, slice_set}
+use Rattle.std.specs.Prelude.{◌≡◌, ℕ, List, [], ◌∷◌, ◌++◌, Some, length, slice_get, slice_index_or, slice_set}
 use Rattle.hwp_geom.specs.declared.Frame.{Frame}
 use Rattle.hwp_report.specs.declared.MarkLine.{MarkLine}
-use Rattle.hwp_served.specs.Accounts.{Note}
-
--- the lines that a processor noted of a frame, and those that all did
-abbrev pub lines_of : Frame → List Note → List MarkLine
-lines_of frame own = map (λ (n : Note). n.1) (filter (λ (n : Note). n.0.0 == frame.0) own)
-
-abbrev pub record_of : Frame → List (List Note) → List MarkLine
-record_of frame notes = flat_map (lines_of frame) notes
+use Rattle.hwp_served.specs.Accounts.{Note, lines_of, record_of}
 
 -- a line more in the record of its frame
 abbrev pub with_note : Note → List (List MarkLine) → List (List MarkLine)

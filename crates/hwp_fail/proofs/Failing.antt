@@ -1,6 +1,5 @@
 -- The laws of `Fail`: its steps can be made, and what follows them fits.
-use Rattle.std.proofs.Common.{◌≡◌, ◌⊎◌, ℕ, ◌<◌, ◌≤◌, Bool, true, false, cond, List, [], Option, Some, None, is_none, slice_get, refl, sym, ap, ◌∙◌, subst, arith}
-use Rattle.std.proofs.lemmas.Bool.{both_ways}
+use Rattle.std.proofs.Common.{◌≡◌, ℕ, ◌<◌, Bool, true, false, Option, Some, None, slice_get, refl, sym, ap, ◌∙◌, subst}
 use Rattle.std.proofs.lemmas.Option.{none-some, same_Some}
 use Rattle.hwp_geom.specs.declared.Frame.{Frame}
 use Rattle.hwp_geom.specs.declared.Layout.{Layout}
@@ -12,18 +11,14 @@ use Rattle.hwp_page.specs.declared.PageState.{PageState}
 use Rattle.hwp_page.specs.History.{BodyValue}
 use Rattle.hwp_rule.specs.declared.Step.{Step}
 use Rattle.hwp_rule.specs.declared.View.{View}
-use Rattle.hwp_rule.specs.Views.{noted}
 use Rattle.hwp_step.specs.declared.Turn.{Turn}
 use Rattle.hwp_step.specs.Calls.{CanMake, IsOnTurn, Steps, logs}
-use Rattle.hwp_step.specs.Hands.{empty, hand_of}
-use Rattle.hwp_step.proofs.Stepping.{content_of, on-turn-after}
+use Rattle.hwp_step.proofs.Stepping.{on-turn-after}
 use Rattle.hwp_known.specs.Known.{HasMadeNone}
-use Rattle.hwp_hold.specs.Holds.{HoldsPage}
 use Rattle.hwp_hold.proofs.Telling.{Tells, empty-tells}
 use Rattle.hwp_evict.proofs.Judging.{is-cached, state-is}
 use Rattle.hwp_act.specs.declared.abandon.Failed.{Failed}
 use Rattle.hwp_act.specs.declared.act.Act.{Act}
-use Rattle.hwp_act.specs.declared.act.ActAt.{ActAt}
 use Rattle.hwp_act.specs.Abandoned.{HasFailed}
 use Rattle.hwp_act.specs.Acting as acting
 use Rattle.hwp_act.specs.Acting.{IsClean}
@@ -31,6 +26,7 @@ use Rattle.hwp_act.specs.Acts as acts
 use Rattle.hwp_act.specs.Reads.{HoldsFailed}
 use Rattle.hwp_act.proofs.ActCosts.{act-mild}
 use Rattle.hwp_act.proofs.Acting as act_laws
+use Rattle.hwp_act.proofs.Requiring.{ended-for, follows-for, starts-for}
 use Rattle.hwp_act.proofs.Starting.{act-ended, act-tells, starts-fit}
 use Rattle.hwp_claim.specs.declared.claim.Claim.{Claim}
 use Rattle.hwp_claim.specs.declared.claim.ClaimAt.{ClaimAt}
@@ -39,20 +35,17 @@ use Rattle.hwp_claim.specs.declared.ClaimAnswer.{ClaimAnswer}
 use Rattle.hwp_claim.specs.declared.ClaimAnswer.TheVariants as claim_answers
 use Rattle.hwp_claim.specs.Claims as claims
 use Rattle.hwp_claim.specs.Claims.{HasMarked}
-use Rattle.hwp_claim.specs.Meets.{HoldsPoisoned}
 use Rattle.hwp_claim.proofs.Claiming as claiming
 use Rattle.hwp_fail.specs.declared.fail.Fail.{Fail}
 use Rattle.hwp_fail.specs.declared.fail.FailAt.{FailAt}
 use Rattle.hwp_fail.specs.declared.fail.FailAt.TheVariants as at
-use Rattle.hwp_fail.specs.declared.fail.FailAnswer.{FailAnswer}
-use Rattle.hwp_fail.specs.declared.fail.FailAnswer.TheVariants as answers
-use Rattle.hwp_fail.specs.Fails.{plan, plan_at, put, put_at, bare, bare_at, after_act, after_act_by, Acts, AfterClaim, AfterClaimBy, IsCached, Shows, ShowsAt, ActsOn, Follows, FollowsAt, IsClaiming, IsActing, FitsOver, Fits, FitsAt, class, class_at}
+use Rattle.hwp_fail.specs.Fails.{plan, plan_at, put, put_at, bare, bare_at, after_act, after_act_by, Acts, AfterClaim, AfterClaimBy, IsCached, Shows, ShowsAt, Follows, FollowsAt, Fits, FitsAt, class, class_at}
 use Rattle.hwp_fail.proofs.Marks.{marks-kept}
 
 pub can : (layout : Layout) (view : View) (f : Fail) (step : Step) → Fits layout view f → plan f ≡ Some step → CanMake layout f.who step (put f) view
 can layout view f step fits is = which f.at fits.at is
   where
-    which : (x : FailAt) → FitsAt layout view f.who f.frame x → plan_at x ≡ Some step → CanMake layout f.who step (put_at x) view
+    which : (x : FailAt) → FitsAt layout view f.who f.frame f.required x → plan_at x ≡ Some step → CanMake layout f.who step (put_at x) view
     which (at.Claim c) has e = subst (λ (w : Who). CanMake layout w step (claims.put c) view) has.own (claiming.can layout view c step has.claim e)
     which (at.Act cycle a) has e = subst (λ (w : Who). CanMake layout w step (acts.put a) view) has.own (act_laws.can layout view a step has.act e)
     which (at.Over answer) has e = absurd (none-some step e)
@@ -77,19 +70,21 @@ cached-of layout view c fits = which c.at fits.at
     which (claim_at.Free cycle) has body is = absurd is
     which (claim_at.Kernel cycle) has body is = absurd is
 
-module _ {layout : Layout} {new : View} {who : Who} {frame : Frame} (on : IsOnTurn new who) (sound : IsSound layout) (inside : frame.0 < layout.frames) where
+module _ {layout : Layout} {new : View} {who : Who} {frame : Frame} (on : IsOnTurn new who) (sound : IsSound layout) (inside : frame.0 < layout.frames) (required : Option Thread) where
   -- ---- the page is acted on
 
-  after-act-is : (cycle : ℕ) (a : Act) → acting.Fits layout new a → a.who ≡ who → a.frame ≡ frame → HasMarked new who frame false cycle → slice_get layout.kernel frame.0 ≡ Some false → FitsAt layout new who frame (after_act cycle a)
-  after-act-is cycle a fits own frame_is marked users = which (acts.answer a) refl
+  after-act-is : (cycle : ℕ) (a : Act) → acting.Fits layout new a → a.who ≡ who → a.frame ≡ frame → acting.IsFor required a.at → HasMarked new who frame false cycle → slice_get layout.kernel frame.0 ≡ Some false → FitsAt layout new who frame required (after_act cycle a)
+  after-act-is cycle a fits own frame_is its marked users = which (acts.answer a) refl
     where
-      which : (x : Option Failed) → acts.answer a ≡ x → FitsAt layout new who frame (after_act_by cycle a x)
-      which None e = record { act = fits; own = own; frame_is = frame_is; unanswered = e; marked = marked; users = users }
-      which (Some failed) e = let ended = act-ended layout new a failed fits e in (ended.0, ended.1, (marked, (subst (λ (w : Who). HasFailed new w failed) own ended.3, users)))
+      which : (x : Option Failed) → acts.answer a ≡ x → FitsAt layout new who frame required (after_act_by cycle a x)
+      which None e = record { act = fits; own = own; frame_is = frame_is; required_is = its; unanswered = e; marked = marked; users = users }
+      which (Some failed) e =
+          let ended = act-ended layout new a failed fits e in
+          (ended.0, ended.1, (marked, (subst (λ (r : Option Thread). HasFailed new who (record failed { required = r })) (ended-for a required failed its e) (subst (λ (w : Who). HasFailed new w failed) own ended.3), users)))
 
   -- ---- the frame is claimed
 
-  module _ (required : Option Thread) (c : Claim) (fits : claims.Fits layout new c) (own : c.who ≡ who) (frame_is : c.frame ≡ frame) where
+  module _ (c : Claim) (fits : claims.Fits layout new c) (own : c.who ≡ who) (frame_is : c.frame ≡ frame) where
     made-own : HasMadeNone new who
     made-own = subst (λ (w : Who). HasMadeNone new w) own fits.made
 
@@ -101,11 +96,11 @@ module _ {layout : Layout} {new : View} {who : Who} {frame : Frame} (on : IsOnTu
     held-failed : (cycle : ℕ) (page : Page) (body : BodyValue) → claims.FitsAt layout new who frame false (claim_at.Owned cycle page body) → HoldsFailed layout new page frame body
     held-failed cycle page body has = record { holds = has.0.holds; unhandled = has.0.unhandled; poisoned = has.0.poisoned; few = has.0.few; inside = has.0.inside }
 
-    acts-is : (cycle : ℕ) (page : Page) (x : FailAt) → claims.answer c ≡ Some (claim_answers.Owned cycle page) → Acts who frame required cycle page c x → FitsAt layout new who frame x
+    acts-is : (cycle : ℕ) (page : Page) (x : FailAt) → claims.answer c ≡ Some (claim_answers.Owned cycle page) → Acts who frame required cycle page c x → FitsAt layout new who frame required x
     acts-is cycle page x answered has = which c.at fits-own answered has.body_is
       where
-        which : (y : ClaimAt) → claims.FitsAt layout new who frame false y → claims.answer_at y ≡ Some (claim_answers.Owned cycle page) → claims.IsBodyAt y has.body → FitsAt layout new who frame x
-        which (claim_at.Owned own-cycle own-page body) known e is = subst (FitsAt layout new who frame) (sym has.next_is) (after-act-is cycle has.act begun has.who_is has.frame_is marked known.1.users)
+        which : (y : ClaimAt) → claims.FitsAt layout new who frame false y → claims.answer_at y ≡ Some (claim_answers.Owned cycle page) → claims.IsBodyAt y has.body → FitsAt layout new who frame required x
+        which (claim_at.Owned own-cycle own-page body) known e is = subst (FitsAt layout new who frame required) (sym has.next_is) (after-act-is cycle has.act begun has.who_is has.frame_is (starts-for who page frame required has.body has.act.at has.starts) marked known.1.users)
           where
             same : claim_answers.Owned own-cycle own-page ≡ claim_answers.Owned cycle page
             same = same_Some (claim_answers.Owned own-cycle own-page) (claim_answers.Owned cycle page) e
@@ -173,15 +168,15 @@ module _ {layout : Layout} {new : View} {who : Who} {frame : Frame} (on : IsOnTu
     known-by (claim_at.Retire cycle) has = tt
     known-by claim_at.GaveUp has = tt
 
-    after-claim-is : (x : FailAt) → AfterClaim who frame required c x → FitsAt layout new who frame x
+    after-claim-is : (x : FailAt) → AfterClaim who frame required c x → FitsAt layout new who frame required x
     after-claim-is x follows = which (claims.answer c) refl (known-by c.at fits-own) follows
       where
-        which : (o : Option ClaimAnswer) → claims.answer c ≡ o → Known o → AfterClaimBy who frame required c o x → FitsAt layout new who frame x
-        which None e known is = subst (FitsAt layout new who frame) (sym is) (record { claim = fits; own = own; frame_is = frame_is; unanswered = e })
-        which (Some claim_answers.Stopped) e known is = subst (FitsAt layout new who frame) (sym is) (known.0, fits.paid, (made-own, known.1, known.2))
-        which (Some claim_answers.Already) e known is = subst (FitsAt layout new who frame) (sym is) (known.0, fits.paid, (made-own, known.1, known.2))
-        which (Some (claim_answers.Free cycle)) e known is = subst (FitsAt layout new who frame) (sym is) (known.0, fits.paid, (known.1.poisoned.marked, (made-own, known.1.users, refl)))
-        which (Some (claim_answers.Kernel cycle)) e known is = subst (FitsAt layout new who frame) (sym is) (known.0, fits.paid, (known.1.marked, (made-own, known.2, refl)))
+        which : (o : Option ClaimAnswer) → claims.answer c ≡ o → Known o → AfterClaimBy who frame required c o x → FitsAt layout new who frame required x
+        which None e known is = subst (FitsAt layout new who frame required) (sym is) (record { claim = fits; own = own; frame_is = frame_is; unanswered = e })
+        which (Some claim_answers.Stopped) e known is = subst (FitsAt layout new who frame required) (sym is) (known.0, fits.paid, (made-own, known.1, known.2))
+        which (Some claim_answers.Already) e known is = subst (FitsAt layout new who frame required) (sym is) (known.0, fits.paid, (made-own, known.1, known.2))
+        which (Some (claim_answers.Free cycle)) e known is = subst (FitsAt layout new who frame required) (sym is) (known.0, fits.paid, (known.1.poisoned.marked, (made-own, known.1.users, refl)))
+        which (Some (claim_answers.Kernel cycle)) e known is = subst (FitsAt layout new who frame required) (sym is) (known.0, fits.paid, (known.1.marked, (made-own, known.2, refl)))
         which (Some (claim_answers.Owned cycle page)) e known is = acts-is cycle page x e is
 
 -- ---- each step
@@ -197,16 +192,17 @@ both layout old new f step found got fits is made = let all = which f.at fits.at
     on : IsOnTurn new f.who
     on = on-turn-after fits.on_turn made
 
-    which : (x : FailAt) → FitsAt layout old f.who f.frame x → plan_at x ≡ Some step → Steps layout f.who step (logs (put_at x)) old new found got
-        → ShowsAt (bare_at x) found got × ((y : FailAt) (turn : Turn) → FollowsAt f.who f.frame f.required (bare_at x) found got y turn → FitsAt layout new f.who f.frame y)
+    which : (x : FailAt) → FitsAt layout old f.who f.frame f.required x → plan_at x ≡ Some step → Steps layout f.who step (logs (put_at x)) old new found got
+        → ShowsAt (bare_at x) found got × ((y : FailAt) (turn : Turn) → FollowsAt f.who f.frame f.required (bare_at x) found got y turn → FitsAt layout new f.who f.frame f.required y)
     which (at.Claim c) has e made = let all = claiming.both layout old new c step found got has.claim e (own-steps (claims.put c) has.own made) in (
       (all.0, cached-of layout new (claims.next (claims.bare c) found got) all.1),
       λ y turn follows. after-claim-is on fits.sound fits.frame f.required (claims.next (claims.bare c) found got) all.1 has.own has.frame_is y follows.0,
     )
     which (at.Act cycle a) has e made = let all = act_laws.both layout old new a step found got has.act e (own-steps (acts.put a) has.own made) in (
       all.0,
-      λ y turn follows. subst (FitsAt layout new f.who f.frame) (sym follows.next_is)
-          (after-act-is on fits.sound fits.frame cycle follows.after (all.1 follows.after turn follows.follows) (ap (λ (x : Act). x.who) follows.follows.0 ∙ has.own) (ap (λ (x : Act). x.frame) follows.follows.0 ∙ has.frame_is)
+      λ y turn follows. subst (FitsAt layout new f.who f.frame f.required) (sym follows.next_is)
+          (after-act-is on fits.sound fits.frame f.required cycle follows.after (all.1 follows.after turn follows.follows) (ap (λ (x : Act). x.who) follows.follows.0 ∙ has.own) (ap (λ (x : Act). x.frame) follows.follows.0 ∙ has.frame_is)
+          (follows-for a f.required found follows.after turn has.required_is follows.follows)
           (claiming.mark-stays old new (marks-kept (act-mild a step e) made) has.marked) has.users),
     )
     which (at.Over answer) has e made = absurd (none-some step e)
@@ -223,7 +219,7 @@ acts-follow who frame required c cycle page x is has = subst (λ (o : Option Cla
 pub fail-tells : (layout : Layout) (view : View) (f : Fail) → Fits layout view f → Tells view (class f)
 fail-tells layout view f fits = which f.at fits.at
   where
-    which : (x : FailAt) → FitsAt layout view f.who f.frame x → Tells view (class_at x)
+    which : (x : FailAt) → FitsAt layout view f.who f.frame f.required x → Tells view (class_at x)
     which (at.Claim c) has = claiming.claim-tells layout view c has.claim
     which (at.Act cycle a) has = claiming.pressed-tells view (acts.class a) (act-tells layout view a has.act)
     which (at.Over answer) has = empty-tells view 4 has.0

@@ -1,2 +1,5 @@
 pub mod Marks
 pub mod Failing
+pub mod FailLeaves
+pub mod FailRank
+pub mod FailTells

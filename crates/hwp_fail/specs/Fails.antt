@@ -1,6 +1,5 @@
 -- A memory failure of a frame: the task's states, its steps and what they come to.
-use Rattle.std.specs.Prelude.{◌≡◌, ◌⊎◌, ℕ, ◌+◌, ◌<◌, ◌==◌, Bool, true, false, cond, [], Option, Some, None, is_none, slice_get}
-use Rattle.std.specs.declared.alloc.Global.{Global}
+use Rattle.std.specs.Prelude.{◌≡◌, ℕ, ◌<◌, Bool, true, false, cond, [], Option, Some, None, slice_get}
 use Rattle.hwp_geom.specs.declared.Frame.{Frame}
 use Rattle.hwp_geom.specs.declared.Layout.{Layout}
 use Rattle.hwp_geom.specs.declared.Page.{Page}
@@ -144,10 +143,11 @@ pub record IsClaiming (layout : Layout) (view : View) (who : Who) (frame : Frame
   pub frame_is : c.frame ≡ frame
   pub unanswered : claims.answer c ≡ None
 
-pub record IsActing (layout : Layout) (view : View) (who : Who) (frame : Frame) (cycle : ℕ) (a : Act) : Type 0 where
+pub record IsActing (layout : Layout) (view : View) (who : Who) (frame : Frame) (required : Option Thread) (cycle : ℕ) (a : Act) : Type 0 where
   pub act : acting.Fits layout view a
   pub own : a.who ≡ who
   pub frame_is : a.frame ≡ frame
+  pub required_is : acting.IsFor required a.at
   pub unanswered : acts.answer a ≡ None
   pub marked : HasMarked view who frame false cycle
   pub users : slice_get layout.kernel frame.0 ≡ Some false
@@ -159,26 +159,26 @@ IsPageless layout frame situations.Kernel = slice_get layout.kernel frame.0 ≡ 
 IsPageless layout frame _ = ⊥
 
 -- the command made no entry, or the one of its failure
-abbrev pub HasDone : Layout → View → Who → Frame → Situation → Option At → Bool → Type 0
-HasDone layout view who frame situation None signalled = HasMadeNone view who × IsPageless layout frame situation × (signalled ≡ false)
-HasDone layout view who frame situation (Some place) signalled = HasFailed view who (record { situation = situation; at = place; signalled = signalled }) × (slice_get layout.kernel frame.0 ≡ Some false)
+abbrev pub HasDone : Layout → View → Who → Frame → Option Thread → Situation → Option At → Bool → Type 0
+HasDone layout view who frame required situation None signalled = HasMadeNone view who × IsPageless layout frame situation × (signalled ≡ false)
+HasDone layout view who frame required situation (Some place) signalled = HasFailed view who (record { situation = situation; required = required; at = place; signalled = signalled }) × (slice_get layout.kernel frame.0 ≡ Some false)
 
-abbrev pub FitsOver : Layout → View → Who → Frame → FailAnswer → Type 0
-FitsOver layout view who frame answers.Stopped = HasMadeNone view who × HasMarkedNone view who × IsStopped view who
-FitsOver layout view who frame answers.Already = HasMadeNone view who × HasMarkedNone view who × SawPoison view who frame
-FitsOver layout view who frame (answers.Done situation cycle place signalled) = HasMarked view who frame false cycle × HasDone layout view who frame situation place signalled
+abbrev pub FitsOver : Layout → View → Who → Frame → Option Thread → FailAnswer → Type 0
+FitsOver layout view who frame required answers.Stopped = HasMadeNone view who × HasMarkedNone view who × IsStopped view who
+FitsOver layout view who frame required answers.Already = HasMadeNone view who × HasMarkedNone view who × SawPoison view who frame
+FitsOver layout view who frame required (answers.Done situation cycle place signalled) = HasMarked view who frame false cycle × HasDone layout view who frame required situation place signalled
 
-abbrev pub FitsAt : Layout → View → Who → Frame → FailAt → Type 0
-FitsAt layout view who frame (at.Claim c) = IsClaiming layout view who frame c
-FitsAt layout view who frame (at.Act cycle a) = IsActing layout view who frame cycle a
-FitsAt layout view who frame (at.Over answer) = (hand_of view ≡ empty) × (view.owed.losses ≡ []) × FitsOver layout view who frame answer
+abbrev pub FitsAt : Layout → View → Who → Frame → Option Thread → FailAt → Type 0
+FitsAt layout view who frame required (at.Claim c) = IsClaiming layout view who frame c
+FitsAt layout view who frame required (at.Act cycle a) = IsActing layout view who frame required cycle a
+FitsAt layout view who frame required (at.Over answer) = (hand_of view ≡ empty) × (view.owed.losses ≡ []) × FitsOver layout view who frame required answer
 
 -- until machine checks are served, no bank reported the failure
 pub record Fits (layout : Layout) (view : View) (f : Fail) : Type 0 where
   pub on_turn : IsOnTurn view f.who
   pub sound : IsSound layout
   pub frame : f.frame.0 < layout.frames
-  pub at : FitsAt layout view f.who f.frame f.at
+  pub at : FitsAt layout view f.who f.frame f.required f.at
 
 -- ---- the rank
 

@@ -19,7 +19,7 @@ use hwp_claim::{Claim, ClaimAnswer};
 use hwp_geom::{Frame, Layout, Thread, Who};
 use hwp_page::{At, Body, Situation};
 use hwp_rule::Step;
-use hwp_step::{Machine, Turn};
+use hwp_step::{Machine, Ranked, Scheduled, Turn};
 use std::alloc::Global;
 use std::mem;
 
@@ -271,4 +271,34 @@ impl Machine for Fail {
         self.at = after;
         turn
     }
+}
+
+impl Ranked for Fail {
+    ghost use Rattle.hwp_fail.specs.Fails.{class, cost, aborts, claims_of};
+
+    ghost class_of = { λ f. class f };
+
+    ghost cost = { λ f words. cost f words };
+
+    ghost aborts = { λ f. aborts f };
+
+    ghost claims = { λ f. claims_of f };
+
+    fn class(&self) -> u8 {
+        match &self.at {
+            FailAt::Claim { claim } => claim.class(),
+            FailAt::Act { act, .. } => act.class().min(3),
+            FailAt::Over { .. } => 4,
+        }
+    }
+
+    fn ranked(&self) {}
+}
+
+impl Scheduled for Fail {
+    fn is_over(&self) -> bool {
+        self.plan().is_none()
+    }
+
+    fn tells(&self) {}
 }

@@ -1,6 +1,5 @@
 -- A processor fits at its beginning, stays the processor that it is, and has served its commands at its end.
-use Rattle.std.proofs.Common.{◌≡◌, ℕ, zero, suc, ◌<◌, ◌≤◌, ◌⊎◌, inl, inr, List, [], ◌∷◌, ◌++◌, Option, Some, None, length, map, option_map, slice_get, true, false, true≢false, refl, sym, ap, ◌∙◌, subst, arith}
-use Rattle.std.specs.Option.{is_some}
+use Rattle.std.proofs.Common.{◌≡◌, ℕ, ◌<◌, ◌≤◌, ◌⊎◌, inl, inr, List, [], Option, Some, None, length, map, option_map, sym, ap, ◌∙◌, subst, arith}
 use Rattle.std.proofs.lemmas.Bool.{cases_lt}
 use Rattle.std.proofs.lemmas.List.{get_or_past, length-map}
 use Rattle.std.proofs.lemmas.Option.{get_or_from_slice_get}
@@ -15,8 +14,8 @@ use Rattle.hwp_rule.specs.declared.State.{State}
 use Rattle.hwp_rule.specs.declared.View.{View}
 use Rattle.hwp_rule.specs.Opening.{below, opening, opening_view}
 use Rattle.hwp_rule.specs.Rule.{Holds}
-use Rattle.hwp_rule.proofs.Lists.{at_last, at_longer, at_map}
-use Rattle.hwp_rule.proofs.OpeningWords.{length-below}
+use Rattle.hwp_rule.proofs.Lists.{at_map}
+use Rattle.hwp_rule.proofs.OpeningWords.{below-at, length-below}
 use Rattle.hwp_step.specs.declared.Turn.{Turn}
 use Rattle.hwp_step.specs.Boards.{AreSeated, view_of}
 use Rattle.hwp_job.specs.declared.job.Job.{Job}
@@ -32,25 +31,12 @@ use Rattle.hwp_processor.proofs.Settling.{own-cpu}
 
 -- ---- the beginning
 
-last-below : (n i : ℕ) → n ≤ i → i < suc n → slice_get (below n ++ n ∷ []) i ≡ Some i
-last-below n i past less =
-    let same : n ≡ i = omega arith in
-    subst (λ (k : ℕ). slice_get (below n ++ n ∷ []) i ≡ Some k) same (subst (λ (k : ℕ). slice_get (below n ++ n ∷ []) k ≡ Some n) (length-below n ∙ same) (at_last (below n) n))
-
-at-below : (n i : ℕ) → i < n → slice_get (below n) i ≡ Some i
-at-below zero i less = absurd (omega arith)
-at-below (suc n) i less = which (at-below n i) (cases_lt i n)
-  where
-    which : (i < n → slice_get (below n) i ≡ Some i) → (i < n) ⊎ (n ≤ i) → slice_get (below n ++ n ∷ []) i ≡ Some i
-    which before (inl within) = at_longer (below n) (n ∷ []) i i (before within)
-    which before (inr past) = last-below n i past less
-
 -- at opening each seat knows what a processor of its number knows
 opening-view : (layout : Layout) (i : ℕ) → view_of (opening layout) i ≡ opening_view i
 opening-view layout i = which (cases_lt i layout.cpus)
   where
     which : (i < layout.cpus) ⊎ (layout.cpus ≤ i) → view_of (opening layout) i ≡ opening_view i
-    which (inl inside) = get_or_from_slice_get (map opening_view (below layout.cpus)) i (opening_view i) (opening_view i) (at_map opening_view (below layout.cpus) i i (at-below layout.cpus i inside))
+    which (inl inside) = get_or_from_slice_get (map opening_view (below layout.cpus)) i (opening_view i) (opening_view i) (at_map opening_view (below layout.cpus) i i (below-at layout.cpus i inside))
     which (inr past) = get_or_past (map opening_view (below layout.cpus)) i (opening_view i) (let all : length (map opening_view (below layout.cpus)) ≡ layout.cpus = length-map (below layout.cpus) opening_view ∙ length-below layout.cpus in omega arith)
 
 pub opening-fits : (layout : Layout) (cpu : Cpu) (list : List Command) (p : Processor) → AtBeginning layout cpu list p → Fits layout (view_of (opening layout) cpu.0) p
@@ -85,10 +71,6 @@ next-keeps layout p after found got turn next = which (option_map jobs.bare p.jo
     which None so = (ap (λ (x : Processor). x.cpu) so.0, ap (λ (x : Processor). x.commands) so.0)
 
 -- ---- the end
-
-pub without-job : (o : Option Job) → is_some o ≡ false → o ≡ None
-without-job None is = refl
-without-job (Some j) is = absurd (true≢false is)
 
 pub served-of : (layout : Layout) (last : State) (seat : Cpu → ℕ) → Holds layout last → AreSeated layout last seat → (p : Processor) → p.cpu.0 < layout.cpus
     → Fits layout (view_of last (seat p.cpu)) p → p.job ≡ None → IsServed layout (view_of last (seat p.cpu)) p.cpu p.commands p.lines.items p.notes.items

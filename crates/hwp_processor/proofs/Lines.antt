@@ -41,9 +41,12 @@ pub answered-more : (layout : Layout) (list : List Command) (view : View) (cpu :
 answered-more layout list view cpu n [] [] m command answer is are there caused accounted = absurd (none-some command there)
 answered-more layout list view cpu n [] (row ∷ rows) m command answer is are there caused accounted = absurd (none-some command there)
 answered-more layout list view cpu n (c ∷ cs) [] m command answer is are there caused accounted =
-    let same : m ≡ n = omega arith in
-    (same, subst (λ (d : Command). IsCaused layout list view (at_number cpu n) d answer) (sym (same_Some c command there)) (subst (λ (k : ℕ). IsCaused layout list view (at_number cpu k) command answer) same caused),
-        subst (λ (d : Command). IsAccounted view (at_number cpu n) d answer) (sym (same_Some c command there)) (subst (λ (k : ℕ). IsAccounted view (at_number cpu k) command answer) same accounted), tt)
+    let same : m ≡ n = omega arith in (
+      same,
+      subst (λ (d : Command). IsCaused layout list view (at_number cpu n) d answer) (sym (same_Some c command there)) (subst (λ (k : ℕ). IsCaused layout list view (at_number cpu k) command answer) same caused),
+      subst (λ (d : Command). IsAccounted view (at_number cpu n) d answer) (sym (same_Some c command there)) (subst (λ (k : ℕ). IsAccounted view (at_number cpu k) command answer) same accounted),
+      tt,
+    )
 answered-more layout list view cpu n (c ∷ cs) (lines.Answer seq a ∷ rows) m command answer is are there caused accounted =
     (are.0, are.1, are.2, answered-more layout list view cpu (n + 1) cs rows m command answer (omega arith) are.3 there caused accounted)
 answered-more layout list view cpu n (c ∷ cs) (lines.Event seq bank status addr misc row acted ∷ rows) m command answer is are there caused accounted = absurd are

@@ -1,12 +1,11 @@
 -- What a processor's view lists of its commands beside entries, and its notes: over a step, when a command is answered, and when the
 -- next one begins.
-use Rattle.std.proofs.Common.{◌≡◌, ◌≢◌, inl, inr, ℕ, suc, ◌+◌, ◌<◌, ◌≤◌, ◌==◌, ◌&&◌, Bool, true, false, List, [], ◌∷◌, ◌++◌, Option, Some, None, length, map, append_assoc, append-nil, refl, sym, ap, ◌∙◌, subst, arith}
+use Rattle.std.proofs.Common.{◌≡◌, ◌≢◌, inl, inr, ℕ, suc, ◌+◌, ◌<◌, ◌≤◌, false, List, [], ◌∷◌, ◌++◌, length, append_assoc, append-nil, refl, sym, ap, ◌∙◌, subst, arith}
 use Rattle.std.specs.List.{cons_option}
-use Rattle.std.proofs.lemmas.Bool.{eq-eqb, false_from_ne_true}
-use Rattle.std.proofs.lemmas.List.{map-append}
+use Rattle.std.proofs.lemmas.Bool.{false_from_ne_true}
+use Rattle.std.proofs.lemmas.List.{length-map, map-append, nil_from_length}
 use Rattle.std.proofs.lemmas.Option.{none-some}
 use Rattle.hwp_geom.specs.declared.Cpu.{Cpu}
-use Rattle.hwp_geom.specs.declared.FileNo.{FileNo}
 use Rattle.hwp_geom.specs.declared.Frame.{Frame}
 use Rattle.hwp_geom.specs.declared.Layout.{Layout}
 use Rattle.hwp_geom.specs.declared.Who.{Who}
@@ -33,16 +32,14 @@ use Rattle.hwp_served.specs.Causes.{IsCaused}
 use Rattle.hwp_served.specs.Owed.{OwesOwn, losses_by}
 use Rattle.hwp_served.specs.Served.{IsOneOf}
 use Rattle.hwp_served.proofs.Accounting.{marks-own, note-stays, reported-own, settings-own}
-use Rattle.hwp_served.proofs.Deeds.{is_inject}
+use Rattle.hwp_served.proofs.deeds.Deeds.{is_inject}
 use Rattle.hwp_served.proofs.Failed.{same-who}
-use Rattle.hwp_served.proofs.Owing.{lossless, owes-own}
+use Rattle.hwp_served.proofs.losses.Owing.{lossless, owes-own}
+use Rattle.hwp_served.proofs.marks.Marked.{same-self}
 use Rattle.hwp_processor.specs.Processors.{at_number}
 use Rattle.hwp_processor.specs.Serving.{AreNoted, HasAccount, IsListed}
 
 -- ---- over a step
-
-same-self : (who : Who) → is_same who who ≡ true
-same-self who = ap (λ (b : Bool). b && (who.seq == who.seq)) (eq-eqb who.cpu.0 who.cpu.0 refl) ∙ eq-eqb who.seq who.seq refl
 
 module _ {layout : Layout} {old new : View} {cpu : Cpu} {n : ℕ} {j k : Job} (s : Stepped layout old new j k) (can : CanMake layout (jobs.who j) s.step (jobs.put j) old) (own : jobs.who j ≡ at_number cpu n) where
   pub listed-on : IsListed old cpu (n + 1) → IsListed new cpu (n + 1)
@@ -60,9 +57,9 @@ module _ {layout : Layout} {old new : View} {cpu : Cpu} {n : ℕ} {j k : Job} (s
 
   pub account-on : HasAccount old (at_number cpu n) j → HasAccount new (at_number cpu n) k
   account-on was = record {
-    marked = grown (λ (m : Mark). m.stamp.who) (λ (m : Mark). m.frame) (is_same (at_number cpu n)) old.marks new.marks (at_number cpu n) (marked_now j) (marked_now k) (same-self (at_number cpu n)) did.marked was.marked;
-    taken = grown (λ (r : Reported). r.stamp.who) (λ (r : Reported). (r.file, r.count)) (is_same (at_number cpu n)) old.reported new.reported (at_number cpu n) (taken_now j) (taken_now k) (same-self (at_number cpu n)) did.taken was.taken;
-    set = grown (λ (x : Setting). x.stamp.who) (λ (x : Setting). (x.thread, x.policy)) (is_same (at_number cpu n)) old.settings new.settings (at_number cpu n) (policies_now j) (policies_now k) (same-self (at_number cpu n)) did.set was.set;
+    marked = grown (λ (m : Mark). m.stamp.who) (λ (m : Mark). m.frame) (is_same (at_number cpu n)) old.marks new.marks (at_number cpu n) (marked_now j) (marked_now k) (same-self (at_number cpu n) (at_number cpu n) refl) did.marked was.marked;
+    taken = grown (λ (r : Reported). r.stamp.who) (λ (r : Reported). (r.file, r.count)) (is_same (at_number cpu n)) old.reported new.reported (at_number cpu n) (taken_now j) (taken_now k) (same-self (at_number cpu n) (at_number cpu n) refl) did.taken was.taken;
+    set = grown (λ (x : Setting). x.stamp.who) (λ (x : Setting). (x.thread, x.policy)) (is_same (at_number cpu n)) old.settings new.settings (at_number cpu n) (policies_now j) (policies_now k) (same-self (at_number cpu n) (at_number cpu n) refl) did.set was.set;
     counted = did.counted was.counted;
     losses = subst (λ (w : Who). OwesOwn w new) own (owes-own (jobs.who j) can s.made (subst (λ (w : Who). OwesOwn w old) (sym own) was.losses));
   }
@@ -105,30 +102,25 @@ module _ {layout : Layout} {old new : View} {cpu : Cpu} {n : ℕ} {j k : Job} (s
 
 -- ---- at the end of a command
 
-without-members : {A B : Type 0} (f : A → B) (l : List A) → map f l ≡ [] → l ≡ []
-without-members f [] none = refl
-without-members f (x ∷ xs) none = absurd (let none_ : suc (length (map f xs)) ≡ 0 = ap length none in omega (arith, none_))
-
 -- all marks are noted
 pub noted-end : (layout : Layout) (view : View) (cpu : Cpu) (n : ℕ) (notes : List Note) (j : Job) → AreNoted layout view cpu n notes j → Pairs (IsNote layout view) (notes ++ cons_option (note j) []) view.marks
 noted-end layout view cpu n notes j are =
-    subst (λ (l : List Mark). Pairs (IsNote layout view) (notes ++ []) l) (sym (are.all ∙ ap (λ (l : List Mark). are.earlier ++ l) (without-members (λ (m : Mark). m.frame) are.last are.frames) ∙ append-nil are.earlier))
+    subst (λ (l : List Mark). Pairs (IsNote layout view) (notes ++ []) l) (sym (are.all ∙ ap (λ (l : List Mark). are.earlier ++ l) unmarked ∙ append-nil are.earlier))
     (subst (λ (l : List Note). Pairs (IsNote layout view) l are.earlier) (sym (append-nil notes)) are.noted)
+  where
+    unmarked : are.last ≡ []
+    unmarked = nil_from_length are.last (sym (length-map are.last (λ (m : Mark). m.frame)) ∙ ap length are.frames)
 
 -- a command that runs brings about no failure
 no-inject : (layout : Layout) (who : Who) (command : Command) (j : Job) → Runs layout who command j → is_inject command ≡ false
 no-inject layout who (commands.Inject frame) j runs = absurd runs
 no-inject layout who command j runs = refl
 
-no-files : (l : List FileNo) → length l ≤ 0 → l ≡ []
-no-files [] few = refl
-no-files (x ∷ xs) few = absurd (omega (arith, few))
-
 -- nothing is owed
 pub owes-nothing : (layout : Layout) (list : List Command) (view : View) (who : Who) (command : Command) (j : Job) (a : Answer) → Runs layout who command j → IsCaused layout list view who command a → HasAccount view who j → view.owed ≡ no_debts
 owes-nothing layout list view who command j a runs caused account =
     let none : counts_owed view ≡ 0 = account.counted in
-    λ t. record { counts = counts none t; hardware = hardware none t; uncounts = uncounts none t; losses = no-files view.owed.losses few t }
+    λ t. record { counts = counts none t; hardware = hardware none t; uncounts = uncounts none t; losses = nil_from_length view.owed.losses few t }
   where
     counts : view.owed.counts + view.owed.hardware + view.owed.uncounts ≡ 0 → view.owed.counts ≡ 0
     counts none = omega (arith, none)
@@ -139,7 +131,7 @@ owes-nothing layout list view who command j a runs caused account =
     uncounts : view.owed.counts + view.owed.hardware + view.owed.uncounts ≡ 0 → view.owed.uncounts ≡ 0
     uncounts none = omega (arith, none)
 
-    few : length view.owed.losses ≤ 0
+    few : length view.owed.losses ≡ 0
     few =
         let own : length view.owed.losses ≤ losses_by who view = account.losses in
         let no_loss : losses_by who view ≡ 0 = lossless layout list view who command a (no-inject layout who command j runs) caused in

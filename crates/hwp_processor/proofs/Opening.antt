@@ -19,6 +19,7 @@ use Rattle.hwp_law.specs.Policies.{settings}
 use Rattle.hwp_served.specs.Served.{AreAnswered}
 use Rattle.hwp_processor.specs.Processors.{BeginsAt, at_number}
 use Rattle.hwp_processor.specs.Serving.{FitsAt, IsDone, IsListed, IsRunning, Serves}
+use Rattle.hwp_processor.proofs.Lines.{past-end}
 use Rattle.hwp_processor.proofs.Noting.{account-starts, noted-starts}
 
 module _ (layout : Layout) (cpu : Cpu) (list : List Command) (few : length list ≤ command_limit) where
@@ -73,7 +74,7 @@ module _ (layout : Layout) (cpu : Cpu) (list : List Command) (few : length list 
   done : slice_get list 0 ≡ None → IsDone layout view cpu list [] []
   done none = record {
     serves = serves;
-    all = sym (let most : length list ≤ 0 = empty list none in omega arith);
+    all = sym (let most : length list ≤ 0 = past-end list 0 none in omega arith);
     made = λ k past. refl;
     hand_is = refl;
     owed = refl;
@@ -82,10 +83,6 @@ module _ (layout : Layout) (cpu : Cpu) (list : List Command) (few : length list 
     noted = tt;
     policies = λ thread. (settings thread list, refl);
   }
-    where
-      empty : (l : List Command) → slice_get l 0 ≡ None → length l ≤ 0
-      empty [] is = omega arith
-      empty (c ∷ cs) is = absurd (none-some c (sym is))
 
   pub begun : (x : Option Job) → BeginsAt layout (at_number cpu 0) (slice_get list 0) x → FitsAt layout view cpu list [] [] x
   begun x begins = which (slice_get list 0) refl x begins

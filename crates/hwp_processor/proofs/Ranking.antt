@@ -138,7 +138,7 @@ small layout a seat p rule fits =
     omega (arith, few, below)
 
 -- none of its steps poisons a frame or takes its poison back
-pub mild : (p : Processor) (step : Step) → plan p ≡ Some step → IsMild step
+mild : (p : Processor) (step : Step) → plan p ≡ Some step → IsMild step
 mild p step is = which p.job is
   where
     which : (x : Option Job) → plan_of x ≡ Some step → IsMild step

@@ -66,9 +66,15 @@ impl Processor {
         ensures gave_up { OnErr result (IsSome self.job) }
     {
         let Processor {
-            lines, notes, job, ..
+            lines,
+            notes,
+            job,
+            ..
         } = self;
-        if job.is_some() {
+        let gave_up = job.is_some();
+        // here, and not part by part at each exit
+        drop(job);
+        if gave_up {
             return Err(AllocError);
         }
         Ok((List::from_vec(lines), List::from_vec(notes)))

@@ -29,7 +29,7 @@ use Rattle.hwp_law.specs.Answers.{frame_named, is_ample, named_frames, usable_fr
 use Rattle.hwp_runs.proofs.Homes.{there-is}
 use Rattle.hwp_served.specs.Accounts.{frames_marked, is_same, marked_by}
 use Rattle.hwp_served.proofs.Ending.{IsEnd, IsOf, command-of, filter-has, list-of, own-view, rows-of, served-of}
-use Rattle.hwp_served.proofs.Marked.{same-self}
+use Rattle.hwp_served.proofs.marks.Marked.{same-self}
 
 -- ---- named frames
 

@@ -39,11 +39,11 @@ use Rattle.hwp_served.specs.Accounts.{IsAccounted}
 use Rattle.hwp_served.specs.Causes.{IsCaused, IsInjectCaused}
 use Rattle.hwp_served.proofs.Ample.{not-ample}
 use Rattle.hwp_served.proofs.Ending.{IsEnd}
-use Rattle.hwp_served.proofs.Gone.{is-gone}
-use Rattle.hwp_served.proofs.Made.{some-so}
-use Rattle.hwp_served.proofs.Marked.{has-mark}
-use Rattle.hwp_served.proofs.Poisoned.{was-poisoned}
-use Rattle.hwp_served.proofs.PoisonSeen.{AreMarkedBy}
+use Rattle.hwp_served.proofs.endings.Gone.{is-gone}
+use Rattle.hwp_served.proofs.deeds.Made.{some-so}
+use Rattle.hwp_served.proofs.marks.Marked.{has-mark}
+use Rattle.hwp_served.proofs.marks.Poisoned.{was-poisoned}
+use Rattle.hwp_served.proofs.marks.PoisonSeen.{AreMarkedBy}
 use Rattle.hwp_served.proofs.Seen.{MadeWhat, made-what}
 use Rattle.hwp_served.proofs.Stops.{stop-there}
 

@@ -26,7 +26,7 @@ use Rattle.hwp_served.specs.Served.{AreAnswered, CanStop}
 use Rattle.hwp_served.proofs.Answered.{is-caused}
 use Rattle.hwp_served.proofs.Ending.{list-of, served-of}
 use Rattle.hwp_served.proofs.Holding.{ended, seen_marks}
-use Rattle.hwp_served.proofs.Made.{command-is, some-so}
+use Rattle.hwp_served.proofs.deeds.Made.{command-is, some-so}
 use Rattle.hwp_served.proofs.Showing.{answer-told, eventless}
 use Rattle.hwp_served.proofs.Stops.{stopper}
 

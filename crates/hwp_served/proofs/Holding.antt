@@ -35,7 +35,7 @@ use Rattle.hwp_served.specs.Served.{AreAnswered}
 use Rattle.hwp_served.proofs.Along.{run-keeps}
 use Rattle.hwp_served.proofs.Answered.{had}
 use Rattle.hwp_served.proofs.Ending.{IsEnd, list-of, nothing-held, served-of}
-use Rattle.hwp_served.proofs.PoisonSeen.{AreMarkedBy, marked-kept}
+use Rattle.hwp_served.proofs.marks.PoisonSeen.{AreMarkedBy, marked-kept}
 use Rattle.hwp_served.proofs.Seen.{saw-at}
 use Rattle.hwp_served.proofs.Stops.{stopper}
 use Rattle.hwp_served.proofs.Windows.{in-window, line-answers}

@@ -10,13 +10,13 @@ use Rattle.hwp_runs.proofs.Reported.{histories-lead, histories-ordered}
 use Rattle.hwp_served.specs.Runs.{IsRunOf}
 use Rattle.hwp_served.proofs.Caused.{all-caused, stop-agrees}
 use Rattle.hwp_served.proofs.Ending.{IsEnd}
-use Rattle.hwp_served.proofs.Endings.{endings-stay}
-use Rattle.hwp_served.proofs.Framed.{frames-lawful}
+use Rattle.hwp_served.proofs.endings.Endings.{endings-stay}
+use Rattle.hwp_served.proofs.lines.Framed.{frames-lawful}
 use Rattle.hwp_served.proofs.Holding.{ended}
-use Rattle.hwp_served.proofs.LossesAgree.{losses-lawful}
-use Rattle.hwp_served.proofs.Made.{entries-made-by, entries-named}
+use Rattle.hwp_served.proofs.losses.LossesAgree.{losses-lawful}
+use Rattle.hwp_served.proofs.deeds.Made.{entries-made-by, entries-named}
 use Rattle.hwp_served.proofs.NoEvents.{events-are}
-use Rattle.hwp_served.proofs.Policies.{are-seen, never-falls}
+use Rattle.hwp_served.proofs.policies.Policies.{are-seen, never-falls}
 use Rattle.hwp_served.proofs.Windows.{states-in-windows}
 
 module _ (script : Script) (seat : Cpu → ℕ) (turns : List Played) (last : State) (report : Report) (run : IsRunOf script seat turns last report) where

@@ -21,9 +21,9 @@ use Rattle.hwp_law.specs.Pairings.{entries_of}
 use Rattle.hwp_law.specs.Places.{command_at}
 use Rattle.hwp_served.specs.Runs.{IsRunOf}
 use Rattle.hwp_served.proofs.Holding.{ended}
-use Rattle.hwp_served.proofs.Made.{command-is}
+use Rattle.hwp_served.proofs.deeds.Made.{command-is}
 use Rattle.hwp_served.proofs.Showing.{answers-of, eventless}
-use Rattle.hwp_served.proofs.Sound.{entries-none, no-check}
+use Rattle.hwp_served.proofs.deeds.Sound.{entries-none, no-check}
 
 module _ (script : Script) (seat : Cpu → ℕ) (turns : List Played) (last : State) (report : Report) (run : IsRunOf script seat turns last report) where
   -- no machine check of an access

@@ -49,7 +49,7 @@ use Rattle.hwp_runs.specs.Turns.{Finds, SawPage, SeesPage, TurnBy}
 use Rattle.hwp_runs.proofs.Knowing.{Said}
 use Rattle.hwp_runs.proofs.Telling.{told}
 use Rattle.hwp_served.specs.Causes.{FoundGone, FoundNoFrame, FoundStopped, IsCaused, SawProcess}
-use Rattle.hwp_served.proofs.Made.{some-so}
+use Rattle.hwp_served.proofs.deeds.Made.{some-so}
 
 -- a translation is of one page
 one-page : (layout : Layout) (slot : VSlot) (a b : Page) → IsOf layout a slot → IsOf layout b slot → a ≡ b

@@ -22,7 +22,7 @@ use Rattle.hwp_runs.proofs.Homes.{there-is}
 use Rattle.hwp_runs.proofs.Reported.{before-later, listed-entry, not-below-seen, past-earlier}
 use Rattle.hwp_served.specs.Causes.{IsCaused}
 use Rattle.hwp_served.proofs.Ending.{IsEnd, command-of, list-of, served-of}
-use Rattle.hwp_served.proofs.Made.{command-is}
+use Rattle.hwp_served.proofs.deeds.Made.{command-is}
 use Rattle.hwp_served.proofs.Seen.{MadeAt, SawAt, names-place, names-state}
 
 module _ (script : Script) (seat : Cpu → ℕ) (last : State) (report : Report) (end : IsEnd script seat last report) where

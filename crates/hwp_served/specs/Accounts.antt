@@ -1,5 +1,5 @@
 -- What a command did beside its entries: the frames that it poisoned, the losses that it took, and the policy that it set.
-use Rattle.std.specs.Prelude.{◌≡◌, ℕ, ◌==◌, ◌&&◌, Bool, false, List, [], ◌∷◌, Option, None, Some, filter, map}
+use Rattle.std.specs.Prelude.{◌≡◌, ℕ, ◌==◌, ◌&&◌, Bool, false, List, [], ◌∷◌, Option, None, Some, filter, flat_map, map}
 use Rattle.hwp_geom.specs.declared.FileNo.{FileNo}
 use Rattle.hwp_geom.specs.declared.Frame.{Frame}
 use Rattle.hwp_geom.specs.declared.Layout.{Layout}
@@ -69,6 +69,13 @@ pub record IsAccounted (view : View) (who : Who) (command : Command) (answer : A
 -- a line of a frame's record, with the frame
 abbrev pub Note : Type 0
 Note = Frame × MarkLine
+
+-- the lines that a processor noted of a frame, and those that all did
+abbrev pub lines_of : Frame → List Note → List MarkLine
+lines_of frame own = map (λ (n : Note). n.1) (filter (λ (n : Note). n.0.0 == frame.0) own)
+
+abbrev pub record_of : Frame → List (List Note) → List MarkLine
+record_of frame notes = flat_map (lines_of frame) notes
 
 -- the note tells the mark, and what its command's failure found
 pub record IsNote (layout : Layout) (view : View) (note : Note) (m : Mark) : Type 0 where

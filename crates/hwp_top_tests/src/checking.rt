@@ -83,23 +83,23 @@ fn a_forged_load_is_told(rt: HostRuntime) {
     );
 }
 
-/// A report whose two lines from `number` on change places.
-fn with_swapped(rt: &impl Abort, alloc: Global, text: &str, number: u64) -> String {
-    let mut out = String::new(alloc);
-    let mut held = "";
+/// Line `number` of a text, counted from 1; empty where there is none.
+fn line_at<'a>(text: &'a str, number: u64) -> &'a str {
     let mut at: u64 = 0;
     for line in text.lines() {
         at = at.saturating_add(1);
         if at == number {
-            held = line;
-        } else {
-            writeln!(out, "{line}").expect(rt, "memory");
-            if at == number + 1 {
-                writeln!(out, "{held}").expect(rt, "memory");
-            }
+            return line;
         }
     }
-    out
+    ""
+}
+
+/// A report whose two lines from `number` on change places.
+fn with_swapped(rt: &impl Abort, alloc: Global, text: &str, number: u64) -> String {
+    let next = number.saturating_add(1);
+    let earlier = with_line(rt, alloc, text, number, line_at(text, next));
+    with_line(rt, alloc, earlier.as_str(), next, line_at(text, number))
 }
 
 /// What is said of each pair of lines that change places.

@@ -4,8 +4,8 @@
 
 #[cfg(test)]
 mod calls;
-mod checking;
 #[cfg(test)]
+mod checking;
 #[cfg(test)]
 mod helpers;
 #[cfg(test)]

@@ -1,0 +1,5 @@
+pub mod Gone
+pub mod HandsAfter
+pub mod EndingSeen
+pub mod EndingKept
+pub mod Endings

@@ -1,0 +1,155 @@
+-- The lines of frames: where each is, that none of its lines is marked, and how many are poisoned.
+use Rattle.std.proofs.Common.{◌≡◌, ◌≢◌, ℕ, zero, suc, ◌+◌, ◌-◌, ◌%◌, ◌^◌, ◌<◌, ◌≤◌, Bool, true, false, cond, List, [], ◌∷◌, Option, Some, None, length, slice_get, slice_index, refl, sym, ap, ◌∙◌, subst, arith}
+use Rattle.std.specs.Int.{IsBitSet}
+use Rattle.std.proofs.lemmas.Bool.{eq-eqb, eqb-false, eqb-true, ne_eqb}
+use Rattle.std.proofs.lemmas.Option.{get_or_from_slice_get, none-some, slice_get_within}
+use Rattle.hwp_geom.specs.declared.Cpu.{Cpu}
+use Rattle.hwp_geom.specs.declared.Frame.{Frame}
+use Rattle.hwp_geom.specs.declared.Page.{Page}
+use Rattle.hwp_words.specs.Frames.{cycle_of, handled_of, is_handled, is_kernel, is_poisoned, owner_of, poison_of}
+use Rattle.hwp_words.specs.Names.{page_named}
+use Rattle.hwp_rule.specs.declared.State.{State}
+use Rattle.hwp_rule.specs.declared.View.{View}
+use Rattle.hwp_rule.specs.Lists.{SomeMember}
+use Rattle.hwp_rule.specs.Words.{Words, sum_below, words_of}
+use Rattle.hwp_rule.proofs.Lists.{at_map}
+use Rattle.hwp_rule.proofs.Moving.{shaped}
+use Rattle.hwp_step.specs.Boards.{Played, view_of}
+use Rattle.hwp_script.specs.declared.Command.TheVariants as commands
+use Rattle.hwp_script.specs.declared.Script.{Script}
+use Rattle.hwp_report.specs.declared.Answer.TheVariants as answers
+use Rattle.hwp_report.specs.declared.FrameLine.{FrameLine}
+use Rattle.hwp_report.specs.declared.MarkLine.{MarkLine}
+use Rattle.hwp_report.specs.declared.Place.TheVariants as places
+use Rattle.hwp_report.specs.declared.Report.{Report}
+use Rattle.hwp_law.specs.Frames.{IsFrameLine, IsPlaced, WasDone, poisoned_count}
+use Rattle.hwp_law.specs.Records.{ends_poisoned, is_poisoning}
+use Rattle.hwp_runs.specs.Ends.{IsFrameOn, place_in, place_owned}
+use Rattle.hwp_runs.proofs.Placed.{owned-named}
+use Rattle.hwp_served.specs.Runs.{IsRunOf}
+use Rattle.hwp_served.proofs.lines.Clean.{run-clean}
+use Rattle.hwp_served.proofs.Ending.{IsEnd}
+use Rattle.hwp_served.proofs.Holding.{ended}
+use Rattle.hwp_served.proofs.marks.MarkWords.{mark-poisons}
+use Rattle.hwp_served.proofs.marks.Poisoned.{one-line}
+use Rattle.hwp_served.proofs.marks.PoisonSeen.{marked-word}
+use Rattle.hwp_served.proofs.lines.RecordLines.{of-mark}
+use Rattle.hwp_served.proofs.lines.Records.{record-is}
+use Rattle.hwp_served.proofs.Showing.{answers-of}
+use Rattle.hwp_served.proofs.Sums.{list-below}
+
+-- a record of one poisoning at most says whether it has one
+ends-so : (l : List MarkLine) (b : Bool) → ((k : ℕ) (x : MarkLine) → slice_get l k ≡ Some x → (k ≡ 0) × (is_poisoning x ≡ true) × (b ≡ true)) → (b ≡ true → SomeMember (λ (x : MarkLine). Unit {0}) l) → ends_poisoned l ≡ b
+ends-so [] true each some = let x = some refl in absurd (none-some x.1 x.2)
+ends-so [] false each some = refl
+ends-so (x ∷ []) b each some = let one = each 0 x refl in one.1 ∙ sym one.2
+ends-so (x ∷ y ∷ l) b each some = absurd (let no_ : 1 ≡ 0 = (each 1 y refl).0 in omega arith)
+
+module _ (script : Script) (seat : Cpu → ℕ) (turns : List Played) (last : State) (report : Report) (run : IsRunOf script seat turns last report) where
+  abbrev end : IsEnd script seat last report
+  end = ended script seat turns last report run
+
+  abbrev words : Words
+  words = words_of script.layout last.words
+
+  module _ (frame : Frame) (line : FrameLine) (line_is : slice_get report.frames frame.0 ≡ Some line) where
+    pub on : IsFrameOn words last.views frame line
+    on = end.board.ends.frames frame line line_is
+
+    -- the record ends poisoned exactly where the word has POISON
+    pub ends-are : ends_poisoned line.marks ≡ is_poisoned on.word
+    ends-are = ends-so line.marks (is_poisoned on.word) each some
+      where
+        each : (k : ℕ) (x : MarkLine) → slice_get line.marks k ≡ Some x → (k ≡ 0) × (is_poisoning x ≡ true) × (is_poisoned on.word ≡ true)
+        each k x there =
+            let one = one-line script seat last report end frame line line_is k x there in
+            let o = of-mark script seat last report end frame line line_is k x there in
+            let word : slice_get words.frames o.mark.frame.0 ≡ Some on.word = ap (λ (f : Frame). slice_get words.frames f.0) o.frame_is ∙ on.there in
+            (one.0, one.1, mark-poisons script.layout last end.board.holds (seat o.mark.stamp.who.cpu) o.place (view_of last (seat o.mark.stamp.who.cpu)) o.mark on.word (end.seated.there o.mark.stamp.who.cpu o.inside) o.listed word)
+
+        some : is_poisoned on.word ≡ true → SomeMember (λ (x : MarkLine). Unit {0}) line.marks
+        some poisoned =
+            let by = marked-word script.layout last end.board.holds frame on.word on.there poisoned in
+            let k = by.3 in
+            let told = on.marks.listed k.1 (by.0, by.1.marks, at_map (λ (v : View). v.marks) last.views by.0 by.1 by.2, (k.0, k.1, k.2, refl)) k.3 in
+            (told.0, told.1, told.2, tt)
+
+    -- a failure of the frame is ended: the frame is the kernel's or handled
+    settled : is_kernel on.word ≡ false → is_handled on.word ≡ false → is_poisoned on.word ≡ false
+    settled kernel handled = which (is_poisoned on.word) refl
+      where
+        word-is : slice_index words.frames frame.0 ≡ on.word
+        word-is = get_or_from_slice_get words.frames frame.0 on.word 0 on.there
+
+        which : (b : Bool) → is_poisoned on.word ≡ b → is_poisoned on.word ≡ false
+        which true is = absurd (run.settled frame (cycle_of (slice_index words.frames frame.0)) (record {
+          poisoned = ap is_poisoned word-is ∙ is;
+          handled = ap is_handled word-is ∙ handled;
+          kernel = ap is_kernel word-is ∙ kernel;
+          cycle_is = refl;
+        }))
+        which false is = is
+
+    placed-so : (kernel handled : Bool) → is_kernel on.word ≡ kernel → is_handled on.word ≡ handled → IsPlaced script.layout kernel (is_poisoned on.word) (cond kernel places.Kernel (cond handled places.Handled (place_owned (page_named (owner_of on.word)))))
+    placed-so true handled kernel_is handled_is = refl
+    placed-so false true kernel_is handled_is = (refl, eq-eqb (poison_of on.word) 1 (end.board.holds.rule.failures.handled.out frame.0 on.word on.there (eqb-true (handled_of on.word) 1 handled_is)).poisoned)
+    placed-so false false kernel_is handled_is = by-name (owner_of on.word) refl
+      where
+        sound : is_poisoned on.word ≡ false
+        sound = settled kernel_is handled_is
+
+        by-name : (n : ℕ) → owner_of on.word ≡ n → IsPlaced script.layout false (is_poisoned on.word) (place_owned (page_named n))
+        by-name zero none = (refl, sound)
+        by-name (suc q) some =
+            let named = owned-named script.layout last end.board.holds end.board.unlocked frame.0 on.word q on.there (let is : owner_of on.word ≡ suc q = some in omega arith) in
+            let within : q < length script.layout.pages = subst (λ (n : ℕ). q < n) (shaped script.layout last end.board.holds).caches (slice_get_within words.caches q (frame.0 + 1) named) in
+            subst (λ (p : Option Page). IsPlaced script.layout false (is_poisoned on.word) (place_owned p)) (sym (owner-page q within)) (refl, sound, within)
+          where
+            owner-page : (q : ℕ) → q < length script.layout.pages → page_named (suc q) ≡ Some (record { 0 = q })
+            owner-page q within =
+                let few : length script.layout.pages ≤ 256 = end.board.holds.sound.pages in
+                ap (λ (b : Bool). cond b None (Some (record { 0 = (suc q - 1) % 2 ^ 16 }))) (ne_eqb (suc q) 0 (λ none. let no : suc q ≡ 0 = none in omega arith))
+                ∙ ap (λ (n : ℕ). Some (record { 0 = n })) (let is : (suc q - 1) % 2 ^ 16 ≡ q = omega arith in is)
+
+  -- no command marks a line bad, or weak
+  never-bad : (frame : Frame) (n : ℕ) → WasDone script report (commands.Bad frame n) → ⊥
+  never-bad frame n done = (answers-of script seat turns last report run done.who (commands.Bad frame n) answers.Done done.made done.answered).caused
+
+  never-weak : (frame : Frame) (n : ℕ) → WasDone script report (commands.Weak frame n) → ⊥
+  never-weak frame n done = (answers-of script seat turns last report run done.who (commands.Weak frame n) answers.Done done.made done.answered).caused
+
+  no-bit : (w n : ℕ) → w ≡ 0 → IsBitSet w n → ⊥
+  no-bit w n none set = absurd (subst (λ (m : ℕ). IsBitSet m n) none set refl)
+
+  pub frame-line : (frame : Frame) (kernel : Bool) (line : FrameLine) → slice_get script.layout.kernel frame.0 ≡ Some kernel → slice_get report.frames frame.0 ≡ Some line → IsFrameLine script report kernel frame line
+  frame-line frame kernel line kernel_is line_is =
+      let o = on frame line line_is in
+      let clean = run-clean script.layout turns last run.rule run.moves in
+      let own : is_kernel o.word ≡ kernel = end.board.holds.rule.frames.places.declared frame.0 o.word kernel o.there kernel_is in
+      record {
+        place = subst (λ (b : Bool). IsPlaced script.layout kernel b line.place) (sym (ends-are frame line line_is))
+            (subst (IsPlaced script.layout kernel (is_poisoned o.word)) (sym o.place)
+            (subst (λ (k : Bool). IsPlaced script.layout k (is_poisoned o.word) (place_in o.word)) own (placed-so frame line line_is (is_kernel o.word) (is_handled o.word) refl refl)));
+        bad = λ n. (λ set. absurd (no-bit line.bad.0 n (clean.bads frame.0 line.bad.0 o.bad) set), λ done. absurd (never-bad frame n done));
+        weak = λ n. (λ set. absurd (no-bit line.weak.0 n (clean.weaks frame.0 line.weak.0 o.weak) set), λ done. absurd (never-weak frame n done));
+        kept = record-is script seat turns last report run frame kernel kernel_is line line_is;
+      }
+
+  -- the count is that of the frames whose record ends poisoned
+  pub count-is : report.count ≡ poisoned_count report.frames
+  count-is =
+      let frames : length words.frames ≡ script.layout.frames = (shaped script.layout last end.board.holds).frames in
+      let lines : length report.frames ≡ script.layout.frames = run.lengths.frames in
+      run.ends.count
+      ∙ list-below poison_of (λ i. poison_of (slice_index words.frames i)) words.frames (λ i w there. ap poison_of (sym (get_or_from_slice_get words.frames i w 0 there)))
+      ∙ ap (sum_below (λ i. poison_of (slice_index words.frames i))) (frames ∙ sym lines)
+      ∙ sym (list-below (λ (l : FrameLine). cond (ends_poisoned l.marks) 1 0) (λ i. poison_of (slice_index words.frames i)) report.frames counts)
+    where
+      bit-is : (w : ℕ) → (b : Bool) → is_poisoned w ≡ b → cond b 1 0 ≡ poison_of w
+      bit-is w true is = sym (eqb-true (poison_of w) 1 is)
+      bit-is w false is = let other : poison_of w ≢ 1 = eqb-false (poison_of w) 1 is in let bit : poison_of w < 2 = omega arith in omega (arith, other, bit)
+
+      counts : (i : ℕ) (l : FrameLine) → slice_get report.frames i ≡ Some l → cond (ends_poisoned l.marks) 1 0 ≡ poison_of (slice_index words.frames i)
+      counts i l there =
+          let o = on (record { 0 = i }) l there in
+          ap (λ (b : Bool). cond b 1 0) (ends-are (record { 0 = i }) l there) ∙ bit-is o.word (is_poisoned o.word) refl ∙ ap poison_of (sym (get_or_from_slice_get words.frames i o.word 0 o.there))

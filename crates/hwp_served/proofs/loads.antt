@@ -1,0 +1,3 @@
+pub mod BodiesBy
+pub mod Inspected
+pub mod GoodLoads

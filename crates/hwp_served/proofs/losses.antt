@@ -1,0 +1,4 @@
+pub mod Owing
+pub mod Reporting
+pub mod LossesTold
+pub mod LossesAgree

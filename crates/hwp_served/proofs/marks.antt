@@ -1,0 +1,5 @@
+pub mod MarkWords
+pub mod Marked
+pub mod CountedMarks
+pub mod PoisonSeen
+pub mod Poisoned

@@ -1,0 +1,4 @@
+pub mod PolicyCounts
+pub mod PolicySeen
+pub mod PolicyDone
+pub mod Policies
