@@ -21,11 +21,11 @@ use Rattle.hwp_evidence.specs.Ends.{HadEnded}
 use Rattle.hwp_evidence.specs.Named.{HasOther}
 use Rattle.hwp_check_rules.specs.AnswerFaults.{IsOutside, IsRevived, IsUnnamed}
 use Rattle.hwp_check_rules.specs.Answered.{IsRight}
-use Rattle.hwp_check_answers.specs.Asking.{IsSo, is_by_state}
-use Rattle.hwp_check_answers.specs.Causing.{MetBadLines}
+use Rattle.hwp_check_causes.specs.Asking.{IsSo, is_by_state}
+use Rattle.hwp_check_causes.specs.Causing.{MetBadLines}
 use Rattle.hwp_check_answers.specs.Judging.{HadGone}
-use Rattle.hwp_check_answers.proofs.AskLaws.{caused-asked}
-use Rattle.hwp_check_answers.proofs.CauseLaws.{caused_lines}
+use Rattle.hwp_check_causes.proofs.AskLaws.{caused-asked}
+use Rattle.hwp_check_causes.proofs.CauseLaws.{caused_lines}
 
 module _ (script : Script) (report : Report) (later : Who) (answer : Answer) where
   abbrev WasOver : Proc → Type 0

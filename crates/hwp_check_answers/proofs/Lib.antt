@@ -1,12 +1,5 @@
 mod InPlace
-mod TellLaws
-mod AskLaws
 pub mod OrderLaws
-mod PlainLaws
-mod CauseLaws
-mod LineLaws
-mod BeforeLaws
-mod Legal
 mod JudgeLaws
 mod CourseLaws
 mod NextLaws

@@ -79,6 +79,19 @@ module _ (script : Script) (report : Report) (n : ℕ) (commands : List Command)
     | inr high ↦ let later : heading ≤ cpu_line report m.cpu = later-line report n m.cpu high in let is : other ≡ cpu_line report m.cpu + 1 + m.row = m.line_is in omega (arith, later, is)
   ]
 
+  later : (cpu : ℕ) → n ≤ cpu → (cpu ≡ n → ⊥) → n + 1 ≤ cpu
+  later cpu high differs = elim (cases_lt n cpu) [
+    | inl less ↦ omega (arith, less)
+    | inr most ↦ absurd (differs (omega (arith, high, most)))
+  ]
+
+  -- what stands in a later processor stands behind all lines of this one
+  behind : (row cpu other : ℕ) → row < length rows → n + 1 ≤ cpu → cpu_line report cpu ≤ other → heading + 1 + row ≤ other
+  behind row cpu other within less at =
+      let next : cpu_line report (n + 1) ≡ cpu_line report n + 1 + length rows = next-line report n rows of_report in
+      let after : cpu_line report (n + 1) ≤ cpu_line report cpu = later-line report (n + 1) cpu less in
+      omega (arith, next, after, within, at)
+
   -- where each of its commands has an answer, none is before its first line that is out of place
   from-row : (row : ℕ) → HaveAnswers commands rows → IsFirstOut commands rows row → (other : ℕ) → IsDisorder script report other → heading + 1 + row ≤ other
   from-row row each first other (inl u) = elim (cases_lt u.cpu.0 n) [
@@ -89,25 +102,9 @@ module _ (script : Script) (report : Report) (n : ℕ) (commands : List Command)
           let rs : u.rows ≡ rows = same-rows u.cpu.0 u.rows here u.of_report in
           let few : u.seq < length commands = subst (λ (c : List Command). u.seq < length c) cs u.within in
           absurd (u.lacks (subst (λ (r : List CpuLine). HasAnswer r u.seq) (sym rs) (each u.seq few)))
-      | inr differs ↦ behind u.cpu.0 (later u.cpu.0 high differs) (let is : other ≡ cpu_line report u.cpu.0 = u.line_is in omega (arith, is))
+      | inr differs ↦ behind row u.cpu.0 other (slice_get_within rows row first.line first.there) (later u.cpu.0 high differs) (let is : other ≡ cpu_line report u.cpu.0 = u.line_is in omega (arith, is))
     ]
   ]
-    where
-      within : row < length rows
-      within = slice_get_within rows row first.line first.there
-
-      later : (cpu : ℕ) → n ≤ cpu → (cpu ≡ n → ⊥) → n + 1 ≤ cpu
-      later cpu high differs = elim (cases_lt n cpu) [
-        | inl less ↦ omega (arith, less)
-        | inr most ↦ absurd (differs (omega (arith, high, most)))
-      ]
-
-      behind : (cpu : ℕ) → n + 1 ≤ cpu → cpu_line report cpu ≤ other → heading + 1 + row ≤ other
-      behind cpu less at =
-          let next : cpu_line report (n + 1) ≡ cpu_line report n + 1 + length rows = next-line report n rows of_report in
-          let after : cpu_line report (n + 1) ≤ cpu_line report cpu = later-line report (n + 1) cpu less in
-          let inside : row < length rows = within in
-          omega (arith, next, after, inside, at)
   from-row row each first other (inr m) = elim (cases_lt m.cpu n) [
     | inl low ↦ absurd (m.out ((below m.cpu m.commands m.rows low m.of_script m.of_report).in_place m.row m.shown m.there))
     | inr high ↦ elim (cases_eq m.cpu n) [
@@ -122,25 +119,9 @@ module _ (script : Script) (report : Report) (n : ℕ) (commands : List Command)
             | inl before ↦ absurd (out (first.before m.row m.shown before there))
             | inr most ↦ omega (arith, line, at, most)
           ]
-      | inr differs ↦ behind m.cpu (later m.cpu high differs) (let is : other ≡ cpu_line report m.cpu + 1 + m.row = m.line_is in omega (arith, is))
+      | inr differs ↦ behind row m.cpu other (slice_get_within rows row first.line first.there) (later m.cpu high differs) (let is : other ≡ cpu_line report m.cpu + 1 + m.row = m.line_is in omega (arith, is))
     ]
   ]
-    where
-      within : row < length rows
-      within = slice_get_within rows row first.line first.there
-
-      later : (cpu : ℕ) → n ≤ cpu → (cpu ≡ n → ⊥) → n + 1 ≤ cpu
-      later cpu high differs = elim (cases_lt n cpu) [
-        | inl less ↦ omega (arith, less)
-        | inr most ↦ absurd (differs (omega (arith, high, most)))
-      ]
-
-      behind : (cpu : ℕ) → n + 1 ≤ cpu → cpu_line report cpu ≤ other → heading + 1 + row ≤ other
-      behind cpu less at =
-          let next : cpu_line report (n + 1) ≡ cpu_line report n + 1 + length rows = next-line report n rows of_report in
-          let after : cpu_line report (n + 1) ≤ cpu_line report cpu = later-line report (n + 1) cpu less in
-          let inside : row < length rows = within in
-          omega (arith, next, after, inside, at)
 
   -- the first line of disorder of this processor is that of the report
   pub first-disorder : (line found : ℕ) → line ≡ heading → IsFirstDisorder commands rows line found → IsLeast (IsDisorder script report) found

@@ -13,13 +13,13 @@ use Rattle.hwp_evidence.specs.Counts.{AreCounts, AreFlags}
 use Rattle.hwp_evidence.specs.Firsts.{entry_of}
 use Rattle.hwp_evidence.specs.Named.{flagged_pages}
 use Rattle.hwp_check_rules.specs.AnswerFaults.{IsAnswerWrong}
-use Rattle.hwp_check_answers.specs.Befores.{AreBefore}
+use Rattle.hwp_check_causes.specs.Befores.{AreBefore}
 use Rattle.hwp_check_answers.specs.Judging.{IsGood}
-use Rattle.hwp_check_answers.specs.Knowing.{IsKnown, IsOwn}
+use Rattle.hwp_check_causes.specs.Knowing.{IsKnown, IsOwn}
 use Rattle.hwp_check_answers.specs.declared.facts.Facts.{Facts}
 use Rattle.hwp_check_answers.specs.declared.judging.Naming.{Naming}
-use Rattle.hwp_check_answers.specs.declared.known.Known.{Known}
-use Rattle.hwp_check_answers.specs.declared.right.Own.{Own}
+use Rattle.hwp_check_causes.specs.declared.Known.{Known}
+use Rattle.hwp_check_causes.specs.declared.Own.{Own}
 
 -- the policies, the events and the ends of the commands
 pub record AreFacts (commands : List Command) (rows : List CpuLine) (facts : Facts) : Type 0 where

@@ -1,11 +1,5 @@
 pub mod Placing
-pub mod Telling
-pub mod Plain
-pub mod Asking
 pub mod Disorders
-pub mod Causing
-pub mod Knowing
-pub mod Befores
 pub mod Judging
 pub mod Facts
 pub mod Sifting

@@ -4,7 +4,7 @@ ghost use Rattle.hwp_evidence.specs.Windows.{raised};
 ghost use Rattle.hwp_check_answers.specs.Judging.{IsCourse, gone_after, gone_by};
 
 use crate::judging::Course;
-use crate::known::process_at;
+use hwp_check_causes::process_at;
 use hwp_evidence::{no_floors, raise};
 use hwp_geom::{Cpu, OutOfMemory, Proc, Who};
 use hwp_report::{Answer, CpuLine, Report};

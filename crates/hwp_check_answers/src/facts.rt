@@ -2,9 +2,8 @@ ghost use Rattle.std.specs.Prelude.{◌≡◌, ◌≤◌, IfOk, false, length, s
 ghost use Rattle.hwp_kill.specs.declared.Policy.TheVariants.{Default};
 ghost use Rattle.hwp_check_answers.specs.Facts.{AreFacts, AreNamings};
 
-use crate::befores::policies_before;
 use crate::judging::Naming;
-use crate::right::Told;
+use hwp_check_causes::{Told, policies_before};
 use hwp_evidence::{entries_named, event_counts, event_ends, first_answers, others};
 use hwp_geom::{Cpu, OutOfMemory};
 use hwp_kill::Policy;

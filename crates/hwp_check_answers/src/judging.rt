@@ -4,11 +4,9 @@ ghost use Rattle.hwp_law.specs.States.{IsInWindow, state_named};
 ghost use Rattle.hwp_evidence.specs.Ends.{HadEnded};
 ghost use Rattle.hwp_check_rules.specs.AnswerFaults.{IsAnswerWrong, IsOutside, IsRevived, IsUnnamed};
 ghost use Rattle.hwp_check_answers.specs.Judging.{HadGone, IsCourse, IsGood, IsNaming};
-ghost use Rattle.hwp_check_answers.specs.Knowing.{IsKnown, IsOwn, IsTold};
+ghost use Rattle.hwp_check_causes.specs.Knowing.{IsKnown, IsOwn, IsTold};
 
-use crate::asking::named_state;
-use crate::known::{Known, process_at};
-use crate::right::{Own, Told, is_right};
+use hwp_check_causes::{Known, Own, Told, is_right, named_state, process_at};
 use hwp_evidence::{had_ended, is_elsewhere, is_in_span, is_not_below};
 use hwp_geom::{Proc, Who};
 use hwp_page::At;

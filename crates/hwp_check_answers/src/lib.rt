@@ -2,20 +2,12 @@
 #![tactic(auto)]
 
 mod answering;
-mod asking;
-mod befores;
-mod causes;
 mod course;
 mod disorders;
 mod facts;
-mod gathering;
 mod judging;
-mod known;
 mod placing;
-mod plain;
-mod right;
 mod sifting;
-mod telling;
 mod walk;
 
 pub use answering::{answer_lines, first_of_both};

@@ -1,17 +1,16 @@
 ghost use Rattle.std.specs.Prelude.{◌≡◌, ◌+◌, ◌<◌, ◌≤◌, ◌^◌, IfOk, MatchOption, Some, length, slice_get};
 ghost use Rattle.hwp_script.specs.Valid.{IsValid};
 ghost use Rattle.hwp_check_answers.specs.Facts.{AreGoodRows, IsFirstBad};
-ghost use Rattle.hwp_check_answers.specs.Knowing.{IsKnown};
+ghost use Rattle.hwp_check_causes.specs.Knowing.{IsKnown};
 ghost use Rattle.hwp_check_answers.specs.Sifting.{AreAllSound, AreSound, IsCut, IsFirstAnswer, IsUnsound};
 ghost use Rattle.hwp_check_rules.specs.Standing.{last_line};
 ghost use Rattle.hwp_check_rules.specs.Verdicts.{HoldBelow};
 
 use crate::course::begin;
 use crate::facts::{facts_of, naming_of};
-use crate::gathering::{known_of, own_of};
-use crate::known::Known;
 use crate::placing::first_out;
 use crate::walk::first_bad;
+use hwp_check_causes::{Known, known_of, own_of};
 use hwp_check_rules::{commands_of, cpu_at, rows_on};
 use hwp_geom::{Cpu, OutOfMemory};
 use hwp_report::{CpuLine, Report};

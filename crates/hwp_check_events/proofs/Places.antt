@@ -14,12 +14,6 @@ use Rattle.hwp_check_rules.specs.Answered.{is_answer, seq_of}
 abbrev pub row_of : Shown → CpuLine
 row_of s = lines.Event s.seq s.bank s.status s.addr s.misc s.row s.acted
 
-turned : (a b : ℕ) → (a == b) ≡ (b == a)
-turned a b = elim (cases_eq a b) [
-  | inl same ↦ eq-eqb a b same ∙ sym (eq-eqb b a (sym same))
-  | inr other ↦ ne_eqb a b other ∙ sym (ne_eqb b a (λ is. other (sym is)))
-]
-
 module _ (seq : ℕ) where
   abbrev own : CpuLine → Bool
   own l = not (is_answer l) && (seq_of l == seq)

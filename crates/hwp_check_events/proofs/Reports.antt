@@ -90,9 +90,6 @@ module _ (script : Script) (report : Report) (valid : IsValid script) (all : All
         subst (λ (l : List Command). Law cpu l) same (subst (λ (c : Cpu). Law c commands) (λ i. record { 0 = here i }) law)
   ]
 
-  pub none-yet : Below 0
-  none-yet = λ cpu list less there. absurd (omega (arith, less))
-
   pub all-legal : (n : ℕ) → ShapeFits script report → min (length script.lists) (length report.cpus) ≤ n → Below n → AreEvents script report
   all-legal n shape most below = λ cpu list there. below cpu list
       (let within : cpu.0 < length script.lists = slice_get_within script.lists cpu.0 list there in let a : length report.cpus ≡ script.layout.cpus = shape.cpus in let b : length script.lists ≡ script.layout.cpus = valid.one_each in omega (arith, most, within, a, b)) there

@@ -11,10 +11,10 @@ use Rattle.hwp_report.specs.declared.MarkLine.TheVariants as marks
 use Rattle.hwp_report.specs.declared.Report.{Report}
 use Rattle.hwp_law.specs.Pairings.{has_page}
 use Rattle.hwp_check_rules.specs.Standing.{frame_height, frame_line, last_line}
-use Rattle.hwp_check_marks.specs.Counts.{at_key}
+use Rattle.hwp_check_records.specs.Counts.{at_key}
 use Rattle.hwp_check_marks.specs.Tallies.{CountEntries, CountMarks, frames_raise, is_over, is_reached, key_of, mark_raise, marks_raise, may_have}
 use Rattle.hwp_check_marks.specs.Unpaired.{AllFew, IsExtra, IsFirstExtra, NoneExtra, allowed, before_in, exceeds, in_frames, is_extra}
-use Rattle.hwp_check_marks.specs.MarkScans.{IsFirstFault}
+use Rattle.hwp_check_records.specs.MarkScans.{IsFirstFault}
 use Rattle.hwp_check_marks.specs.declared.kinds.Kind.{Kind}
 use Rattle.hwp_check_marks.specs.declared.kinds.Kind.TheVariants as kinds
 use Rattle.hwp_check_marks.proofs.Tallying.{frames-kind, frames-low, front-low, marks-kind, pages-kind}

@@ -24,11 +24,11 @@ use Rattle.hwp_check_rules.specs.MarkFaults.{HasNoEvent, IsMarkFault, IsMarkLack
 use Rattle.hwp_check_rules.specs.Rules.{MarksFit}
 use Rattle.hwp_check_rules.specs.Standing.{entry_line, frame_line}
 use Rattle.hwp_check_rules.specs.Verdicts.{IsBroken, Marks}
-use Rattle.hwp_check_marks.specs.MarkScans.{IsClear, IsFirstFault, IsRecordFault, RecordsFit}
+use Rattle.hwp_check_records.specs.MarkScans.{IsClear, IsFirstFault, IsRecordFault, RecordsFit}
 use Rattle.hwp_check_marks.specs.Unpaired.{AllFew, IsExtra, IsTooMany}
 use Rattle.hwp_check_marks.specs.Walks.{IsLowest}
 use Rattle.hwp_check_marks.proofs.LackingLaws.{SomeEntryIn, some-entry}
-use Rattle.hwp_check_marks.proofs.Shown.{and-left, and-right, same-who, shown-in}
+use Rattle.hwp_check_records.proofs.Shown.{and-left, and-right, same-who, shown-in}
 use Rattle.hwp_check_marks.proofs.WalkLaws.{other-words, sooner-least}
 
 -- the lower of two lines

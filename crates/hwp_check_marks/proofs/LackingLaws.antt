@@ -17,14 +17,14 @@ use Rattle.hwp_law.specs.Pairings.{entries_of, has_page, is_failure, is_soft}
 use Rattle.hwp_check_rules.specs.Firsts.{IsLeast, sooner_if}
 use Rattle.hwp_check_rules.specs.MarkFaults.{IsMarkLacking, LacksMarks, home_of}
 use Rattle.hwp_check_rules.specs.Standing.{entry_height, frame_line, page_height}
-use Rattle.hwp_check_marks.specs.Counts.{at_key}
+use Rattle.hwp_check_records.specs.Counts.{at_key}
 use Rattle.hwp_check_marks.specs.Lacking.{IsHomeLacking, has_fewer, is_lacking, kind_asked, lowest_entry, lowest_in}
 use Rattle.hwp_check_marks.specs.Tallies.{frames_raise, key_of, pages_raise}
 use Rattle.hwp_check_marks.specs.Unpaired.{in_frames, in_pages}
 use Rattle.hwp_check_marks.specs.Walks.{IsAskedIn, IsLowest, walk_entries, walk_pages}
 use Rattle.hwp_check_marks.specs.declared.kinds.Kind.{Kind}
 use Rattle.hwp_check_marks.specs.declared.kinds.Kind.TheVariants as kinds
-use Rattle.hwp_check_marks.proofs.Shown.{and-left, and-right, frame-rises, same-situation, same-who}
+use Rattle.hwp_check_records.proofs.Shown.{and-left, and-right, frame-rises, same-situation, same-who}
 use Rattle.hwp_check_marks.proofs.Tallying.{frames-kind, pages-kind}
 use Rattle.hwp_check_marks.proofs.WalkLaws.{other-words, walked}
 

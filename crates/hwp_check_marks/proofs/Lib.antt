@@ -1,13 +1,9 @@
-mod Shown
-mod Results
-mod Keeping
 mod Tallying
 mod Unpairing
 mod Counting
 mod WalkLaws
 mod LowLaws
 mod LackingLaws
-mod SaidLaws
 mod NeededLaws
 mod UrgentLaws
 mod MisLaws

@@ -10,8 +10,9 @@ use Rattle.hwp_report.specs.declared.Report.{Report}
 use Rattle.hwp_law.specs.Lines.{EventLine, events_among}
 use Rattle.hwp_law.specs.Records.{result_of}
 use Rattle.hwp_check_rules.specs.MarkFaults.{lower, lowest_of}
-use Rattle.hwp_check_marks.specs.Lows.{AreLows, is_pair, low_at, lows_below, row_low, rows_low}
-use Rattle.hwp_check_marks.proofs.Tallying.{eqb-swap}
+use Rattle.hwp_check_marks.specs.Lows.{AreLows, low_at, lows_below, row_low, rows_low}
+use Rattle.hwp_check_records.specs.Counts.{is_pair}
+use Rattle.hwp_check_records.proofs.Raising.{eqb-swap}
 
 -- the lower of two frames, where there are any
 merged : Option ℕ → Option ℕ → Option ℕ

@@ -14,16 +14,17 @@ use Rattle.hwp_report.specs.declared.Report.{Report}
 use Rattle.hwp_law.specs.Pairings.{entries_of, has_page, is_failure, is_required, situation_number, urgent_from}
 use Rattle.hwp_check_rules.specs.MarkFaults.{IsMisrequired}
 use Rattle.hwp_check_rules.specs.Standing.{entry_height, entry_line, page_height, page_line}
-use Rattle.hwp_check_marks.specs.Counts.{at_key}
+use Rattle.hwp_check_records.specs.Counts.{at_key}
 use Rattle.hwp_check_marks.specs.Needed.{differs, frames_urgent, is_misneeded, is_misrequired, pages_needed}
-use Rattle.hwp_check_marks.specs.Said.{AreNoted, said_below}
+use Rattle.hwp_check_records.specs.Said.{AreNoted, said_below}
 use Rattle.hwp_check_marks.specs.Tallies.{key_of}
 use Rattle.hwp_check_marks.specs.Walks.{IsAskedIn, IsLowest, walk_pages}
 use Rattle.hwp_check_marks.specs.declared.kinds.Kind.TheVariants as kinds
 use Rattle.hwp_check_marks.proofs.NeededLaws.{needed-is}
-use Rattle.hwp_check_marks.proofs.Shown.{and-both, and-left, and-right, same-situation}
+use Rattle.hwp_check_records.proofs.Shown.{and-both, and-left, and-right, same-situation}
 use Rattle.hwp_check_marks.proofs.UrgentLaws.{urgent-is}
 use Rattle.hwp_check_marks.proofs.WalkLaws.{other-words, walked}
+use Rattle.hwp_check_records.specs.declared.Noted.{Noted}
 
 abbrev line-of : Entry → ℕ → ℕ
 line-of e line = line
@@ -106,7 +107,7 @@ module _ {S : Type 0} (report : Report) (needed urgent : HashMap ((ℕ × ℕ) �
       other-words (IsAskedIn (is_misrequired needed urgent) line-of (page_line report 0) report.pages) (IsMisrequired report) _ asked-is is-asked (walked (is_misrequired needed urgent) line-of (page_line report 0) report.pages)
 
 -- the same of what was read of the report
-pub lowest-of : {S : Type 0} {T : Type 0} (report : Report) (needed urgent many : HashMap ((ℕ × ℕ) × ℕ) ℕ S) (rows : HashMap (((ℕ × ℕ) × ℕ) × ℕ) ℕ T) (pages : List (List Entry)) (frames : List FrameLine) (first : ℕ) (found : Option ℕ)
+pub lowest-of : {S : Type 0} {T : Type 0} (report : Report) (needed urgent many : HashMap ((ℕ × ℕ) × ℕ) ℕ S) (rows : HashMap (((ℕ × ℕ) × ℕ) × ℕ) Noted T) (pages : List (List Entry)) (frames : List FrameLine) (first : ℕ) (found : Option ℕ)
     → pages ≡ report.pages → frames ≡ report.frames → first ≡ page_line report 0 → AreNoted (said_below (length report.cpus) report) many rows → ((q : (ℕ × ℕ) × ℕ) → at_key needed q ≡ pages_needed q pages)
     → ((q : (ℕ × ℕ) × ℕ) → at_key urgent q ≡ frames_urgent rows 0 q frames) → found ≡ walk_pages (is_misrequired needed urgent) (λ e line. line) first None pages → IsLowest (IsMisrequired report) found
 lowest-of report needed urgent many rows pages frames first found pages_are frames_are first_is noted needed_are urgent_are is =

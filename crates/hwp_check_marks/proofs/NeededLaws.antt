@@ -10,11 +10,12 @@ use Rattle.hwp_report.specs.declared.Report.{Report}
 use Rattle.hwp_law.specs.Lines.{is_same_command}
 use Rattle.hwp_law.specs.Pairings.{entries_of, is_required, situation_number}
 use Rattle.hwp_check_rules.specs.Standing.{entry_height, page_height}
-use Rattle.hwp_check_marks.specs.Counts.{raise}
+use Rattle.hwp_check_records.specs.Counts.{raise}
 use Rattle.hwp_check_marks.specs.Needed.{entry_needed, page_needed, pages_needed, what_needed}
 use Rattle.hwp_check_marks.specs.Tallies.{key_of}
 use Rattle.hwp_check_marks.specs.declared.kinds.Kind.TheVariants as kinds
-use Rattle.hwp_check_marks.proofs.Tallying.{and-none, entry-lines, flag, raise-is, raise-one, same-sum}
+use Rattle.hwp_check_marks.proofs.Tallying.{and-none, entry-lines, raise-is, same-sum}
+use Rattle.hwp_check_records.proofs.Raising.{flag, raise-one}
 
 entry-one : (q : (ℕ × ℕ) × ℕ) (e : Entry) → entry_needed q e ≤ 1
 entry-one q e = at e.what

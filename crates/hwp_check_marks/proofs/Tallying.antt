@@ -1,6 +1,6 @@
 -- The counts of keys are the counts of a command's marks and entries of a kind, and no count is higher than there are lines.
-use Rattle.std.proofs.Common.{◌≡◌, inl, inr, ℕ, zero, suc, ◌+◌, ◌<◌, ◌≤◌, ◌==◌, ◌&&◌, not, Bool, true, false, cond, List, [], ◌∷◌, count_by, get_or, length, sum_by, take, refl, sym, ap, ◌∙◌, arith}
-use Rattle.std.proofs.lemmas.Bool.{cases_Bool, eq-eqb, eqb-false, eqb-true, ne_eqb}
+use Rattle.std.proofs.Common.{◌≡◌, inl, inr, ℕ, zero, suc, ◌+◌, ◌<◌, ◌≤◌, ◌==◌, ◌&&◌, not, Bool, true, false, cond, List, [], ◌∷◌, count_by, get_or, length, sum_by, take, refl, ap, ◌∙◌, arith}
+use Rattle.std.proofs.lemmas.Bool.{cases_Bool, eqb-true, ne_eqb}
 use Rattle.std.proofs.lemmas.List.Sums.{sum_by-cons, sum_by-take-le, sum_by_more_le}
 use Rattle.hwp_geom.specs.declared.Who.{Who}
 use Rattle.hwp_page.specs.declared.Entry.{Entry}
@@ -16,18 +16,12 @@ use Rattle.hwp_report.specs.declared.MarkLine.TheVariants as marks
 use Rattle.hwp_law.specs.Lines.{is_same_command}
 use Rattle.hwp_law.specs.Pairings.{situation_number}
 use Rattle.hwp_check_rules.specs.Standing.{entry_height, frame_height, page_height, what_height}
-use Rattle.hwp_check_marks.specs.Counts.{raise}
+use Rattle.hwp_check_records.specs.Counts.{raise}
+use Rattle.hwp_check_records.proofs.Raising.{flag, flag-one, raise-one, same-swap}
 use Rattle.hwp_check_marks.specs.Tallies.{entry_raise, frames_raise, how_raise, key_of, kind_number, mark_raise, marks_raise, page_raise, pages_raise, what_raise}
 use Rattle.hwp_check_marks.specs.Unpaired.{in_frames, in_page, in_pages, is_entry, is_kind}
 use Rattle.hwp_check_marks.specs.declared.kinds.Kind.{Kind}
 use Rattle.hwp_check_marks.specs.declared.kinds.Kind.TheVariants as kinds
-
-abbrev pub flag : Bool → ℕ
-flag b = cond b 1 0
-
-flag-one : (b : Bool) → flag b ≤ 1
-flag-one true = omega arith
-flag-one false = omega arith
 
 -- a key is counted for its own kind alone
 raise-kind : (x q : (ℕ × ℕ) × ℕ) → raise x q ≤ flag (x.1 == q.1)
@@ -61,9 +55,6 @@ two-kinds who k l q less =
     let b : raise (key_of who l) q ≤ flag (kind_number l == q.1) = raise-kind (key_of who l) q in
     let c : flag (kind_number k == q.1) + flag (kind_number l == q.1) ≤ 1 = one-kind (kind_number k) (kind_number l) q.1 less in
     omega (arith, a, b, c)
-
-pub raise-one : (x q : (ℕ × ℕ) × ℕ) → raise x q ≤ 1
-raise-one x q = flag-one (((x.0.0 == q.0.0) && (x.0.1 == q.0.1)) && (x.1 == q.1))
 
 -- a mark is counted once at most for a key, and so is an entry
 how-one : (q : (ℕ × ℕ) × ℕ) (who : Who) (how : How) → how_raise q who how ≤ 1
@@ -169,15 +160,6 @@ entries-front-low q list i within = before list i within
         omega (arith, all, one, rest)
 
 -- the count of a command with a kind is that of its marks, or entries, of the kind
-pub eqb-swap : (a b : ℕ) → (a == b) ≡ (b == a)
-eqb-swap a b = elim (cases_Bool (a == b)) [
-  | inl is ↦ is ∙ sym (eq-eqb b a (sym (eqb-true a b is)))
-  | inr not_so ↦ not_so ∙ sym (ne_eqb b a (λ e. eqb-false a b not_so (sym e)))
-]
-
-pub same-swap : (v w : Who) → ((v.cpu.0 == w.cpu.0) && (v.seq == w.seq)) ≡ is_same_command w v
-same-swap v w = ap (λ (b : Bool). b && (v.seq == w.seq)) (eqb-swap v.cpu.0 w.cpu.0) ∙ ap (λ (b : Bool). (w.cpu.0 == v.cpu.0) && b) (eqb-swap v.seq w.seq)
-
 pub raise-is : (v w : Who) (k l : Kind) → raise (key_of v k) (key_of w l) ≡ flag (is_same_command w v && (kind_number k == kind_number l))
 raise-is v w k l = ap (λ (b : Bool). flag (b && (kind_number k == kind_number l))) (same-swap v w)
 

@@ -17,10 +17,10 @@ use Rattle.hwp_law.specs.Records.{how_in, is_by_hardware, who_in}
 use Rattle.hwp_check_marks.specs.declared.kinds.Kind.{Kind}
 use Rattle.hwp_check_marks.specs.declared.kinds.Kind.TheVariants as kinds
 use Rattle.hwp_check_rules.specs.MarkFaults.{marks_before}
-use Rattle.hwp_check_marks.specs.MarkScans.{IsClear, IsFirstFault}
+use Rattle.hwp_check_records.specs.MarkScans.{IsClear, IsFirstFault}
 use Rattle.hwp_check_rules.specs.Standing.{frame_line}
 use Rattle.hwp_check_marks.specs.Unpaired.{AllFew, IsExtra, IsFirstExtra, IsTooMany, NoneExtra, allowed, before_in, exceeds, is_extra}
-use Rattle.hwp_check_marks.proofs.Shown.{and-both, and-left, and-right, frame-next, frame-rises, marks-are, same-self, same-situation, same-who, shown-in}
+use Rattle.hwp_check_records.proofs.Shown.{and-both, and-left, and-right, frame-next, frame-rises, marks-are, same-self, same-situation, same-who, shown-in}
 
 abbrev flag : Bool → ℕ
 flag b = cond b 1 0
@@ -292,10 +292,6 @@ few-refutes report few frame place mark there (inr (inr s)) =
 
 same-frame : (f : Frame) (n : ℕ) → f.0 ≡ n → f ≡ frame-at n
 same-frame f n is = ap frame-at is
-
--- it begins at the first frame
-pub few-start : (report : Report) (heading : ℕ) → heading ≡ 4 + length report.files → FewBelow report 0 heading
-few-start report heading is = record { none = λ frame low. absurd (omega (arith, low)); heading_is = omega (arith, is) }
 
 -- it goes on behind a frame with none too many
 pub few-next : (report : Report) (n heading next : ℕ) (shown : FrameLine) → FewBelow report n heading → slice_get report.frames n ≡ Some shown

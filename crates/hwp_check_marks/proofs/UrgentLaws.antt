@@ -18,16 +18,19 @@ use Rattle.hwp_law.specs.Lines.{EventLine, is_same_command}
 use Rattle.hwp_law.specs.Pairings.{is_urgent, situation_number, urgent_from}
 use Rattle.hwp_law.specs.Records.{hardware_marks, is_by_hardware, result_lines, who_in}
 use Rattle.hwp_check_rules.specs.Standing.{frame_height}
-use Rattle.hwp_check_marks.specs.Counts.{raise}
-use Rattle.hwp_check_marks.specs.Needed.{frames_urgent, how_urgent, is_nine, mark_urgent, marks_urgent, own_raise}
-use Rattle.hwp_check_marks.specs.Said.{AreNoted, row_at, said_below}
+use Rattle.hwp_check_records.specs.Counts.{raise}
+use Rattle.hwp_check_marks.specs.Needed.{frames_urgent, how_urgent, is_nine, mark_urgent, marks_urgent}
+use Rattle.hwp_check_records.specs.Own.{own_raise}
+use Rattle.hwp_check_records.specs.Said.{AreNoted, row_at, said_below}
 use Rattle.hwp_check_marks.specs.Tallies.{key_of}
 use Rattle.hwp_check_marks.specs.declared.kinds.Kind.TheVariants as kinds
-use Rattle.hwp_check_marks.proofs.SaidLaws.{row-in, said-all}
-use Rattle.hwp_check_marks.proofs.Shown.{same-who}
-use Rattle.hwp_check_marks.proofs.Tallying.{flag, raise-is, raise-one, same-swap}
+use Rattle.hwp_check_records.proofs.SaidLaws.{row-in, said-all}
+use Rattle.hwp_check_records.proofs.Shown.{same-who}
+use Rattle.hwp_check_marks.proofs.Tallying.{raise-is}
+use Rattle.hwp_check_records.proofs.Raising.{flag, raise-one, same-swap}
+use Rattle.hwp_check_records.specs.declared.Noted.{Noted}
 
-module _ {S : Type 0} (rows : HashMap (((ℕ × ℕ) × ℕ) × ℕ) ℕ S) where
+module _ {S : Type 0} (rows : HashMap (((ℕ × ℕ) × ℕ) × ℕ) Noted S) where
   -- counts that are the same lead to the same
   how-same : (f g : (ℕ × ℕ) × ℕ → ℕ) (frame : ℕ) (q : (ℕ × ℕ) × ℕ) (who : Who) (how : How) → ((x : (ℕ × ℕ) × ℕ) → f x ≡ g x) → how_urgent rows f frame q who how ≡ how_urgent rows g frame q who how
   how-same f g frame q who (hows.Failure true situation outcome) same =
@@ -175,7 +178,7 @@ module _ {S : Type 0} (rows : HashMap (((ℕ × ℕ) × ℕ) × ℕ) ℕ S) wher
       | inl mine ↦
           let none : row_at rows (((v.cpu.0, v.seq), frame), f ((v.cpu.0, v.seq), frame)) ≡ None = read-here f k v mine at ∙ ap (λ (n : ℕ). row_at rows (here, n)) (omega arith) ∙ read 0 in
           let one : mark_urgent rows f frame (key_of w (kinds.Failure s)) (marks.Poisoned cycle v (hows.Failure true t outcome)) ≡ 0 =
-          ap (λ (o : Option ℕ). cond (is_nine o) (raise (key_of v (kinds.Failure t)) (key_of w (kinds.Failure s))) 0) none in
+          ap (λ (o : Option Noted). cond (is_nine o) (raise (key_of v (kinds.Failure t)) (key_of w (kinds.Failure s))) 0) none in
           let rest : marks_urgent rows (λ x. f x + own_raise frame x (marks.Poisoned cycle v (hows.Failure true t outcome))) frame (key_of w (kinds.Failure s)) ms ≡ pairs ms [] =
           paired (λ x. f x + own_raise frame x (marks.Poisoned cycle v (hows.Failure true t outcome))) (k + 1) ms [] (own-one f k v mine at) (λ j. ap (λ (n : ℕ). row_at rows (here, n)) (omega arith) ∙ read (1 + j)) in
           let nothing : pairs ms [] ≡ 0 = none-paired (hardware_marks w ms) in
@@ -186,11 +189,11 @@ module _ {S : Type 0} (rows : HashMap (((ℕ × ℕ) × ℕ) × ℕ) ℕ S) wher
     paired f k (marks.Poisoned cycle v (hows.Failure true t outcome) ∷ ms) (l ∷ ls) at read = elim (cases_Bool (is_same_command w v)) [
       | inl mine ↦
           let m : MarkLine = marks.Poisoned cycle v (hows.Failure true t outcome) in
-          let row : row_at rows (((v.cpu.0, v.seq), frame), f ((v.cpu.0, v.seq), frame)) ≡ Some l.row = read-here f k v mine at ∙ ap (λ (n : ℕ). row_at rows (here, n)) (omega arith) ∙ read 0 in
+          let row : row_at rows (((v.cpu.0, v.seq), frame), f ((v.cpu.0, v.seq), frame)) ≡ Some (row-in l) = read-here f k v mine at ∙ ap (λ (n : ℕ). row_at rows (here, n)) (omega arith) ∙ read 0 in
           let raised : raise (key_of v (kinds.Failure t)) (key_of w (kinds.Failure s)) ≡ flag (situation_number t == situation_number s) =
           raise-is v w (kinds.Failure t) (kinds.Failure s) ∙ ap (λ (b : Bool). flag (b && (situation_number t == situation_number s))) mine in
           let one : mark_urgent rows f frame (key_of w (kinds.Failure s)) m ≡ flag ((situation_number t == situation_number s) && (l.row == 9)) =
-          ap (λ (o : Option ℕ). cond (is_nine o) (raise (key_of v (kinds.Failure t)) (key_of w (kinds.Failure s))) 0) row ∙ ap (λ (n : ℕ). cond (l.row == 9) n 0) raised
+          ap (λ (o : Option Noted). cond (is_nine o) (raise (key_of v (kinds.Failure t)) (key_of w (kinds.Failure s))) 0) row ∙ ap (λ (n : ℕ). cond (l.row == 9) n 0) raised
           ∙ turned (l.row == 9) (situation_number t == situation_number s) in
           let rest : marks_urgent rows (λ x. f x + own_raise frame x m) frame (key_of w (kinds.Failure s)) ms ≡ pairs ms ls =
           paired (λ x. f x + own_raise frame x m) (k + 1) ms ls (own-one f k v mine at) (λ j. ap (λ (n : ℕ). row_at rows (here, n)) (omega arith) ∙ read (suc j)) in
@@ -210,22 +213,22 @@ module _ {S : Type 0} (rows : HashMap (((ℕ × ℕ) × ℕ) × ℕ) ℕ S) wher
         turned false false = refl
 
 -- all frames
-pub urgent-is : {S : Type 0} {T : Type 0} (report : Report) (many : HashMap ((ℕ × ℕ) × ℕ) ℕ S) (rows : HashMap (((ℕ × ℕ) × ℕ) × ℕ) ℕ T) → AreNoted (said_below (length report.cpus) report) many rows → (w : Who) (s : Situation) (n : ℕ) (frames : List FrameLine)
+pub urgent-is : {S : Type 0} {T : Type 0} (report : Report) (many : HashMap ((ℕ × ℕ) × ℕ) ℕ S) (rows : HashMap (((ℕ × ℕ) × ℕ) × ℕ) Noted T) → AreNoted (said_below (length report.cpus) report) many rows → (w : Who) (s : Situation) (n : ℕ) (frames : List FrameLine)
     → frames_urgent rows n (key_of w (kinds.Failure s)) frames ≡ urgent_from report w s n frames
 urgent-is report many rows noted w s n [] = refl
 urgent-is report many rows noted w s n (l ∷ ls) =
     let one : marks_urgent rows (λ x. 0) n (key_of w (kinds.Failure s)) l.marks ≡ count_by (is_urgent s) (zip (hardware_marks w l.marks) (result_lines report w n)) =
     paired rows w s n (λ x. 0) 0 l.marks (result_lines report w n) refl
-    (λ j. ap (λ (k : ℕ). row_at rows (((w.cpu.0, w.seq), n), k)) (omega arith) ∙ noted.row_is ((w.cpu.0, w.seq), n) j ∙ ap (λ (xs : List ℕ). slice_get xs j) (said-all report w n)) in
+    (λ j. ap (λ (k : ℕ). row_at rows (((w.cpu.0, w.seq), n), k)) (omega arith) ∙ noted.row_is ((w.cpu.0, w.seq), n) j ∙ ap (λ (xs : List Noted). slice_get xs j) (said-all report w n)) in
     let rest : frames_urgent rows (n + 1) (key_of w (kinds.Failure s)) ls ≡ urgent_from report w s (n + 1) ls = urgent-is report many rows noted w s (n + 1) ls in
     omega (arith, one, rest)
 
 -- a mark of an event, as it is read
-pub urgent-step : {S : Type 0} (rows : HashMap (((ℕ × ℕ) × ℕ) × ℕ) ℕ S) (had : (ℕ × ℕ) × ℕ → ℕ) (frame : ℕ) (q : (ℕ × ℕ) × ℕ) (who : Who) (hardware : Bool) (situation : Situation) (outcome : Outcome) (was is number place : ℕ) (row : Option ℕ) (asks : Bool)
+pub urgent-step : {S : Type 0} (rows : HashMap (((ℕ × ℕ) × ℕ) × ℕ) Noted S) (had : (ℕ × ℕ) × ℕ → ℕ) (frame : ℕ) (q : (ℕ × ℕ) × ℕ) (who : Who) (hardware : Bool) (situation : Situation) (outcome : Outcome) (was is number place : ℕ) (row : Option Noted) (asks : Bool)
     (key : (ℕ × ℕ) × ℕ) → number ≡ frame → place ≡ had ((who.cpu.0, who.seq), number) → row ≡ row_at rows (((who.cpu.0, who.seq), number), place) → asks ≡ (hardware && is_nine row) → key ≡ key_of who (kinds.Failure situation)
     → is ≡ was + cond asks (raise key q) 0 → is ≡ was + how_urgent rows had frame q who (hows.Failure hardware situation outcome)
 urgent-step rows had frame q who hardware situation outcome was is number place row asks key number_is place_is row_is asks_is key_is counted =
     counted ∙ ap (λ (k : (ℕ × ℕ) × ℕ). was + cond asks (raise k q) 0) key_is ∙ ap (λ (b : Bool). was + cond b (raise (key_of who (kinds.Failure situation)) q) 0) asks_is
-    ∙ ap (λ (o : Option ℕ). was + cond (hardware && is_nine o) (raise (key_of who (kinds.Failure situation)) q) 0) row_is
+    ∙ ap (λ (o : Option Noted). was + cond (hardware && is_nine o) (raise (key_of who (kinds.Failure situation)) q) 0) row_is
     ∙ ap (λ (n : ℕ). was + cond (hardware && is_nine (row_at rows (((who.cpu.0, who.seq), number), n))) (raise (key_of who (kinds.Failure situation)) q) 0) place_is
     ∙ ap (λ (n : ℕ). was + cond (hardware && is_nine (row_at rows (((who.cpu.0, who.seq), n), had ((who.cpu.0, who.seq), n)))) (raise (key_of who (kinds.Failure situation)) q) 0) number_is

@@ -10,7 +10,7 @@ use Rattle.hwp_report.specs.declared.Report.{Report}
 use Rattle.hwp_law.specs.Pairings.{has_page}
 use Rattle.hwp_check_rules.specs.Firsts.{sooner_if}
 use Rattle.hwp_check_rules.specs.MarkFaults.{LacksMarks, home_of}
-use Rattle.hwp_check_marks.specs.Counts.{at_key}
+use Rattle.hwp_check_records.specs.Counts.{at_key}
 use Rattle.hwp_check_marks.specs.Tallies.{key_of}
 use Rattle.hwp_check_marks.specs.declared.kinds.Kind.{Kind}
 use Rattle.hwp_check_marks.specs.declared.kinds.Kind.TheVariants as kinds

@@ -1,9 +1,6 @@
-pub mod MarkScans
 pub mod Unpaired
-pub mod Counts
 pub mod Tallies
 pub mod Walks
 pub mod Lows
 pub mod Lacking
-pub mod Said
 pub mod Needed

@@ -1,5 +1,5 @@
 -- The lowest frame that each command's event lines name with a result, as the lines are gone through.
-use Rattle.std.specs.Prelude.{◌≡◌, ℕ, ◌==◌, ◌&&◌, nat_lt, Bool, cond, List, [], Option, Some, None, fold, is_some, slice_get, unwrap_or}
+use Rattle.std.specs.Prelude.{◌≡◌, ℕ, ◌&&◌, nat_lt, cond, List, [], Option, Some, None, fold, is_some, slice_get, unwrap_or}
 use Rattle.std.specs.HashMap.{HashMap}
 use Rattle.std.specs.HashMap as hash
 use Rattle.hwp_geom.specs.declared.Who.{Who}
@@ -9,10 +9,8 @@ use Rattle.hwp_report.specs.declared.CpuLine.TheVariants as lines
 use Rattle.hwp_report.specs.declared.Report.{Report}
 use Rattle.hwp_law.specs.Lines.{events_of}
 use Rattle.hwp_law.specs.Records.{result_of}
+use Rattle.hwp_check_records.specs.Counts.{is_pair}
 use Rattle.hwp_check_rules.specs.MarkFaults.{lower, lowest_of}
-
-abbrev pub is_pair : ℕ × ℕ → ℕ × ℕ → Bool
-is_pair x y = (x.0 == y.0) && (x.1 == y.1)
 
 abbrev pub low_at : {S : Type 0} → HashMap (ℕ × ℕ) ℕ S → ℕ × ℕ → Option ℕ
 low_at m q = hash.get is_pair m q

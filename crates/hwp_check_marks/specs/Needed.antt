@@ -13,10 +13,12 @@ use Rattle.hwp_report.specs.declared.How.TheVariants as hows
 use Rattle.hwp_report.specs.declared.MarkLine.{MarkLine}
 use Rattle.hwp_report.specs.declared.MarkLine.TheVariants as marks
 use Rattle.hwp_law.specs.Pairings.{has_page}
-use Rattle.hwp_check_marks.specs.Counts.{at_key, raise}
-use Rattle.hwp_check_marks.specs.Said.{row_at}
+use Rattle.hwp_check_records.specs.Counts.{at_key, raise}
+use Rattle.hwp_check_records.specs.Said.{row_at}
+use Rattle.hwp_check_records.specs.Own.{own_raise}
 use Rattle.hwp_check_marks.specs.Tallies.{key_of}
 use Rattle.hwp_check_marks.specs.declared.kinds.Kind.TheVariants as kinds
+use Rattle.hwp_check_records.specs.declared.Noted.{Noted}
 
 -- how much an entry raises the count of a key
 abbrev pub what_needed : (ℕ × ℕ) × ℕ → Who → What → ℕ
@@ -32,36 +34,27 @@ page_needed q list = sum_by (entry_needed q) list
 abbrev pub pages_needed : (ℕ × ℕ) × ℕ → List (List Entry) → ℕ
 pages_needed q pages = sum_by (page_needed q) pages
 
--- how much a mark of an event raises the count of its command's such marks in the frame
-abbrev pub how_own : ℕ → (ℕ × ℕ) × ℕ → Who → How → ℕ
-how_own frame q who (hows.Failure hardware situation outcome) = cond hardware (raise ((who.cpu.0, who.seq), frame) q) 0
-how_own frame q who how = 0
-
-abbrev pub own_raise : ℕ → (ℕ × ℕ) × ℕ → MarkLine → ℕ
-own_raise frame q (marks.Poisoned cycle who how) = how_own frame q who how
-own_raise frame q (marks.Unpoisoned cycle who) = 0
-
--- the row is that of an access that needs the page, S9
-abbrev pub is_nine : Option ℕ → Bool
+-- the line has the row of an access that needs the page
+abbrev pub is_nine : Option Noted → Bool
 is_nine None = false
-is_nine (Some row) = row == 9
+is_nine (Some noted) = noted.row == 9
 
 -- how much the mark raises the count of a key, where so many marks of each command stand before it
-abbrev pub how_urgent : {S : Type 0} → HashMap (((ℕ × ℕ) × ℕ) × ℕ) ℕ S → ((ℕ × ℕ) × ℕ → ℕ) → ℕ → (ℕ × ℕ) × ℕ → Who → How → ℕ
+abbrev pub how_urgent : {S : Type 0} → HashMap (((ℕ × ℕ) × ℕ) × ℕ) Noted S → ((ℕ × ℕ) × ℕ → ℕ) → ℕ → (ℕ × ℕ) × ℕ → Who → How → ℕ
 how_urgent rows had frame q who (hows.Failure hardware situation outcome) =
     cond (hardware && is_nine (row_at rows (((who.cpu.0, who.seq), frame), had ((who.cpu.0, who.seq), frame)))) (raise (key_of who (kinds.Failure situation)) q) 0
 how_urgent rows had frame q who how = 0
 
-abbrev pub mark_urgent : {S : Type 0} → HashMap (((ℕ × ℕ) × ℕ) × ℕ) ℕ S → ((ℕ × ℕ) × ℕ → ℕ) → ℕ → (ℕ × ℕ) × ℕ → MarkLine → ℕ
+abbrev pub mark_urgent : {S : Type 0} → HashMap (((ℕ × ℕ) × ℕ) × ℕ) Noted S → ((ℕ × ℕ) × ℕ → ℕ) → ℕ → (ℕ × ℕ) × ℕ → MarkLine → ℕ
 mark_urgent rows had frame q (marks.Poisoned cycle who how) = how_urgent rows had frame q who how
 mark_urgent rows had frame q (marks.Unpoisoned cycle who) = 0
 
 -- the same of some marks, and of the records of frames, from this number on
-abbrev pub marks_urgent : {S : Type 0} → HashMap (((ℕ × ℕ) × ℕ) × ℕ) ℕ S → ((ℕ × ℕ) × ℕ → ℕ) → ℕ → (ℕ × ℕ) × ℕ → List MarkLine → ℕ
+abbrev pub marks_urgent : {S : Type 0} → HashMap (((ℕ × ℕ) × ℕ) × ℕ) Noted S → ((ℕ × ℕ) × ℕ → ℕ) → ℕ → (ℕ × ℕ) × ℕ → List MarkLine → ℕ
 marks_urgent rows had frame q [] = 0
 marks_urgent rows had frame q (m ∷ ms) = mark_urgent rows had frame q m + marks_urgent rows (λ x. had x + own_raise frame x m) frame q ms
 
-abbrev pub frames_urgent : {S : Type 0} → HashMap (((ℕ × ℕ) × ℕ) × ℕ) ℕ S → ℕ → (ℕ × ℕ) × ℕ → List FrameLine → ℕ
+abbrev pub frames_urgent : {S : Type 0} → HashMap (((ℕ × ℕ) × ℕ) × ℕ) Noted S → ℕ → (ℕ × ℕ) × ℕ → List FrameLine → ℕ
 frames_urgent rows n q [] = 0
 frames_urgent rows n q (l ∷ ls) = marks_urgent rows (λ x. 0) n q l.marks + frames_urgent rows (n + 1) q ls
 

@@ -11,7 +11,7 @@ use Rattle.hwp_report.specs.declared.How.TheVariants as hows
 use Rattle.hwp_report.specs.declared.MarkLine.{MarkLine}
 use Rattle.hwp_report.specs.declared.MarkLine.TheVariants as marks
 use Rattle.hwp_law.specs.Pairings.{has_page, situation_number}
-use Rattle.hwp_check_marks.specs.Counts.{at_key, raise}
+use Rattle.hwp_check_records.specs.Counts.{at_key, raise}
 use Rattle.hwp_check_marks.specs.declared.kinds.Kind.{Kind}
 use Rattle.hwp_check_marks.specs.declared.kinds.Kind.TheVariants as kinds
 

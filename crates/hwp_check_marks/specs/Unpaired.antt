@@ -6,7 +6,6 @@ use Rattle.hwp_page.specs.declared.Entry.{Entry}
 use Rattle.hwp_page.specs.declared.Situation.{Situation}
 use Rattle.hwp_page.specs.declared.What.{What}
 use Rattle.hwp_report.specs.declared.FrameLine.{FrameLine}
-use Rattle.hwp_report.specs.declared.How.{How}
 use Rattle.hwp_report.specs.declared.How.TheVariants as hows
 use Rattle.hwp_report.specs.declared.MarkLine.{MarkLine}
 use Rattle.hwp_report.specs.declared.MarkLine.TheVariants as marks
@@ -35,12 +34,6 @@ abbrev pub allowed : Report → Who → Kind → ℕ
 allowed report who (kinds.Failure situation) = entries_of report who (is_failure situation)
 allowed report who kinds.Moved = entries_of report who is_soft
 allowed report who kinds.Commanded = 1
-
--- the kinds that are counted: a failure only where a page is in the frame
-abbrev pub IsCounted : Kind → Type 0
-IsCounted (kinds.Failure situation) = has_page situation ≡ true
-IsCounted kinds.Moved = Unit {0}
-IsCounted kinds.Commanded = Unit {0}
 
 -- no command has more marks of a kind than it may
 pub record AreFew (report : Report) (who : Who) : Type 0 where
@@ -77,11 +70,6 @@ in_page who kind entries = count_by (λ (e : Entry). is_same_command who e.who &
 
 abbrev pub in_pages : Who → Kind → List (List Entry) → ℕ
 in_pages who kind pages = sum_by (in_page who kind) pages
-
--- a bank's event caused the poisoning
-abbrev pub is_hardware : How → Bool
-is_hardware (hows.Failure hardware situation outcome) = hardware
-is_hardware _ = false
 
 -- as many marks of the kind as the command may have stand before
 abbrev pub exceeds : Report → Who → Kind → List FrameLine → List MarkLine → Bool

@@ -5,11 +5,11 @@ ghost use Rattle.hwp_check_marks.specs.Lacking.{has_fewer, is_lacking, kind_aske
 ghost use Rattle.hwp_check_marks.specs.Lows.{AreLows};
 ghost use Rattle.hwp_check_marks.specs.Walks.{IsLowest};
 
-use crate::counts::{Counts, count};
 use crate::keys::{has_page, key_of};
 use crate::kinds::Kind;
 use crate::lows::{Lows, low_of, lows_of};
 use crate::tallies::{entry_counts, mark_counts};
+use hwp_check_records::{Counts, count};
 use hwp_check_rules::{command_of, frame_at, sooner_if};
 use hwp_geom::{List, OutOfMemory, Who};
 use hwp_page::{Entry, What};

@@ -1,8 +1,6 @@
-//! The rule of marks: the records of poisoning of each frame, and the failures, events and answers that they are of.
+//! The rule of marks: the records of poisoning of frames, in pairs with the failures, events and answers that they are of.
 #![tactic(auto)]
 
-mod counts;
-mod kept;
 mod keys;
 mod kinds;
 mod lacking;
@@ -10,8 +8,6 @@ mod lows;
 mod marks;
 mod misrequired;
 mod needed;
-mod records;
-mod said;
 mod tallies;
 mod unpaired;
 mod urgent;

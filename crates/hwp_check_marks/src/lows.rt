@@ -1,11 +1,12 @@
-ghost use Rattle.std.specs.Prelude.{◌≡◌, ℕ, cond, is_some, length, IfOk, OnOk, Some};
-ghost use Rattle.hwp_law.specs.Records.{result_of};
+ghost use Rattle.std.specs.Prelude.{◌≡◌, ℕ, cond, length, IfOk, OnOk, Some};
 ghost use Rattle.hwp_check_rules.specs.MarkFaults.{lower};
-ghost use Rattle.hwp_check_marks.specs.Lows.{AreLows, is_pair, low_at, row_low, rows_low};
+ghost use Rattle.hwp_check_records.specs.Counts.{is_pair};
+ghost use Rattle.hwp_check_marks.specs.Lows.{AreLows, low_at, row_low, rows_low};
 
+use hwp_check_records::is_result;
 use hwp_check_rules::rows_on;
 use hwp_geom::{Cpu, OutOfMemory};
-use hwp_report::{Acted, CpuLine, Report};
+use hwp_report::{CpuLine, Report};
 use std::alloc::Global;
 use std::collections::HashMap;
 
@@ -29,13 +30,6 @@ fn lower(lows: &mut Lows, key: (u8, u32), frame: u64) -> Result<(), OutOfMemory>
     };
     lows.insert(key, low)?;
     Ok(())
-}
-
-/// Whether an event line says a result.
-pub(crate) fn is_result(acted: Acted) -> bool
-    ensures { result ≡ is_some (result_of acted) }
-{
-    matches!(acted, Acted::Recovered | Acted::Delayed | Acted::Ignored)
 }
 
 /// Notes a line of the processor.

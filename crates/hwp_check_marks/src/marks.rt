@@ -3,10 +3,10 @@ ghost use Rattle.hwp_script.specs.Valid.{IsValid};
 ghost use Rattle.hwp_check_rules.specs.Standing.{last_line};
 ghost use Rattle.hwp_check_rules.specs.Verdicts.{HoldBelow, Holds, IsBroken, Marks};
 
-use crate::kept::kept;
 use crate::lacking::lacking;
 use crate::misrequired::misrequired;
 use crate::unpaired::unpaired;
+use hwp_check_records::kept;
 use hwp_check_rules::soonest;
 use hwp_geom::OutOfMemory;
 use hwp_report::Report;
@@ -27,6 +27,6 @@ pub fn marks_fault(
     let extra = unpaired(alloc, report)?;
     let lacks = lacking(alloc, script, report)?;
     let wrong = misrequired(alloc, script, report)?;
-    let record = kept(script, report);
+    let record = kept(alloc, script, report)?;
     Ok(soonest(soonest(record, extra), soonest(lacks, wrong)))
 }

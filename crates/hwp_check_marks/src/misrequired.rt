@@ -5,12 +5,11 @@ ghost use Rattle.hwp_check_rules.specs.Standing.{entry_height, last_line, page_h
 ghost use Rattle.hwp_check_marks.specs.Needed.{differs, is_misneeded, is_misrequired};
 ghost use Rattle.hwp_check_marks.specs.Walks.{IsLowest, walk_entries, walk_pages};
 
-use crate::counts::{Counts, count};
 use crate::keys::{has_page, key_of};
 use crate::kinds::Kind;
 use crate::needed::needed_counts;
-use crate::said::said_of;
 use crate::urgent::urgent_counts;
+use hwp_check_records::{Counts, count, said_of};
 use hwp_check_rules::{entries_height, entry_height, first_page_line, sooner_if};
 use hwp_geom::{List, OutOfMemory, Who};
 use hwp_page::{Entry, Situation, What};

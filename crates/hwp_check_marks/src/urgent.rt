@@ -1,45 +1,45 @@
 ghost use Rattle.std.specs.Prelude.{◌≡◌, ◌+◌, ◌<◌, ◌^◌, ◌&&◌, ℕ, IfOk, OnOk, length};
 ghost use Rattle.std.specs.List.{sum_by};
 ghost use Rattle.hwp_check_rules.specs.Standing.{frame_height};
-ghost use Rattle.hwp_check_marks.specs.Counts.{at_key};
-ghost use Rattle.hwp_check_marks.specs.Needed.{frames_urgent, how_own, how_urgent, is_nine, mark_urgent, marks_urgent, own_raise};
+ghost use Rattle.hwp_check_records.specs.Counts.{at_key};
+ghost use Rattle.hwp_check_marks.specs.Needed.{frames_urgent, how_urgent, is_nine, mark_urgent, marks_urgent};
 
-use crate::counts::{Counts, add_if, count};
 use crate::keys::key_of;
 use crate::kinds::Kind;
-use crate::said::{Rows, row_of};
+use hwp_check_records::{Counts, Noted, Rows, add_if, add_own, count, row_of};
 use hwp_geom::{OutOfMemory, Who};
 use hwp_report::{FrameLine, How, MarkLine};
 use std::alloc::Global;
 use std::collections::HashMap;
 
-/// Whether the row is that of an access that needs the page.
-fn is_nine(row: Option<u8>) -> bool
-    ensures { result ≡ is_nine row }
+/// Whether the line has the row of an access that needs the page.
+fn is_nine(said: Option<Noted>) -> bool
+    ensures { result ≡ is_nine said }
 {
-    matches!(row, Some(9))
+    match said {
+        Some(noted) => noted.row == 9,
+        None => false,
+    }
 }
 
 /// Whether a poisoning is by an event whose line has such a row.
-fn asks_for(hardware: bool, row: Option<u8>) -> bool
-    ensures { result ≡ (hardware && is_nine row) }
+fn asks_for(hardware: bool, said: Option<Noted>) -> bool
+    ensures { result ≡ (hardware && is_nine said) }
 {
-    hardware && is_nine(row)
+    hardware && is_nine(said)
 }
 
 /// Counts a poisoning by the command's event, where its event line asks for an entry that a thread needs.
 fn add_how(
     urgent: &mut Counts,
-    had: &mut Counts,
+    had: &Counts,
     rows: &Rows,
     frame: u16,
     who: Who,
     how: How,
 ) -> Result<(), OutOfMemory>
     requires room { (q : (ℕ × ℕ) × ℕ) → at_key urgent.old q + 1 < 2 ^ 64 }
-    requires own { (q : (ℕ × ℕ) × ℕ) → at_key had.old q + 1 < 2 ^ 64 }
-    ensures urgent { OnOk result ((q : (ℕ × ℕ) × ℕ) → at_key urgent.new q ≡ at_key urgent.old q + how_urgent rows.now (at_key had.old) frame q who how) }
-    ensures own { OnOk result ((q : (ℕ × ℕ) × ℕ) → at_key had.new q ≡ at_key had.old q + how_own frame q who how) }
+    ensures { OnOk result ((q : (ℕ × ℕ) × ℕ) → at_key urgent.new q ≡ at_key urgent.old q + how_urgent rows.now (at_key had.now) frame q who how) }
 {
     match how {
         How::Failure {
@@ -49,7 +49,6 @@ fn add_how(
         } => {
             let own = ((who.cpu.0, who.seq), u64::from(frame));
             let place = count(had, own);
-            add_if(had, hardware, own)?;
             let asks = asks_for(hardware, row_of(rows, (own, place)));
             add_if(urgent, asks, key_of(who, Kind::Failure(situation)))?;
             Ok(())
@@ -58,18 +57,16 @@ fn add_how(
     }
 }
 
-/// Counts a mark so.
+/// Counts a mark so, where so many marks of each command stand before it.
 fn add_mark(
     urgent: &mut Counts,
-    had: &mut Counts,
+    had: &Counts,
     rows: &Rows,
     frame: u16,
     mark: &MarkLine,
 ) -> Result<(), OutOfMemory>
     requires room { (q : (ℕ × ℕ) × ℕ) → at_key urgent.old q + 1 < 2 ^ 64 }
-    requires own { (q : (ℕ × ℕ) × ℕ) → at_key had.old q + 1 < 2 ^ 64 }
-    ensures urgent { OnOk result ((q : (ℕ × ℕ) × ℕ) → at_key urgent.new q ≡ at_key urgent.old q + mark_urgent rows.now (at_key had.old) frame q mark.now) }
-    ensures own { OnOk result ((q : (ℕ × ℕ) × ℕ) → at_key had.new q ≡ at_key had.old q + own_raise frame q mark.now) }
+    ensures { OnOk result ((q : (ℕ × ℕ) × ℕ) → at_key urgent.new q ≡ at_key urgent.old q + mark_urgent rows.now (at_key had.now) frame q mark.now) }
 {
     match *mark {
         MarkLine::Poisoned { who, how, .. } => add_how(urgent, had, rows, frame, who, how),
@@ -90,7 +87,8 @@ fn add_marks(
 {
     let mut had = HashMap::new(alloc);
     for mark in marks {
-        add_mark(urgent, &mut had, rows, frame, mark)?;
+        add_mark(urgent, &had, rows, frame, mark)?;
+        add_own(&mut had, frame, mark)?;
     }
     Ok(())
 }

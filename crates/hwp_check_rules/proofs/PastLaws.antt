@@ -1,5 +1,5 @@
 -- What is known of a thread: the policies set, the commands done, and the counts of both.
-use Rattle.std.proofs.Common.{◌≡◌, ◌⊎◌, inl, inr, ℕ, ◌+◌, ◌-◌, ◌<◌, ◌≤◌, ◌==◌, Bool, false, List, [], ◌∷◌, ◌++◌, Option, Some, None, cond, length, take, drop, slice_get, slice_set, slice_index_or, unwrap_or, refl, sym, ap, ◌∙◌, subst, arith}
+use Rattle.std.proofs.Common.{◌≡◌, ◌⊎◌, inl, inr, ℕ, ◌+◌, ◌-◌, ◌<◌, ◌≤◌, ◌==◌, Bool, List, [], ◌∷◌, ◌++◌, Option, Some, None, cond, length, take, drop, slice_get, slice_set, slice_index_or, unwrap_or, refl, sym, ap, ◌∙◌, subst, arith}
 use Rattle.std.specs.List.{filter_map, find}
 use Rattle.std.specs.Option.{option_and_then, option_map, option_to_list}
 use Rattle.std.proofs.lemmas.Bool.{cases_eq, cases_lt, eq-eqb, ne_eqb}
@@ -85,14 +85,6 @@ note_more rows flags after back d within done are = (
 
     split : drop at rows ≡ row ∷ drop (length rows - back) rows
     split = drop_more rows at d here ∙ (λ i. slice_index_or rows (sym place i) d ∷ drop (next i) rows)
-
--- with no line read, none is done
-pub none_done : (rows : List CpuLine) (flags : List Bool) → ((k : ℕ) (d : Bool) → k < length flags → slice_index_or flags k d ≡ false) → AreDone (drop (length rows) rows) flags
-none_done rows flags none = λ k d less. none k d less ∙ ap (λ (l : List CpuLine). is_done (answer_among l k)) (sym (nothing rows))
-  where
-    nothing : (l : List CpuLine) → drop (length l) l ≡ []
-    nothing [] = refl
-    nothing (x ∷ xs) = nothing xs
 
 -- what stands in a past
 pub past_is : (script : Script) (report : Report) (thread : Thread) (past : Past) (commands : List Command) (rows : List CpuLine) (flags : List Bool) → cpu_of_thread script thread ≡ Some past.cpu

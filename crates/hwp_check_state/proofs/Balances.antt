@@ -28,18 +28,6 @@ use Rattle.hwp_check_rules.specs.Standing.{entry_height, file_line, last_line, p
 use Rattle.hwp_check_rules.specs.Verdicts.{IsBroken, Losses}
 use Rattle.hwp_check_state.specs.Balances.{capped, told_at, told_lines}
 
--- as many answers as answer lines
-length-answers : (rows : List CpuLine) → length (filter_map answer_in rows) ≡ count_by is_answer rows
-length-answers [] = refl
-length-answers (lines.Event seq bank status addr misc row acted ∷ rows) =
-    let rest : length (filter_map answer_in rows) ≡ count_by is_answer rows = length-answers rows in
-    let all : count_by is_answer (lines.Event seq bank status addr misc row acted ∷ rows) ≡ 0 + count_by is_answer rows = sum_by-cons (λ (l : CpuLine). cond (is_answer l) 1 0) (lines.Event seq bank status addr misc row acted) rows in
-    omega (arith, rest, all)
-length-answers (lines.Answer seq answer ∷ rows) =
-    let rest : length (filter_map answer_in rows) ≡ count_by is_answer rows = length-answers rows in
-    let all : count_by is_answer (lines.Answer seq answer ∷ rows) ≡ 1 + count_by is_answer rows = sum_by-cons (λ (l : CpuLine). cond (is_answer l) 1 0) (lines.Answer seq answer) rows in
-    omega (arith, rest, all)
-
 zip-nil : {X Y : Type 0} (xs : List X) → zip {X = Y} xs [] ≡ []
 zip-nil [] = refl
 zip-nil (x ∷ xs) = refl
@@ -68,9 +56,6 @@ got : {X : Type 0} (xs : List X) (i : ℕ) (d x : X) → i < length xs → x ≡
 got [] i d x within is = absurd (omega arith)
 got (y ∷ xs) zero d x within is = ap Some (sym is)
 got (y ∷ xs) (suc i) d x within is = got xs i d x (omega arith) is
-
-abbrev pub flag : Bool → ℕ
-flag b = cond b 1 0
 
 module _ (file : FileNo) where
   -- what a further line tells, where so many commands have their answers before it

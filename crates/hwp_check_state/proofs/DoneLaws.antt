@@ -99,9 +99,6 @@ done-next script report list out n commands rows flags commands-are rows-are eac
         answered : answer_among rows was.who.seq ≡ Some answers.Done
         answered = ap (λ (l : List CpuLine). answer_among l was.who.seq) (rows-are ∙ ap (λ (m : ℕ). unwrap_or (slice_get report.cpus m) []) (sym same)) ∙ was.answered
 
-pub done-none : (script : Script) (report : Report) → AreDoneBelow 0 script report []
-done-none script report command = (λ c. nothing command c, λ was. let less : was.who.cpu.0 < 0 = was.below in absurd (omega (arith, less)))
-
 -- at the end all processors are read
 pub done-all : (script : Script) (report : Report) (list : List Command) (n : ℕ) → length script.lists ≤ n → AreDoneBelow n script report list → AreDoneOf script report list
 done-all script report list n all below command = (

@@ -4,7 +4,6 @@ use Rattle.std.specs.Int.{from_bool}
 use Rattle.std.specs.Option.{option_and_then}
 use Rattle.std.proofs.lemmas.Bool.{eqb-false, eqb-true}
 use Rattle.std.proofs.lemmas.List.{take_min}
-use Rattle.std.proofs.lemmas.Option.{same_Some}
 use Rattle.hwp_geom.specs.declared.Cpu.{Cpu}
 use Rattle.hwp_geom.specs.declared.Thread.{Thread}
 use Rattle.hwp_geom.specs.declared.Who.{Who}
@@ -102,10 +101,6 @@ module _ (script : Script) (report : Report) (seen : Seen) (past : Past) (is : I
       which : (b : Bool) → count == n ≡ b → MatchBool b (IsOwnCount script report who seen) (IsOwnCount script report who seen → ⊥)
       which true same = λ of. sym n-is ∙ sym (eqb-true count n same) ∙ is-count ∙ count-is own
       which false other = λ fits. eqb-false count n other (is-count ∙ count-is own ∙ sym (fits (is.of_cpu ∙ ap Some own)) ∙ sym n-is)
-
-  -- a thread of another processor
-  pub other-is : (past.cpu ≡ who.cpu → ⊥) → IsOwnCount script report who seen
-  other-is other of = absurd (other (same_Some past.cpu who.cpu (sym is.of_cpu ∙ of)))
 
 pub own-cpu : (a b : Cpu) → false ≡ not (a.0 == b.0) → a ≡ b
 own-cpu a b same = which (a.0 == b.0) refl same

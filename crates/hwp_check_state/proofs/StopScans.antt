@@ -18,13 +18,6 @@ which : (b : Bool) → (b ≡ true) ⊎ (b ≡ false)
 which true = inl refl
 which false = inr refl
 
-answer-same : (m n : ℕ) (a b : Answer) → lines.Answer m a ≡ lines.Answer n b → a ≡ b
-answer-same m n a b same = ap answer_in_line same
-  where
-    answer_in_line : CpuLine → Answer
-    answer_in_line (lines.Event s bank status addr misc graded acted) = answers.Stopped
-    answer_in_line (lines.Answer s x) = x
-
 stop-only : (n : ℕ) (a : Answer) → goes_on (lines.Answer n a) ≡ false → a ≡ answers.Stopped
 stop-only n answers.Stopped h = refl
 stop-only n _ h = absurd (true≢false h)

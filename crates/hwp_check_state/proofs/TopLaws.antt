@@ -10,10 +10,6 @@ use Rattle.hwp_geom.specs.declared.Thread.{Thread}
 use Rattle.hwp_check_state.specs.declared.sights.Sight.{Sight}
 use Rattle.hwp_check_state.specs.Sights.{IsBelow, IsNotBelow, IsSmall, IsTop, group_of, key_of, top_of}
 
--- keys by their parts
-width : ℕ
-width = 4294967296
-
 groups-rise : (g q n h p m : ℕ) → p < 4294967296 → m < 4294967296 → (g * 4294967296 + q) * 4294967296 + n ≤ (h * 4294967296 + p) * 4294967296 + m → g ≤ h
 groups-rise g q n h p m small-p small-m up = omega arith
 
@@ -34,17 +30,6 @@ same-cpu a b same = λ i. record { 0 = same i }
 
 same-thread : (a b : Thread) → a.0 ≡ b.0 → a ≡ b
 same-thread a b same = λ i. record { 0 = same i }
-
-pub top-none : IsTop [] 0 0
-top-none = record {
-  below = λ s c same. nothing s c;
-  reached = inl refl;
-  last = λ s c. nothing s c;
-  low = λ k all. omega arith;
-}
-  where
-    nothing : {P : Type 0} (s : Sight) → Contains {X = Sight} [] s → P
-    nothing s c = let less : c.0 < 0 = c.1 in absurd (omega arith)
 
 module _ (list : List Sight) (sorted : IsNonDecreasingBy key_of list) (small : All IsSmall list) (i : ℕ) (d : Sight) (within : i < length list) where
   abbrev pub x : Sight

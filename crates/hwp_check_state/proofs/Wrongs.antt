@@ -20,7 +20,7 @@ use Rattle.hwp_law.specs.Places.{entry_at}
 use Rattle.hwp_check_rules.specs.Faults.{IsBarred, IsBehind, IsHistoryFault}
 use Rattle.hwp_check_state.specs.Histories.{FirstFit, IsFirstWrong, IsWrongAt, PageFits}
 use Rattle.hwp_check_rules.specs.Rules.{HistoriesFit}
-use Rattle.hwp_check_rules.specs.Standing.{entry_height, entry_line, last_line, page_height, page_line}
+use Rattle.hwp_check_rules.specs.Standing.{entry_height, entry_line, page_height, page_line}
 use Rattle.hwp_check_rules.specs.Verdicts.{Histories, IsBroken}
 
 -- an entry of a history, by its place
@@ -266,24 +266,12 @@ pub record Come (script : Script) (report : Report) (n line : ℕ) : Type 0 wher
   pub below : FitBelow script report n
   pub line_is : line ≡ page_line report n
 
-pub come-first : (script : Script) (report : Report) (line : ℕ) → line ≡ page_line report 0 → Come script report 0 line
-come-first script report line is = record { below = λ q others low there. absurd (omega (arith, low)); line_is = is }
-
 pub come-next : {script : Script} {report : Report} {n line : ℕ} (entries : List Entry) (next : ℕ) → Come script report n line → slice_get report.pages n ≡ Some entries
     → PageFits script (record { 0 = n }) entries → next ≡ line + 1 + sum_by entry_height entries → Come script report (n + 1) next
 come-next {script = script} {report = report} {n = n} {line = line} entries next come page fits is = record {
   below = fit-next script report n entries page come.below fits;
   line_is = is ∙ ap (λ (k : ℕ). k + 1 + sum_by entry_height entries) come.line_is ∙ sym (page-next report n entries page);
 }
-
--- the lines of a page are within the report
-pub come-room : {script : Script} {report : Report} {n line : ℕ} (entries : List Entry) → Come script report n line → slice_get report.pages n ≡ Some entries
-    → line + 1 + sum_by entry_height entries ≤ last_line report
-come-room {report = report} {n = n} {line = line} entries come page =
-    let next : page_line report (n + 1) ≡ page_line report n + 1 + sum_by entry_height entries = page-next report n entries page in
-    let line_is : line ≡ page_line report n = come.line_is in
-    let part = sum_by-take-le page_height report.pages (n + 1) in
-    omega (arith, part, next, line_is)
 
 pub come-wrong : {script : Script} {report : Report} {n line : ℕ} (entries : List Entry) (at : ℕ) → Come script report n line → slice_get report.pages n ≡ Some entries
     → IsWrongAt script (record { 0 = n }) entries line at → IsBroken Histories script report at

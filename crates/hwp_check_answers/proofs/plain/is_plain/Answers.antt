@@ -1,8 +1,0 @@
-use Rattle.hwp_check_answers.proofs.PlainLaws.{caused-plain, plain-caused}
-use Rattle.hwp_check_answers.proofs.plain.is_plain.Goals as goal
-
-pub returns : goal.returns
-returns c = (
-  λ is. plain-caused c.args.script.now c.args.report.now c.args.who c.args.command.now c.args.answer.now (c.is_plain_right.ensures.0 is),
-  λ caused. c.is_plain_right.ensures.1 (caused-plain c.args.script.now c.args.report.now c.args.who c.args.command.now c.args.answer.now c.requires.plain caused),
-)

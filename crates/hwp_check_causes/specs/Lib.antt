@@ -1,0 +1,6 @@
+pub mod Telling
+pub mod Plain
+pub mod Asking
+pub mod Causing
+pub mod Befores
+pub mod Knowing

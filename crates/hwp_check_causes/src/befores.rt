@@ -1,0 +1,66 @@
+ghost use Rattle.std.specs.Prelude.{◌≡◌, IfOk, length, replicate};
+ghost use Rattle.hwp_check_causes.specs.Befores.{AreBefore, policies_before as policies_before_of, policy_of, set_by, thread_numbers};
+ghost use Rattle.hwp_kill.specs.declared.Policy.TheVariants.{Default};
+
+use hwp_check_rules::setting_of;
+use hwp_geom::OutOfMemory;
+use hwp_kill::Policy;
+use hwp_script::Command;
+use std::alloc::Global;
+
+/// The numbers that a thread can have.
+const THREAD_NUMBERS: usize = 256;
+
+/// Notes the policy that a command sets, if it sets one.
+fn set_by(table: &mut Vec<Policy>, command: &Command)
+    requires { length table.old.items ≡ thread_numbers }
+    ensures set { table.new.items ≡ set_by table.old.items command.now }
+    ensures many { length table.new.items ≡ thread_numbers }
+{
+    if let Command::Prctl { thread, .. } = command {
+        if let Some(policy) = setting_of(*thread, command) {
+            table[usize::from(thread.0)] = policy;
+        }
+    }
+}
+
+/// The policy of the command's thread.
+fn policy_of(table: &[Policy], command: &Command) -> Policy
+    requires { length table.now ≡ thread_numbers }
+    ensures { result ≡ policy_of table.now command.now }
+{
+    match command {
+        Command::Prctl { thread, .. } => table[usize::from(thread.0)],
+        _ => Policy::Default,
+    }
+}
+
+/// That all threads have the default, of so many.
+fn defaults(alloc: Global, threads: usize) -> Result<Vec<Policy>, OutOfMemory>
+    ensures { IfOk result (λ table. table.items ≡ replicate threads Default) }
+{
+    let mut table = Vec::new(alloc);
+    table.resize(threads, Policy::Default)?;
+    Ok(table)
+}
+
+/// The policies of the commands' threads, each before its command.
+fn policies(alloc: Global, list: &[Command]) -> Result<Vec<Policy>, OutOfMemory>
+    ensures { IfOk result (λ policies. policies.items ≡ policies_before_of (replicate thread_numbers Default) list.now) }
+{
+    let mut table = defaults(alloc, THREAD_NUMBERS)?;
+    let mut policies = Vec::new(alloc);
+    for command in list {
+        policies.push(policy_of(table.as_slice(), command))?;
+        set_by(&mut table, command);
+    }
+    Ok(policies)
+}
+
+/// The policies of the commands' threads, each before its command.
+#[tactic(auto, using(crate::proofs::BeforeLaws::before_is))]
+pub fn policies_before(alloc: Global, list: &[Command]) -> Result<Vec<Policy>, OutOfMemory>
+    ensures { IfOk result (λ policies. AreBefore list.now policies.items) }
+{
+    policies(alloc, list)
+}

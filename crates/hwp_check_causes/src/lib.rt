@@ -1,0 +1,17 @@
+//! Why an answer is right: the cause of each kind of answer, as a report shows it.
+#![tactic(auto)]
+
+mod asking;
+mod befores;
+mod causes;
+mod gathering;
+mod known;
+mod plain;
+mod right;
+mod telling;
+
+pub use asking::named_state;
+pub use befores::policies_before;
+pub use gathering::{known_of, own_of};
+pub use known::{Known, process_at};
+pub use right::{Own, Told, is_right};

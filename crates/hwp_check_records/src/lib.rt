@@ -1,0 +1,18 @@
+//! The records of poisoning of frames: each in itself, and by the answers and the events of the commands that it names.
+#![tactic(auto)]
+
+mod counts;
+mod flags;
+mod frames;
+mod given;
+mod index;
+mod noted;
+mod own;
+mod records;
+mod said;
+
+pub use counts::{Counts, Key, add, add_if, count};
+pub use frames::kept;
+pub use noted::{Noted, is_result};
+pub use own::add_own;
+pub use said::{Rows, Said, row_of, said_of};
