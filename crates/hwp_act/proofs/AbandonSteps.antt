@@ -1,6 +1,6 @@
 -- What follows each step by which a page is taken out of its failed frame.
-use Rattle.std.proofs.Common.{◌≡◌, inl, inr, ◌⊎◌, ℕ, zero, suc, ◌+◌, ◌-◌, ◌<◌, ◌≤◌, ◌==◌, Bool, true, false, cond, nat_le, List, [], ◌∷◌, ◌++◌, Option, Some, None, length, map, slice_get, refl, sym, ap, ◌∙◌, subst, arith}
-use Rattle.std.proofs.lemmas.Bool.{cases_lt, lt-leb, ne_eqb}
+use Rattle.std.proofs.Common.{◌≡◌, inl, inr, ◌⊎◌, ℕ, zero, suc, ◌+◌, ◌-◌, ◌<◌, ◌≤◌, ◌==◌, ◌||◌, Bool, true, false, not, cond, nat_le, List, [], ◌∷◌, ◌++◌, Option, Some, None, is_some, length, map, slice_get, refl, sym, ap, ◌∙◌, subst, arith}
+use Rattle.std.proofs.lemmas.Bool.{both_ways, cases_lt, lt-leb, ne_eqb}
 use Rattle.std.proofs.lemmas.List.{append-nil, drop_all}
 use Rattle.std.proofs.lemmas.Option.{none-some, same_Some, slice_get_within}
 use Rattle.std.specs.Int.{from_bool}
@@ -47,8 +47,9 @@ use Rattle.hwp_evict.proofs.Vacating.{refs-are, refs-gone}
 use Rattle.hwp_act.specs.declared.abandon.Abandon.{Abandon}
 use Rattle.hwp_act.specs.declared.abandon.AbandonAt.{AbandonAt}
 use Rattle.hwp_act.specs.declared.abandon.AbandonAt.TheVariants as at
-use Rattle.hwp_act.specs.Abandons.{after_owner, kill_at, kill_from, owner_gone, snapshot}
-use Rattle.hwp_act.specs.Abandoned.{Carries, CanLoseOne, Failure, Fits, FitsAt, HasFailed, HaveEnded, IsAhead, IsListed, IsLostFile, IsNumbered, IsPast, IsUnlisted, entry_of, hand_at, what_of}
+use Rattle.hwp_act.specs.declared.abandon.Losses.{Losses}
+use Rattle.hwp_act.specs.Abandons.{after_owner, has_told, kill_at, kill_from, owner_gone, snapshot}
+use Rattle.hwp_act.specs.Abandoned.{Carries, CanLoseOne, Failure, Fits, FitsAt, HasFailed, HaveEnded, IsAhead, IsListed, IsListedIf, IsLostFile, IsNumbered, IsPast, IsUnlisted, entry_of, hand_at, what_of}
 use Rattle.hwp_act.proofs.FailureEntry.{of-page}
 use Rattle.hwp_act.proofs.Abandoning.{body-page, in-hand, list-is, loss-owed, losses-new, small-frame}
 
@@ -75,11 +76,30 @@ spare-kept old new same-made same-marks spare =
     subst (λ (l : List Made). sum_by (λ (m : Made). from_bool (is_loss m.entry.what)) l < sum_by (λ (m : Mark). from_bool (is_poisoning m.kind)) new.marks) (sym same-made)
     (subst (λ (l : List Mark). sum_by (λ (m : Made). from_bool (is_loss m.entry.what)) old.made < sum_by (λ (m : Mark). from_bool (is_poisoning m.kind)) l) (sym same-marks) spare)
 
-still-unlisted : (a : Abandon) {old new : View} {log : Log} {f : Failure} {body : BodyValue} {taken : InHand} → deeds a.who new ≡ deeds a.who old → IsUnlisted old a.who log f body taken → IsUnlisted new a.who log f body taken
-still-unlisted a same has = record { more = has.more; length_is = has.length_is; none = same ∙ has.none }
+-- whether the entry is listed
+pub told-by-loss : (losses : Losses) (ended : ℕ) (file : FileNo) → losses.file ≡ Some file → has_told losses ended ≡ true
+told-by-loss losses ended file is = ap (λ (o : Option FileNo). is_some o || not (ended == 0)) is
 
-still-listed : (a : Abandon) {old new : View} {log : Log} {f : Failure} {body : BodyValue} {taken : InHand} → deeds a.who new ≡ deeds a.who old → IsListed old a.who a.page log f body taken → IsListed new a.who a.page log f body taken
-still-listed a {old} {new} same has = record { more = has.more; made = has-made-stays a.who old new same has.made }
+pub told-by-end : (losses : Losses) (ended : ℕ) → 0 < ended → has_told losses ended ≡ true
+told-by-end losses ended some = ap (λ (b : Bool). is_some losses.file || not b) (ne_eqb ended 0 (λ e. omega (arith, e, some))) ∙ which (is_some losses.file)
+  where
+    which : (b : Bool) → (b || true) ≡ true
+    which true = refl
+    which false = refl
+
+untold-file : (losses : Losses) (ended : ℕ) → has_told losses ended ≡ false → losses.file ≡ None
+untold-file losses ended is = which losses.file refl is
+  where
+    which : (o : Option FileNo) → losses.file ≡ o → (is_some o || not (ended == 0)) ≡ false → losses.file ≡ None
+    which None e other = e
+    which (Some file) e other = absurd (both_ways true other refl)
+
+still-listed : (a : Abandon) (old new : View) (log : Log) (f : Failure) (body : BodyValue) (taken : InHand) (b : Bool) → deeds a.who new ≡ deeds a.who old → IsListedIf b old a.who a.page log f body taken → IsListedIf b new a.who a.page log f body taken
+still-listed a old new log f body taken true same has = record { more = has.more; made = has-made-stays a.who old new same has.made }
+still-listed a old new log f body taken false same has = has
+
+listed-so : {view : View} (a : Abandon) {log : Log} {f : Failure} {body : BodyValue} {taken : InHand} {b : Bool} → b ≡ true → IsListed view a.who a.page log f body taken → IsListedIf b view a.who a.page log f body taken
+listed-so {view} a {log} {f} {body} {taken} is has = subst (λ (c : Bool). IsListedIf c view a.who a.page log f body taken) (sym is) has
 
 module _ {layout : Layout} {old new : View} (a : Abandon) where
   -- nothing of the body changes
@@ -105,26 +125,33 @@ module _ {layout : Layout} {old new : View} (a : Abandon) where
 
   -- a step that changes neither body nor entries
   past-kept : {x y : AbandonAt} {killed : ℕ} (has : IsPast layout old a x killed) → hand_of new ≡ hand_at a.page a.frame a.count y has.trans has.taken → new.sights ≡ old.sights → new.owed.losses ≡ old.owed.losses → deeds a.who new ≡ deeds a.who old → IsPast layout new a y killed
-  past-kept has hand sights owed same = record {
+  past-kept {x} {y} {killed} has hand sights owed same = record {
     trans = has.trans;
     taken = has.taken;
     hand_is = hand;
     carries = carry-on has.carries (inl sights) owed;
-    listing = elim has.listing [
-      | inl unlisted ↦ inl (still-unlisted a same unlisted.0, unlisted.1)
-      | inr listed ↦ inr (still-listed a same listed)
-    ];
+    listing = still-listed a old new has.carries.log has.carries.f has.carries.body has.taken (has_told a.losses killed) same has.listing;
   }
 
 module _ {layout : Layout} {new : View} (a : Abandon) where
   -- the next process, or none
-  pub past-on : (n : ℕ) → IsPast layout new a at.PutRef n → FitsAt layout new a (kill_at a.losses.endings n)
-  past-on n has = which (slice_get a.losses.endings n) refl
+  pub past-on : (n : ℕ) → n ≤ length a.losses.endings → IsPast layout new a at.PutRef n → FitsAt layout new a (kill_at a.losses.endings n)
+  past-on n few has = which (slice_get a.losses.endings n) refl
     where
       which : (o : Option Signal) → slice_get a.losses.endings n ≡ o → FitsAt layout new a (kill_from n o)
       which (Some s) is = (record { trans = has.trans; taken = has.taken; hand_is = has.hand_is; carries = has.carries; listing = has.listing }, (s, is, refl))
-      which None is = record { trans = has.trans; taken = has.taken; hand_is = has.hand_is; carries = all; listing = has.listing }
+      which None is = record {
+        trans = has.trans;
+        taken = has.taken;
+        hand_is = has.hand_is;
+        carries = all;
+        listing = subst (λ (k : ℕ). IsListedIf (has_told a.losses k) new a.who a.page has.carries.log has.carries.f has.carries.body has.taken) (last (cases_lt n (length a.losses.endings))) has.listing;
+      }
         where
+          last : (n < length a.losses.endings) ⊎ (length a.losses.endings ≤ n) → n ≡ length a.losses.endings
+          last (inl less) = absurd (none-below a.losses.endings n is less)
+          last (inr past) = omega (arith, past, few)
+
           all : Carries layout new a (length a.losses.endings) has.trans has.taken
           all = record {
             log = has.carries.log;
@@ -160,12 +187,12 @@ module _ {layout : Layout} {new : View} (a : Abandon) where
     where
       which : (o : Option FileNo) → a.losses.file ≡ o → FitsAt layout new a (owner_gone o a.losses.endings)
       which (Some file) is = (record { trans = has.trans; taken = has.taken; hand_is = has.hand_is; carries = has.carries; unlisted = has.unlisted; spare = has.spare }, is)
-      which None is = past-on a 0 (record {
+      which None is = past-on a 0 (omega arith) (record {
         trans = has.trans;
         taken = has.taken;
         hand_is = has.hand_is;
         carries = has.carries;
-        listing = inl (has.unlisted, subst (IsLostFile layout a.page has.carries.f) is has.carries.entry.file_is);
+        listing = subst (λ (b : Bool). IsListedIf b new a.who a.page has.carries.log has.carries.f has.carries.body has.taken) (sym (ap (λ (o : Option FileNo). is_some o || not (0 == 0)) is)) has.unlisted;
       })
 
 abbrev held-now : Abandon → ℕ → List ℕ → InHand → List Ref → Bool → Hand
@@ -189,7 +216,7 @@ module _ {layout : Layout} {old new : View} (a : Abandon) {found : ℕ} {got : O
         ∙ ap (λ (b : Bool). uncached a.page a.frame has.trans has.taken (record { frame = a.frame; count = a.count - 1 + 1 } ∷ []) b) (same-number a.page.0 a.page.0 refl)
         ∙ ap (λ (n : ℕ). uncached a.page a.frame has.trans has.taken (record { frame = a.frame; count = n } ∷ []) true) count;
     carries = carry-on a has.carries (inl (ap (λ (x : View). x.sights) made.told.next)) (ap (λ (x : View). x.owed.losses) made.told.next);
-    unlisted = still-unlisted a (deeds-same a.who tt made) has.unlisted;
+    unlisted = has.unlisted;
     spare = spare-kept old new (ap (λ (x : View). x.made) made.told.next) (ap (λ (x : View). x.marks) made.told.next) has.spare;
   }
     where
@@ -210,7 +237,7 @@ module _ {layout : Layout} {old new : View} (a : Abandon) {found : ℕ} {got : O
     hand_is = hand-planned made refl has.hand_is
         ∙ ap (λ (b : Bool). record (with_frame a.frame 0 false true a.count (page_held a.page None has.trans has.taken)) { locks = cond b (record { frame = a.frame; owner = 0; handled = false; poisoned = true }) (record { frame = a.frame; owner = a.page.0 + 1; handled = false; poisoned = true }) ∷ [] }) (same-number a.frame.0 a.frame.0 refl);
     carries = carry-on a has.carries (inl (ap (λ (x : View). x.sights) made.told.next)) (ap (λ (x : View). x.owed.losses) made.told.next);
-    unlisted = still-unlisted a (deeds-same a.who tt made) has.unlisted;
+    unlisted = has.unlisted;
     spare = spare-kept old new (ap (λ (x : View). x.made) made.told.next) (ap (λ (x : View). x.marks) made.told.next) has.spare;
   }
 
@@ -309,33 +336,34 @@ module _ {layout : Layout} {old : View} (a : Abandon) {killed : ℕ} {trans : Li
     paid = has.paid;
   }
 
-  abbrev noted-unlisted : IsUnlisted old a.who has.log has.f has.body taken → IsUnlisted before a.who has.log has.f has.body taken
-  noted-unlisted new = record { more = new.more; length_is = new.length_is; none = new.none }
-
-  owes-none : (IsUnlisted old a.who has.log has.f has.body taken × (is_loss (what_of has.f) ≡ false)) ⊎ IsListed old a.who a.page has.log has.f has.body taken → (listed layout a.who (log_of has.body) before).owed.losses ≡ []
-  owes-none (inl new) = losses-new a noted-carries bodies (noted-unlisted new.0) ∙ ap (λ (b : Bool). loss_made (file_of layout has.body.page) b ++ []) new.1 ∙ none-lost (file_of layout has.body.page)
-  owes-none (inr done) = ap (λ (v : View). v.owed.losses) (list-is a noted-carries bodies)
+  -- where the entry isn't listed yet, it is no loss
+  owes-none : (b : Bool) → has_told a.losses killed ≡ b → IsListedIf b old a.who a.page has.log has.f has.body taken → (listed layout a.who (log_of has.body) before).owed.losses ≡ []
+  owes-none false is new = losses-new a noted-carries bodies new ∙ ap (λ (b : Bool). loss_made (file_of layout has.body.page) b ++ []) unlost ∙ none-lost (file_of layout has.body.page)
+    where
+      unlost : is_loss (what_of has.f) ≡ false
+      unlost = subst (IsLostFile layout a.page has.f) (untold-file a.losses killed is) has.entry.file_is
+  owes-none true is done = ap (λ (v : View). v.owed.losses) (list-is a noted-carries bodies)
       ∙ ap (λ (l : List FileNo). l ++ losses_made layout has.body.page (more_of taken (log_of has.body))) has.paid
       ∙ ap (λ (l : List Entry). losses_made layout has.body.page l) done.more
 
-  there : body_of (log_of has.body).page old ≡ Some taken
+  pub there : body_of (log_of has.body).page old ≡ Some taken
   there = in-hand a has bodies
 
   module _ {new : View} where
-    -- the command has made its one entry
-    made-one : {stamp : Stamp} → IsUnlisted old a.who has.log has.f has.body taken → Lists old new stamp taken (log_of has.body) → HasMade (λ (m : Made). ⊥) new a.who a.page (length has.log.entries) (what_of has.f)
+    -- the entry is listed, the last of the command
+    made-one : {stamp : Stamp} → IsUnlisted a.who has.log has.f has.body taken → Lists old new stamp taken (log_of has.body) → HasMade (λ (m : Made). Unit {0}) new a.who a.page (length has.log.entries) (what_of has.f)
     made-one unlisted lists =
         let one = deeds-one a.who lists (entry_of a.who has.f) unlisted.more refl in
-        subst (λ (p : Page). HasMade (λ (m : Made). ⊥) new a.who p (length has.log.entries) (what_of has.f)) (body-page a has)
-        (subst (λ (n : ℕ). HasMade (λ (m : Made). ⊥) new a.who has.body.page n (what_of has.f)) unlisted.length_is
-        (has-made a.who old new one.0 one.1 one.2 (λ i m at. none-some m (sym (ap (λ l. slice_get l i) unlisted.none) ∙ at))))
+        subst (λ (p : Page). HasMade (λ (m : Made). Unit {0}) new a.who p (length has.log.entries) (what_of has.f)) (body-page a has)
+        (subst (λ (n : ℕ). HasMade (λ (m : Made). Unit {0}) new a.who has.body.page n (what_of has.f)) unlisted.length_is
+        (has-made a.who old new one.0 one.1 one.2 (λ i m at. tt)))
 
-    made-still : {stamp : Stamp} → IsListed old a.who a.page has.log has.f has.body taken → Lists old new stamp taken (log_of has.body) → HasMade (λ (m : Made). ⊥) new a.who a.page (length has.log.entries) (what_of has.f)
+    made-still : {stamp : Stamp} → IsListed old a.who a.page has.log has.f has.body taken → Lists old new stamp taken (log_of has.body) → HasMade (λ (m : Made). Unit {0}) new a.who a.page (length has.log.entries) (what_of has.f)
     made-still done lists = has-made-stays a.who old new (deeds-none a.who lists done.more) done.made
 
-    made-all : {stamp : Stamp} → (IsUnlisted old a.who has.log has.f has.body taken × (is_loss (what_of has.f) ≡ false)) ⊎ IsListed old a.who a.page has.log has.f has.body taken → Lists old new stamp taken (log_of has.body) → HasMade (λ (m : Made). ⊥) new a.who a.page (length has.log.entries) (what_of has.f)
-    made-all (inl unlisted) lists = made-one unlisted.0 lists
-    made-all (inr done) lists = made-still done lists
+    made-all : {stamp : Stamp} (b : Bool) → IsListedIf b old a.who a.page has.log has.f has.body taken → Lists old new stamp taken (log_of has.body) → HasMade (λ (m : Made). Unit {0}) new a.who a.page (length has.log.entries) (what_of has.f)
+    made-all false unlisted lists = made-one unlisted lists
+    made-all true done lists = made-still done lists
 
     -- the body in hand then
     abbrev carries-listed : (more : List Proc) (n : ℕ) → Grown old.sights new.sights → new.owed.losses ≡ [] → HaveEnded a.losses.endings n (listed-body taken has.body more) → Carries layout new a n trans (listed-body taken has.body more)
@@ -358,7 +386,7 @@ module _ {layout : Layout} {old : View} (a : Abandon) {killed : ℕ} {trans : Li
       paid = paid;
     }
 
-    is-listed : (more : List Proc) → HasMade (λ (m : Made). ⊥) new a.who a.page (length has.log.entries) (what_of has.f) → IsListed new a.who a.page has.log has.f has.body (listed-body taken has.body more)
+    is-listed : (more : List Proc) → HasMade (λ (m : Made). Unit {0}) new a.who a.page (length has.log.entries) (what_of has.f) → IsListed new a.who a.page has.log has.f has.body (listed-body taken has.body more)
     is-listed more made = record { more = drop_all (length has.body.log) has.body.log (omega arith); made = made }
 
 module _ {layout : Layout} {old new : View} (a : Abandon) {found : ℕ} {got : Option BodyValue} (fits : Fits layout old a) where
@@ -370,7 +398,7 @@ module _ {layout : Layout} {old new : View} (a : Abandon) {found : ℕ} {got : O
     hand_is = hand-planned made refl has.hand_is ∙ list-hand (hand_at a.page a.frame a.count at.PutRef has.trans has.taken) has.taken (log_of has.carries.body) refl (has.carries.in_hand.own ∙ sym (body-page a has.carries))
         ∙ ap (λ (l : List Proc). record (hand_at a.page a.frame a.count at.PutRef has.trans has.taken) { bodies = record has.taken { log = log_of has.carries.body; killed = l } ∷ [] }) (sym (append-nil has.taken.killed));
     carries = carries-listed a has.carries bodies [] 0 (inl (ap (λ (v : View). v.sights) made.told.next ∙ ap (λ (v : View). v.sights) (list-is a (noted-carries a has.carries bodies) bodies))) paid (λ i s less at. absurd (omega (arith, less)));
-    listing = inr (is-listed a has.carries bodies [] (made-one a has.carries bodies has.unlisted (loss-lists (there a has.carries bodies) made)));
+    listing = listed-so a (told-by-loss a.losses 0 file its) (is-listed a has.carries bodies [] (made-one a has.carries bodies has.unlisted (loss-lists (there a has.carries bodies) made)));
   }
     where
       bodies : old.bodies ≡ has.taken ∷ []
@@ -381,7 +409,7 @@ module _ {layout : Layout} {old new : View} (a : Abandon) {found : ℕ} {got : O
 
       paid : new.owed.losses ≡ []
       paid = ap (λ (v : View). v.owed.losses) made.told.next
-          ∙ ap (λ (l : List FileNo). without (λ (n : FileNo). n.0 == file.0) l) (loss-owed a (noted-carries a has.carries bodies) bodies (noted-unlisted a has.carries bodies has.unlisted) file lost.0 lost.1)
+          ∙ ap (λ (l : List FileNo). without (λ (n : FileNo). n.0 == file.0) l) (loss-owed a (noted-carries a has.carries bodies) bodies has.unlisted file lost.0 lost.1)
           ∙ ap (λ (b : Bool). cond b [] (file ∷ [])) (same-number file.0 file.0 refl)
 
   -- a process ends
@@ -393,7 +421,7 @@ module _ {layout : Layout} {old new : View} (a : Abandon) {found : ℕ} {got : O
         ∙ ap (killing process a.page) (list-hand (hand_at a.page a.frame a.count at.PutRef has.trans has.taken) has.taken (log_of has.carries.body) refl (has.carries.in_hand.own ∙ sym (body-page a has.carries)))
         ∙ kill-hand (carried (hand_at a.page a.frame a.count at.PutRef has.trans has.taken) (record has.taken { log = log_of has.carries.body })) (record has.taken { log = log_of has.carries.body }) process a.page refl (body-page a has.carries);
     carries = carries-listed a has.carries bodies (process ∷ []) (number + 1) grown paid ended;
-    listing = inr (is-listed a has.carries bodies (process ∷ []) (made-all a has.carries bodies has.listing (kill-lists (there a has.carries bodies) made)));
+    listing = listed-so a (told-by-end a.losses (number + 1) (omega arith)) (is-listed a has.carries bodies (process ∷ []) (made-all a has.carries bodies (has_told a.losses number) has.listing (kill-lists (there a has.carries bodies) made)));
   }
     where
       bodies : old.bodies ≡ has.taken ∷ []
@@ -417,8 +445,8 @@ module _ {layout : Layout} {old new : View} (a : Abandon) {found : ℕ} {got : O
       paid = which (found == 0) (ap (λ (v : View). v.owed.losses) made.told.next)
         where
           which : (b : Bool) → new.owed.losses ≡ (cond b (killed_by process a.page (listed layout a.who (log_of has.carries.body) (noted a.who old))) (sighted a.who (places.Process process) found (killed_by process a.page (listed layout a.who (log_of has.carries.body) (noted a.who old))))).owed.losses → new.owed.losses ≡ []
-          which true is = is ∙ owes-none a has.carries bodies has.listing
-          which false is = is ∙ owes-none a has.carries bodies has.listing
+          which true is = is ∙ owes-none a has.carries bodies (has_told a.losses number) refl has.listing
+          which false is = is ∙ owes-none a has.carries bodies (has_told a.losses number) refl has.listing
 
       ended : HaveEnded a.losses.endings (number + 1) (listed-body has.taken has.carries.body (process ∷ []))
       ended i s less at = elim (cases_lt i number) [
@@ -435,11 +463,11 @@ module _ {layout : Layout} {old new : View} (a : Abandon) {found : ℕ} {got : O
     hand-planned made refl has.hand_is
         ∙ ap (λ (b : Option BodyValue). record (putting (logs b) (page_held a.page None has.trans has.taken)) { pages = without (is_page_lock_of a.page) (page_held a.page None has.trans has.taken).pages }) has.carries.given_is
         ∙ page-freed a.page has.trans has.taken (log_of has.carries.body) (body-page a has.carries) has.carries.in_hand.own,
-    ap (λ (v : View). v.owed.losses) own.told.next ∙ owes-none a has.carries bodies has.listing,
+    ap (λ (v : View). v.owed.losses) own.told.next ∙ owes-none a has.carries bodies (has_told a.losses (length a.losses.endings)) refl has.listing,
     subst (HasFailed new a.who) (sym has.carries.entry.failed_is) (record {
       seen = has.carries.f.seen;
       signals = has.carries.f.signals;
-      made = made-all a has.carries bodies has.listing (page-lists (there a has.carries bodies) own);
+      made = made-all a has.carries bodies (has_told a.losses (length a.losses.endings)) has.listing (page-lists (there a has.carries bodies) own);
       signalled = refl;
       paged = of-page (state_of layout has.carries.log) has.carries.f.situation has.carries.entry.allowed.actual;
     }),

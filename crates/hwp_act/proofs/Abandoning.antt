@@ -162,7 +162,7 @@ module _ {layout : Layout} {view : View} (a : Abandon) {killed : ℕ} {trans : L
     pub list-is : listed layout a.who (log_of has.body) view ≡ listed_of layout a.who (log_of has.body) (Some taken) view
     list-is = ap (λ (b : Option InHand). listed_of layout a.who (log_of has.body) b view) in-hand
 
-    module _ (new : IsUnlisted view a.who has.log has.f has.body taken) where
+    module _ (new : IsUnlisted a.who has.log has.f has.body taken) where
       pub losses-new : (listed layout a.who (log_of has.body) view).owed.losses ≡ loss_made (file_of layout has.body.page) (is_loss (what_of has.f)) ++ []
       losses-new = ap (λ (v : View). v.owed.losses) list-is
           ∙ ap (λ (l : List FileNo). l ++ losses_made layout has.body.page (more_of taken (log_of has.body))) has.paid

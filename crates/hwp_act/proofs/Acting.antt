@@ -2,7 +2,6 @@
 use Rattle.std.proofs.Common.{◌≡◌, ℕ, ◌<◌, ◌≤◌, Bool, true, false, cond, List, Option, Some, None, is_none, length, drop, refl, sym, ap, ◌∙◌, subst}
 use Rattle.std.proofs.lemmas.Bool.{both_ways}
 use Rattle.std.proofs.lemmas.Option.{none-some}
-use Rattle.std.specs.List.{filter}
 use Rattle.hwp_geom.specs.declared.Frame.{Frame}
 use Rattle.hwp_geom.specs.declared.Layout.{Layout}
 use Rattle.hwp_geom.specs.declared.Page.{Page}
@@ -20,11 +19,22 @@ use Rattle.hwp_step.specs.declared.Turn.{Turn}
 use Rattle.hwp_step.specs.Calls.{CanMake, IsOnTurn, Steps, logs}
 use Rattle.hwp_step.specs.Hands.{empty, hand_of}
 use Rattle.hwp_step.proofs.Stepping.{on-turn-after, steps-planned}
-use Rattle.hwp_known.specs.Known.{is_by}
 use Rattle.hwp_hold.specs.declared.give_up.GiveUp.{GiveUp}
 use Rattle.hwp_hold.specs.declared.give_up.GiveUpAt.{GiveUpAt}
 use Rattle.hwp_hold.specs.declared.give_up.GiveUpAt.TheVariants as give_up_at
+use Rattle.hwp_hold.specs.declared.release.Release.{Release}
+use Rattle.hwp_hold.specs.declared.release.ReleaseAt.{ReleaseAt}
+use Rattle.hwp_hold.specs.declared.release.ReleaseAt.TheVariants as release_at
+use Rattle.hwp_hold.specs.declared.unhold.Unhold.{Unhold}
+use Rattle.hwp_hold.specs.declared.unhold.UnholdAt.{UnholdAt}
+use Rattle.hwp_hold.specs.declared.unhold.UnholdAt.TheVariants as unhold_at
+use Rattle.hwp_hold.specs.declared.unlock.Unlock.{Unlock}
+use Rattle.hwp_hold.specs.declared.unlock.UnlockAt.{UnlockAt}
+use Rattle.hwp_hold.specs.declared.unlock.UnlockAt.TheVariants as unlock_at
 use Rattle.hwp_hold.specs.GiveUps as give_ups
+use Rattle.hwp_hold.specs.Releases as releases
+use Rattle.hwp_hold.specs.Unholds as unholds
+use Rattle.hwp_hold.specs.Unlocks as unlocks
 use Rattle.hwp_hold.proofs.GivingUp as giving-up
 use Rattle.hwp_evict.specs.declared.clear.Clear.{Clear}
 use Rattle.hwp_evict.specs.Clears as clears
@@ -62,9 +72,8 @@ can layout view a step fits is = which a.at fits.at is
     which (at.Over failed) has e = absurd (none-some step e)
 
 -- the command makes no entry, owes nothing, and poisons nothing meanwhile
-pub clean-kept : (old new : View) (who : Who) → new.made ≡ old.made → new.owed.losses ≡ old.owed.losses → new.marks ≡ old.marks → IsClean old who → IsClean new who
-clean-kept old new who made owed marks has = record {
-  none = ap (filter (is_by who)) made ∙ has.none;
+pub clean-kept : (old new : View) → new.made ≡ old.made → new.owed.losses ≡ old.owed.losses → new.marks ≡ old.marks → IsClean old → IsClean new
+clean-kept old new made owed marks has = record {
   paid = owed ∙ has.paid;
   spare = spare-kept old new made marks has.spare;
 }
@@ -75,7 +84,7 @@ Held layout view page frame who body seen = (h : HoldsFailed layout view page fr
 
 module _ {layout : Layout} {view : View} {who : Who} {page : Page} {frame : Frame} (on : IsOnTurn view who) (inside : page.0 < length layout.pages) (within : frame.0 < layout.frames) where
   -- more policies are to be read, or all are
-  pub reads-on : (r : ReadPolicies) → reads.Fits layout view r → r.who ≡ who → r.body.page ≡ page → r.frame ≡ frame → IsReady r.body → IsClean view who → (y : ActAt) → AfterRead who page frame r y → FitsAt layout view who page frame y
+  pub reads-on : (r : ReadPolicies) → reads.Fits layout view r → r.who ≡ who → r.body.page ≡ page → r.frame ≡ frame → IsReady r.body → IsClean view → (y : ActAt) → AfterRead who page frame r y → FitsAt layout view who page frame y
   reads-on r fits own its in-frame ready clean y after = which r.next refl after
     where
       held : Held layout view page frame who r.body r.seen.items
@@ -161,7 +170,7 @@ module _ {layout : Layout} {old new : View} (a : Act) {step : Step} {found : ℕ
       let same = same-read r is.after found is.follows in
       let left = reads-leave r e own in
       reads-on on fits.page fits.frame is.after (all.1 is.after is.follows) (same.who ∙ has.own) (ap (λ (b : BodyValue). b.page) same.body ∙ has.page_is) (same.frame ∙ has.frame_is) (subst IsReady (sym same.body) has.ready)
-      (clean-kept old new a.who left.0 left.1 left.2 has.clean) y is.next_is
+      (clean-kept old new left.0 left.1 left.2 has.clean) y is.next_is
 
   clear-stays : (c : Clear) (losses : Losses) (failed : Failed) (body : BodyValue) → IsClearing layout old a.who a.page a.frame c losses failed body → clears.plan c ≡ Some step → Steps layout a.who step None old new found got
       → (y : ActAt) → IsCleared a.who a.page a.frame c (record { body = body; losses = losses; failed = failed }) y → FitsAt layout new a.who a.page a.frame y
@@ -185,8 +194,42 @@ module _ {layout : Layout} {old new : View} (a : Act) {step : Step} {found : ℕ
         barred_is = same.barred ∙ has.barred_is;
         few = subst (λ (l : List Sight). has.seen ≤ length l) (sym left.sights) has.few;
         saw = subst (λ (l : List Sight). HasSeen (drop has.seen l) a.who (Some a.frame) (what_of has.f)) (sym left.sights) has.saw;
-        clean = clean-kept old new a.who left.made left.owed left.marks has.clean;
+        clean = clean-kept old new left.made left.owed left.marks has.clean;
       }))
+
+-- and a body goes home with the first step of giving up, if it does
+module _ (g : GiveUp) (found : ℕ) where
+  released-page : (r : Release) (x : ReleaseAt) → unholds.put_at (unholds.after_release_at r x) ≡ None
+  released-page r release_at.Back = refl
+  released-page r _ = refl
+
+  released-frame : (r : Release) (x : ReleaseAt) → unlocks.put_at (unlocks.after_release_at r x) ≡ None
+  released-frame r release_at.Back = refl
+  released-frame r _ = refl
+
+  page-none : (u : Unhold) (x : UnholdAt) → unholds.put_at (unholds.next_at u.who (unholds.bare_at x) found) ≡ None
+  page-none u (unhold_at.UnlockFrame frame count body) = refl
+  page-none u (unhold_at.Release r) = released-page (releases.next r found) (releases.next r found).at
+  page-none u (unhold_at.UnlockPage body) = refl
+  page-none u unhold_at.Over = refl
+
+  frame-none : (u : Unlock) (x : UnlockAt) → unlocks.put_at (unlocks.next_at u.who (unlocks.bare_at x) found) ≡ None
+  frame-none u (unlock_at.UnlockFrame frame body) = refl
+  frame-none u (unlock_at.Release r) = released-frame (releases.next r found) (releases.next r found).at
+  frame-none u unlock_at.Over = refl
+
+  chosen-none : (b : Bool) (x : GiveUpAt) → give_ups.put_at x ≡ None → give_ups.put_at (cond b give_up_at.GiveUp x) ≡ None
+  chosen-none true x is = refl
+  chosen-none false x is = is
+
+  gives-none : give_ups.put (give_ups.next (give_ups.bare g) found) ≡ None
+  gives-none = which g.at
+    where
+      which : (x : GiveUpAt) → give_ups.put_at (give_ups.next_at (give_ups.bare_at x) found) ≡ None
+      which (give_up_at.Unhold u) = chosen-none (is_none (unholds.plan (unholds.next (unholds.bare u) found))) (give_up_at.Unhold (unholds.next (unholds.bare u) found)) (page-none u u.at)
+      which (give_up_at.Unlock u) = chosen-none (is_none (unlocks.plan (unlocks.next (unlocks.bare u) found))) (give_up_at.Unlock (unlocks.next (unlocks.bare u) found)) (frame-none u u.at)
+      which give_up_at.GiveUp = refl
+      which give_up_at.Over = refl
 
 -- a page that goes on leaving its frame, and a command that goes on giving up
 module _ {layout : Layout} {new : View} (a : Act) where
@@ -206,12 +249,12 @@ module _ {layout : Layout} {new : View} (a : Act) where
       which abandon_at.Retire has is = still (ap (λ (z : AbandonAt). is_none (abandons.plan_at x.page x.frame x.count x.body z)) is)
       which abandon_at.UnlockPage has is = still (ap (λ (z : AbandonAt). is_none (abandons.plan_at x.page x.frame x.count x.body z)) is)
 
-  give-up-stays : (g : GiveUp) → g.who ≡ a.who → give_ups.Fits layout new g → FitsAt layout new a.who a.page a.frame (after_give_up g)
-  give-up-stays g own fit = which (is_none (give_ups.plan g)) refl
+  give-up-stays : (g : GiveUp) → g.who ≡ a.who → give_ups.put g ≡ None → give_ups.Fits layout new g → FitsAt layout new a.who a.page a.frame (after_give_up g)
+  give-up-stays g own none fit = which (is_none (give_ups.plan g)) refl
     where
       which : (b : Bool) → is_none (give_ups.plan g) ≡ b → FitsAt layout new a.who a.page a.frame (cond b (at.Over None) (at.GiveUp g))
       which true over = gave-up layout new g fit over
-      which false on = record { give_up = fit; own = own; under_way = on }
+      which false on = record { give_up = fit; own = own; as_taken = λ b some. absurd (none-some b (sym none ∙ some)); under_way = on }
 
 -- a step shows what is needed, and what follows fits again
 pub both : (layout : Layout) (old new : View) (a : Act) (step : Step) (found : ℕ) (got : Option BodyValue) → Fits layout old a → plan a ≡ Some step → Steps layout a.who step (logs (put a)) old new found got
@@ -238,7 +281,7 @@ both layout old new a step found got fits is made = let all = which a.at fits.at
     )
     which (at.GiveUp g) has e made = (
       tt,
-      λ y turn follows. subst (FitsAt layout new a.who a.page a.frame) (sym follows.0) (give-up-stays a (give_ups.next (give_ups.bare g) found) has.own
+      λ y turn follows. subst (FitsAt layout new a.who a.page a.frame) (sym follows.0) (give-up-stays a (give_ups.next (give_ups.bare g) found) has.own (gives-none g found)
           (giving-up.moved layout old new g step found got has.give_up e (subst (λ (w : Who). Steps layout w step (logs (give_ups.put g)) old new found got) (sym has.own) made))),
     )
     which (at.Over failed) has e made = absurd (none-some step e)

@@ -127,7 +127,7 @@ module _ {layout : Layout} {view : View} {who : Who} {page : Page} {frame : Fram
             unmapped = (acts-after has.entry).maps;
             paid = has.clean.paid;
           };
-          unlisted = record { more = one-more has.entry frame has.seen; length_is = refl; none = has.clean.none };
+          unlisted = record { more = one-more has.entry frame has.seen; length_is = refl };
           spare = has.clean.spare;
         };
       };
@@ -194,7 +194,7 @@ module _ {layout : Layout} {view : View} {who : Who} {page : Page} {frame : Fram
         member None none slot is = absurd (none-some slot is)
         member (Some v) low slot is = subst (λ (x : VSlot). set.contains body.state.maps x.0 ≡ true) (same_Some v slot is) low.1.member
 
-  pub enters-fits : (sound : IsSound layout) (body : BodyValue) (held : HoldsFailed layout view page frame body) → IsClean view who → (required : Option Thread) (seen : List Seen) → EachMember (HasPolicy (drop held.holds.seen view.sights) who (Some frame)) seen
+  pub enters-fits : (sound : IsSound layout) (body : BodyValue) (held : HoldsFailed layout view page frame body) → IsClean view → (required : Option Thread) (seen : List Seen) → EachMember (HasPolicy (drop held.holds.seen view.sights) who (Some frame)) seen
       → (x : ActAt) → Enters who page frame required body seen x → FitsAt layout view who page frame x
   enters-fits sound body held clean required seen saw x is = subst (FitsAt layout view who page frame) (sym is.next_is) (clears-on is.clear is.entered (record {
     clear = subst (clears.Fits layout view) (sym is.begun.is) (record { on_turn = on; sound = sound; page = inside; frame = within; at = begun sound body held (bars_of (situation_of body.state)) is.clear.next is.begun.lowest });

@@ -11,3 +11,4 @@ pub mod Reading
 pub mod Snapshots
 pub mod Starting
 pub mod Requiring
+pub mod Adding

@@ -1,10 +1,8 @@
 -- What a failure's action begins with, and that its class tells what is held.
-use Rattle.std.proofs.Common.{◌≡◌, inl, inr, ℕ, ◌+◌, ◌<◌, ◌≤◌, Bool, true, false, cond, List, [], ◌∷◌, ◌++◌, Option, Some, None, length, slice_get, refl, sym, ap, ◌∙◌, subst, arith}
+use Rattle.std.proofs.Common.{◌≡◌, inl, inr, ℕ, ◌<◌, ◌≤◌, Bool, cond, List, [], Option, Some, None, length, slice_get, refl, sym, ap, ◌∙◌, subst, arith}
+use Rattle.std.proofs.lemmas.List.{drop_all}
 use Rattle.std.proofs.lemmas.Option.{none-some, same_Some}
-use Rattle.std.proofs.lemmas.List.Sums.{sum_by-append, sum_by-cons}
-use Rattle.std.specs.Int.{from_bool}
-use Rattle.std.specs.List.{sum_by}
-use Rattle.hwp_geom.specs.declared.FileNo.{FileNo}
+use Rattle.std.specs.List.{find}
 use Rattle.hwp_geom.specs.declared.Frame.{Frame}
 use Rattle.hwp_geom.specs.declared.Layout.{Layout}
 use Rattle.hwp_geom.specs.declared.Page.{Page}
@@ -15,22 +13,13 @@ use Rattle.hwp_kill.specs.declared.Seen.{Seen}
 use Rattle.hwp_kill.specs.Next.{IsReadSoFar}
 use Rattle.hwp_kill.proofs.ReadingOn.{read-none}
 use Rattle.hwp_page.specs.History.{BodyValue}
-use Rattle.hwp_page.specs.Losses.{is_loss}
-use Rattle.hwp_words.specs.Frames.{cycle_of}
-use Rattle.hwp_rule.specs.declared.Made.{Made}
-use Rattle.hwp_rule.specs.declared.Mark.{Mark}
-use Rattle.hwp_rule.specs.declared.MarkKind.TheVariants as kinds
-use Rattle.hwp_rule.specs.declared.Place.TheVariants as places
-use Rattle.hwp_rule.specs.declared.Step.TheVariants as steps
+use Rattle.hwp_rule.specs.declared.InHand.{InHand}
 use Rattle.hwp_rule.specs.declared.View.{View}
-use Rattle.hwp_rule.specs.Rule.{losing_of}
-use Rattle.hwp_rule.specs.Steps.{goes}
-use Rattle.hwp_rule.specs.Views.{marked, noted, owing_count, poison_listed, sighted, stamp_of}
-use Rattle.hwp_rule.specs.parts.Counter.{is_poisoning}
-use Rattle.hwp_rule.specs.parts.Losses.{IsPoisonLoss}
-use Rattle.hwp_rule.proofs.Lists.{at_map}
-use Rattle.hwp_step.specs.Calls.{IsOnTurn, Steps}
-use Rattle.hwp_step.specs.Hands.{empty, hand_of}
+use Rattle.hwp_rule.specs.Logs.{log_of}
+use Rattle.hwp_rule.specs.Views.{body_of, is_body_of, more_of}
+use Rattle.hwp_rule.proofs.Lists.{same-number}
+use Rattle.hwp_step.specs.Calls.{IsOnTurn}
+use Rattle.hwp_step.specs.Hands.{Hand, body_in, empty, hand_of}
 use Rattle.hwp_hold.proofs.GivingUp.{page-given-up}
 use Rattle.hwp_hold.proofs.Linking.{held-unholds}
 use Rattle.hwp_hold.proofs.Telling.{Tells, empty-tells, frame-tells, give-up-tells, page-tells}
@@ -43,9 +32,9 @@ use Rattle.hwp_act.specs.declared.act.ActAt.{ActAt}
 use Rattle.hwp_act.specs.declared.act.ActAt.TheVariants as at
 use Rattle.hwp_act.specs.declared.read_policies.ReadPolicies.{ReadPolicies}
 use Rattle.hwp_act.specs.Abandoned as abandoned
-use Rattle.hwp_act.specs.Abandoned.{CanLoseOne, HasFailed}
+use Rattle.hwp_act.specs.Abandoned.{HasFailed}
 use Rattle.hwp_act.specs.Abandons as abandons
-use Rattle.hwp_act.specs.Acting.{Fits, FitsAt, FitsOver, IsClean}
+use Rattle.hwp_act.specs.Acting.{AsTaken, Fits, FitsAt, FitsOver, IsClean}
 use Rattle.hwp_act.specs.Acts.{Begins, IsReady, Starts, answer, answer_at, class, class_at, with_room}
 use Rattle.hwp_act.specs.Reads as reads
 use Rattle.hwp_act.specs.Reads.{HoldsFailed}
@@ -69,10 +58,18 @@ with-room spare has = record {
   inside = has.inside;
 }
 
-module _ {layout : Layout} {view : View} {who : Who} {page : Page} {frame : Frame} (on : IsOnTurn view who) (within : frame.0 < layout.frames) (sound : IsSound layout) (clean : IsClean view who) where
+-- a body that goes home at once has the entries that it was taken with
+given-as-taken : {layout : Layout} {view : View} {page : Page} {frame : Frame} (body : BodyValue) → HoldsFailed layout view page frame body → AsTaken view (Some body)
+given-as-taken {layout} {view} {page} {frame} body held b is = subst (λ (x : BodyValue). (taken : InHand) × (body_of x.page view ≡ Some taken) × (more_of taken (log_of x) ≡ [])) (same_Some body b is) (
+  body_in (Some frame) (log_of body) held.holds.seen,
+  ap (λ (h : Hand). find (is_body_of body.page) h.bodies) held.holds.hand_is ∙ ap (λ (c : Bool). cond c (Some (body_in (Some frame) (log_of body) held.holds.seen)) None) (same-number body.page.0 body.page.0 refl),
+  drop_all (length body.log) body.log (omega arith),
+)
+
+module _ {layout : Layout} {view : View} {who : Who} {page : Page} {frame : Frame} (on : IsOnTurn view who) (within : frame.0 < layout.frames) (sound : IsSound layout) (clean : IsClean view) where
   begins-fit : (required : Option Thread) (body : BodyValue) → HoldsFailed layout view page frame body → (x : ActAt) → Begins who page frame required body x → FitsAt layout view who page frame x
   begins-fit required body held x (inl is) = subst (FitsAt layout view who page frame) (sym is)
-      (record { give_up = page-given-up layout view who page (Some frame) 1 body (held-unholds layout view who page (Some frame) body on held.inside held.holds); own = refl; under_way = refl })
+      (record { give_up = page-given-up layout view who page (Some frame) 1 body (held-unholds layout view who page (Some frame) body on held.inside held.holds); own = refl; as_taken = given-as-taken body held; under_way = refl })
   begins-fit required body held x (inr (inl silent)) = enters-fits on held.inside within sound body held clean required [] (λ i s there. absurd (none-some s there)) x silent.enters
   begins-fit required body held x (inr (inr reading)) = reads-on on held.inside within reading.read (subst (reads.Fits layout view) (sym reading.begun.is) (record {
     on_turn = on;
@@ -86,7 +83,7 @@ module _ {layout : Layout} {view : View} {who : Who} {page : Page} {frame : Fram
       (subst IsReady (sym (ap (λ (r : ReadPolicies). r.body) reading.begun.is)) reading.ready) clean x reading.next_is
 
 -- a task that begins fits
-pub starts-fit : (layout : Layout) (view : View) (a : Act) (required : Option Thread) (body : BodyValue) → IsOnTurn view a.who → a.frame.0 < layout.frames → IsSound layout → IsClean view a.who → HoldsFailed layout view a.page a.frame body
+pub starts-fit : (layout : Layout) (view : View) (a : Act) (required : Option Thread) (body : BodyValue) → IsOnTurn view a.who → a.frame.0 < layout.frames → IsSound layout → IsClean view → HoldsFailed layout view a.page a.frame body
     → Starts a.who a.page a.frame required body a.at → Fits layout view a
 starts-fit layout view a required body on within sound clean held starts = record {
   on_turn = on;
@@ -134,26 +131,3 @@ act-ended layout view a failed fits is = which a.at fits.at is
     which (at.Clear c losses other body) has e = absurd (none-some failed e)
     which (at.Abandon x) has e = absurd (none-some failed e)
     which (at.GiveUp g) has e = absurd (none-some failed e)
-
--- a view that poisoned a frame, and owed no loss before, can make one
-module _ {layout : Layout} {who : Who} {frame : Frame} {old new : View} {found : ℕ} {got : Option BodyValue} (made : Steps layout who (steps.Poison frame false) None old new found got) (clear : goes (steps.Poison frame false) found ≡ true) where
-  abbrev mark : Mark
-  mark = record { stamp = stamp_of who (noted who old); frame = frame; cycle = cycle_of found; kind = kinds.Poisoned false }
-
-  abbrev poisoning : Mark → ℕ
-  poisoning m = from_bool (is_poisoning m.kind)
-
-  made-same : new.made ≡ old.made
-  made-same = ap (λ (v : View). v.made) made.told.next ∙ ap (λ (b : Bool). (poison_listed frame (cond b (record (marked who frame found (kinds.Poisoned false) (noted who old)) { owed = owing_count false old.owed }) (sighted who (places.Frame frame) found (noted who old)))).made) clear
-
-  marks-more : new.marks ≡ old.marks ++ mark ∷ []
-  marks-more = ap (λ (v : View). v.marks) made.told.next ∙ ap (λ (b : Bool). (poison_listed frame (cond b (record (marked who frame found (kinds.Poisoned false) (noted who old)) { owed = owing_count false old.owed }) (sighted who (places.Frame frame) found (noted who old)))).marks) clear
-
-  pub poison-spares : old.owed.losses ≡ [] → CanLoseOne new
-  poison-spares paid =
-      let before : IsPoisonLoss (losing_of old) = made.told.rule.rule.histories.losses.poisoned made.told.seat (losing_of old) (at_map losing_of made.told.board.views made.told.seat old made.told.me) in
-      let none : length old.owed.losses ≡ 0 = ap (λ (l : List FileNo). length l) paid in
-      let entries : sum_by (λ (m : Made). from_bool (is_loss m.entry.what)) new.made ≡ sum_by (λ (m : Made). from_bool (is_loss m.entry.what)) old.made = ap (sum_by (λ (m : Made). from_bool (is_loss m.entry.what))) made-same in
-      let all : sum_by poisoning new.marks ≡ sum_by poisoning old.marks + sum_by poisoning (mark ∷ []) = ap (sum_by poisoning) marks-more ∙ sum_by-append poisoning old.marks (mark ∷ []) in
-      let one : sum_by poisoning (mark ∷ []) ≡ 1 + 0 = sum_by-cons poisoning mark [] in
-      omega (arith, before, none, entries, all, one)

@@ -1,5 +1,5 @@
 -- What is held and known while a page is taken out of its failed frame.
-use Rattle.std.specs.Prelude.{◌≡◌, ◌⊎◌, ℕ, ◌+◌, ◌-◌, ◌<◌, ◌≤◌, true, false, List, [], ◌∷◌, ◌++◌, Option, Some, None, length, slice_get}
+use Rattle.std.specs.Prelude.{◌≡◌, ◌⊎◌, ℕ, ◌+◌, ◌-◌, ◌<◌, ◌≤◌, Bool, true, false, List, [], ◌∷◌, ◌++◌, Option, Some, None, length, slice_get}
 use Rattle.std.specs.FinSet as set
 use Rattle.std.specs.List.{sum_by}
 use Rattle.std.specs.Int.{from_bool}
@@ -35,14 +35,14 @@ use Rattle.hwp_rule.specs.parts.Counter.{is_poisoning}
 use Rattle.hwp_rule.specs.parts.Fits.{FitsWords}
 use Rattle.hwp_step.specs.Calls.{IsOnTurn}
 use Rattle.hwp_step.specs.Hands.{Hand, hand_of, empty}
-use Rattle.hwp_known.specs.Known.{HasMade, HasMadeNone}
+use Rattle.hwp_known.specs.Known.{HasMade, deeds}
 use Rattle.hwp_evict.specs.Vacates.{page_held, with_frame}
 use Rattle.hwp_act.specs.declared.abandon.Abandon.{Abandon}
 use Rattle.hwp_act.specs.declared.abandon.AbandonAt.{AbandonAt}
 use Rattle.hwp_act.specs.declared.abandon.AbandonAt.TheVariants as at
 use Rattle.hwp_act.specs.declared.abandon.Failed.{Failed}
 use Rattle.hwp_act.specs.declared.abandon.Losses.{Losses}
-use Rattle.hwp_act.specs.Abandons.{endings_of, signals_now}
+use Rattle.hwp_act.specs.Abandons.{endings_of, has_told, signals_now}
 
 -- the entry of a failure
 pub record Failure : Type 0 where
@@ -63,13 +63,26 @@ IsOfPage situations.Free = ⊥
 IsOfPage situations.Kernel = ⊥
 IsOfPage _ = Unit {0}
 
--- the command made this entry and no other, of a page that was in the frame
+-- the last entry that the command made is this one, of a page that was in the frame
 pub record HasFailed (view : View) (who : Who) (failed : Failed) : Type 0 where
   pub seen : List Seen
   pub signals : List Signal
-  pub made : HasMade (λ (m : Made). ⊥) view who failed.at.page failed.at.entry (entries.Fail failed.situation failed.required seen signals)
+  pub made : HasMade (λ (m : Made). Unit {0}) view who failed.at.page failed.at.entry (entries.Fail failed.situation failed.required seen signals)
   pub signalled : failed.signalled ≡ signals_now signals
   pub paged : IsOfPage failed.situation
+
+-- the failure that an entry tells
+abbrev pub failed_of : Page → ℕ → What → Option Failed
+failed_of page place (entries.Fail situation required seen signals) = Some (record { situation = situation; required = required; at = record { page = page; entry = place }; signalled = signals_now signals })
+failed_of page place _ = None
+
+abbrev pub failed_in : Made → Option Failed
+failed_in m = failed_of m.page m.place m.entry.what
+
+-- the command makes no entry; or it makes one, of a failure, and its failures grow by that
+abbrev pub AddsFailure : Who → View → View → List Failed → List Failed → Type 0
+AddsFailure who old new before after =
+    ((deeds who new ≡ deeds who old) × (after ≡ before)) ⊎ ((m : Made) × (failed : Failed) × (deeds who new ≡ deeds who old ++ m ∷ []) × (failed_in m ≡ Some failed) × (after ≡ before ++ failed ∷ []))
 
 -- the file that the failure costs content
 abbrev pub IsLostFile : Layout → Page → Failure → Option FileNo → Type 0
@@ -101,15 +114,19 @@ pub record IsInHand (layout : Layout) (view : View) (who : Who) (page : Page) (f
   pub extends : Extends layout who view.sights taken (log_of body)
 
 -- the entry isn't listed yet
-pub record IsUnlisted (view : View) (who : Who) (log : Log) (f : Failure) (body : BodyValue) (taken : InHand) : Type 0 where
+pub record IsUnlisted (who : Who) (log : Log) (f : Failure) (body : BodyValue) (taken : InHand) : Type 0 where
   pub more : more_of taken (log_of body) ≡ entry_of who f ∷ []
   pub length_is : length taken.log.entries ≡ length log.entries
-  pub none : HasMadeNone view who
 
--- the entry is listed
+-- the entry is listed, as the last of the command
 pub record IsListed (view : View) (who : Who) (page : Page) (log : Log) (f : Failure) (body : BodyValue) (taken : InHand) : Type 0 where
   pub more : more_of taken (log_of body) ≡ []
-  pub made : HasMade (λ (m : Made). ⊥) view who page (length log.entries) (what_of f)
+  pub made : HasMade (λ (m : Made). Unit {0}) view who page (length log.entries) (what_of f)
+
+-- the entry is listed, or isn't yet
+abbrev pub IsListedIf : Bool → View → Who → Page → Log → Failure → BodyValue → InHand → Type 0
+IsListedIf true view who page log f body taken = IsListed view who page log f body taken
+IsListedIf false view who page log f body taken = IsUnlisted who log f body taken
 
 -- the view poisoned more frames than losses that it made
 abbrev pub CanLoseOne : View → Type 0
@@ -144,7 +161,7 @@ pub record IsAhead (layout : Layout) (view : View) (a : Abandon) (x : AbandonAt)
   pub taken : InHand
   pub hand_is : hand_of view ≡ hand_at a.page a.frame a.count x trans taken
   pub carries : Carries layout view a 0 trans taken
-  pub unlisted : IsUnlisted view a.who carries.log carries.f carries.body taken
+  pub unlisted : IsUnlisted a.who carries.log carries.f carries.body taken
   pub spare : CanLoseOne view
 
 -- the loss, if there is one, is counted, and these processes have ended
@@ -153,7 +170,7 @@ pub record IsPast (layout : Layout) (view : View) (a : Abandon) (x : AbandonAt) 
   pub taken : InHand
   pub hand_is : hand_of view ≡ hand_at a.page a.frame a.count x trans taken
   pub carries : Carries layout view a killed trans taken
-  pub listing : (IsUnlisted view a.who carries.log carries.f carries.body taken × (is_loss (what_of carries.f) ≡ false)) ⊎ IsListed view a.who a.page carries.log carries.f carries.body taken
+  pub listing : IsListedIf (has_told a.losses killed) view a.who a.page carries.log carries.f carries.body taken
 
 -- the process of the signal of this number is the one that ends
 abbrev pub IsNumbered : Losses → ℕ → Proc → Type 0

@@ -1,5 +1,5 @@
 -- A page taken out of its failed frame for good: the task's states and its steps.
-use Rattle.std.specs.Prelude.{ℕ, ◌+◌, ◌-◌, ◌<◌, Bool, true, false, not, List, Option, Some, None, option_map, slice_get}
+use Rattle.std.specs.Prelude.{ℕ, ◌+◌, ◌-◌, ◌<◌, ◌==◌, ◌||◌, Bool, true, false, not, cond, List, [], ◌∷◌, Option, Some, None, is_some, length, option_map, slice_get}
 use Rattle.std.specs.List.{filter, list_any}
 use Rattle.std.specs.declared.snapshot.Snapshot.{Snapshot}
 use Rattle.hwp_geom.specs.declared.FileNo.{FileNo}
@@ -108,6 +108,23 @@ answer_at failed _ = None
 
 abbrev pub answer : Abandon → Option Failed
 answer a = answer_at a.failed a.at
+
+-- the entry is listed: with the loss that it is, or the first process that ended
+abbrev pub has_told : Losses → ℕ → Bool
+has_told losses ended = is_some losses.file || not (ended == 0)
+
+-- or else once the page is let go
+abbrev pub is_listed : Losses → AbandonAt → Bool
+is_listed losses at.SetCache = false
+is_listed losses at.SetOwner = false
+is_listed losses (at.Lose file) = false
+is_listed losses (at.Kill number process) = has_told losses number
+is_listed losses at.Over = true
+is_listed losses _ = has_told losses (length losses.endings)
+
+-- the failure, once its entry is listed
+abbrev pub failed_now : Abandon → List Failed
+failed_now a = cond (is_listed a.losses a.at) (a.failed ∷ []) []
 
 -- there are few signals
 abbrev pub ShowsAt : AbandonAt → Type 0

@@ -6,13 +6,14 @@ use Rattle.hwp_geom.specs.declared.Page.{Page}
 use Rattle.hwp_geom.specs.declared.Thread.{Thread}
 use Rattle.hwp_geom.specs.declared.Who.{Who}
 use Rattle.hwp_page.specs.History.{BodyValue, IsReplay}
+use Rattle.hwp_rule.specs.declared.InHand.{InHand}
 use Rattle.hwp_rule.specs.declared.Log.{Log}
 use Rattle.hwp_rule.specs.declared.View.{View}
-use Rattle.hwp_rule.specs.Logs.{state_of}
+use Rattle.hwp_rule.specs.Logs.{log_of, state_of}
+use Rattle.hwp_rule.specs.Views.{body_of, more_of}
 use Rattle.hwp_rule.specs.parts.Entries.{HasSeen}
 use Rattle.hwp_step.specs.Calls.{IsOnTurn}
 use Rattle.hwp_step.specs.Hands.{hand_of, empty, body_in}
-use Rattle.hwp_known.specs.Known.{HasMadeNone}
 use Rattle.hwp_hold.specs.declared.give_up.GiveUp.{GiveUp}
 use Rattle.hwp_hold.specs.GiveUps as give_ups
 use Rattle.hwp_evict.specs.declared.clear.Clear.{Clear}
@@ -31,9 +32,8 @@ use Rattle.hwp_act.specs.Acts.{IsReady}
 use Rattle.hwp_act.specs.Failing.{bars_of}
 use Rattle.hwp_act.specs.Reads as reads
 
--- the command has made no entry and owes no loss, and the view poisoned more frames than losses that it made
-pub record IsClean (view : View) (who : Who) : Type 0 where
-  pub none : HasMadeNone view who
+-- no loss is owed, and the view poisoned more frames than losses that it made
+pub record IsClean (view : View) : Type 0 where
   pub paid : view.owed.losses ≡ []
   pub spare : CanLoseOne view
 
@@ -45,7 +45,7 @@ pub record IsReading (layout : Layout) (view : View) (who : Who) (page : Page) (
   pub frame_is : r.frame ≡ frame
   pub under_way : is_none r.next ≡ false
   pub ready : IsReady r.body
-  pub clean : IsClean view who
+  pub clean : IsClean view
 
 -- the body has the entry of the failure, and the translations are being written
 pub record IsClearing (layout : Layout) (view : View) (who : Who) (page : Page) (frame : Frame) (c : Clear) (losses : Losses) (failed : Failed) (body : BodyValue) : Type 0 where
@@ -63,7 +63,7 @@ pub record IsClearing (layout : Layout) (view : View) (who : Who) (page : Page) 
   pub barred_is : c.barred ≡ bars_of f.situation
   pub few : seen ≤ length view.sights
   pub saw : HasSeen (drop seen view.sights) who (Some frame) (what_of f)
-  pub clean : IsClean view who
+  pub clean : IsClean view
 
 pub record IsAbandoning (layout : Layout) (view : View) (who : Who) (page : Page) (frame : Frame) (a : Abandon) : Type 0 where
   pub abandon : abandoned.Fits layout view a
@@ -72,12 +72,17 @@ pub record IsAbandoning (layout : Layout) (view : View) (who : Who) (page : Page
   pub frame_is : a.frame ≡ frame
   pub under_way : is_none (abandons.plan a) ≡ false
 
+-- a body that goes home has the entries that it was taken with
+abbrev pub AsTaken : View → Option BodyValue → Type 0
+AsTaken view given = (b : BodyValue) → given ≡ Some b → (taken : InHand) × (body_of b.page view ≡ Some taken) × (more_of taken (log_of b) ≡ [])
+
 pub record IsGivingUp (layout : Layout) (view : View) (who : Who) (g : GiveUp) : Type 0 where
   pub give_up : give_ups.Fits layout view g
   pub own : g.who ≡ who
+  pub as_taken : AsTaken view (give_ups.put g)
   pub under_way : is_none (give_ups.plan g) ≡ false
 
--- the one entry that the command made, where it didn't give up
+-- the last entry that the command made is the failure's, where it didn't give up
 abbrev pub FitsOver : View → Who → Page → Option Failed → Type 0
 FitsOver view who page None = hand_of view ≡ empty
 FitsOver view who page (Some failed) = (hand_of view ≡ empty) × (view.owed.losses ≡ []) × (failed.at.page ≡ page) × HasFailed view who failed

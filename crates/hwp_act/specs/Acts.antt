@@ -1,5 +1,5 @@
 -- A memory failure that acts on the page in its frame: the task's states and its steps.
-use Rattle.std.specs.Prelude.{◌≡◌, ◌⊎◌, ℕ, ◌+◌, ◌<◌, ◌≤◌, true, cond, List, [], Option, Some, None, is_none, length}
+use Rattle.std.specs.Prelude.{◌≡◌, ◌⊎◌, ℕ, ◌+◌, ◌<◌, ◌≤◌, true, cond, List, [], ◌∷◌, Option, Some, None, is_none, length}
 use Rattle.hwp_geom.specs.declared.Frame.{Frame}
 use Rattle.hwp_geom.specs.declared.Page.{Page}
 use Rattle.hwp_geom.specs.declared.Thread.{Thread}
@@ -63,6 +63,12 @@ answer_at _ = None
 
 abbrev pub answer : Act → Option Failed
 answer a = answer_at a.at
+
+-- the failure, once its entry is listed
+abbrev pub failed_at : ActAt → List Failed
+failed_at (at.Abandon a) = abandons.failed_now a
+failed_at (at.Over (Some failed)) = failed ∷ []
+failed_at _ = []
 
 -- memory is refused, and the command gives up
 abbrev pub given_up : Who → Page → Frame → BodyValue → ActAt

@@ -1,23 +1,27 @@
--- What a command has done beside its entries is what its answer says.
-use Rattle.std.proofs.Common.{◌≡◌, [], ◌∷◌, Some, map, refl, sym, ap, ◌∙◌, subst}
+-- What a command has done beside its answer is what its row says.
+use Rattle.std.proofs.Common.{◌≡◌, ℕ, false, List, [], ◌++◌, Option, Some, None, map, refl, sym, ap, ◌∙◌, subst}
+use Rattle.std.specs.Prelude.{filter_map}
+use Rattle.std.specs.List.{cons_option}
+use Rattle.std.proofs.lemmas.Option.{none-some, same_Some}
 use Rattle.hwp_geom.specs.declared.FileNo.{FileNo}
 use Rattle.hwp_geom.specs.declared.Frame.{Frame}
 use Rattle.hwp_geom.specs.declared.Layout.{Layout}
+use Rattle.hwp_geom.specs.declared.Mode.{Mode}
 use Rattle.hwp_geom.specs.declared.Thread.{Thread}
+use Rattle.hwp_geom.specs.declared.VSlot.{VSlot}
 use Rattle.hwp_geom.specs.declared.Who.{Who}
 use Rattle.hwp_kill.specs.declared.Policy.{Policy}
 use Rattle.hwp_kill.specs.declared.Reply.TheVariants as replies
 use Rattle.hwp_kill.specs.Prctl.{policy_set}
-use Rattle.hwp_page.specs.declared.Outcome.{Outcome}
-use Rattle.hwp_page.specs.declared.Outcome.TheVariants as outcomes
-use Rattle.hwp_page.specs.Situations.{outcome_of}
+use Rattle.hwp_banks.specs.declared.Origin.{Origin}
+use Rattle.hwp_severity.specs.declared.McgBits.{McgBits}
 use Rattle.hwp_rule.specs.declared.View.{View}
 use Rattle.hwp_form.specs.declared.Command.{Command}
 use Rattle.hwp_form.specs.declared.Command.TheVariants as commands
 use Rattle.hwp_form.specs.declared.PrctlArgs.{PrctlArgs}
 use Rattle.hwp_report.specs.declared.Answer.{Answer}
+use Rattle.hwp_law.specs.Commands.{current_thread}
 use Rattle.hwp_law.specs.Policies.{arguments}
-use Rattle.hwp_law.specs.Records.{outcome_answer}
 use Rattle.hwp_control.specs.declared.Prctl.{Prctl}
 use Rattle.hwp_control.specs.declared.PrctlAnswer.{PrctlAnswer}
 use Rattle.hwp_control.specs.declared.PrctlAnswer.TheVariants as prctl_answers
@@ -29,21 +33,46 @@ use Rattle.hwp_evict.specs.declared.FsyncAnswer.{FsyncAnswer}
 use Rattle.hwp_evict.specs.declared.FsyncAnswer.TheVariants as fsync_answers
 use Rattle.hwp_evict.specs.declared.fsync.FsyncAt.TheVariants as fsync_at
 use Rattle.hwp_evict.specs.Fsyncs as fsyncs
+use Rattle.hwp_fail.specs.declared.fail.FailAt.{FailAt}
+use Rattle.hwp_fail.specs.declared.fail.FailAt.TheVariants as fail_at
 use Rattle.hwp_fail.specs.declared.FailAnswer.{FailAnswer}
-use Rattle.hwp_fail.specs.declared.FailAnswer.TheVariants as fail_answers
+use Rattle.hwp_fail.specs.declared.FailAnswer.TheVariants as answers
+use Rattle.hwp_fail.specs.declared.Inject.{Inject}
+use Rattle.hwp_fail.specs.declared.inject.InjectAt.{InjectAt}
+use Rattle.hwp_fail.specs.declared.inject.InjectAt.TheVariants as inject_at
+use Rattle.hwp_fail.specs.Done.{failed_over, marked_over}
+use Rattle.hwp_fail.specs.Done as fail_done
+use Rattle.hwp_fail.specs.Fails as fails
+use Rattle.hwp_fail.specs.Injects as injects
+use Rattle.hwp_fault.specs.declared.AccessKind.{AccessKind}
+use Rattle.hwp_fault.specs.declared.Request.{Request}
+use Rattle.hwp_handler.specs.declared.Found.{Found}
+use Rattle.hwp_handler.specs.declared.Told.{Told}
+use Rattle.hwp_handler.specs.Done.{failed_in, marked_in}
+use Rattle.hwp_instr.specs.declared.instruction.InstructionAt.{InstructionAt}
+use Rattle.hwp_instr.specs.declared.instruction.InstructionAt.TheVariants as instruction_at
+use Rattle.hwp_instr.specs.Done as instruction_done
+use Rattle.hwp_raise.specs.declared.Raise.{Raise}
+use Rattle.hwp_raise.specs.declared.Raiser.{Raiser}
+use Rattle.hwp_raise.specs.declared.raise.RaiseAt.{RaiseAt}
+use Rattle.hwp_raise.specs.declared.raise.RaiseAt.TheVariants as raise_at
+use Rattle.hwp_raise.specs.Done as raise_done
+use Rattle.hwp_raise.specs.Raises.{thread_of}
 use Rattle.hwp_job.specs.declared.Job.{Job}
 use Rattle.hwp_job.specs.declared.Job.TheVariants as jobs
 use Rattle.hwp_job.specs.Answers.{fail_answer, fsync_answer, prctl_answer}
 use Rattle.hwp_job.specs.Begins.{BeginsPrctl}
-use Rattle.hwp_job.specs.Done.{marked_now, marked_over, policies_now, taken_at, taken_now}
-use Rattle.hwp_job.specs.Jobs.{Fits, answer}
+use Rattle.hwp_job.specs.Done.{failed_at, failed_now, marked_now, policies_now, taken_at, taken_now}
+use Rattle.hwp_job.specs.Jobs.{Fits, answer, own_by, own_of, row_of, told_of}
 use Rattle.hwp_job.specs.Runs.{Runs, anew}
 use Rattle.hwp_job.specs.Settings.{set_at}
-use Rattle.hwp_job.proofs.Ending.{fsync-over, mapped, prctl-over}
-use Rattle.hwp_job.proofs.OfKind.{of-access, of-evict, of-fsync, of-nested, of-prctl, of-read-stop}
+use Rattle.hwp_job.proofs.Ending.{fsync-over, instruction-over, mapped, prctl-over, raise-over}
+use Rattle.hwp_job.proofs.OfKind.{of-evict, of-fsync, of-log, of-nested, of-prctl, of-spoil}
 use Rattle.hwp_job.proofs.Staying.{set-says}
+use Rattle.hwp_caused.proofs.Accessed.{KnowsAccess, knows-access}
 use Rattle.hwp_caused.proofs.Injected.{KnowsFailure, knows-failure}
-use Rattle.hwp_served.specs.Accounts.{IsAccounted, frames_marked, losses_taken, marked_by, policies_set, set_by, set_for, taken_by}
+use Rattle.hwp_caused.proofs.Raised.{KnowsRaise, knows-kernel-raise, knows-user-raise}
+use Rattle.hwp_served.specs.Accounts.{IsOwn, failures_in, markings_in, own_failure, own_marking, set_by, set_for, taken_by}
 
 -- ---- the losses of a file
 
@@ -98,52 +127,110 @@ prctl-set {layout} view {who} {thread} {args} j {a} runs fits is =
 
 -- ---- the frame that fails
 
-failed-so : (frame : Frame) (x : FailAnswer) → marked_over frame x ≡ marked_by (commands.Inject frame) (fail_answer x)
-failed-so frame fail_answers.Stopped = refl
-failed-so frame fail_answers.Already = refl
-failed-so frame (fail_answers.Done situation cycle place signalled) = which (outcome_of situation)
+-- the failure that its entry tells
+inject-failed : (i : Inject) {x : FailAnswer} → injects.answer i ≡ Some x → failed_at i.at ≡ failed_over None x
+inject-failed i {x} said = which i.at said
   where
-    which : (o : Outcome) → frame ∷ [] ≡ marked_by (commands.Inject frame) (outcome_answer o)
-    which outcomes.Recovered = refl
-    which outcomes.Delayed = refl
-    which outcomes.Ignored = refl
+    by : (y : FailAt) → fails.answer_at y ≡ Some x → fail_done.failed_at None y ≡ failed_over None x
+    by (fail_at.Over own) is = ap (failed_over None) (same_Some own x is)
+    by _ none = absurd (none-some x none)
 
-inject-marked : {layout : Layout} {view : View} {who : Who} {frame : Frame} {j : Job} {a : Answer} → KnowsFailure layout view who frame j a → marked_now j ≡ marked_by (commands.Inject frame) a
-inject-marked {frame = frame} k =
-    ap marked_now k.job_is ∙ k.ended.marked ∙ failed-so k.inject.frame k.own ∙ ap (λ (f : Frame). marked_by (commands.Inject f) (fail_answer k.own)) k.frame_is ∙ ap (marked_by (commands.Inject frame)) k.answer_is
+    which : (y : InjectAt) → injects.answer_at y ≡ Some x → failed_at y ≡ failed_over None x
+    which inject_at.LoadStop none = absurd (none-some x none)
+    which (inject_at.Fail f) is = by f.at is
+    which inject_at.Stopped is = ap (failed_over None) (same_Some answers.Stopped x is)
+
+module _ (frame : Frame) where
+  marked-so : (x : FailAnswer) → marked_over frame false x ≡ cons_option (own_marking (own_by frame (Some x))) []
+  marked-so answers.Stopped = refl
+  marked-so answers.Already = refl
+  marked-so (answers.Done situation cycle place signalled) = refl
+
+  failed-so : (x : FailAnswer) → failed_over None x ≡ cons_option (own_failure (own_by frame (Some x))) []
+  failed-so answers.Stopped = refl
+  failed-so answers.Already = refl
+  failed-so (answers.Done situation cycle None signalled) = refl
+  failed-so (answers.Done situation cycle (Some place) signalled) = refl
+
+  own-so : (x : FailAnswer) → IsOwn (commands.Inject frame) (fail_answer x) (own_by frame (Some x))
+  own-so answers.Stopped = tt
+  own-so answers.Already = tt
+  own-so (answers.Done situation cycle place signalled) = (refl, refl)
 
 -- ---- each command
 
--- a command that does none of these
-abbrev DoesNone : Job → Type 0
-DoesNone j = (marked_now j ≡ []) × (taken_now j ≡ []) × (policies_now j ≡ [])
+-- what the command has done is what its row says
+pub record DoesSo (command : Command) (j : Job) (a : Answer) : Type 0 where
+  pub marked : marked_now j ≡ markings_in (row_of j a)
+  pub failed : failed_now j ≡ failures_in command (row_of j a)
+  pub taken : taken_now j ≡ taken_by command a
+  pub set : policies_now j ≡ set_by command a
+  pub own : IsOwn command a (own_of j)
 
-record DoesSo (command : Command) (j : Job) (a : Answer) : Type 0 where
-  marked : marked_now j ≡ marked_by command a
-  taken : taken_now j ≡ taken_by command a
-  set : policies_now j ≡ set_by command a
+inject-does : {layout : Layout} {view : View} {who : Who} {frame : Frame} {j : Job} {a : Answer} → KnowsFailure layout view who frame j a → DoesSo (commands.Inject frame) j a
+inject-does {frame = frame} {j} {a} k = subst (λ (q : Job). DoesSo (commands.Inject frame) q a) (sym k.job_is) (subst (DoesSo (commands.Inject frame) (jobs.Inject k.inject)) k.answer_is (subst (λ (f : Frame). DoesSo (commands.Inject f) (jobs.Inject k.inject) (fail_answer k.own)) k.frame_is (record {
+  marked = k.ended.marked ∙ marked-so k.inject.frame k.own ∙ ap (λ (o : Option FailAnswer). cons_option (own_marking (own_by k.inject.frame o)) []) (sym k.said);
+  failed = inject-failed k.inject k.said ∙ failed-so k.inject.frame k.own ∙ ap (λ (o : Option FailAnswer). cons_option (own_failure (own_by k.inject.frame o)) []) (sym k.said);
+  taken = refl;
+  set = refl;
+  own = subst (λ (o : Option FailAnswer). IsOwn (commands.Inject k.inject.frame) (fail_answer k.own) (own_by k.inject.frame o)) (sym k.said) (own-so k.inject.frame k.own);
+})))
 
-by-kind : {j k : Job} → j ≡ k → DoesNone k → DoesNone j
-by-kind is none = (ap marked_now is ∙ none.0, ap taken_now is ∙ none.1, ap policies_now is ∙ none.2)
+-- a command whose machine checks have done it all: its task, once it is over, has done what its lines tell
+access-does : {layout : Layout} {view : View} {who : Who} {thread : Thread} {slot : VSlot} {line : ℕ} {kind : AccessKind} {origin : Origin} {mode : Mode} {j : Job} {a : Answer} (command : Command)
+    → current_thread command ≡ Some thread → taken_by command a ≡ [] → set_by command a ≡ [] → IsOwn command a None → KnowsAccess layout view who thread slot line kind origin mode j a → DoesSo command j a
+access-does {thread = thread} {a = a} command of taken set own k = subst (λ (q : Job). DoesSo command q a) (sym k.job_is) (record {
+  marked = ap (λ (x : InstructionAt). filter_map marked_in k.task.lines.told ++ instruction_done.marked_at x) over;
+  failed = ap (λ (x : InstructionAt). filter_map (failed_in (Some k.task.request.thread)) k.task.lines.told ++ instruction_done.failed_at x) over
+      ∙ ap (λ (t : Option Thread). filter_map (failed_in t) k.task.lines.told ++ []) (ap (λ (r : Request). Some r.thread) k.request_is ∙ sym of);
+  taken = sym taken;
+  set = sym set;
+  own = own;
+})
+  where
+    over : k.task.at ≡ instruction_at.Over (Some k.own)
+    over = instruction-over k.task k.said
 
-does : (layout : Layout) (view : View) (who : Who) (command : Command) (j : Job) {a : Answer} → Runs layout who command j → Fits layout view j → answer j ≡ Some a → DoesSo command j a
-does layout view who (commands.Load thread slot line) j runs fits is = let none = by-kind (of-access j runs.job_is).1 (refl, refl, refl) in record { marked = none.0; taken = none.1; set = none.2 }
-does layout view who (commands.Fetch thread slot line) j runs fits is = let none = by-kind (of-access j runs.job_is).1 (refl, refl, refl) in record { marked = none.0; taken = none.1; set = none.2 }
-does layout view who (commands.KLoad thread slot line) j runs fits is = let none = by-kind (of-access j runs.job_is).1 (refl, refl, refl) in record { marked = none.0; taken = none.1; set = none.2 }
-does layout view who (commands.Store thread slot line word) j runs fits is = let none = by-kind (of-access j runs.job_is).1 (refl, refl, refl) in record { marked = none.0; taken = none.1; set = none.2 }
-does layout view who (commands.Free slot) j runs fits is = let none = by-kind (of-evict j runs.1.job_is).1 (refl, refl, refl) in record { marked = none.0; taken = none.1; set = none.2 }
-does layout view who (commands.Drop page) j runs fits is = let none = by-kind (of-evict j runs.job_is).1 (refl, refl, refl) in record { marked = none.0; taken = none.1; set = none.2 }
-does layout view who (commands.Sync page) j runs fits is = let none = by-kind (of-evict j runs.job_is).1 (refl, refl, refl) in record { marked = none.0; taken = none.1; set = none.2 }
-does layout view who (commands.Out page) j runs fits is = let none = by-kind (of-evict j runs.job_is).1 (refl, refl, refl) in record { marked = none.0; taken = none.1; set = none.2 }
-does layout view who (commands.Fsync file) j runs fits is = record { marked = ap marked_now (of-fsync j runs.1).1; taken = fsync-taken j runs.1 is; set = ap policies_now (of-fsync j runs.1).1 }
-does layout view who (commands.Prctl thread args) j runs fits is = record { marked = ap marked_now (of-prctl j runs.job_is).1; taken = ap taken_now (of-prctl j runs.job_is).1; set = prctl-set view j runs fits is }
-does layout view who (commands.Log status addr misc) j runs fits is = let none = by-kind (of-read-stop j runs).1 (refl, refl, refl) in record { marked = none.0; taken = none.1; set = none.2 }
-does layout view who (commands.Inject frame) j runs fits is = let k = knows-failure j runs fits is in record { marked = inject-marked k; taken = ap taken_now k.job_is; set = ap policies_now k.job_is }
-does layout view who commands.RaiseNested j runs fits is = let none = by-kind (of-nested j runs).1 (refl, refl, refl) in record { marked = none.0; taken = none.1; set = none.2 }
+raise-does : {layout : Layout} {view : View} {who : Who} {raiser : Option Raiser} {mcg : McgBits} {j : Job} {a : Answer} (command : Command)
+    → current_thread command ≡ thread_of raiser → taken_by command a ≡ [] → set_by command a ≡ [] → IsOwn command a None → KnowsRaise layout view who raiser mcg j a → DoesSo command j a
+raise-does {raiser = raiser} {a = a} command of taken set own k = subst (λ (q : Job). DoesSo command q a) (sym k.job_is) (record {
+  marked = ap (λ (x : RaiseAt). filter_map marked_in k.task.lines.told ++ raise_done.marked_at x) over;
+  failed = ap (λ (x : RaiseAt). filter_map (failed_in (thread_of k.task.raiser)) k.task.lines.told ++ raise_done.failed_at x) over
+      ∙ ap (λ (t : Option Thread). filter_map (failed_in t) k.task.lines.told ++ []) (ap (λ (r : Raise). thread_of r.raiser) k.begun ∙ sym of);
+  taken = sym taken;
+  set = sym set;
+  own = own;
+})
+  where
+    over : k.task.at ≡ raise_at.Over (Some k.own)
+    over = raise-over k.task k.said
+
+-- a command of which no memory fails
+by-kind : {command : Command} {j k : Job} {a : Answer} → j ≡ k → (told_of k ≡ []) × (own_of k ≡ None) × (marked_now k ≡ []) × (failed_now k ≡ []) → taken_now j ≡ taken_by command a → policies_now j ≡ set_by command a → IsOwn command a None → DoesSo command j a
+by-kind {command} {j} {k} {a} is none taken set own = record {
+  marked = ap marked_now is ∙ none.2 ∙ sym (ap (λ (q : Job). markings_in (row_of q a)) is ∙ ap (λ (told : List Told). filter_map marked_in told ++ cons_option (own_marking (own_of k)) []) none.0 ∙ ap (λ (o : Option (Frame × Found)). cons_option (own_marking o) []) none.1);
+  failed = ap failed_now is ∙ none.3 ∙ sym (ap (λ (q : Job). failures_in command (row_of q a)) is ∙ ap (λ (told : List Told). filter_map (failed_in (current_thread command)) told ++ cons_option (own_failure (own_of k)) []) none.0 ∙ ap (λ (o : Option (Frame × Found)). cons_option (own_failure o) []) none.1);
+  taken = taken;
+  set = set;
+  own = subst (IsOwn command a) (sym (ap own_of is ∙ none.1)) own;
+}
+
+pub does : (layout : Layout) (view : View) (who : Who) (command : Command) (j : Job) {a : Answer} → Runs layout who command j → Fits layout view j → answer j ≡ Some a → DoesSo command j a
+does layout view who (commands.Load thread slot line) j runs fits is = access-does (commands.Load thread slot line) refl refl refl tt (knows-access j runs fits is)
+does layout view who (commands.Fetch thread slot line) j runs fits is = access-does (commands.Fetch thread slot line) refl refl refl tt (knows-access j runs fits is)
+does layout view who (commands.KLoad thread slot line) j runs fits is = access-does (commands.KLoad thread slot line) refl refl refl tt (knows-access j runs fits is)
+does layout view who (commands.Store thread slot line word) j runs fits is = access-does (commands.Store thread slot line word) refl refl refl tt (knows-access j runs fits is)
+does layout view who (commands.Free slot) j runs fits is = let task = (of-evict j runs.1.job_is).1 in by-kind task (refl, refl, refl, refl) (ap taken_now task) (ap policies_now task) tt
+does layout view who (commands.Drop page) j runs fits is = let task = (of-evict j runs.job_is).1 in by-kind task (refl, refl, refl, refl) (ap taken_now task) (ap policies_now task) tt
+does layout view who (commands.Sync page) j runs fits is = let task = (of-evict j runs.job_is).1 in by-kind task (refl, refl, refl, refl) (ap taken_now task) (ap policies_now task) tt
+does layout view who (commands.Out page) j runs fits is = let task = (of-evict j runs.job_is).1 in by-kind task (refl, refl, refl, refl) (ap taken_now task) (ap policies_now task) tt
+does layout view who (commands.Fsync file) j runs fits is = let task = (of-fsync j runs.1).1 in by-kind task (refl, refl, refl, refl) (fsync-taken j runs.1 is) (ap policies_now task) tt
+does layout view who (commands.Prctl thread args) j runs fits is = let task = (of-prctl j runs.job_is).1 in by-kind task (refl, refl, refl, refl) (ap taken_now task) (prctl-set view j runs fits is) tt
+does layout view who (commands.Bad frame line) j runs fits is = let task = (of-spoil j runs.job_is).1 in by-kind task (refl, refl, refl, refl) (ap taken_now task) (ap policies_now task) tt
+does layout view who (commands.Weak frame line) j runs fits is = let task = (of-spoil j runs.job_is).1 in by-kind task (refl, refl, refl, refl) (ap taken_now task) (ap policies_now task) tt
+does layout view who (commands.Log status addr misc) j runs fits is = let task = (of-log j runs.job_is).1 in by-kind task (refl, refl, refl, refl) (ap taken_now task) (ap policies_now task) tt
+does layout view who (commands.RaiseUser thread ripv eipv) j runs fits is = raise-does (commands.RaiseUser thread ripv eipv) refl refl refl tt (knows-user-raise j runs fits is).knows
+does layout view who (commands.RaiseKernel ripv eipv) j runs fits is = raise-does (commands.RaiseKernel ripv eipv) refl refl refl tt (knows-kernel-raise j runs fits is)
+does layout view who commands.RaiseNested j runs fits is = let task = (of-nested j runs).1 in by-kind task (refl, refl, refl, refl) (ap taken_now task) (ap policies_now task) tt
+does layout view who (commands.Inject frame) j runs fits is = inject-does (knows-failure j runs fits is)
 does layout view who _ j runs fits is = absurd runs
-
--- where the view lists of the command what it has done, its answer says so
-pub accounted : (layout : Layout) (view : View) (who : Who) (command : Command) (j : Job) {a : Answer} → Runs layout who command j → Fits layout view j → answer j ≡ Some a
-    → frames_marked who view ≡ marked_now j → losses_taken who view ≡ taken_now j → policies_set who view ≡ policies_now j → IsAccounted view who command a
-accounted layout view who command j runs fits is marked taken set =
-    let so = does layout view who command j runs fits is in record { marked = marked ∙ so.marked; taken = taken ∙ so.taken; set = set ∙ so.set }

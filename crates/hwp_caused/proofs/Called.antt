@@ -1,13 +1,18 @@
--- Why a call of prctl(2), and a command that only looks at the machine, is answered so.
-use Rattle.std.proofs.Common.{◌≡◌, ℕ, eq-eqb, Bool, cond, List, [], ◌∷◌, ◌++◌, Some, map, take, refl, sym, ap, ◌∙◌, subst, inl, inr}
+-- Why a command that makes no entry is answered so: of a file's losses, of an event that is logged, of damage to a line, and of a
+-- thread's policy.
+use Rattle.std.proofs.Common.{◌≡◌, ℕ, ◌<◌, eq-eqb, Bool, cond, List, [], ◌∷◌, ◌++◌, Option, Some, map, take, refl, sym, ap, ◌∙◌, subst, inl, inr}
 use Rattle.std.specs.List.{fold}
 use Rattle.std.specs.Option.{option_map}
 use Rattle.std.proofs.lemmas.List.{append-nil, map-append, same_from_push}
+use Rattle.hwp_geom.specs.declared.Damage.{Damage}
+use Rattle.hwp_geom.specs.declared.Damage.TheVariants as damages
 use Rattle.hwp_geom.specs.declared.FileNo.{FileNo}
+use Rattle.hwp_geom.specs.declared.Frame.{Frame}
 use Rattle.hwp_geom.specs.declared.Layout.{Layout}
 use Rattle.hwp_geom.specs.declared.Thread.{Thread}
 use Rattle.hwp_geom.specs.declared.ThreadDecl.{ThreadDecl}
 use Rattle.hwp_geom.specs.declared.Who.{Who}
+use Rattle.hwp_geom.specs.Limits.{line_limit}
 use Rattle.hwp_kill.specs.declared.Policy.{Policy}
 use Rattle.hwp_kill.specs.declared.Policy.TheVariants as policy_names
 use Rattle.hwp_kill.specs.declared.Reply.{Reply}
@@ -22,6 +27,8 @@ use Rattle.hwp_form.specs.declared.Command.TheVariants as commands
 use Rattle.hwp_form.specs.declared.PrctlArgs.{PrctlArgs}
 use Rattle.hwp_report.specs.declared.Answer.{Answer}
 use Rattle.hwp_law.specs.Answers.{reply_answer}
+use Rattle.hwp_law.specs.Checks.{Banks}
+use Rattle.hwp_law.specs.Events.{raw_event}
 use Rattle.hwp_law.specs.Policies.{arguments, settings}
 use Rattle.hwp_law.specs.Policies as laws
 use Rattle.hwp_known.specs.Known.{Saw}
@@ -31,37 +38,47 @@ use Rattle.hwp_control.specs.declared.Nested.{Nested}
 use Rattle.hwp_control.specs.declared.Prctl.{Prctl}
 use Rattle.hwp_control.specs.declared.PrctlAnswer.{PrctlAnswer}
 use Rattle.hwp_control.specs.declared.PrctlAnswer.TheVariants as prctl_answers
-use Rattle.hwp_control.specs.declared.ReadStop.{ReadStop}
 use Rattle.hwp_control.specs.declared.ReadStopAnswer.{ReadStopAnswer}
 use Rattle.hwp_control.specs.declared.ReadStopAnswer.TheVariants as read_answers
+use Rattle.hwp_control.specs.declared.Spoil.{Spoil}
+use Rattle.hwp_control.specs.declared.SpoilAnswer.{SpoilAnswer}
+use Rattle.hwp_control.specs.declared.SpoilAnswer.TheVariants as spoil_answers
 use Rattle.hwp_control.specs.declared.nested.NestedAt.TheVariants as nested_at
 use Rattle.hwp_control.specs.declared.prctl.PrctlAt.{PrctlAt}
 use Rattle.hwp_control.specs.declared.prctl.PrctlAt.TheVariants as prctl_at
 use Rattle.hwp_control.specs.declared.read_stop.ReadStopAt.TheVariants as read_at
+use Rattle.hwp_control.specs.declared.spoil.SpoilAt.TheVariants as spoil_at
 use Rattle.hwp_control.specs.Nesteds as nesteds
 use Rattle.hwp_control.specs.Prctls as prctls
 use Rattle.hwp_control.specs.ReadStops as read_stops
+use Rattle.hwp_control.specs.Spoils as spoils
 use Rattle.hwp_evict.specs.declared.Fsync.{Fsync}
 use Rattle.hwp_evict.specs.declared.FsyncAnswer.{FsyncAnswer}
 use Rattle.hwp_evict.specs.declared.FsyncAnswer.TheVariants as fsync_answers
 use Rattle.hwp_evict.specs.Fsyncs as fsyncs
+use Rattle.hwp_handler.specs.declared.Found.{Found}
+use Rattle.hwp_handler.specs.declared.Told.{Told}
+use Rattle.hwp_raise.specs.declared.Log.{Log}
+use Rattle.hwp_raise.specs.Logs as logs
 use Rattle.hwp_job.specs.declared.Job.{Job}
 use Rattle.hwp_job.specs.declared.Job.TheVariants as jobs
-use Rattle.hwp_job.specs.Answers.{fsync_answer, nested_answer, prctl_answer, read_stop_answer}
-use Rattle.hwp_job.specs.Begins.{BeginsPrctl}
+use Rattle.hwp_job.specs.Answers.{fsync_answer, nested_answer, prctl_answer, read_stop_answer, spoil_answer}
+use Rattle.hwp_job.specs.Begins.{BeginsLog, BeginsPrctl, BeginsSpoil}
 use Rattle.hwp_job.specs.Jobs.{Fits, answer}
 use Rattle.hwp_job.specs.Runs.{anew}
 use Rattle.hwp_job.specs.Settings.{HasReplied, IsCounted, policies_in, set_at}
-use Rattle.hwp_job.proofs.Ending.{fsync-over, mapped, nested-over, prctl-over, read-over}
-use Rattle.hwp_job.proofs.OfKind.{of-fsync, of-nested, of-prctl, of-read-stop}
-use Rattle.hwp_served.specs.Causes.{IsCaused, IsReplied, SawProcess}
+use Rattle.hwp_job.proofs.Ending.{fsync-over, mapped, nested-over, prctl-over, read-over, spoil-over}
+use Rattle.hwp_job.proofs.OfKind.{of-fsync, of-log, of-nested, of-prctl, of-spoil}
+use Rattle.hwp_served.specs.Causes.{IsAnswerCaused, IsReplied, SawProcess}
+use Rattle.hwp_served.specs.Served.{spoiling}
+use Rattle.hwp_caused.proofs.Unmade.{found-stopped}
 
 -- ---- the losses of a file
 
-pub fsync-caused : (layout : Layout) (list : List Command) (view : View) {who : Who} {file : FileNo} (j : Job) {a : Answer} → anew j ≡ jobs.Fsync (fsyncs.begin who file) → Fits layout view j → answer j ≡ Some a → IsCaused layout list view who (commands.Fsync file) a
-fsync-caused layout list view {who} {file} j {a} runs fits is =
-    subst (λ (f : Fsync). IsCaused layout list view f.who (commands.Fsync f.file) a) task.2
-    (subst (IsCaused layout list view task.0.who (commands.Fsync task.0.file)) own.2 (by own.0 (subst (fsyncs.FitsAt view task.0.who task.0.file) (fsync-over task.0 own.1) fit.at)))
+pub fsync-caused : (layout : Layout) (list : List Command) (view : View) (told : List Told) (failed : Option (Frame × Found)) {who : Who} {file : FileNo} (j : Job) {a : Answer} → anew j ≡ jobs.Fsync (fsyncs.begin who file) → Fits layout view j → answer j ≡ Some a → IsAnswerCaused layout list view who (commands.Fsync file) told failed a
+fsync-caused layout list view told failed {who} {file} j {a} runs fits is =
+    subst (λ (f : Fsync). IsAnswerCaused layout list view f.who (commands.Fsync f.file) told failed a) task.2
+    (subst (IsAnswerCaused layout list view task.0.who (commands.Fsync task.0.file) told failed) own.2 (by own.0 (subst (fsyncs.FitsAt view task.0.who task.0.file) (fsync-over task.0 own.1) fit.at)))
   where
     task : (f : Fsync) × (j ≡ jobs.Fsync f) × (fsyncs.begin f.who f.file ≡ fsyncs.begin who file)
     task = of-fsync j runs
@@ -72,36 +89,36 @@ fsync-caused layout list view {who} {file} j {a} runs fits is =
     fit : fsyncs.Fits layout view task.0
     fit = subst (Fits layout view) task.1 fits
 
-    by : (x : FsyncAnswer) → fsyncs.IsCaused view task.0.who task.0.file x → IsCaused layout list view task.0.who (commands.Fsync task.0.file) (fsync_answer x)
-    by fsync_answers.Stopped has = record { stopped = inl has; made = fit.made_none }
+    by : (x : FsyncAnswer) → fsyncs.IsCaused view task.0.who task.0.file x → IsAnswerCaused layout list view task.0.who (commands.Fsync task.0.file) told failed (fsync_answer x)
+    by fsync_answers.Stopped has = found-stopped layout (commands.Fsync task.0.file) view task.0.who (inl has) fit.made_none
     by fsync_answers.Done has = (fit.made_none, has)
     by (fsync_answers.Eio lost) has = (fit.made_none, has.0, has.1)
 
--- ---- commands that look at the machine
+-- ---- commands of machine checks
 
-pub log-caused : (layout : Layout) (list : List Command) (view : View) (status addr misc : ℕ) {who : Who} (j : Job) {a : Answer} → anew j ≡ jobs.ReadStop (read_stops.begin who) → Fits layout view j → answer j ≡ Some a
-    → IsCaused layout list view who (commands.Log status addr misc) a
-log-caused layout list view status addr misc {who} j {a} runs fits is =
-    subst (λ (r : ReadStop). IsCaused layout list view r.who (commands.Log status addr misc) a) task.2
-    (subst (IsCaused layout list view task.0.who (commands.Log status addr misc)) own.2 (by own.0 (subst (read_stops.FitsAt view task.0.who) (read-over task.0 own.1) fit.at)))
+pub log-caused : (layout : Layout) (list : List Command) (view : View) (told : List Told) (failed : Option (Frame × Found)) {who : Who} {status addr misc : ℕ} {banks : Banks} (j : Job) {a : Answer} → BeginsLog layout who (raw_event status addr misc) banks (anew j) → Fits layout view j → answer j ≡ Some a
+    → IsAnswerCaused layout list view who (commands.Log status addr misc) told failed a
+log-caused layout list view told failed {who} {status} {addr} {misc} {banks} j {a} runs fits is =
+    subst (λ (l : Log). IsAnswerCaused layout list view l.read.who (commands.Log status addr misc) told failed a) task.2
+    (subst (IsAnswerCaused layout list view task.0.read.who (commands.Log status addr misc) told failed) own.2 (by own.0 (subst (read_stops.FitsAt view task.0.read.who) (read-over task.0.read own.1) fit.read.at)))
   where
-    task : (r : ReadStop) × (j ≡ jobs.ReadStop r) × (read_stops.begin r.who ≡ read_stops.begin who)
-    task = of-read-stop j runs
+    task : (l : Log) × (j ≡ jobs.Log l) × (logs.begin l.read.who l.event l.before.value ≡ logs.begin who (raw_event status addr misc) banks)
+    task = of-log j runs.job_is
 
-    own : (x : ReadStopAnswer) × (read_stops.answer task.0 ≡ Some x) × (read_stop_answer x ≡ a)
-    own = mapped read_stop_answer (read_stops.answer task.0) (sym (ap answer task.1) ∙ is)
+    own : (x : ReadStopAnswer) × (logs.answer task.0 ≡ Some x) × (read_stop_answer x ≡ a)
+    own = mapped read_stop_answer (logs.answer task.0) (sym (ap answer task.1) ∙ is)
 
-    fit : read_stops.Fits layout view task.0
+    fit : logs.Fits layout view task.0
     fit = subst (Fits layout view) task.1 fits
 
-    by : (x : ReadStopAnswer) → read_stops.FitsAt view task.0.who (read_at.Over x) → IsCaused layout list view task.0.who (commands.Log status addr misc) (read_stop_answer x)
-    by read_answers.Stopped has = record { stopped = inl has; made = fit.made }
-    by read_answers.Done has = fit.made
+    by : (x : ReadStopAnswer) → read_stops.FitsAt view task.0.read.who (read_at.Over x) → IsAnswerCaused layout list view task.0.read.who (commands.Log status addr misc) told failed (read_stop_answer x)
+    by read_answers.Stopped has = found-stopped layout (commands.Log status addr misc) view task.0.read.who (inl has) fit.read.made
+    by read_answers.Done has = fit.read.made
 
-pub nested-caused : (layout : Layout) (list : List Command) (view : View) {who : Who} (j : Job) {a : Answer} → anew j ≡ jobs.Nested (nesteds.begin who) → Fits layout view j → answer j ≡ Some a → IsCaused layout list view who commands.RaiseNested a
-nested-caused layout list view {who} j {a} runs fits is =
-    subst (λ (n : Nested). IsCaused layout list view n.who commands.RaiseNested a) task.2
-    (subst (IsCaused layout list view task.0.who commands.RaiseNested) own.2 (by own.0 (subst (nesteds.FitsAt view task.0.who) (nested-over task.0 own.1) fit.at)))
+pub nested-caused : (layout : Layout) (list : List Command) (view : View) (told : List Told) (failed : Option (Frame × Found)) {who : Who} (j : Job) {a : Answer} → anew j ≡ jobs.Nested (nesteds.begin who) → Fits layout view j → answer j ≡ Some a → IsAnswerCaused layout list view who commands.RaiseNested told failed a
+nested-caused layout list view told failed {who} j {a} runs fits is =
+    subst (λ (n : Nested). IsAnswerCaused layout list view n.who commands.RaiseNested told failed a) task.2
+    (subst (IsAnswerCaused layout list view task.0.who commands.RaiseNested told failed) own.2 (by own.0 (subst (nesteds.FitsAt view task.0.who) (nested-over task.0 own.1) fit.at)))
   where
     task : (n : Nested) × (j ≡ jobs.Nested n) × (nesteds.begin n.who ≡ nesteds.begin who)
     task = of-nested j runs
@@ -112,9 +129,36 @@ nested-caused layout list view {who} j {a} runs fits is =
     fit : nesteds.Fits layout view task.0
     fit = subst (Fits layout view) task.1 fits
 
-    by : (x : NestedAnswer) → nesteds.FitsAt view task.0.who (nested_at.Over (Some x)) → IsCaused layout list view task.0.who commands.RaiseNested (nested_answer x)
-    by nested_answers.Shutdown has = record { stopped = inr has; made = fit.made }
-    by nested_answers.Stopped has = record { stopped = inl has; made = fit.made }
+    by : (x : NestedAnswer) → nesteds.FitsAt view task.0.who (nested_at.Over (Some x)) → IsAnswerCaused layout list view task.0.who commands.RaiseNested told failed (nested_answer x)
+    by nested_answers.Shutdown has = found-stopped layout commands.RaiseNested view task.0.who (inr has) fit.made
+    by nested_answers.Stopped has = found-stopped layout commands.RaiseNested view task.0.who (inl has) fit.made
+
+-- ---- damage to a line
+
+pub spoil-caused : (layout : Layout) (list : List Command) (view : View) (told : List Told) (failed : Option (Frame × Found)) {who : Who} {frame : Frame} {line : ℕ} {damage : Damage} (j : Job) {a : Answer} → BeginsSpoil layout who frame line damage (anew j) → Fits layout view j → answer j ≡ Some a
+    → IsAnswerCaused layout list view who (spoiling damage frame line) told failed a
+spoil-caused layout list view told failed {who} {frame} {line} {damage} j {a} runs fits is =
+    subst (λ (s : Spoil). IsAnswerCaused layout list view s.who (spoiling s.damage s.frame s.line) told failed a) task.2
+    (subst (IsAnswerCaused layout list view task.0.who (spoiling task.0.damage task.0.frame task.0.line) told failed) own.2
+    (by task.0.damage own.0 (subst (spoils.FitsAt view task.0.who task.0.frame task.0.line task.0.damage) (spoil-over task.0 own.1) fit.at)))
+  where
+    task : (s : Spoil) × (j ≡ jobs.Spoil s) × (spoils.begin s.who s.frame s.line s.damage ≡ spoils.begin who frame line damage)
+    task = of-spoil j runs.job_is
+
+    own : (x : SpoilAnswer) × (spoils.answer task.0 ≡ Some x) × (spoil_answer x ≡ a)
+    own = mapped spoil_answer (spoils.answer task.0) (sym (ap answer task.1) ∙ is)
+
+    fit : spoils.Fits layout view task.0
+    fit = subst (Fits layout view) task.1 fits
+
+    inside : task.0.line < line_limit
+    inside = subst (λ (s : Spoil). s.line < line_limit) (sym task.2) runs.inside
+
+    by : (d : Damage) (x : SpoilAnswer) → spoils.FitsAt view task.0.who task.0.frame task.0.line d (spoil_at.Over x) → IsAnswerCaused layout list view task.0.who (spoiling d task.0.frame task.0.line) told failed (spoil_answer x)
+    by damages.Bad spoil_answers.Stopped has = found-stopped layout (commands.Bad task.0.frame task.0.line) view task.0.who (inl has) fit.made
+    by damages.Weak spoil_answers.Stopped has = found-stopped layout (commands.Weak task.0.frame task.0.line) view task.0.who (inl has) fit.made
+    by damages.Bad spoil_answers.Done has = record { within = inside; spoiled = has; made = fit.made }
+    by damages.Weak spoil_answers.Done has = record { within = inside; spoiled = has; made = fit.made }
 
 -- ---- calls of prctl(2)
 
@@ -151,29 +195,29 @@ module _ (list : List Command) (view : View) (p : Prctl) where
   replied-so replies.Einval over has counted =
       sym has ∙ ap (λ (x : Policy). reply x p.arguments) (last-same policy_names.Default (settings_of p.thread view.settings) ∙ ap laws.last_policy (now-is (ap set_at over) counted))
 
-module _ {layout : Layout} (list : List Command) {view : View} (p : Prctl) (fits : prctls.Fits layout view p) where
+module _ {layout : Layout} (list : List Command) {view : View} (told : List Told) (failed : Option (Frame × Found)) (p : Prctl) (fits : prctls.Fits layout view p) where
   going : {word : ℕ} → Saw view p.who (places.Process p.process) word → SawProcess layout view p.who p.thread word
   going saw = record { process = p.process; process_is = ap (option_map (λ (t : ThreadDecl). t.process)) fits.declared ∙ ap Some fits.process_is; saw = saw }
 
-  replied-caused : {args : PrctlArgs} → p.arguments ≡ arguments args → (r : Reply) → IsReplied layout list view p.who p.thread p.arguments (reply_answer r) → IsCaused layout list view p.who (commands.Prctl p.thread args) (reply_answer r)
+  replied-caused : {args : PrctlArgs} → p.arguments ≡ arguments args → (r : Reply) → IsReplied layout list view p.who p.thread p.arguments (reply_answer r) → IsAnswerCaused layout list view p.who (commands.Prctl p.thread args) told failed (reply_answer r)
   replied-caused same (replies.Set policy) has = subst (λ (given : List ℕ). IsReplied layout list view p.who p.thread given (reply_answer (replies.Set policy))) same has
   replied-caused same (replies.Is policy) has = subst (λ (given : List ℕ). IsReplied layout list view p.who p.thread given (reply_answer (replies.Is policy))) same has
   replied-caused same replies.Einval has = subst (λ (given : List ℕ). IsReplied layout list view p.who p.thread given (reply_answer replies.Einval)) same has
 
   called : {args : PrctlArgs} → p.arguments ≡ arguments args → (x : PrctlAnswer) → p.at ≡ prctl_at.Over x → prctls.FitsOver view p.who p.thread p.process p.arguments x → ((r : Reply) → x ≡ prctl_answers.Replied r → IsCounted list view p.who (jobs.Prctl p) p.thread)
-      → IsCaused layout list view p.who (commands.Prctl p.thread args) (prctl_answer x)
-  called same prctl_answers.Stopped over has counted = record { stopped = inl has; made = fits.made }
-  called same (prctl_answers.Gone page) over has counted = record { ended = going has; made = fits.made }
+      → IsAnswerCaused layout list view p.who (commands.Prctl p.thread args) told failed (prctl_answer x)
+  called {args} same prctl_answers.Stopped over has counted = found-stopped layout (commands.Prctl p.thread args) view p.who (inl has) fits.made
+  called same (prctl_answers.Gone page) over has counted = (record { ended = going has }, fits.made)
   called same (prctl_answers.Replied r) over has counted =
       replied-caused same r (record { going = going has.0; made = fits.made; replied = ap reply_answer (replied-so list view p r over has.1 (counted r refl)) })
 
-pub prctl-caused : {layout : Layout} (list : List Command) (view : View) {who : Who} {thread : Thread} {args : PrctlArgs} (j : Job) {a : Answer} → BeginsPrctl layout who thread args (anew j) → Fits layout view j → answer j ≡ Some a
-    → ((t : Thread) → HasReplied j t → IsCounted list view who j t) → IsCaused layout list view who (commands.Prctl thread args) a
-prctl-caused {layout} list view {who} {thread} {args} j {a} runs fits is counted =
-    subst (λ (w : Who). IsCaused layout list view w (commands.Prctl thread args) a) own-who
-    (subst (λ (t : Thread). IsCaused layout list view task.0.who (commands.Prctl t args) a) own-thread
-    (subst (IsCaused layout list view task.0.who (commands.Prctl task.0.thread args)) own.2
-    (called list task.0 fit own-arguments own.0 over (subst (prctls.FitsAt view task.0.who task.0.thread task.0.process task.0.arguments) over fit.at) known)))
+pub prctl-caused : {layout : Layout} (list : List Command) (view : View) (told : List Told) (failed : Option (Frame × Found)) {who : Who} {thread : Thread} {args : PrctlArgs} (j : Job) {a : Answer} → BeginsPrctl layout who thread args (anew j) → Fits layout view j → answer j ≡ Some a
+    → ((t : Thread) → HasReplied j t → IsCounted list view who j t) → IsAnswerCaused layout list view who (commands.Prctl thread args) told failed a
+prctl-caused {layout} list view told failed {who} {thread} {args} j {a} runs fits is counted =
+    subst (λ (w : Who). IsAnswerCaused layout list view w (commands.Prctl thread args) told failed a) own-who
+    (subst (λ (t : Thread). IsAnswerCaused layout list view task.0.who (commands.Prctl t args) told failed a) own-thread
+    (subst (IsAnswerCaused layout list view task.0.who (commands.Prctl task.0.thread args) told failed) own.2
+    (called list told failed task.0 fit own-arguments own.0 over (subst (prctls.FitsAt view task.0.who task.0.thread task.0.process task.0.arguments) over fit.at) known)))
   where
     task : (p : Prctl) × (j ≡ jobs.Prctl p) × (prctls.begin p.who p.thread p.process p.arguments ≡ prctls.begin who thread runs.decl.process (arguments args))
     task = of-prctl j runs.job_is

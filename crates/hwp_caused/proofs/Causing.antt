@@ -8,28 +8,33 @@ use Rattle.hwp_form.specs.declared.Command.{Command}
 use Rattle.hwp_form.specs.declared.Command.TheVariants as commands
 use Rattle.hwp_report.specs.declared.Answer.{Answer}
 use Rattle.hwp_job.specs.declared.Job.{Job}
-use Rattle.hwp_job.specs.Jobs.{Fits, answer}
-use Rattle.hwp_job.specs.Runs.{NoneBad, Runs}
+use Rattle.hwp_job.specs.Jobs.{Fits, answer, own_of, row_of, told_of}
+use Rattle.hwp_job.specs.Runs.{Runs}
 use Rattle.hwp_job.specs.Settings.{HasReplied, IsCounted}
 use Rattle.hwp_served.specs.Causes.{IsCaused}
 use Rattle.hwp_caused.proofs.Accessed.{fetch-caused, kload-caused, knows-access, load-caused, store-caused}
-use Rattle.hwp_caused.proofs.Called.{fsync-caused, log-caused, nested-caused, prctl-caused}
+use Rattle.hwp_caused.proofs.Called.{fsync-caused, log-caused, nested-caused, prctl-caused, spoil-caused}
 use Rattle.hwp_caused.proofs.Injected.{inject-caused, knows-failure}
 use Rattle.hwp_caused.proofs.Evicted.{drop-caused, free-caused, knows-eviction, out-caused, sync-caused}
+use Rattle.hwp_caused.proofs.Raised.{kernel-caused, knows-kernel-raise, knows-user-raise, user-caused}
 
-pub caused : (layout : Layout) (list : List Command) (view : View) (who : Who) (command : Command) (j : Job) {a : Answer} → Runs layout who command j → Fits layout view j → answer j ≡ Some a → NoneBad view
-    → ((thread : Thread) → HasReplied j thread → IsCounted list view who j thread) → IsCaused layout list view who command a
-caused layout list view who (commands.Load thread slot line) j runs fits is none counted = load-caused list (knows-access j runs fits is)
-caused layout list view who (commands.Fetch thread slot line) j runs fits is none counted = fetch-caused list (knows-access j runs fits is)
-caused layout list view who (commands.KLoad thread slot line) j runs fits is none counted = kload-caused list (knows-access j runs fits is)
-caused layout list view who (commands.Store thread slot line word) j runs fits is none counted = store-caused list (knows-access j runs fits is)
-caused layout list view who (commands.Free slot) j runs fits is none counted = free-caused list none runs.1.kind (knows-eviction j runs.1 fits is)
-caused layout list view who (commands.Drop page) j runs fits is none counted = drop-caused list none (knows-eviction j runs fits is)
-caused layout list view who (commands.Sync page) j runs fits is none counted = sync-caused list none (knows-eviction j runs fits is)
-caused layout list view who (commands.Out page) j runs fits is none counted = out-caused list none (knows-eviction j runs fits is)
-caused layout list view who (commands.Fsync file) j runs fits is none counted = fsync-caused layout list view j runs.1 fits is
-caused layout list view who (commands.Prctl thread args) j runs fits is none counted = prctl-caused list view j runs fits is counted
-caused layout list view who (commands.Log status addr misc) j runs fits is none counted = log-caused layout list view status addr misc j runs fits is
-caused layout list view who (commands.Inject frame) j runs fits is none counted = inject-caused list j (knows-failure j runs fits is)
-caused layout list view who commands.RaiseNested j runs fits is none counted = nested-caused layout list view j runs fits is
-caused layout list view who _ j runs fits is none counted = absurd runs
+pub caused : (layout : Layout) (list : List Command) (view : View) (who : Who) (command : Command) (j : Job) {a : Answer} → Runs layout who command j → Fits layout view j → answer j ≡ Some a
+    → ((thread : Thread) → HasReplied j thread → IsCounted list view who j thread) → IsCaused layout list view who command (row_of j a)
+caused layout list view who (commands.Load thread slot line) j runs fits is counted = load-caused list (own_of j) (knows-access j runs fits is)
+caused layout list view who (commands.Fetch thread slot line) j runs fits is counted = fetch-caused list (own_of j) (knows-access j runs fits is)
+caused layout list view who (commands.KLoad thread slot line) j runs fits is counted = kload-caused list (own_of j) (knows-access j runs fits is)
+caused layout list view who (commands.Store thread slot line word) j runs fits is counted = store-caused list (own_of j) (knows-access j runs fits is)
+caused layout list view who (commands.Free slot) j runs fits is counted = free-caused list (told_of j) (own_of j) runs.1.kind (knows-eviction j runs.1 fits is)
+caused layout list view who (commands.Drop page) j runs fits is counted = drop-caused list (told_of j) (own_of j) (knows-eviction j runs fits is)
+caused layout list view who (commands.Sync page) j runs fits is counted = sync-caused list (told_of j) (own_of j) (knows-eviction j runs fits is)
+caused layout list view who (commands.Out page) j runs fits is counted = out-caused list (told_of j) (own_of j) (knows-eviction j runs fits is)
+caused layout list view who (commands.Fsync file) j runs fits is counted = fsync-caused layout list view (told_of j) (own_of j) j runs.1 fits is
+caused layout list view who (commands.Prctl thread args) j runs fits is counted = prctl-caused list view (told_of j) (own_of j) j runs fits is counted
+caused layout list view who (commands.Bad frame line) j runs fits is counted = spoil-caused layout list view (told_of j) (own_of j) j runs fits is
+caused layout list view who (commands.Weak frame line) j runs fits is counted = spoil-caused layout list view (told_of j) (own_of j) j runs fits is
+caused layout list view who (commands.Log status addr misc) j runs fits is counted = log-caused layout list view (told_of j) (own_of j) j runs fits is
+caused layout list view who (commands.RaiseUser thread ripv eipv) j runs fits is counted = user-caused list ripv eipv (own_of j) (knows-user-raise j runs fits is)
+caused layout list view who (commands.RaiseKernel ripv eipv) j runs fits is counted = kernel-caused list ripv eipv (own_of j) (knows-kernel-raise j runs fits is)
+caused layout list view who commands.RaiseNested j runs fits is counted = nested-caused layout list view (told_of j) (own_of j) j runs fits is
+caused layout list view who (commands.Inject frame) j runs fits is counted = inject-caused list (told_of j) j (knows-failure j runs fits is)
+caused layout list view who _ j runs fits is counted = absurd runs

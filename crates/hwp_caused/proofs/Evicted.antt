@@ -1,5 +1,6 @@
 -- Why a command by which a page, or a part of it, leaves its frame is answered so.
-use Rattle.std.proofs.Common.{◌≡◌, List, Some, sym, ap, ◌∙◌, subst, inl}
+use Rattle.std.proofs.Common.{◌≡◌, List, Option, Some, sym, ap, ◌∙◌, subst, inl}
+use Rattle.hwp_geom.specs.declared.Frame.{Frame}
 use Rattle.hwp_geom.specs.declared.Layout.{Layout}
 use Rattle.hwp_geom.specs.declared.Mask.{Mask}
 use Rattle.hwp_geom.specs.declared.Page.{Page}
@@ -20,17 +21,20 @@ use Rattle.hwp_evict.specs.declared.Eviction.{Eviction}
 use Rattle.hwp_evict.specs.declared.Eviction.TheVariants as evictions
 use Rattle.hwp_evict.specs.declared.Refusal.{Refusal}
 use Rattle.hwp_evict.specs.declared.Refusal.TheVariants as refusals
-use Rattle.hwp_evict.specs.Evictions.{IsCaused as IsEvictCaused, IsWhy, SawLines, entry_of}
+use Rattle.hwp_evict.specs.Evictions.{IsCaused as IsEvictCaused, IsWhy, entry_of}
 use Rattle.hwp_evict.specs.Evicts as evicts
+use Rattle.hwp_handler.specs.declared.Found.{Found}
+use Rattle.hwp_handler.specs.declared.Told.{Told}
 use Rattle.hwp_job.specs.declared.Job.{Job}
 use Rattle.hwp_job.specs.declared.Job.TheVariants as jobs
 use Rattle.hwp_job.specs.Answers.{evict_answer}
 use Rattle.hwp_job.specs.Begins.{BeginsEviction}
 use Rattle.hwp_job.specs.Jobs.{Fits, answer}
-use Rattle.hwp_job.specs.Runs.{NoneBad, anew}
+use Rattle.hwp_job.specs.Runs.{anew}
 use Rattle.hwp_job.proofs.Ending.{evict-caused, mapped}
 use Rattle.hwp_job.proofs.OfKind.{of-evict}
-use Rattle.hwp_served.specs.Causes.{IsCaused, FoundState, FoundStopped, MadeOne}
+use Rattle.hwp_served.specs.Causes.{IsAnswerCaused, FoundState, FoundStopped, MadeOne, SawBadLines}
+use Rattle.hwp_caused.proofs.Unmade.{found-stopped}
 
 -- the command, and what it knows of its answer
 pub record KnowsEviction (layout : Layout) (view : View) (who : Who) (page : Page) (what : Eviction) (answer : Answer) : Type 0 where
@@ -51,13 +55,9 @@ knows-eviction {layout} {view} {who} {page} {what} j {a} runs fits is = record {
     own : (x : EvictAnswer) × (evicts.answer task.0 ≡ Some x) × (evict_answer x ≡ a)
     own = mapped evict_answer (evicts.answer task.0) (sym (ap answer task.1) ∙ is)
 
--- no line is bad
-no-lines : (view : View) (who : Who) (mask : Mask) → NoneBad view → SawLines view who (refusals.BadLines mask) → ⊥
-no-lines view who mask none lines = let saw = lines.1.1 in lines.0 (sym saw.3.2 ∙ none saw.0 saw.1 saw.2 lines.1.0 saw.3.1)
-
 module _ (layout : Layout) (view : View) (who : Who) (page : Page) where
-  stopped : (what : Eviction) → IsEvictCaused layout view who page what answers.Stopped → FoundStopped view who
-  stopped what has = record { stopped = inl has.1; made = has.0 }
+  stopped : (command : Command) (what : Eviction) → IsEvictCaused layout view who page what answers.Stopped → FoundStopped layout view who command
+  stopped command what has = found-stopped layout command view who (inl has.1) has.0
 
   made-one : (what : Eviction) (at : At) → IsEvictCaused layout view who page what (answers.Done at) → MadeOne view who at (entry_of what)
   made-one what at has = record { made = subst (λ (p : Page). HasMade (λ m. ⊥) view who p at.entry (entry_of what)) (sym has.0) has.1 }
@@ -65,9 +65,12 @@ module _ (layout : Layout) (view : View) (who : Who) (page : Page) where
   found-state : (what : Eviction) (refusal : Refusal) (at : At) → IsEvictCaused layout view who page what (answers.Refused refusal at) → FoundState layout view who at (IsWhy what refusal)
   found-state what refusal at has = record { made = has.0; saw = subst (λ (p : Page). SawState layout view who p at.entry (IsWhy what refusal)) (sym has.1.page_is) has.1.state }
 
-module _ (layout : Layout) (list : List Command) (view : View) (who : Who) (page : Page) (none : NoneBad view) where
-  free : (slot : VSlot) → IsOf layout page slot → (x : EvictAnswer) → IsEvictCaused layout view who page (evictions.Free slot) x → IsCaused layout list view who (commands.Free slot) (evict_answer x)
-  free slot kind answers.Stopped has = stopped layout view who page (evictions.Free slot) has
+  bad-lines : (what : Eviction) (mask : Mask) (at : At) → IsEvictCaused layout view who page what (answers.Refused (refusals.BadLines mask) at) → SawBadLines layout view who page mask
+  bad-lines what mask at has = let lines = has.1.lines in record { some = lines.0; frame = lines.1.0; inside = lines.1.1; saw = lines.1.2 }
+
+module _ (layout : Layout) (list : List Command) (view : View) (who : Who) (page : Page) (told : List Told) (failed : Option (Frame × Found)) where
+  free : (slot : VSlot) → IsOf layout page slot → (x : EvictAnswer) → IsEvictCaused layout view who page (evictions.Free slot) x → IsAnswerCaused layout list view who (commands.Free slot) told failed (evict_answer x)
+  free slot kind answers.Stopped has = stopped layout view who page (commands.Free slot) (evictions.Free slot) has
   free slot kind (answers.Done at) has = (subst (λ (p : Page). IsOf layout p slot) (sym has.0) kind, made-one layout view who page (evictions.Free slot) at has)
   free slot kind (answers.Refused refusals.NotMapped at) has = (subst (λ (p : Page). IsOf layout p slot) (sym has.1.page_is) kind, found-state layout view who page (evictions.Free slot) refusals.NotMapped at has)
   free slot kind (answers.Refused refusals.NotResident at) has = absurd has.1.state.such
@@ -75,8 +78,8 @@ module _ (layout : Layout) (list : List Command) (view : View) (who : Who) (page
   free slot kind (answers.Refused refusals.Mapped at) has = absurd has.1.state.such
   free slot kind (answers.Refused (refusals.BadLines mask) at) has = absurd has.1.state.such
 
-  drop : (x : EvictAnswer) → IsEvictCaused layout view who page evictions.Drop x → IsCaused layout list view who (commands.Drop page) (evict_answer x)
-  drop answers.Stopped has = stopped layout view who page evictions.Drop has
+  drop : (x : EvictAnswer) → IsEvictCaused layout view who page evictions.Drop x → IsAnswerCaused layout list view who (commands.Drop page) told failed (evict_answer x)
+  drop answers.Stopped has = stopped layout view who page (commands.Drop page) evictions.Drop has
   drop (answers.Done at) has = (has.0, made-one layout view who page evictions.Drop at has)
   drop (answers.Refused refusals.NotMapped at) has = absurd has.1.state.such
   drop (answers.Refused refusals.NotResident at) has = (has.1.page_is, found-state layout view who page evictions.Drop refusals.NotResident at has)
@@ -84,33 +87,33 @@ module _ (layout : Layout) (list : List Command) (view : View) (who : Who) (page
   drop (answers.Refused refusals.Mapped at) has = (has.1.page_is, found-state layout view who page evictions.Drop refusals.Mapped at has)
   drop (answers.Refused (refusals.BadLines mask) at) has = absurd has.1.state.such
 
-  sync : (x : EvictAnswer) → IsEvictCaused layout view who page evictions.Sync x → IsCaused layout list view who (commands.Sync page) (evict_answer x)
-  sync answers.Stopped has = stopped layout view who page evictions.Sync has
+  sync : (x : EvictAnswer) → IsEvictCaused layout view who page evictions.Sync x → IsAnswerCaused layout list view who (commands.Sync page) told failed (evict_answer x)
+  sync answers.Stopped has = stopped layout view who page (commands.Sync page) evictions.Sync has
   sync (answers.Done at) has = (has.0, made-one layout view who page evictions.Sync at has)
   sync (answers.Refused refusals.NotMapped at) has = absurd has.1.state.such
   sync (answers.Refused refusals.NotResident at) has = (has.1.page_is, found-state layout view who page evictions.Sync refusals.NotResident at has)
   sync (answers.Refused refusals.Dirty at) has = absurd has.1.state.such
   sync (answers.Refused refusals.Mapped at) has = absurd has.1.state.such
-  sync (answers.Refused (refusals.BadLines mask) at) has = absurd (no-lines view who mask none has.1.lines)
+  sync (answers.Refused (refusals.BadLines mask) at) has = (has.1.page_is, found-state layout view who page evictions.Sync (refusals.BadLines mask) at has, bad-lines layout view who page evictions.Sync mask at has)
 
-  out : (x : EvictAnswer) → IsEvictCaused layout view who page evictions.Out x → IsCaused layout list view who (commands.Out page) (evict_answer x)
-  out answers.Stopped has = stopped layout view who page evictions.Out has
+  out : (x : EvictAnswer) → IsEvictCaused layout view who page evictions.Out x → IsAnswerCaused layout list view who (commands.Out page) told failed (evict_answer x)
+  out answers.Stopped has = stopped layout view who page (commands.Out page) evictions.Out has
   out (answers.Done at) has = (has.0, made-one layout view who page evictions.Out at has)
   out (answers.Refused refusals.NotMapped at) has = absurd has.1.state.such
   out (answers.Refused refusals.NotResident at) has = (has.1.page_is, found-state layout view who page evictions.Out refusals.NotResident at has)
   out (answers.Refused refusals.Dirty at) has = absurd has.1.state.such
   out (answers.Refused refusals.Mapped at) has = absurd has.1.state.such
-  out (answers.Refused (refusals.BadLines mask) at) has = absurd (no-lines view who mask none has.1.lines)
+  out (answers.Refused (refusals.BadLines mask) at) has = (has.1.page_is, found-state layout view who page evictions.Out (refusals.BadLines mask) at has, bad-lines layout view who page evictions.Out mask at has)
 
-module _ {layout : Layout} (list : List Command) {view : View} {who : Who} {page : Page} {a : Answer} (none : NoneBad view) where
-  pub free-caused : {slot : VSlot} → IsOf layout page slot → KnowsEviction layout view who page (evictions.Free slot) a → IsCaused layout list view who (commands.Free slot) a
-  free-caused {slot} kind k = subst (IsCaused layout list view who (commands.Free slot)) k.answer_is (free layout list view who page none slot kind k.own k.caused)
+module _ {layout : Layout} (list : List Command) {view : View} {who : Who} {page : Page} {a : Answer} (told : List Told) (failed : Option (Frame × Found)) where
+  pub free-caused : {slot : VSlot} → IsOf layout page slot → KnowsEviction layout view who page (evictions.Free slot) a → IsAnswerCaused layout list view who (commands.Free slot) told failed a
+  free-caused {slot} kind k = subst (IsAnswerCaused layout list view who (commands.Free slot) told failed) k.answer_is (free layout list view who page told failed slot kind k.own k.caused)
 
-  pub drop-caused : KnowsEviction layout view who page evictions.Drop a → IsCaused layout list view who (commands.Drop page) a
-  drop-caused k = subst (IsCaused layout list view who (commands.Drop page)) k.answer_is (drop layout list view who page none k.own k.caused)
+  pub drop-caused : KnowsEviction layout view who page evictions.Drop a → IsAnswerCaused layout list view who (commands.Drop page) told failed a
+  drop-caused k = subst (IsAnswerCaused layout list view who (commands.Drop page) told failed) k.answer_is (drop layout list view who page told failed k.own k.caused)
 
-  pub sync-caused : KnowsEviction layout view who page evictions.Sync a → IsCaused layout list view who (commands.Sync page) a
-  sync-caused k = subst (IsCaused layout list view who (commands.Sync page)) k.answer_is (sync layout list view who page none k.own k.caused)
+  pub sync-caused : KnowsEviction layout view who page evictions.Sync a → IsAnswerCaused layout list view who (commands.Sync page) told failed a
+  sync-caused k = subst (IsAnswerCaused layout list view who (commands.Sync page) told failed) k.answer_is (sync layout list view who page told failed k.own k.caused)
 
-  pub out-caused : KnowsEviction layout view who page evictions.Out a → IsCaused layout list view who (commands.Out page) a
-  out-caused k = subst (IsCaused layout list view who (commands.Out page)) k.answer_is (out layout list view who page none k.own k.caused)
+  pub out-caused : KnowsEviction layout view who page evictions.Out a → IsAnswerCaused layout list view who (commands.Out page) told failed a
+  out-caused k = subst (IsAnswerCaused layout list view who (commands.Out page) told failed) k.answer_is (out layout list view who page told failed k.own k.caused)

@@ -1,36 +1,41 @@
 -- Why a memory failure that a command brings about is answered so.
-use Rattle.std.proofs.Common.{◌≡◌, ◌⊎◌, inl, inr, Bool, true, false, List, Option, Some, None, refl, sym, ap, ◌∙◌, subst, true≢false}
-use Rattle.std.proofs.lemmas.Option.{get_or_from_slice_get}
+use Rattle.std.proofs.Common.{◌≡◌, ◌⊎◌, inl, inr, ℕ, zero, suc, Bool, true, false, List, [], ◌∷◌, ◌++◌, Option, Some, None, length, slice_get, refl, sym, ap, ◌∙◌, subst, true≢false}
+use Rattle.std.proofs.lemmas.Option.{none-some, same_Some}
 use Rattle.hwp_geom.specs.declared.Frame.{Frame}
 use Rattle.hwp_geom.specs.declared.Layout.{Layout}
+use Rattle.hwp_geom.specs.declared.Page.{Page}
 use Rattle.hwp_geom.specs.declared.Who.{Who}
 use Rattle.hwp_page.specs.declared.At.{At}
 use Rattle.hwp_page.specs.declared.Outcome.{Outcome}
 use Rattle.hwp_page.specs.declared.Outcome.TheVariants as outcomes
 use Rattle.hwp_page.specs.declared.Situation.{Situation}
-use Rattle.hwp_page.specs.declared.Situation.TheVariants as situations
+use Rattle.hwp_page.specs.declared.What.{What}
 use Rattle.hwp_page.specs.Situations.{outcome_of}
+use Rattle.hwp_rule.specs.declared.Made.{Made}
 use Rattle.hwp_rule.specs.declared.View.{View}
+use Rattle.hwp_rule.specs.Lists.{SomeMember}
+use Rattle.hwp_rule.proofs.Lists.{at_last}
 use Rattle.hwp_form.specs.declared.Command.{Command}
 use Rattle.hwp_form.specs.declared.Command.TheVariants as commands
 use Rattle.hwp_report.specs.declared.Answer.{Answer}
-use Rattle.hwp_law.specs.Pairings.{has_page}
-use Rattle.hwp_law.specs.Records.{is_kernel_found, outcome_answer}
-use Rattle.hwp_act.specs.Abandoned.{IsOfPage}
+use Rattle.hwp_law.specs.Records.{outcome_answer}
+use Rattle.hwp_known.specs.Known.{HasMade, HasOnly, IsAt, deeds, is_failure}
 use Rattle.hwp_fail.specs.declared.FailAnswer.{FailAnswer}
 use Rattle.hwp_fail.specs.declared.FailAnswer.TheVariants as answers
-use Rattle.hwp_fail.specs.declared.inject.Inject.{Inject}
-use Rattle.hwp_fail.specs.Fails as fails
+use Rattle.hwp_fail.specs.declared.Inject.{Inject}
 use Rattle.hwp_fail.specs.Injects as injects
+use Rattle.hwp_handler.specs.declared.Found.{Found}
+use Rattle.hwp_handler.specs.declared.Told.{Told}
 use Rattle.hwp_job.specs.declared.Job.{Job}
 use Rattle.hwp_job.specs.declared.Job.TheVariants as jobs
 use Rattle.hwp_job.specs.Answers.{fail_answer}
 use Rattle.hwp_job.specs.Begins.{BeginsInject}
-use Rattle.hwp_job.specs.Jobs.{Fits, answer}
+use Rattle.hwp_job.specs.Jobs.{Fits, answer, own_by, own_of}
 use Rattle.hwp_job.specs.Runs.{anew}
 use Rattle.hwp_job.proofs.Ending.{InjectEnded, inject-ended, mapped}
 use Rattle.hwp_job.proofs.OfKind.{of-inject}
-use Rattle.hwp_served.specs.Causes.{HasCome, HasFailed, IsCaused, IsEntered}
+use Rattle.hwp_served.specs.Causes.{HasCome, HasFailed, IsAnswerCaused, IsInjectCaused}
+use Rattle.hwp_caused.proofs.Unmade.{found-stopped, only-none}
 
 -- the command's failure, and what it knows of its answer
 pub record KnowsFailure (layout : Layout) (view : View) (who : Who) (frame : Frame) (j : Job) (answer : Answer) : Type 0 where
@@ -63,26 +68,47 @@ knows-failure {layout} {view} {who} {frame} j {a} runs fits is = record {
 
 -- ---- what the failure found
 
--- where a page was in the frame, that isn't the kernel's
-paged : (situation : Situation) → IsOfPage situation → (has_page situation ≡ true) × (is_kernel_found situation ≡ false)
-paged situations.Free is = absurd is
-paged situations.Kernel is = absurd is
-paged _ is = (refl, refl)
+abbrev found : Situation → ℕ → Option At → Bool → Found
+found situation cycle place signalled = record { situation = situation; cycle = cycle; at = place; signalled = signalled }
+
+-- the one entry of a command that made no other is among its entries, and each of them is that one
+module _ {view : View} {who : Who} {page : Page} {place : ℕ} {what : What} (has : HasMade (λ (m : Made). ⊥) view who page place what) where
+  among : SomeMember (IsAt page place what) (deeds who view)
+  among = (length has.before, has.last, ap (λ (l : List Made). slice_get l (length has.before)) has.all ∙ at_last has.before has.last, has.at)
+
+  none-before : (l : List Made) → ((i : ℕ) (m : Made) → slice_get l i ≡ Some m → ⊥) → l ≡ []
+  none-before [] none = refl
+  none-before (m ∷ l) none = absurd (none 0 m refl)
+
+  single : deeds who view ≡ has.last ∷ []
+  single = has.all ∙ ap (λ (l : List Made). l ++ has.last ∷ []) (none-before has.before has.such)
+
+  each-is : (Such : Made → Type 0) → Such has.last → HasOnly Such view who
+  each-is Such so i m there = which i (sym (ap (λ (l : List Made). slice_get l i) single) ∙ there)
+    where
+      which : (n : ℕ) → slice_get (has.last ∷ []) n ≡ Some m → Such m
+      which zero is = subst Such (same_Some has.last m is) so
+      which (suc n) is = absurd (none-some m is)
 
 module _ (layout : Layout) (view : View) (who : Who) (frame : Frame) where
-  pub came : (situation : Situation) (place : Option At) (signalled : Bool) → fails.HasDone layout view who frame None situation place signalled → HasFailed layout view who frame situation
-  came situations.Free None signalled has = record { kernel = sym (get_or_from_slice_get layout.kernel frame.0 false false has.1); entered = has.0 }
-  came situations.Kernel None signalled has = record { kernel = sym (get_or_from_slice_get layout.kernel frame.0 true false has.1); entered = has.0 }
-  came situation None signalled has = absurd has.1
-  came situation (Some at) signalled has = let of = paged situation has.0.paged in record {
-    kernel = of.1 ∙ sym (get_or_from_slice_get layout.kernel frame.0 false false has.1);
-    entered = subst (IsEntered view who situation) (sym of.0) (record { at = at; seen = has.0.seen; signals = has.0.signals; made = record { made = has.0.made } });
+  came : (situation : Situation) (cycle : ℕ) (place : Option At) (signalled : Bool) → injects.HasDone layout view who frame situation place signalled → HasFailed layout view who frame (found situation cycle place signalled)
+  came situation cycle None signalled has = record { entered = (has.1, has.2); only = only-none _ view who has.0 }
+  came situation cycle (Some place) signalled has = record {
+    entered = (record { seen = has.0.seen; signals = has.0.signals; made = among has.0.made; signalled = has.0.signalled_is; paged = has.0.paged }, has.1);
+    only = each-is has.0.made (λ (m : Made). is_failure m.entry.what ≡ true) (ap is_failure has.0.made.at.2);
   }
 
-  by-outcome : (list : List Command) (outcome : Outcome) → layout.recovery ≡ true → HasCome layout view who frame outcome → IsCaused layout list view who (commands.Inject frame) (outcome_answer outcome)
-  by-outcome list outcomes.Recovered recovers has = (recovers, has)
-  by-outcome list outcomes.Delayed recovers has = (recovers, has)
-  by-outcome list outcomes.Ignored recovers has = (recovers, has)
+  by-outcome : (own : Option (Frame × Found)) (outcome : Outcome) → HasCome layout view who frame own outcome → IsInjectCaused layout view who frame own (outcome_answer outcome)
+  by-outcome own outcomes.Recovered has = has
+  by-outcome own outcomes.Delayed has = has
+  by-outcome own outcomes.Ignored has = has
+
+  -- what comes of a failure is no stop of the machine
+  caused-by : (list : List Command) (told : List Told) (own : Option (Frame × Found)) (outcome : Outcome) → layout.recovery ≡ true → IsInjectCaused layout view who frame own (outcome_answer outcome)
+      → IsAnswerCaused layout list view who (commands.Inject frame) told own (outcome_answer outcome)
+  caused-by list told own outcomes.Recovered recovers has = (recovers, has)
+  caused-by list told own outcomes.Delayed recovers has = (recovers, has)
+  caused-by list told own outcomes.Ignored recovers has = (recovers, has)
 
 abbrev is_stopped_answer : FailAnswer → Bool
 is_stopped_answer answers.Stopped = true
@@ -93,14 +119,21 @@ recovers : {recovery : Bool} (x : FailAnswer) → is_stopped_answer x ≡ false 
 recovers x other (inl is) = absurd (true≢false (sym (ap is_stopped_answer is) ∙ other))
 recovers x other (inr so) = so
 
-failed : (layout : Layout) (list : List Command) (view : View) (i : Inject) (x : FailAnswer) → InjectEnded layout view i x → IsCaused layout list view i.who (commands.Inject i.frame) (fail_answer x)
-failed layout list view i answers.Stopped ended = record { stopped = ended.over.2; made = ended.over.0 }
-failed layout list view i answers.Already ended = (recovers answers.Already refl ended.recovery, record { word = ended.over.2.word; poisoned = ended.over.2.poisoned; saw = ended.over.2.saw; made = ended.over.0 })
-failed layout list view i (answers.Done situation cycle place signalled) ended =
-    by-outcome layout view i.who i.frame list (outcome_of situation) (recovers (answers.Done situation cycle place signalled) refl ended.recovery) (situation, refl, came layout view i.who i.frame situation place signalled ended.over.1)
+failed : (layout : Layout) (list : List Command) (view : View) (told : List Told) (i : Inject) (x : FailAnswer) → InjectEnded layout view i x → IsAnswerCaused layout list view i.who (commands.Inject i.frame) told (own_by i.frame (Some x)) (fail_answer x)
+failed layout list view told i answers.Stopped ended = found-stopped layout (commands.Inject i.frame) view i.who ended.over.2 ended.over.0
+failed layout list view told i answers.Already ended =
+    (recovers answers.Already refl ended.recovery, (record { word = ended.over.2.word; poisoned = ended.over.2.poisoned; saw = ended.over.2.saw; made = ended.over.0 }, refl))
+failed layout list view told i (answers.Done situation cycle place signalled) ended =
+    caused-by layout view i.who i.frame list told (own_by i.frame (Some (answers.Done situation cycle place signalled))) (outcome_of situation) (recovers (answers.Done situation cycle place signalled) refl ended.recovery)
+    (by-outcome layout view i.who i.frame (own_by i.frame (Some (answers.Done situation cycle place signalled))) (outcome_of situation)
+    (record { found = found situation cycle place signalled; own_is = refl; outcome_is = refl; failed = came layout view i.who i.frame situation cycle place signalled ended.over.1 }))
 
-pub inject-caused : {layout : Layout} (list : List Command) {view : View} {who : Who} {frame : Frame} (j : Job) {a : Answer} → KnowsFailure layout view who frame j a → IsCaused layout list view who (commands.Inject frame) a
-inject-caused {layout} list {view} {who} {frame} j k =
-    subst (IsCaused layout list view who (commands.Inject frame)) k.answer_is
-    (subst (λ (f : Frame). IsCaused layout list view who (commands.Inject f) (fail_answer k.own)) k.frame_is
-    (subst (λ (w : Who). IsCaused layout list view w (commands.Inject k.inject.frame) (fail_answer k.own)) k.who_is (failed layout list view k.inject k.own k.ended)))
+pub inject-caused : {layout : Layout} (list : List Command) {view : View} (told : List Told) {who : Who} {frame : Frame} (j : Job) {a : Answer} → KnowsFailure layout view who frame j a → IsAnswerCaused layout list view who (commands.Inject frame) told (own_of j) a
+inject-caused {layout} list {view} told {who} {frame} j {a} k =
+    subst (λ (own : Option (Frame × Found)). IsAnswerCaused layout list view who (commands.Inject frame) told own a) (sym own-is)
+    (subst (IsAnswerCaused layout list view who (commands.Inject frame) told (own_by frame (Some k.own))) k.answer_is
+    (subst (λ (f : Frame). IsAnswerCaused layout list view who (commands.Inject f) told (own_by f (Some k.own)) (fail_answer k.own)) k.frame_is
+    (subst (λ (w : Who). IsAnswerCaused layout list view w (commands.Inject k.inject.frame) told (own_by k.inject.frame (Some k.own)) (fail_answer k.own)) k.who_is (failed layout list view told k.inject k.own k.ended))))
+  where
+    own-is : own_of j ≡ own_by frame (Some k.own)
+    own-is = ap own_of k.job_is ∙ ap (own_by k.inject.frame) k.said ∙ ap (λ (f : Frame). own_by f (Some k.own)) k.frame_is

@@ -1,8 +1,10 @@
-pub mod Undamaged
 mod Accessed
 mod Evicted
 mod Called
-pub mod Injected
-pub mod Causing
-pub mod Accounted
-pub mod Noted
+mod Raised
+mod Injected
+mod Unmade
+mod Causing
+mod Accounted
+mod Telling
+pub mod RowServed

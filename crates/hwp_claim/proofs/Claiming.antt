@@ -35,7 +35,7 @@ use Rattle.hwp_step.specs.declared.Turn.{Turn}
 use Rattle.hwp_step.specs.Calls.{CanMake, IsOnTurn, Steps, logs}
 use Rattle.hwp_step.specs.Hands.{hand_of, empty}
 use Rattle.hwp_step.proofs.Stepping.{on-turn-after, hand-planned, steps-planned, can-make}
-use Rattle.hwp_known.specs.Known.{HasMadeNone, IsShown, SawStop, is_by}
+use Rattle.hwp_known.specs.Known.{IsShown, SawStop}
 use Rattle.hwp_hold.specs.declared.unlock.Unlock.{Unlock}
 use Rattle.hwp_hold.specs.declared.unlock.UnlockAt.{UnlockAt}
 use Rattle.hwp_hold.specs.declared.unlock.UnlockAt.TheVariants as unlock_at
@@ -61,7 +61,7 @@ use Rattle.hwp_claim.specs.declared.meet.MeetAnswer.TheVariants as meet_answers
 use Rattle.hwp_claim.specs.Grabs as grabs
 use Rattle.hwp_claim.specs.Meets as meets
 use Rattle.hwp_claim.specs.Meets.{AsTaken, is_ended}
-use Rattle.hwp_claim.specs.Claims.{plan, plan_at, put, put_at, bare, bare_at, stopped, poisoned, is_done, looked, grabbed, after_grab, after_grab_by, after_meet, after_meet_by, owned_by, after_unlock, next, next_at, turn, Shows, ShowsAt, is_own, HasMarkedNone, HasMarked, HasPoisoned, IsGrabbing, IsMeeting, IsUnlocking, IsUsers, Fits, FitsAt, pressing, class, class_at}
+use Rattle.hwp_claim.specs.Claims.{plan, plan_at, put, put_at, bare, bare_at, stopped, poisoned, is_done, looked, grabbed, after_grab, after_grab_by, after_meet, after_meet_by, owned_by, after_unlock, next, next_at, turn, Shows, ShowsAt, is_own, marks_by, HasMarked, HasPoisoned, IsGrabbing, IsMeeting, IsUnlocking, IsUsers, Fits, FitsAt, pressing, class, class_at}
 use Rattle.hwp_claim.proofs.Grabbing as grabbing
 use Rattle.hwp_claim.proofs.Meeting as meeting
 use Rattle.hwp_claim.proofs.Keeping.{Account, account_of, either, kept, grab-only, meet-only, unlock-only}
@@ -76,8 +76,8 @@ can layout view c step fits is = which c.at fits.at is
   where
     which : (x : ClaimAt) → FitsAt layout view c.who c.frame c.hardware x → plan_at c.who c.frame c.hardware x ≡ Some step → CanMake layout c.who step (put_at x) view
     which at.Stop has e = can-make fits.on_turn e tt tt refl
-    which at.Poison has e = can-make fits.on_turn e fits.unreported fits.frame tt
-    which (at.Count cycle) has e = can-make fits.on_turn e fits.unreported tt has.2
+    which at.Poison has e = can-make fits.on_turn e tt fits.frame tt
+    which (at.Count cycle) has e = can-make fits.on_turn e tt tt has.2
     which (at.Look cycle) has e = can-make fits.on_turn e tt fits.frame tt
     which (at.Grab cycle g) has e = subst (λ (w : Who). CanMake layout w step None view) has.0.own (grabbing.can layout view g step has.0.grab e)
     which (at.Meet cycle m) has e = subst (λ (w : Who). CanMake layout w step (meets.put m) view) has.0.own (meeting.can layout view m step has.0.meet e)
@@ -92,14 +92,8 @@ can layout view c step fits is = which c.at fits.at is
 
 -- ---- what a step leaves of what the command has done
 
-same-made : (old new : View) (who : Who) → account_of new ≡ account_of old → HasMadeNone old who → HasMadeNone new who
-same-made old new who same none = ap (λ (a : Account). filter (is_by who) a.made) same ∙ none
-
 same-paid : (old new : View) → account_of new ≡ account_of old → old.owed.losses ≡ [] → new.owed.losses ≡ []
 same-paid old new same paid = ap (λ (a : Account). a.owed.losses) same ∙ paid
-
-same-marks : (old new : View) (who : Who) → account_of new ≡ account_of old → HasMarkedNone old who → HasMarkedNone new who
-same-marks old new who same none = ap (λ (a : Account). filter (is_own who) a.marks) same ∙ none
 
 abbrev Spares : List Made → List Mark → Type 0
 Spares made marks = sum_by (λ (m : Made). from_bool (is_loss m.entry.what)) made < sum_by (λ (m : Mark). from_bool (is_poisoning m.kind)) marks
@@ -107,6 +101,7 @@ Spares made marks = sum_by (λ (m : Made). from_bool (is_loss m.entry.what)) mad
 -- a mark stays
 pub mark-stays : (old new : View) {who : Who} {frame : Frame} {hardware : Bool} {cycle : ℕ} → new.marks ≡ old.marks → HasMarked old who frame hardware cycle → HasMarked new who frame hardware cycle
 mark-stays old new {who} marks has = record {
+  before = has.before;
   mark = has.mark;
   marks = ap (filter (is_own who)) marks ∙ has.marks;
   frame_is = has.frame_is;
@@ -127,19 +122,18 @@ same-poisoned same has = marks-stay (ap (λ (a : Account). a.made) same) (ap (λ
 same-users : {layout : Layout} {old new : View} {who : Who} {frame : Frame} {hardware : Bool} {cycle : ℕ} → account_of new ≡ account_of old → IsUsers layout old who frame hardware cycle → IsUsers layout new who frame hardware cycle
 same-users same has = record { poisoned = same-poisoned same has.poisoned; users = has.users }
 
-none-taken : (view : View) → AsTaken view None
+pub none-taken : (view : View) → AsTaken view None
 none-taken view b is = absurd (none-some b is)
 
 -- what follows a step
 record After (layout : Layout) (new : View) (who : Who) (frame : Frame) (hardware : Bool) (x : ClaimAt) : Type 0 where
-  pub made : HasMadeNone new who
   pub paid : new.owed.losses ≡ []
   pub at : FitsAt layout new who frame hardware x
 
 -- ---- the machine stops
 
 module _ {layout : Layout} {who : Who} {old new : View} {found : ℕ} {got : Option BodyValue} (made : Steps layout who (steps.Stop who.cpu) None old new found got) where
-  stop-keeps : account_of new ≡ account_of old
+  pub stop-keeps : account_of new ≡ account_of old
   stop-keeps = ap account_of made.told.next ∙ either (found == 0) _ _ (account_of old) refl refl
 
   has-stopped : (found == 0) ≡ true → SomeMember (λ (w : Who). w ≡ who) new.stops
@@ -154,12 +148,12 @@ module _ {layout : Layout} {who : Who} {old new : View} {found : ℕ} {got : Opt
         ∙ ap (λ (b : Bool). (cond b (record (noted who old) { stops = old.stops ++ who ∷ [] }) (sighted who places.Stop found (noted who old))).sights) other)) (some-last (IsShown who places.Stop found) old.sights (record { stamp = stamp_of who (noted who old); place = places.Stop; word = found }) (refl, refl, refl));
   }
 
-  after-stop : (frame : Frame) (hardware : Bool) → HasMadeNone old who → old.owed.losses ≡ [] → hand_of new ≡ empty → HasMarkedNone old who → After layout new who frame hardware (stopped found)
-  after-stop frame hardware none paid held unmarked = record { made = same-made old new who stop-keeps none; paid = same-paid old new stop-keeps paid; at = by (found == 0) refl (is_stopped found) refl }
+  after-stop : (frame : Frame) (hardware : Bool) → old.owed.losses ≡ [] → hand_of new ≡ empty → After layout new who frame hardware (stopped found)
+  after-stop frame hardware paid held = record { paid = same-paid old new stop-keeps paid; at = by (found == 0) refl (is_stopped found) refl }
     where
       by : (b : Bool) → (found == 0) ≡ b → (d : Bool) → is_stopped found ≡ d → FitsAt layout new who frame hardware (cond b at.Stopped (cond d at.Stopped at.GaveUp))
-      by true zero d is = (held, same-marks old new who stop-keeps unmarked, inr (has-stopped zero))
-      by false other true is = (held, same-marks old new who stop-keeps unmarked, inl (was-stopped other is))
+      by true zero d is = (held, inr (has-stopped zero))
+      by false other true is = (held, inl (was-stopped other is))
       by false other false is = held
 
 -- ---- the frame is poisoned
@@ -174,74 +168,75 @@ module _ {layout : Layout} {who : Who} {old new : View} {found : ℕ} {got : Opt
   abbrev the-mark : Mark
   the-mark = record { stamp = stamp_of who (noted who old); frame = frame; cycle = cycle_of found; kind = mark_kinds.Poisoned hardware }
 
-  module _ (none : HasMadeNone old who) (paid : old.owed.losses ≡ []) (held : hand_of new ≡ empty) (unmarked : HasMarkedNone old who) where
+  own-mark : (is_own who the-mark) ≡ true
+  own-mark = ap (λ (b : Bool). b && (who.seq == who.seq)) (same-number who.cpu.0 who.cpu.0 refl) ∙ same-number who.seq who.seq refl
+
+  module _ (clear : is_poisoned found ≡ false) where
+    bit : (found / 2 % 2 == 0) ≡ true
+    bit = same-number (found / 2 % 2) 0 (let other = eqb-false (found / 2 % 2) 1 clear in omega (arith, other))
+
+    pub is-poisoned : new ≡ chosen true
+    is-poisoned = next-is true bit
+
+    new-marks : new.marks ≡ old.marks ++ the-mark ∷ []
+    new-marks = ap (λ (v : View). v.marks) is-poisoned
+
+  module _ (set : is_poisoned found ≡ true) where
+    no-bit : (found / 2 % 2 == 0) ≡ false
+    no-bit = ne_eqb (found / 2 % 2) 0 (λ e. let one : found / 2 % 2 ≡ 1 = eqb-true (found / 2 % 2) 1 set in omega (arith, e, one))
+
+    pub poison-keeps : account_of new ≡ account_of old
+    poison-keeps = ap account_of (next-is false no-bit)
+
+  module _ (paid : old.owed.losses ≡ []) (held : hand_of new ≡ empty) where
     few-losses : sum_by (λ (m : Made). from_bool (is_loss m.entry.what)) old.made ≤ sum_by (λ (m : Mark). from_bool (is_poisoning m.kind)) old.marks
     few-losses =
         let all : sum_by (λ (m : Made). from_bool (is_loss m.entry.what)) old.made ≤ length old.owed.losses + sum_by (λ (m : Mark). from_bool (is_poisoning m.kind)) old.marks = made.told.rule.rule.histories.losses.poisoned made.told.seat (losing_of old) (at_map losing_of made.told.board.views made.told.seat old made.told.me) in
         let owes : length old.owed.losses ≡ 0 = ap (λ (l : List _). length l) paid in
         omega (arith, all, owes)
 
-    module _ (clear : is_poisoned found ≡ false) where
-      bit : (found / 2 % 2 == 0) ≡ true
-      bit = same-number (found / 2 % 2) 0 (let other = eqb-false (found / 2 % 2) 1 clear in omega (arith, other))
+    has-poisoned : is_poisoned found ≡ false → HasPoisoned new who frame hardware (cycle_of found)
+    has-poisoned clear = record {
+      marked = record {
+        before = marks_by who old;
+        mark = the-mark;
+        marks = ap (filter (is_own who)) (new-marks clear) ∙ filter-append (is_own who) old.marks (the-mark ∷ []) ∙ ap (λ (b : Bool). marks_by who old ++ cond b (the-mark ∷ []) []) own-mark;
+        frame_is = refl;
+        cycle_is = refl;
+        kind_is = refl;
+      };
+      spare = subst (λ (l : List Made). Spares l new.marks) (sym (ap (λ (v : View). v.made) (is-poisoned clear))) (subst (λ (l : List Mark). Spares old.made l) (sym (new-marks clear))
+          (let few : sum_by (λ (m : Made). from_bool (is_loss m.entry.what)) old.made ≤ sum_by (λ (m : Mark). from_bool (is_poisoning m.kind)) old.marks = few-losses in
+          let more : sum_by (λ (m : Mark). from_bool (is_poisoning m.kind)) (old.marks ++ the-mark ∷ []) ≡ sum_by (λ (m : Mark). from_bool (is_poisoning m.kind)) old.marks + 1 = sum_by-append (λ (m : Mark). from_bool (is_poisoning m.kind)) old.marks (the-mark ∷ []) in
+          omega (arith, few, more)));
+    }
 
-      own-mark : (is_own who the-mark) ≡ true
-      own-mark = ap (λ (b : Bool). b && (who.seq == who.seq)) (same-number who.cpu.0 who.cpu.0 refl) ∙ same-number who.seq who.seq refl
+    owes : (h : Bool) → new.owed ≡ owing_count h old.owed → OwesCount new h
+    owes true is = subst (λ (n : ℕ). 0 < n) (sym (ap (λ (d : _). d.hardware) is)) (omega arith)
+    owes false is = subst (λ (n : ℕ). 0 < n) (sym (ap (λ (d : _). d.counts) is)) (omega arith)
 
-      new-marks : new.marks ≡ old.marks ++ the-mark ∷ []
-      new-marks = ap (λ (v : View). v.marks) (next-is true bit)
+    still-paid : (h : Bool) → new.owed ≡ owing_count h old.owed → new.owed.losses ≡ []
+    still-paid true is = ap (λ (d : _). d.losses) is ∙ paid
+    still-paid false is = ap (λ (d : _). d.losses) is ∙ paid
 
-      has-poisoned : HasPoisoned new who frame hardware (cycle_of found)
-      has-poisoned = record {
-        marked = record {
-          mark = the-mark;
-          marks = ap (filter (is_own who)) new-marks ∙ filter-append (is_own who) old.marks (the-mark ∷ []) ∙ ap (λ (l : List Mark). l ++ filter (is_own who) (the-mark ∷ [])) unmarked ∙ ap (λ (b : Bool). cond b (the-mark ∷ []) []) own-mark;
-          frame_is = refl;
-          cycle_is = refl;
-          kind_is = refl;
-        };
-        spare = subst (λ (l : List Made). Spares l new.marks) (sym (ap (λ (v : View). v.made) (next-is true bit))) (subst (λ (l : List Mark). Spares old.made l) (sym new-marks)
-            (let few : sum_by (λ (m : Made). from_bool (is_loss m.entry.what)) old.made ≤ sum_by (λ (m : Mark). from_bool (is_poisoning m.kind)) old.marks = few-losses in
-            let more : sum_by (λ (m : Mark). from_bool (is_poisoning m.kind)) (old.marks ++ the-mark ∷ []) ≡ sum_by (λ (m : Mark). from_bool (is_poisoning m.kind)) old.marks + 1 = sum_by-append (λ (m : Mark). from_bool (is_poisoning m.kind)) old.marks (the-mark ∷ []) in
-            omega (arith, few, more)));
-      }
+    goes-on : is_poisoned found ≡ false → After layout new who frame hardware (at.Count (cycle_of found))
+    goes-on clear = record {
+      paid = still-paid hardware (ap (λ (v : View). v.owed) (is-poisoned clear));
+      at = (held, has-poisoned clear, owes hardware (ap (λ (v : View). v.owed) (is-poisoned clear)));
+    }
 
-      owes : (h : Bool) → new.owed ≡ owing_count h old.owed → OwesCount new h
-      owes true is = subst (λ (n : ℕ). 0 < n) (sym (ap (λ (d : _). d.hardware) is)) (omega arith)
-      owes false is = subst (λ (n : ℕ). 0 < n) (sym (ap (λ (d : _). d.counts) is)) (omega arith)
-
-      still-paid : (h : Bool) → new.owed ≡ owing_count h old.owed → new.owed.losses ≡ []
-      still-paid true is = ap (λ (d : _). d.losses) is ∙ paid
-      still-paid false is = ap (λ (d : _). d.losses) is ∙ paid
-
-      goes-on : After layout new who frame hardware (at.Count (cycle_of found))
-      goes-on = record {
-        made = ap (λ (v : View). filter (is_by who) v.made) (next-is true bit) ∙ none;
-        paid = still-paid hardware (ap (λ (v : View). v.owed) (next-is true bit));
-        at = (held, has-poisoned, owes hardware (ap (λ (v : View). v.owed) (next-is true bit)));
-      }
-
-    module _ (set : is_poisoned found ≡ true) where
-      no-bit : (found / 2 % 2 == 0) ≡ false
-      no-bit = ne_eqb (found / 2 % 2) 0 (λ e. let one : found / 2 % 2 ≡ 1 = eqb-true (found / 2 % 2) 1 set in omega (arith, e, one))
-
-      poison-keeps : account_of new ≡ account_of old
-      poison-keeps = ap account_of (next-is false no-bit)
-
-      stays-off : After layout new who frame hardware at.Already
-      stays-off = record {
-        made = same-made old new who poison-keeps none;
-        paid = same-paid old new poison-keeps paid;
-        at = (
-          held,
-          same-marks old new who poison-keeps unmarked,
-          record {
-            word = found;
-            poisoned = set;
-            saw = subst (SomeMember (IsShown who (places.Frame frame) found)) (sym (ap (λ (v : View). v.sights) (next-is false no-bit))) (some-last (IsShown who (places.Frame frame) found) old.sights (record { stamp = stamp_of who (noted who old); place = places.Frame frame; word = found }) (refl, refl, refl));
-          },
-        );
-      }
+    stays-off : is_poisoned found ≡ true → After layout new who frame hardware at.Already
+    stays-off set = record {
+      paid = same-paid old new (poison-keeps set) paid;
+      at = (
+        held,
+        record {
+          word = found;
+          poisoned = set;
+          saw = subst (SomeMember (IsShown who (places.Frame frame) found)) (sym (ap (λ (v : View). v.sights) (next-is false (no-bit set)))) (some-last (IsShown who (places.Frame frame) found) old.sights (record { stamp = stamp_of who (noted who old); place = places.Frame frame; word = found }) (refl, refl, refl));
+        },
+      );
+    }
 
     after-poison : After layout new who frame hardware (poisoned found)
     after-poison = by (is_poisoned found) refl
@@ -253,9 +248,8 @@ module _ {layout : Layout} {who : Who} {old new : View} {found : ℕ} {got : Opt
 -- ---- it is counted
 
 module _ {layout : Layout} {who : Who} {old new : View} {found : ℕ} {got : Option BodyValue} (frame : Frame) (hardware : Bool) (made : Steps layout who (steps.CountPoison hardware) None old new found got) where
-  after-count : (cycle : ℕ) → HasMadeNone old who → old.owed.losses ≡ [] → hand_of new ≡ empty → HasPoisoned old who frame hardware cycle → After layout new who frame hardware (at.Look cycle)
-  after-count cycle none paid held has = record {
-    made = ap (λ (v : View). filter (is_by who) v.made) made.told.next ∙ none;
+  after-count : (cycle : ℕ) → old.owed.losses ≡ [] → hand_of new ≡ empty → HasPoisoned old who frame hardware cycle → After layout new who frame hardware (at.Look cycle)
+  after-count cycle paid held has = record {
     paid = still-paid hardware (ap (λ (v : View). v.owed) made.told.next);
     at = (held, marks-stay (ap (λ (v : View). v.made) made.told.next) (ap (λ (v : View). v.marks) made.told.next) has);
   }
@@ -278,8 +272,8 @@ kernel-word layout s h frame found inside met = kernel ∙ ap (λ (b : Bool). So
 
 module _ {layout : Layout} {who : Who} {new : View} (frame : Frame) (hardware : Bool) (inside : frame.0 < layout.frames) (on : IsOnTurn new who) where
   module _ {old : View} {found : ℕ} {got : Option BodyValue} (made : Steps layout who (steps.Load (places.Frame frame)) None old new found got) where
-    after-look : (cycle : ℕ) → HasMadeNone old who → old.owed.losses ≡ [] → hand_of new ≡ empty → HasPoisoned old who frame hardware cycle → After layout new who frame hardware (looked who frame cycle found)
-    after-look cycle none paid held has = record { made = same-made old new who keeps none; paid = same-paid old new keeps paid; at = by (is_kernel found) refl }
+    after-look : (cycle : ℕ) → old.owed.losses ≡ [] → hand_of new ≡ empty → HasPoisoned old who frame hardware cycle → After layout new who frame hardware (looked who frame cycle found)
+    after-look cycle paid held has = record { paid = same-paid old new keeps paid; at = by (is_kernel found) refl }
       where
         keeps : account_of new ≡ account_of old
         keeps = kept None tt (none-taken old) made
@@ -420,13 +414,13 @@ pub both : (layout : Layout) (old new : View) (c : Claim) (step : Step) (found :
     → Shows (bare c) found got × Fits layout new (next (bare c) found got)
 both layout old new c step found got fits is made =
     let all = which c.at fits.at is made in
-    (all.0, record { on_turn = on; frame = fits.frame; unreported = fits.unreported; made = all.1.made; paid = all.1.paid; at = all.1.at })
+    (all.0, record { on_turn = on; frame = fits.frame; paid = all.1.paid; at = all.1.at })
   where
     on : IsOnTurn new c.who
     on = on-turn-after fits.on_turn made
 
     by-keeping : (x : ClaimAt) → account_of new ≡ account_of old → FitsAt layout new c.who c.frame c.hardware x → After layout new c.who c.frame c.hardware x
-    by-keeping x keeps at = record { made = same-made old new c.who keeps fits.made; paid = same-paid old new keeps fits.paid; at = at }
+    by-keeping x keeps at = record { paid = same-paid old new keeps fits.paid; at = at }
 
     grabbing-on : (cycle : ℕ) (g : Grab) → IsGrabbing layout old c.who c.frame g → IsUsers layout old c.who c.frame c.hardware cycle → grabs.plan g ≡ Some step → Steps layout c.who step None old new found got
         → After layout new c.who c.frame c.hardware (after_grab c.who c.frame cycle (grabs.next g found))
@@ -468,10 +462,10 @@ both layout old new c step found got fits is made =
 
     which : (x : ClaimAt) → FitsAt layout old c.who c.frame c.hardware x → plan_at c.who c.frame c.hardware x ≡ Some step → Steps layout c.who step (logs (put_at x)) old new found got
         → ShowsAt (bare_at x) found got × After layout new c.who c.frame c.hardware (next_at c.who c.frame (bare_at x) found got)
-    which at.Stop has e made = (tt, after-stop (steps-planned e made) c.frame c.hardware fits.made fits.paid (hand-planned made e has.0) has.1)
-    which at.Poison has e made = (tt, after-poison c.frame c.hardware (steps-planned e made) fits.made fits.paid (hand-planned made e has.0) has.1)
-    which (at.Count cycle) has e made = (tt, after-count c.frame c.hardware (steps-planned e made) cycle fits.made fits.paid (hand-planned made e has.0) has.1)
-    which (at.Look cycle) has e made = (tt, after-look c.frame c.hardware fits.frame on (steps-planned e made) cycle fits.made fits.paid (hand-planned made e has.0) has.1)
+    which at.Stop has e made = (tt, after-stop (steps-planned e made) c.frame c.hardware fits.paid (hand-planned made e has))
+    which at.Poison has e made = (tt, after-poison c.frame c.hardware (steps-planned e made) fits.paid (hand-planned made e has))
+    which (at.Count cycle) has e made = (tt, after-count c.frame c.hardware (steps-planned e made) cycle fits.paid (hand-planned made e has.0) has.1)
+    which (at.Look cycle) has e made = (tt, after-look c.frame c.hardware fits.frame on (steps-planned e made) cycle fits.paid (hand-planned made e has.0) has.1)
     which (at.Grab cycle g) has e made = (tt, grabbing-on cycle g has.0 has.1 e made)
     which (at.Meet cycle m) has e made = meeting-on cycle m has.0 has.1 e made
     which (at.Unlock cycle u) has e made = (tt, unlocking-on cycle u has.0 has.1 e made)
@@ -504,8 +498,8 @@ pub claim-tells : (layout : Layout) (view : View) (c : Claim) → Fits layout vi
 claim-tells layout view c fits = which c.at fits.at
   where
     which : (x : ClaimAt) → FitsAt layout view c.who c.frame c.hardware x → Tells view (class_at x)
-    which at.Stop has = empty-tells view 4 has.0
-    which at.Poison has = empty-tells view 4 has.0
+    which at.Stop has = empty-tells view 4 has
+    which at.Poison has = empty-tells view 4 has
     which (at.Count cycle) has = empty-tells view 3 has.0
     which (at.Look cycle) has = empty-tells view 3 has.0
     which (at.Grab cycle g) has = pressed-tells view (grabs.class g) (grabbing.grab-tells layout view g has.0.grab)

@@ -7,5 +7,6 @@ pub mod MeetCosts
 pub mod Retiring
 pub mod Keeping
 pub mod Claiming
+pub mod Adding
 pub mod ClaimCosts
 pub mod ClaimOwns

@@ -1,5 +1,5 @@
 -- A frame poisoned and taken from those that use it, or could: the task's states, its steps and what they come to.
-use Rattle.std.specs.Prelude.{◌≡◌, ◌⊎◌, ℕ, ◌+◌, ◌<◌, ◌==◌, ◌&&◌, ◌||◌, Bool, true, false, cond, min, List, [], ◌∷◌, Option, Some, None, is_none, filter, slice_get}
+use Rattle.std.specs.Prelude.{◌≡◌, ◌⊎◌, ℕ, ◌+◌, ◌<◌, ◌==◌, ◌&&◌, ◌||◌, Bool, true, false, cond, min, List, [], ◌∷◌, ◌++◌, Option, Some, None, is_none, filter, slice_get}
 use Rattle.std.specs.List.{sum_by}
 use Rattle.std.specs.Int.{from_bool}
 use Rattle.hwp_geom.specs.declared.Frame.{Frame}
@@ -25,7 +25,7 @@ use Rattle.hwp_step.specs.declared.Turn.{Turn}
 use Rattle.hwp_step.specs.declared.Turn.TheVariants.{Moved, Changed, NoMemory}
 use Rattle.hwp_step.specs.Calls.{IsOnTurn}
 use Rattle.hwp_step.specs.Hands.{hand_of, empty}
-use Rattle.hwp_known.specs.Known.{HasMadeNone, Saw, SawStop}
+use Rattle.hwp_known.specs.Known.{Saw, SawStop}
 use Rattle.hwp_hold.specs.declared.unlock.Unlock.{Unlock}
 use Rattle.hwp_hold.specs.Unlocks as unlocks
 use Rattle.hwp_hold.specs.Unlocks.{empty_frame}
@@ -225,10 +225,11 @@ HasMarkedNone view who = marks_by who view ≡ []
 abbrev pub CanLoseOne : View → Type 0
 CanLoseOne view = sum_by (λ (m : Made). from_bool (is_loss m.entry.what)) view.made < sum_by (λ (m : Mark). from_bool (is_poisoning m.kind)) view.marks
 
--- the command poisoned this frame alone, in this cycle of it
+-- the command poisoned this frame, in this cycle of it, and none after it
 pub record HasMarked (view : View) (who : Who) (frame : Frame) (hardware : Bool) (cycle : ℕ) : Type 0 where
+  pub before : List Mark
   pub mark : Mark
-  pub marks : marks_by who view ≡ mark ∷ []
+  pub marks : marks_by who view ≡ before ++ mark ∷ []
   pub frame_is : mark.frame ≡ frame
   pub cycle_is : mark.cycle ≡ cycle
   pub kind_is : mark.kind ≡ mark_kinds.Poisoned hardware
@@ -275,8 +276,8 @@ pub record IsUsers (layout : Layout) (view : View) (who : Who) (frame : Frame) (
   pub users : slice_get layout.kernel frame.0 ≡ Some false
 
 abbrev pub FitsAt : Layout → View → Who → Frame → Bool → ClaimAt → Type 0
-FitsAt layout view who frame hardware at.Stop = (hand_of view ≡ empty) × HasMarkedNone view who
-FitsAt layout view who frame hardware at.Poison = (hand_of view ≡ empty) × HasMarkedNone view who
+FitsAt layout view who frame hardware at.Stop = hand_of view ≡ empty
+FitsAt layout view who frame hardware at.Poison = hand_of view ≡ empty
 FitsAt layout view who frame hardware (at.Count cycle) = (hand_of view ≡ empty) × HasPoisoned view who frame hardware cycle × OwesCount view hardware
 FitsAt layout view who frame hardware (at.Look cycle) = (hand_of view ≡ empty) × HasPoisoned view who frame hardware cycle
 FitsAt layout view who frame hardware (at.Grab cycle g) = IsGrabbing layout view who frame g × IsUsers layout view who frame hardware cycle
@@ -284,19 +285,17 @@ FitsAt layout view who frame hardware (at.Meet cycle m) = IsMeeting layout view 
 FitsAt layout view who frame hardware (at.Unlock cycle u) = IsUnlocking layout view who u × IsUsers layout view who frame hardware cycle
 FitsAt layout view who frame hardware (at.Retire cycle) = (hand_of view ≡ empty_frame frame false true) × IsUsers layout view who frame hardware cycle
 FitsAt layout view who frame hardware at.GaveUp = hand_of view ≡ empty
-FitsAt layout view who frame hardware at.Stopped = (hand_of view ≡ empty) × HasMarkedNone view who × IsStopped view who
-FitsAt layout view who frame hardware at.Already = (hand_of view ≡ empty) × HasMarkedNone view who × SawPoison view who frame
+FitsAt layout view who frame hardware at.Stopped = (hand_of view ≡ empty) × IsStopped view who
+FitsAt layout view who frame hardware at.Already = (hand_of view ≡ empty) × SawPoison view who frame
 FitsAt layout view who frame hardware (at.Free cycle) = (hand_of view ≡ empty) × IsUsers layout view who frame hardware cycle
 FitsAt layout view who frame hardware (at.Kernel cycle) = (hand_of view ≡ empty) × HasPoisoned view who frame hardware cycle × (slice_get layout.kernel frame.0 ≡ Some true)
 FitsAt layout view who frame hardware (at.Owned cycle page body) = meets.HoldsPoisoned layout view who page frame body × IsUsers layout view who frame hardware cycle
 
--- the processor holds nothing at first, and then what the task took; the command makes no entry, and no loss is owed; until machine
--- checks are served, no bank reported the failure
+-- the processor holds nothing at first, and then what the task took; no loss is owed. The command may have made entries, and have
+-- poisoned other frames, before
 pub record Fits (layout : Layout) (view : View) (c : Claim) : Type 0 where
   pub on_turn : IsOnTurn view c.who
   pub frame : c.frame.0 < layout.frames
-  pub unreported : c.hardware ≡ false
-  pub made : HasMadeNone view c.who
   pub paid : view.owed.losses ≡ []
   pub at : FitsAt layout view c.who c.frame c.hardware c.at
 

@@ -1,3 +1,4 @@
 pub mod Claims
+pub mod Done
 pub mod Grabs
 pub mod Meets

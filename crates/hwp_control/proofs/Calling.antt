@@ -56,7 +56,7 @@ use Rattle.hwp_control.proofs.Glancing.{no-frame, no-page, saw-stop}
 
 module _ (layout : Layout) (s : State) (h : Holds layout s) where
   -- the word of a process is 0 or names a page of the layout
-  ended-by : (process : Proc) (found : ℕ) → process.0 < layout.procs → found ≡ slice_index s.words (index layout (places.Process process)) → found ≤ 256
+  pub ended-by : (process : Proc) (found : ℕ) → process.0 < layout.procs → found ≡ slice_index s.words (index layout (places.Process process)) → found ≤ 256
   ended-by process found inside met =
       let named : slice_index (words_of layout s.words).processes process.0 ≤ length layout.pages =
       h.rule.histories.endings.named process.0 (slice_index (words_of layout s.words).processes process.0) (word-there (words_of layout s.words).processes process.0 layout.procs (shaped layout s h).processes inside) in
@@ -91,7 +91,7 @@ small-word n policy_names.Early few = omega arith
 small-word n policy_names.Default few = omega arith
 
 -- the page that a process word names
-page-back : (found : ℕ) (page : Page) → found ≤ 256 → page_named found ≡ Some page → found ≡ page.0 + 1
+pub page-back : (found : ℕ) (page : Page) → found ≤ 256 → page_named found ≡ Some page → found ≡ page.0 + 1
 page-back found page few is = which (found == 0) refl
   where
     which : (b : Bool) → (found == 0) ≡ b → found ≡ page.0 + 1
@@ -102,7 +102,7 @@ page-back found page few is = which (found == 0) refl
         let above : found ≢ 0 = eqb-false found 0 some in
         omega arith
 
-no-page-back : (found : ℕ) → page_named found ≡ None → found ≡ 0
+pub no-page-back : (found : ℕ) → page_named found ≡ None → found ≡ 0
 no-page-back found is = which (found == 0) refl
   where
     which : (b : Bool) → (found == 0) ≡ b → found ≡ 0

@@ -2,3 +2,4 @@ pub mod Glancing
 pub mod Reading
 pub mod Nesting
 pub mod Calling
+pub mod Spoiling

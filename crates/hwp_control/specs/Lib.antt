@@ -1,3 +1,4 @@
 pub mod ReadStops
 pub mod Nesteds
 pub mod Prctls
+pub mod Spoils

@@ -7,10 +7,10 @@ use Rattle.std.proofs.lemmas.List.Sums.{get_or-le-sum_by}
 use Rattle.std.proofs.lemmas.Option.{get_or_from_slice_get, none-some, same_Some, slice_get-get_or, slice_get_within}
 use Rattle.hwp_geom.specs.declared.Cpu.{Cpu}
 use Rattle.hwp_geom.specs.declared.Layout.{Layout}
-use Rattle.hwp_geom.specs.Pairs.{Pairs}
 use Rattle.hwp_rule.specs.declared.State.{State}
 use Rattle.hwp_rule.specs.Opening.{opening}
 use Rattle.hwp_rule.specs.Rule.{Holds}
+use Rattle.hwp_rule.proofs.Lists.{at_map}
 use Rattle.hwp_step.specs.declared.Turn.{Turn}
 use Rattle.hwp_step.specs.Boards.{AreSeated, Played, view_of}
 use Rattle.hwp_step.specs.Ranks.{Made}
@@ -20,10 +20,10 @@ use Rattle.hwp_script.specs.Valid.{AreLists, IsCommandOf, IsValid}
 use Rattle.hwp_sched.specs.Order.{InOrder, IsAt, Running, cpu_of, running}
 use Rattle.hwp_sched.specs.Ready.{IsCrew}
 use Rattle.hwp_sched.proofs.Opening.{opening-crew}
-use Rattle.hwp_report.specs.declared.CpuLine.{CpuLine}
 use Rattle.hwp_runs.proofs.Homes.{there-is}
 use Rattle.hwp_runs.proofs.Lasting.{kept-ordered}
-use Rattle.hwp_served.specs.Accounts.{Note}
+use Rattle.hwp_handler.specs.declared.Row.{Row}
+use Rattle.hwp_served.specs.Rows.{lines_from}
 use Rattle.hwp_served.specs.Runs.{AreServed}
 use Rattle.hwp_served.specs.Served.{IsServed}
 use Rattle.hwp_job.specs.Begins.{is_supported}
@@ -31,7 +31,8 @@ use Rattle.hwp_processor.specs.declared.Processor.{Processor}
 use Rattle.hwp_processor.specs.Processors.{AreCommands, AtBeginning}
 use Rattle.hwp_processor.specs.Serving.{Fits}
 use Rattle.hwp_processor.proofs.Ends.{next-keeps, opening-fits, opening-own, served-of}
-use Rattle.hwp_core.specs.Runs.{AreAnswered, AreAtBeginning, AreFinished, AreNotes, AreSupported, own_seat, processors}
+use Rattle.hwp_core.specs.Closing.{lines_of_all}
+use Rattle.hwp_core.specs.Runs.{AreAtBeginning, AreFinished, AreSupported, own_seat, processors}
 
 -- ---- the commands of a processor
 
@@ -119,9 +120,9 @@ module _ (script : Script) (tasks : List Processor) (valid : IsValid script) (be
   -- when all turns are made, each has served its commands
   pub all-served : (turns : List Played) (last : Running Processor) → InOrder processors script.go (running script.layout own_seat tasks (opening script.layout)) turns last
       → Holds script.layout last.state → AreSeated script.layout last.state own_seat
-      → IsCrew processors (running script.layout own_seat last.tasks last.state) → (cpus : List (List CpuLine)) (notes : List (List Note)) → AreFinished last.tasks cpus notes → AreServed script own_seat last.state cpus notes
-  all-served turns last order holds seated crew cpus notes finished cpu list rows own list_is rows_is own_is =
-      let pair = paired last.tasks cpus cpu.0 rows finished.0 rows_is in
+      → IsCrew processors (running script.layout own_seat last.tasks last.state) → (rows : List (List Row)) → AreFinished last.tasks rows → AreServed script own_seat last.state rows (lines_of_all rows)
+  all-served turns last order holds seated crew rows finished cpu list own list_is own_is =
+      let pair = paired last.tasks rows cpu.0 own finished own_is in
       let p = pair.0 in
       let at : IsAt last.tasks cpu.0 p = is-at last.tasks cpu.0 p pair.1 in
       let kept : Keeps cpu.0 p = kept-ordered processors Keeps turn-keeps script.go (running script.layout own_seat tasks (opening script.layout)) last turns order (λ c q there.
@@ -129,37 +130,23 @@ module _ (script : Script) (tasks : List Processor) (valid : IsValid script) (be
       record { cpu_is = begins.2.cpu_is; listed = begins.1 ∙ ap (λ (l : List Command). Some l) (sym begins.2.commands_are) }) cpu.0 p at in
       let inside : p.cpu.0 < script.layout.cpus = subst (λ (c : Cpu). c.0 < script.layout.cpus) (sym kept.cpu_is) (subst (λ (n : ℕ). cpu.0 < n) valid.one_each (slice_get_within script.lists cpu.0 list list_is)) in
       let fits : Fits script.layout (view_of last.state p.cpu.0) p = subst (λ (c : Cpu). Fits script.layout (view_of last.state c.0) p) (sym kept.cpu_is) (crew.fits cpu.0 p at) in
-      let served : IsServed script.layout (view_of last.state p.cpu.0) p.cpu p.commands p.lines.items p.notes.items = served-of script.layout last.state own_seat holds seated p inside fits pair.2.1 in
-      let noted : own ≡ p.notes.items = noted-by last.tasks notes cpu.0 own p finished.1 own_is pair.1 in
-      subst (λ (c : Cpu). IsServed script.layout (view_of last.state c.0) c list rows own) kept.cpu_is
-      (subst (λ (l : List Command). IsServed script.layout (view_of last.state p.cpu.0) p.cpu l rows own) (same_Some p.commands list (sym kept.listed ∙ list_is))
-      (subst (λ (r : List CpuLine). IsServed script.layout (view_of last.state p.cpu.0) p.cpu p.commands r own) (sym pair.2.0)
-      (subst (IsServed script.layout (view_of last.state p.cpu.0) p.cpu p.commands p.lines.items) (sym noted) served)))
+      let served : IsServed script.layout (view_of last.state p.cpu.0) p.cpu p.commands p.rows.items = served-of script.layout last.state own_seat holds seated p inside fits pair.2.1 in (
+        subst (λ (c : Cpu). IsServed script.layout (view_of last.state c.0) c list own) kept.cpu_is
+            (subst (λ (l : List Command). IsServed script.layout (view_of last.state p.cpu.0) p.cpu l own) (same_Some p.commands list (sym kept.listed ∙ list_is))
+            (subst (IsServed script.layout (view_of last.state p.cpu.0) p.cpu p.commands) (sym pair.2.0) served)),
+        at_map (lines_from 0) rows cpu.0 own own_is,
+      )
     where
-      noted-by : (ps : List Processor) (notes : List (List Note)) (i : ℕ) (own : List Note) (p : Processor) → AreNotes ps notes → slice_get notes i ≡ Some own → slice_get ps i ≡ Some p → own ≡ p.notes.items
-      noted-by [] [] i own p are there mine = absurd (none-some own there)
-      noted-by [] (n ∷ ns) i own p are there mine = absurd are
-      noted-by (q ∷ ps) [] i own p are there mine = absurd are
-      noted-by (q ∷ ps) (n ∷ ns) zero own p are there mine = sym (same_Some n own there) ∙ are.0 ∙ ap (λ (x : Processor). x.notes.items) (same_Some q p mine)
-      noted-by (q ∷ ps) (n ∷ ns) (suc i) own p are there mine = noted-by ps ns i own p are.1 there mine
+      paired : (ps : List Processor) (rows : List (List Row)) (i : ℕ) (own : List Row) → AreFinished ps rows → slice_get rows i ≡ Some own → (p : Processor) × (slice_get ps i ≡ Some p) × ((own ≡ p.rows.items) × (p.job ≡ None))
+      paired [] [] i own are there = absurd (none-some own there)
+      paired [] (r ∷ rs) i own are there = absurd are
+      paired (p ∷ ps) [] i own are there = absurd are
+      paired (p ∷ ps) (r ∷ rs) zero own are there = (p, refl, (sym (same_Some r own there) ∙ are.0.0, are.0.1))
+      paired (p ∷ ps) (r ∷ rs) (suc i) own are there = paired ps rs i own are.1 there
 
-      paired : (ps : List Processor) (cpus : List (List CpuLine)) (i : ℕ) (rows : List CpuLine) → AreAnswered ps cpus → slice_get cpus i ≡ Some rows
-          → (p : Processor) × (slice_get ps i ≡ Some p) × ((rows ≡ p.lines.items) × (p.job ≡ None))
-      paired [] [] i rows are there = absurd (cc)
-      paired [] (r ∷ rs) i rows are there = absurd are
-      paired (p ∷ ps) [] i rows are there = absurd are
-      paired (p ∷ ps) (r ∷ rs) zero rows are there = (p, refl, (sym (same_Some r rows there) ∙ are.0.0, are.0.1))
-      paired (p ∷ ps) (r ∷ rs) (suc i) rows are there = paired ps rs i rows are.1 there
-
--- there are as many lists of lines, and of notes, as processors
-pub pairs-length : {A B : Type 0} (R : A → B → Type 0) (xs : List A) (ys : List B) → Pairs R xs ys → length ys ≡ length xs
-pairs-length R [] [] are = refl
-pairs-length R [] (y ∷ ys) are = absurd are
-pairs-length R (x ∷ xs) [] are = absurd are
-pairs-length R (x ∷ xs) (y ∷ ys) are = ap (λ (n : ℕ). suc n) (pairs-length R xs ys are.1)
-
-pub answered-length : (ps : List Processor) (cpus : List (List CpuLine)) → AreAnswered ps cpus → length cpus ≡ length ps
-answered-length ps cpus are = pairs-length (λ (p : Processor) (rows : List CpuLine). (rows ≡ p.lines.items) × (p.job ≡ None)) ps cpus are
-
-pub notes-length : (ps : List Processor) (notes : List (List Note)) → AreNotes ps notes → length notes ≡ length ps
-notes-length ps notes are = pairs-length (λ (p : Processor) (own : List Note). own ≡ p.notes.items) ps notes are
+-- there are as many lists of rows as processors
+pub finished-length : (ps : List Processor) (rows : List (List Row)) → AreFinished ps rows → length rows ≡ length ps
+finished-length [] [] are = refl
+finished-length [] (r ∷ rs) are = absurd are
+finished-length (p ∷ ps) [] are = absurd are
+finished-length (p ∷ ps) (r ∷ rs) are = ap (λ (n : ℕ). suc n) (finished-length ps rs are.1)

@@ -1,7 +1,7 @@
 -- What is left of a board when nothing is held: the frames' lines, the counter, and the stop.
-use Rattle.std.proofs.Common.{◌≡◌, ◌≢◌, ℕ, ◌+◌, ◌^◌, ◌<◌, min, List, [], ◌∷◌, Option, Some, None, length, map, slice_get, slice_index, refl, sym, ap, ◌∙◌, subst, arith, inl, inr}
-use Rattle.std.specs.Prelude.{IsSomeAnd}
+use Rattle.std.proofs.Common.{◌≡◌, ◌≢◌, ◌||◌, ℕ, ◌+◌, ◌^◌, ◌<◌, min, Bool, true, false, cond, List, [], ◌∷◌, Option, Some, None, find, length, map, option_and_then, option_map, slice_get, slice_index, unwrap_or, refl, sym, ap, ◌∙◌, subst, arith, inl, inr, true≢false}
 use Rattle.std.specs.List.{sum_by}
+use Rattle.std.specs.Option.{option_or}
 use Rattle.std.proofs.lemmas.Bool.{cases_lt}
 use Rattle.std.proofs.lemmas.Option.{none-some, same_Some}
 use Rattle.hwp_geom.specs.declared.Frame.{Frame}
@@ -24,44 +24,79 @@ use Rattle.hwp_rule.proofs.Moving.{shaped}
 use Rattle.hwp_rule.proofs.WordsByKind.{word-there}
 use Rattle.hwp_script.specs.declared.Command.{Command}
 use Rattle.hwp_script.specs.declared.Command.TheVariants as commands
-use Rattle.hwp_report.specs.declared.CpuLine.{CpuLine}
 use Rattle.hwp_report.specs.declared.FrameLine.{FrameLine}
 use Rattle.hwp_report.specs.declared.Report.{Report}
 use Rattle.hwp_report.specs.declared.Stop.{Stop}
+use Rattle.hwp_report.specs.declared.StopCause.{StopCause}
+use Rattle.hwp_report.specs.declared.StopCause.TheVariants as causes
+use Rattle.hwp_law.specs.Checks.{is_panic, is_stopping}
+use Rattle.hwp_law.specs.Commands.{Arrival, arrival_of}
 use Rattle.hwp_runs.specs.Ends.{IsFrameOn, IsStopOn}
-use Rattle.hwp_served.specs.Accounts.{Note, record_of}
-use Rattle.hwp_served.specs.Runs.{IsCauseOf}
-use Rattle.hwp_served.specs.Served.{CanStop}
+use Rattle.hwp_handler.specs.declared.Row.{Row}
+use Rattle.hwp_handler.specs.declared.Told.{Told}
+use Rattle.hwp_handler.specs.Told.{halts}
+use Rattle.hwp_served.specs.Rows.{Note, record_of}
+use Rattle.hwp_served.specs.Runs.{IsCauseOf, notes_of, panic_cause, row_at, severity_cause, told_cause}
+use Rattle.hwp_served.specs.Served.{CanStop, IsFirstStopped}
 use Rattle.hwp_plain.specs.Ends.{AreHistories}
-use Rattle.hwp_core.specs.Closing.{HasStopper, IsClosing, IsEnded, IsFirstStop, IsHalter, IsStopBy, IsStopCause, IsStopper, cause_in, cause_of, command_in, line_by, lines_by}
+use Rattle.hwp_core.specs.Closing.{HasStopper, IsClosing, IsEnded, IsHalter, IsStopBy, IsStopCause, IsStopper, cause_in, cause_of, line_by, lines_by, lines_of_all}
 use Rattle.hwp_core.proofs.Tables.{length-made, made-at}
 
 -- a processor has one first stop
-one-first : (rows : List CpuLine) (m n : ℕ) → IsFirstStop rows m → IsFirstStop rows n → m ≡ n
-one-first rows m n a b = elim (cases_lt m n) [
-  | inl less ↦ absurd (b.first m less a.answered)
+one-first : (own : List Row) (m n : ℕ) (a b : Row) → IsFirstStopped own m a → IsFirstStopped own n b → m ≡ n
+one-first own m n a b first second = elim (cases_lt m n) [
+  | inl less ↦ absurd (second.first m a less first.row_is first.stopped)
   | inr past ↦ elim (cases_lt n m) [
-    | inl less ↦ absurd (a.first n less b.answered)
+    | inl less ↦ absurd (first.first n b less second.row_is second.stopped)
     | inr also ↦ omega (arith, past, also)
   ]
 ]
 
-one-stopper : (cpus : List (List CpuLine)) (a b : Who) → IsStopper cpus a → IsStopper cpus b → a.cpu.0 ≡ b.cpu.0 → a ≡ b
-one-stopper cpus a b first second same = λ i. record { cpu = record { 0 = same i }; seq = seq i }
+one-stopper : (rows : List (List Row)) (a b : Who) → IsStopper rows a → IsStopper rows b → a.cpu.0 ≡ b.cpu.0 → a ≡ b
+one-stopper rows a b first second same = λ i. record { cpu = record { 0 = same i }; seq = seq i }
   where
-    rows : second.rows ≡ first.rows
-    rows = same_Some second.rows first.rows (sym second.of_cpu ∙ sym (ap (slice_get cpus) same) ∙ first.of_cpu)
+    own : second.own ≡ first.own
+    own = same_Some second.own first.own (sym second.of_cpu ∙ sym (ap (slice_get rows) same) ∙ first.of_cpu)
 
     seq : a.seq ≡ b.seq
-    seq = one-first first.rows a.seq b.seq first.first (subst (λ (l : List CpuLine). IsFirstStop l b.seq) rows second.first)
+    seq = one-first first.own a.seq b.seq first.row second.row first.first (subst (λ (l : List Row). IsFirstStopped l b.seq second.row) own second.first)
+
+-- its row
+stopper-row : (rows : List (List Row)) (who : Who) (stopper : IsStopper rows who) → row_at rows who ≡ Some stopper.row
+stopper-row rows who stopper = ap (λ (o : Option (List Row)). option_and_then (λ (own : List Row). slice_get own who.seq) o) stopper.of_cpu ∙ stopper.first.row_is
+
+-- ---- the cause
+
+-- among events that stop the machine some is graded so, or some failure is a panic
+panics : (told : List Told) → halts told ≡ true → find (λ (t : Told). is_stopping t.acted) told ≡ None → (t : Told) × (find (λ (t : Told). is_panic t.acted) told ≡ Some t)
+panics [] halted none = absurd (true≢false (sym halted))
+panics (t ∷ ts) halted none = which (is_stopping t.acted) (is_panic t.acted) halted none (panics ts)
+  where
+    which : (a b : Bool) → ((a || b) || halts ts) ≡ true → cond a (Some t) (find (λ (x : Told). is_stopping x.acted) ts) ≡ None
+        → (halts ts ≡ true → find (λ (x : Told). is_stopping x.acted) ts ≡ None → (x : Told) × (find (λ (x : Told). is_panic x.acted) ts ≡ Some x)) → (x : Told) × (cond b (Some t) (find (λ (x : Told). is_panic x.acted) ts) ≡ Some x)
+    which true b is front rest = absurd (none-some t (sym front))
+    which false true is front rest = (t, refl)
+    which false false is front rest = rest is front
+
+halts-cause : (how : Arrival) (told : List Told) → halts told ≡ true → (cause : StopCause) × (told_cause how told ≡ Some cause)
+halts-cause how told halted = which (find (λ (t : Told). is_stopping t.acted) told) refl
+  where
+    which : (o : Option Told) → find (λ (t : Told). is_stopping t.acted) told ≡ o → (cause : StopCause) × (told_cause how told ≡ Some cause)
+    which (Some t) is = (severity_cause how t, ap (λ (o : Option Told). option_or (option_map (severity_cause how) o) (option_map panic_cause (find (λ (t : Told). is_panic t.acted) told))) is)
+    which None is =
+        let some = panics told halted is in
+        (panic_cause some.0, ap (λ (o : Option Told). option_or (option_map (severity_cause how) o) (option_map panic_cause (find (λ (t : Told). is_panic t.acted) told))) is ∙ ap (option_map panic_cause) some.1)
 
 -- a command that can stop the machine does so for its cause
-can-cause : (layout : Layout) (command : Command) → CanStop layout command → IsCauseOf command (cause_of command)
-can-cause layout commands.RaiseNested can = refl
-can-cause layout (commands.Inject frame) can = refl
-can-cause layout command can = absurd can
+can-cause : (layout : Layout) (command : Command) (told : List Told) → CanStop layout command told → IsCauseOf command told (cause_of command told)
+can-cause layout commands.RaiseNested told can = refl
+can-cause layout (commands.Inject frame) told can = refl
+can-cause layout command told can = let some = halts-cause (arrival_of command) told can in some.1 ∙ ap (λ (o : Option StopCause). Some (unwrap_or o causes.Shutdown)) (sym some.1)
 
-module _ (layout : Layout) (s : State) (h : Holds layout s) (lists : List (List Command)) (cpus : List (List CpuLine)) (notes : List (List Note)) (end : IsEnded layout lists s.views cpus notes) where
+module _ (layout : Layout) (s : State) (h : Holds layout s) (lists : List (List Command)) (rows : List (List Row)) (end : IsEnded layout lists s.views rows) where
+  abbrev notes : List (List Note)
+  notes = notes_of 0 rows
+
   -- ---- the counter
 
   counter-agrees : biased_poisoned_of (words_of layout s.words).counter ≡ 2 ^ 31 + sum_by poison_of (words_of layout s.words).frames
@@ -94,7 +129,7 @@ module _ (layout : Layout) (s : State) (h : Holds layout s) (lists : List (List 
   -- ---- the stop
 
   -- where the stop word names a processor, some view lists the command
-  some-stop : stopper_of (words_of layout s.words).stop ≢ 0 → SomeMember (λ (v : View). SomeMember (λ (w : Who). (stopper_of (words_of layout s.words).stop ≡ w.cpu.0 + 1) × IsHalter layout lists cpus w) v.stops) s.views
+  some-stop : stopper_of (words_of layout s.words).stop ≢ 0 → SomeMember (λ (v : View). SomeMember (λ (w : Who). (stopper_of (words_of layout s.words).stop ≡ w.cpu.0 + 1) × IsHalter layout lists rows w) v.stops) s.views
   some-stop named =
       let one : sum_by (λ (l : List Who). length l) (map (λ (v : View). v.stops) s.views) ≡ min (stopper_of (words_of layout s.words).stop) 1 = h.rule.processors.stops.one in
       let some = some-term (λ (l : List Who). length l) (map (λ (v : View). v.stops) s.views) (omega (arith, one, named)) in
@@ -107,40 +142,46 @@ module _ (layout : Layout) (s : State) (h : Holds layout s) (lists : List (List 
       first-of [] same is some = absurd (omega (arith, some, ap (λ (x : List Who). length x) is))
       first-of (w ∷ ws) same is some = (w, refl)
 
-  pub has-stopper : HasStopper (words_of layout s.words).stop cpus
+  pub has-stopper : HasStopper (words_of layout s.words).stop rows
   has-stopper named = let some = some-stop named in (some.3.1, some.3.3.0, some.3.3.1.stopper)
 
   -- the command that the stop record names is listed, and halted the machine
-  named-one : (stop : Stop) → IsStopBy (words_of layout s.words).stop lists cpus (Some stop) → SomeMember (λ (v : View). SomeMember (λ (w : Who). (w ≡ stop.who) × IsHalter layout lists cpus w) v.stops) s.views
+  named-one : (stop : Stop) → IsStopBy (words_of layout s.words).stop lists rows (Some stop) → SomeMember (λ (v : View). SomeMember (λ (w : Who). (w ≡ stop.who) × IsHalter layout lists rows w) v.stops) s.views
   named-one stop by =
       let some = some-stop (λ none. let named : stopper_of (words_of layout s.words).stop ≡ stop.who.cpu.0 + 1 = by.0 in omega (arith, none)) in
       let named : stopper_of (words_of layout s.words).stop ≡ stop.who.cpu.0 + 1 = by.0 in
       let also : stopper_of (words_of layout s.words).stop ≡ some.3.1.cpu.0 + 1 = some.3.3.0 in
-      let same : some.3.1 ≡ stop.who = one-stopper cpus some.3.1 stop.who some.3.3.1.stopper by.1 (omega (arith, named, also)) in
+      let same : some.3.1 ≡ stop.who = one-stopper rows some.3.1 stop.who some.3.3.1.stopper by.1.0 (omega (arith, named, also)) in
       (some.0, some.1, some.2, (some.3.0, some.3.1, some.3.2, (same, some.3.3.1)))
 
-  pub stop-on : (stop : Option Stop) → IsStopBy (words_of layout s.words).stop lists cpus stop → IsStopOn (words_of layout s.words).stop s.views stop
+  pub stop-on : (stop : Option Stop) → IsStopBy (words_of layout s.words).stop lists rows stop → IsStopOn (words_of layout s.words).stop s.views stop
   stop-on None by = by
   stop-on (Some stop) by =
       let some = named-one stop by in
       (by.0, (some.0, some.1.stops, at_map (λ (v : View). v.stops) s.views some.0 some.1 some.2, (some.3.0, some.3.1, some.3.2, some.3.3.0)))
 
-  pub stop-caused : (stop : Option Stop) → IsStopBy (words_of layout s.words).stop lists cpus stop → (x : Stop) → stop ≡ Some x → IsStopCause lists x
+  pub stop-caused : (stop : Option Stop) → IsStopBy (words_of layout s.words).stop lists rows stop → (x : Stop) → stop ≡ Some x → IsStopCause lists rows x
   stop-caused None by x is = absurd (none-some x is)
   stop-caused (Some stop) by x is =
       let some = named-one stop by in
-      let halter : IsHalter layout lists cpus some.3.1 = some.3.3.1 in
-      let there : command_in lists stop.who ≡ Some halter.command = sym (ap (command_in lists) some.3.3.0) ∙ halter.there in
-      let cause : stop.cause ≡ cause_of halter.command = by.2 ∙ ap cause_in there in
-      subst (IsStopCause lists) (same_Some stop x is)
-      (subst (λ (o : Option Command). IsSomeAnd o (λ (command : Command). IsCauseOf command stop.cause)) (sym there)
-      (subst (IsCauseOf halter.command) (sym cause) (can-cause layout halter.command halter.can)))
+      let stopper : IsStopper rows stop.who = by.1.0 in
+      let halter : IsHalter layout lists rows stop.who = subst (IsHalter layout lists rows) some.3.3.0 some.3.3.1 in
+      let same : halter.stopper.row ≡ stopper.row = same_Some halter.stopper.row stopper.row (sym (stopper-row rows stop.who halter.stopper) ∙ stopper-row rows stop.who stopper) in
+      let can : CanStop layout halter.command stopper.row.told = subst (λ (r : Row). CanStop layout halter.command r.told) same halter.can in
+      let cause : stop.cause ≡ cause_of halter.command stopper.row.told = by.1.1 ∙ ap (λ (o : Option Command). cause_in o stopper.row.told) halter.there in
+      subst (IsStopCause lists rows) (same_Some stop x is) (record {
+        command = halter.command;
+        row = stopper.row;
+        command_is = halter.there;
+        row_is = stopper-row rows stop.who stopper;
+        cause = subst (IsCauseOf halter.command stopper.row.told) (sym cause) (can-cause layout halter.command stopper.row.told can);
+      })
 
   -- ---- the report
 
   pub closes : (report : Report) → report.frames ≡ lines_by (words_of layout s.words) notes layout.frames → report.files ≡ (words_of layout s.words).losses
-      → report.count ≡ sum_by poison_of (words_of layout s.words).frames → IsStopBy (words_of layout s.words).stop lists cpus report.stop → length report.pages ≡ length layout.pages → AreHistories s.homes report.pages
-      → report.cpus ≡ cpus → IsClosing layout s lists cpus notes report
+      → report.count ≡ sum_by poison_of (words_of layout s.words).frames → IsStopBy (words_of layout s.words).stop lists rows report.stop → length report.pages ≡ length layout.pages → AreHistories s.homes report.pages
+      → report.cpus ≡ lines_of_all rows → IsClosing layout s lists rows report
   closes report frames files count stop many pages lines_are = record {
     ends = record {
       frames = λ frame line there. frame-on frame line (sym (ap (λ (l : List FrameLine). slice_get l frame.0) frames) ∙ there);

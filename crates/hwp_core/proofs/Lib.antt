@@ -2,6 +2,7 @@ pub mod Ended
 mod Tables
 mod RecordLaws
 mod LineLaws
+mod Telling
 pub mod Noted
 pub mod Closable
 pub mod Crews

@@ -4,7 +4,7 @@ use Rattle.std.proofs.lemmas.Option.{slice_get-get_or}
 use Rattle.hwp_rule.specs.Words.{Words}
 use Rattle.hwp_report.specs.declared.FrameLine.{FrameLine}
 use Rattle.hwp_report.specs.declared.MarkLine.{MarkLine}
-use Rattle.hwp_served.specs.Accounts.{Note, record_of}
+use Rattle.hwp_served.specs.Rows.{Note, record_of}
 use Rattle.hwp_core.specs.Closing.{line_by, line_with, lines_by}
 use Rattle.hwp_core.specs.Records.{AreGathered}
 use Rattle.hwp_core.proofs.Tables.{below-more}

@@ -16,7 +16,8 @@ use Rattle.hwp_step.specs.Boards.{AreSeated, view_of}
 use Rattle.hwp_report.specs.declared.MarkLine.{MarkLine}
 use Rattle.hwp_runs.specs.Ends.{AreMarks, IsListed, Tells}
 use Rattle.hwp_runs.proofs.Homes.{there-is}
-use Rattle.hwp_served.specs.Accounts.{IsNote, Note, lines_of, record_of}
+use Rattle.hwp_served.specs.Accounts.{IsNote}
+use Rattle.hwp_served.specs.Rows.{Note, lines_of, record_of}
 use Rattle.hwp_served.proofs.Ending.{filter-has}
 use Rattle.hwp_served.proofs.Failed.{paired}
 use Rattle.hwp_served.proofs.lines.Gathering.{AreNoted}
@@ -61,8 +62,8 @@ beside R (a ∷ xs) (b ∷ ys) (suc j) x pairs there = beside R xs ys j x pairs.
 
 module _ (layout : Layout) (seat : Cpu → ℕ) (last : State) (holds : Holds layout last) (seated : AreSeated layout last seat) (notes : List (List Note)) (are : AreNoted layout seat last notes) (frame : Frame) where
   -- a note of the frame tells its mark
-  tells : (cpu : Cpu) → cpu.0 < layout.cpus → (k : ℕ) (note : Note) (m : Mark) → slice_get (view_of last (seat cpu)).marks k ≡ Some m → IsNote layout (view_of last (seat cpu)) note m → m.frame ≡ frame → Tells frame note.1 m
-  tells cpu inside k note m listed is of = subst (λ (x : MarkLine). Tells frame x m) (sym is.line) (of, refl, refl, (holds.undamaged (seat cpu) (view_of last (seat cpu)) (seated.there cpu inside)).marks k m listed)
+  tells : (note : Note) (m : Mark) → IsNote note m → m.frame ≡ frame → Tells frame note.1 m
+  tells note m is of = subst (λ (x : MarkLine). Tells frame x m) (sym is.line) (of, refl, refl, is.kind)
 
   told : (place : ℕ) (line : MarkLine) → slice_get (record_of frame notes) place ≡ Some line → (mark : Mark) × IsListed last.views mark × Tells frame line mark
   told place line there =
@@ -73,11 +74,11 @@ module _ (layout : Layout) (seat : Cpu → ℕ) (last : State) (holds : Holds la
       let was = map-was (λ (n : Note). n.1) (filter (λ (n : Note). n.0.0 == frame.0) some.1) some.3.0 some.3.1 some.3.2 in
       let note : Note = was.0 in
       let kept = filter-is (λ (n : Note). n.0.0 == frame.0) some.1 some.3.0 note was.1 in
-      let by = beside (IsNote layout view) some.1 view.marks kept.0 note (are.noted some.0 some.1 some.2) kept.1 in
+      let by = beside IsNote some.1 view.marks kept.0 note (are.noted some.0 some.1 some.2) kept.1 in
       let mark : Mark = by.0 in
       let number : note.0.0 ≡ frame.0 = eqb-true note.0.0 frame.0 kept.2 in
       let of : mark.frame ≡ frame = sym by.2.frame ∙ (λ i. record { 0 = number i }) in
-      let told_so : Tells frame note.1 mark = tells cpu inside kept.0 note mark by.1 by.2 of in
+      let told_so : Tells frame note.1 mark = tells note mark by.2 of in
       (mark, (seat cpu, view.marks, at_map (λ (v : View). v.marks) last.views (seat cpu) view (seated.there cpu inside), (kept.0, mark, by.1, refl)), subst (λ (x : MarkLine). Tells frame x mark) (was.2 ∙ some.3.3) told_so)
 
   listed : (mark : Mark) → IsListed last.views mark → mark.frame ≡ frame → SomeMember (λ (line : MarkLine). Tells frame line mark) (record_of frame notes)
@@ -91,13 +92,13 @@ module _ (layout : Layout) (seat : Cpu → ℕ) (last : State) (holds : Holds la
       let is_view : v ≡ view = same_Some v view (sym was.1 ∙ ap (slice_get last.views) place.1 ∙ seated.there cpu place.0) in
       let in_view : slice_get view.marks j ≡ Some mark = sym (ap (λ (x : View). slice_get x.marks j) is_view) ∙ own in
       let list = there-is notes cpu.0 (subst (λ (n : ℕ). cpu.0 < n) (sym are.fit) place.0) in
-      let by = paired (IsNote layout view) list.0 view.marks j mark (are.noted cpu.0 list.0 list.1) in_view in
+      let by = paired IsNote list.0 view.marks j mark (are.noted cpu.0 list.0 list.1) in_view in
       let note : Note = by.0 in
       let number : note.0.0 ≡ frame.0 = ap (λ (f : Frame). f.0) (by.2.frame ∙ of) in
       let kept = filter-has (λ (n : Note). n.0.0 == frame.0) list.0 j note by.1 (eq-eqb note.0.0 frame.0 number) in
       let line = at_map (λ (n : Note). n.1) (filter (λ (n : Note). n.0.0 == frame.0) list.0) kept.0 note kept.1 in
       let all = flat-has (lines_of frame) notes cpu.0 kept.0 list.0 note.1 list.1 line in
-      (all.0, note.1, all.1, tells cpu place.0 j note mark in_view by.2 of)
+      (all.0, note.1, all.1, tells note mark by.2 of)
 
   pub are-marks : AreMarks last.views frame (record_of frame notes)
   are-marks = record { told = told; listed = listed }

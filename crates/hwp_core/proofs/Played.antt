@@ -12,16 +12,15 @@ use Rattle.hwp_script.specs.declared.Script.{Script}
 use Rattle.hwp_script.specs.Valid.{IsValid}
 use Rattle.hwp_sched.specs.Order.{AreOver, Grows, InOrder, Running, running}
 use Rattle.hwp_sched.specs.Ready.{IsCrew}
-use Rattle.hwp_report.specs.declared.CpuLine.{CpuLine}
 use Rattle.hwp_runs.specs.Turns.{Leads}
 use Rattle.hwp_runs.proofs.Lasting.{same-ordered}
 use Rattle.hwp_runs.proofs.Leading.{leads-hold, leads-ordered}
-use Rattle.hwp_served.specs.Accounts.{Note}
+use Rattle.hwp_handler.specs.declared.Row.{Row}
 use Rattle.hwp_served.proofs.Settled.{settled-when-over}
 use Rattle.hwp_processor.specs.declared.Processor.{Processor}
 use Rattle.hwp_processor.proofs.Telling.{tells}
 use Rattle.hwp_core.specs.Runs.{AreAtBeginning, AreFinished, IsPlayed, own_seat, processors}
-use Rattle.hwp_core.proofs.Crews.{all-served, answered-length, begin-crew, notes-length}
+use Rattle.hwp_core.proofs.Crews.{all-served, begin-crew, finished-length}
 
 -- what holds of the board of a script at opening holds of a board that is that one
 at-opening : (P : Layout → State → Type 0) (script : Script) (board : Board) → board.layout ≡ script.layout → board.state ≡ opening script.layout → P board.layout board.state → P script.layout (opening script.layout)
@@ -40,10 +39,10 @@ abbrev pub Ordered : List Go → Board → List Processor → Board → List Pro
 Ordered go before ps after qs = Grows before.log after.log (λ turns. InOrder processors go (running before.layout own_seat ps before.state) turns (running after.layout own_seat qs after.state))
 
 -- when all turns are made, the run is played
-pub all-played : (script : Script) (go : List Go) (before after : Board) (tasks ps qs : List Processor) (cpus : List (List CpuLine)) (notes : List (List Note)) → go ≡ script.go → IsValid script → AreAtBeginning script tasks → before.layout ≡ script.layout → before.state ≡ opening script.layout → ps ≡ tasks
+pub all-played : (script : Script) (go : List Go) (before after : Board) (tasks ps qs : List Processor) (rows : List (List Row)) → go ≡ script.go → IsValid script → AreAtBeginning script tasks → before.layout ≡ script.layout → before.state ≡ opening script.layout → ps ≡ tasks
     → IsReached before.layout before.log before.state → AreSeated before.layout before.state own_seat → Ordered go before ps after qs → IsCrew processors (running after.layout own_seat qs after.state)
-    → AreSeated after.layout after.state own_seat → AreFinished qs cpus notes → AreOver processors qs → IsPlayed script after cpus notes
-all-played script go before after tasks ps qs cpus notes words valid begin layout_was state_was same reached seated grows crew seated-last finished over = record {
+    → AreSeated after.layout after.state own_seat → AreFinished qs rows → AreOver processors qs → IsPlayed script after rows
+all-played script go before after tasks ps qs rows words valid begin layout_was state_was same reached seated grows crew seated-last finished over = record {
   tasks = tasks;
   begin = begin;
   rule = rule;
@@ -55,9 +54,8 @@ all-played script go before after tasks ps qs cpus notes words valid begin layou
   state_is = refl;
   seated_last = seated-there;
   settled = settled-when-over processors (running script.layout own_seat qs after.state) tells crew-there over;
-  served = all-served script tasks valid begin grows.turns last order (leads-hold script.layout (opening script.layout) after.state grows.turns rule led) seated-there crew-there cpus notes finished;
-  noted = notes-length qs notes finished.1 ∙ crew.count ∙ ap (λ (l : Layout). l.cpus) layout_is;
-  count = answered-length qs cpus finished.0 ∙ crew.count ∙ ap (λ (l : Layout). l.cpus) layout_is;
+  served = all-served script tasks valid begin grows.turns last order (leads-hold script.layout (opening script.layout) after.state grows.turns rule led) seated-there crew-there rows finished;
+  count = finished-length qs rows finished ∙ crew.count ∙ ap (λ (l : Layout). l.cpus) layout_is;
 }
   where
     last : Running Processor

@@ -7,7 +7,7 @@ use Rattle.std.proofs.lemmas.List.Elements.{filter-append}
 use Rattle.std.proofs.lemmas.Option.{get_or_from_slice_get, none-some, same_Some, slice_get-get_or, slice_get_within}
 use Rattle.hwp_geom.specs.declared.Frame.{Frame}
 use Rattle.hwp_report.specs.declared.MarkLine.{MarkLine}
-use Rattle.hwp_served.specs.Accounts.{Note, lines_of, record_of}
+use Rattle.hwp_served.specs.Rows.{Note, lines_of, record_of}
 use Rattle.hwp_core.specs.Records.{AreGathered, GoOn, with_note}
 
 append-none : {A : Type 0} (l : List A) → l ++ [] ≡ l

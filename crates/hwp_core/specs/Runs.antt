@@ -11,15 +11,15 @@ use Rattle.hwp_plain.specs.Boards.{Board}
 use Rattle.hwp_script.specs.declared.Command.{Command}
 use Rattle.hwp_script.specs.declared.Script.{Script}
 use Rattle.hwp_sched.specs.Order.{InOrder, Running, running}
-use Rattle.hwp_report.specs.declared.CpuLine.{CpuLine}
 use Rattle.hwp_report.specs.declared.Report.{Report}
 use Rattle.hwp_runs.specs.Run.{CoreRun}
-use Rattle.hwp_served.specs.Accounts.{Note}
+use Rattle.hwp_handler.specs.declared.Row.{Row}
 use Rattle.hwp_served.specs.Runs.{AreServed}
 use Rattle.hwp_job.specs.Begins.{is_supported}
 use Rattle.hwp_processor.specs.declared.Processor.{Processor}
 use Rattle.hwp_processor.specs.Processors.{AtBeginning, Next, aborts, bare, claims, class, cost, plan, put, who}
 use Rattle.hwp_processor.specs.Serving.{Fits}
+use Rattle.hwp_core.specs.Closing.{lines_of_all}
 
 -- all commands of all processors are supported
 abbrev pub AreSupported : Script → Type 0
@@ -38,19 +38,13 @@ pub record AreAtBeginning (script : Script) (tasks : List Processor) : Type 0 wh
   pub one_each : length tasks ≡ length script.lists
   pub each : (cpu : Cpu) (list : List Command) (p : Processor) → slice_get script.lists cpu.0 ≡ Some list → slice_get tasks cpu.0 ≡ Some p → AtBeginning script.layout cpu list p
 
--- the processors have answered all their commands, by these lines, and these are their notes
-abbrev pub AreAnswered : List Processor → List (List CpuLine) → Type 0
-AreAnswered tasks cpus = Pairs (λ (p : Processor) (rows : List CpuLine). (rows ≡ p.lines.items) × (p.job ≡ None)) tasks cpus
+-- the processors have answered all their commands, and these are their rows
+abbrev pub AreFinished : List Processor → List (List Row) → Type 0
+AreFinished tasks rows = Pairs (λ (p : Processor) (own : List Row). (own ≡ p.rows.items) × (p.job ≡ None)) tasks rows
 
-abbrev pub AreNotes : List Processor → List (List Note) → Type 0
-AreNotes tasks notes = Pairs (λ (p : Processor) (own : List Note). own ≡ p.notes.items) tasks notes
-
-abbrev pub AreFinished : List Processor → List (List CpuLine) → List (List Note) → Type 0
-AreFinished tasks cpus notes = AreAnswered tasks cpus × AreNotes tasks notes
-
--- the tasks made their turns from their beginning to this board, on which all commands are served by these lines and notes, and
--- each failure of a frame is ended
-pub record IsPlayed (script : Script) (board : Board) (cpus : List (List CpuLine)) (notes : List (List Note)) : Type 0 where
+-- the tasks made their turns from their beginning to this board, on which all commands are served by these rows, and each failure
+-- of a frame is ended
+pub record IsPlayed (script : Script) (board : Board) (rows : List (List Row)) : Type 0 where
   pub tasks : List Processor
   pub begin : AreAtBeginning script tasks
   pub rule : Holds script.layout (opening script.layout)
@@ -62,15 +56,14 @@ pub record IsPlayed (script : Script) (board : Board) (cpus : List (List CpuLine
   pub state_is : last.state ≡ board.state
   pub seated_last : AreSeated script.layout board.state own_seat
   pub settled : (frame : Frame) (cycle : ℕ) → Pending (words_at script.layout board.state) frame cycle → ⊥
-  pub served : AreServed script own_seat board.state cpus notes
-  pub count : length cpus ≡ script.layout.cpus
-  pub noted : length notes ≡ script.layout.cpus
+  pub served : AreServed script own_seat board.state rows (lines_of_all rows)
+  pub count : length rows ≡ script.layout.cpus
 
 -- The report is of a run that the tasks of the script's processors make from their beginning, and on its last board each processor
--- has served its commands by the report's lines.
+-- has served its commands by its rows, of which the report's lines are.
 pub record IsCoreRun (script : Script) (report : Report) : Type 0 where
   pub tasks : List Processor
   pub begin : AreAtBeginning script tasks
   pub run : CoreRun processors tasks own_seat script report
-  pub notes : List (List Note)
-  pub served : AreServed script own_seat run.last.state report.cpus notes
+  pub rows : List (List Row)
+  pub served : AreServed script own_seat run.last.state rows report.cpus

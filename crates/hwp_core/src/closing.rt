@@ -3,31 +3,35 @@ ghost use Rattle.hwp_rule.specs.Words.{words_of};
 ghost use Rattle.hwp_core.specs.Closing.{IsClosing, IsEnded};
 
 use crate::frames::{frame_lines, poisoned_frames};
+use crate::lines::all_lines;
+use crate::notes::all_notes;
 use crate::stopping::stop_of;
-use hwp_geom::{FileNo, Frame, List, OutOfMemory};
+use hwp_geom::{FileNo, List, OutOfMemory};
+use hwp_handler::Row;
 use hwp_plain::PlainBoard;
-use hwp_report::{CpuLine, MarkLine, Report};
+use hwp_report::Report;
 use hwp_rule::Place;
 use hwp_script::Command;
 use hwp_step::Ops;
 use std::alloc::Global;
 
-/// The report of the board on which a run ends, and of the lines and the notes of its processors, which ran these commands.
+/// The report of the board on which a run ends, and of the rows of its processors, which ran these commands.
 pub fn report(
     alloc: Global,
     lists: &[List<Command>],
     board: PlainBoard,
-    cpus: List<List<CpuLine>>,
-    notes: &[List<(Frame, MarkLine)>],
+    rows: &[List<Row>],
 ) -> Result<Report, OutOfMemory>
-    requires ended { IsEnded board.layout lists.now board.state.views cpus notes.now }
-    ensures { IfOk result (λ report. IsClosing board.layout board.state lists.now cpus notes.now report) }
+    requires ended { IsEnded board.layout lists.now board.state.views rows.now }
+    ensures { IfOk result (λ report. IsClosing board.layout board.state lists.now rows.now report) }
 {
     board.reached();
-    let frames = frame_lines(alloc, &board, notes)?;
+    let notes = all_notes(alloc, rows)?;
+    let frames = frame_lines(alloc, &board, notes.as_slice())?;
     let files = file_losses(alloc, &board)?;
     let count = poisoned_frames(&board);
-    let stop = stop_of(board.word(Place::Stop), lists, cpus.as_slice());
+    let stop = stop_of(board.word(Place::Stop), lists, rows);
+    let cpus = all_lines(alloc, rows)?;
     let pages = board.histories(alloc)?;
     Ok(Report {
         stop,

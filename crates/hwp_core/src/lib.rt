@@ -4,6 +4,8 @@
 
 mod closing;
 mod frames;
+mod lines;
+mod notes;
 mod records;
 mod running;
 mod stopping;

@@ -5,18 +5,17 @@ ghost use Rattle.hwp_script.specs.Valid.{IsValid};
 ghost use Rattle.hwp_core.specs.Runs.{AreAtBeginning, AreFinished, AreSupported, IsCoreRun, IsPlayed};
 
 use crate::closing::report;
-use hwp_geom::{Cpu, Frame, List, OutOfMemory};
+use hwp_geom::{Cpu, List, OutOfMemory};
+use hwp_handler::Row;
 use hwp_plain::PlainBoard;
 use hwp_processor::Processor;
-use hwp_report::{CpuLine, MarkLine, Report};
+use hwp_report::Report;
 use hwp_sched::step_all;
 use hwp_script::Script;
 use std::alloc::Global;
 use std::sync::Arc;
 
-type Lines = List<List<CpuLine>>;
-
-type Notes = List<List<(Frame, MarkLine)>>;
+type Rows = List<List<Row>>;
 
 /// A processor for each list of the script, at the beginning of its first command.
 fn crew_of(alloc: Global, script: &Script) -> Result<Vec<Processor>, OutOfMemory>
@@ -34,37 +33,34 @@ fn crew_of(alloc: Global, script: &Script) -> Result<Vec<Processor>, OutOfMemory
     Ok(crew)
 }
 
-/// The lines and the notes of each processor.
+/// The rows of each processor.
 ///
 /// # Errors
 /// `OutOfMemory` where a command was not answered, because memory ran out.
-fn lines_of(alloc: Global, crew: Vec<Processor>) -> Result<(Lines, Notes), OutOfMemory>
-    ensures { IfOk result (λ end. AreFinished crew.items end.0 end.1) }
+fn rows_of(alloc: Global, crew: Vec<Processor>) -> Result<Rows, OutOfMemory>
+    ensures { IfOk result (λ rows. AreFinished crew.items rows) }
 {
-    let mut cpus = Vec::with_capacity(alloc, crew.len())?;
-    let mut notes = Vec::with_capacity(alloc, crew.len())?;
+    let mut rows = Vec::with_capacity(alloc, crew.len())?;
     for processor in crew {
-        let (rows, own) = processor.finish()?;
-        cpus.push(rows)?;
-        notes.push(own)?;
+        rows.push(processor.finish()?)?;
     }
-    Ok((List::from_vec(cpus), List::from_vec(notes)))
+    Ok(List::from_vec(rows))
 }
 
-/// All turns of a script's processors, in the order of its schedule: the board to which they lead, and the lines and the notes of
-/// each processor.
-fn play(alloc: Global, script: &Script) -> Result<(PlainBoard, Lines, Notes), OutOfMemory>
+/// All turns of a script's processors, in the order of its schedule: the board to which they lead, and the rows of each
+/// processor.
+fn play(alloc: Global, script: &Script) -> Result<(PlainBoard, Rows), OutOfMemory>
     requires valid { IsValid script.now }
     requires supported { AreSupported script.now }
-    ensures { IfOk result (λ end. IsPlayed script.now end.0 end.1 end.2) }
+    ensures { IfOk result (λ end. IsPlayed script.now end.0 end.1) }
 {
     let mut board = PlainBoard::new(alloc, &script.layout)?;
     board.reached();
     let mut crew = crew_of(alloc, script)?;
     step_all(&mut board, &mut crew, script.go.as_slice())?;
     board.reached();
-    let (cpus, notes) = lines_of(alloc, crew)?;
-    Ok((board, cpus, notes))
+    let rows = rows_of(alloc, crew)?;
+    Ok((board, rows))
 }
 
 /// The run of a script: its processors make their turns in the order of the schedule, and then in the finishing order, until
@@ -76,7 +72,6 @@ pub fn run(alloc: Global, script: &Script) -> Result<Report, OutOfMemory>
     ensures lawful { IfOk result (IsLawful script.now) }
     ensures core { IfOk result (IsCoreRun script.now) }
 {
-    let (board, cpus, notes) = play(alloc, script)?;
-    let lists = script.lists.as_slice();
-    report(alloc, lists, board, cpus, notes.as_slice())
+    let (board, rows) = play(alloc, script)?;
+    report(alloc, script.lists.as_slice(), board, rows.as_slice())
 }

@@ -21,7 +21,7 @@ use Rattle.std.specs.List.{find}
 use Rattle.hwp_step.specs.Calls.{Steps, logs}
 use Rattle.hwp_known.specs.Known.{HasMade, IsAt, deeds}
 use Rattle.hwp_known.proofs.Listing.{Lists, ListsNone, deeds-none, deeds-one, deeds-same, frame-lists, has-made, has-made-stays, page-lists}
-use Rattle.hwp_known.proofs.Seeing.{saw-stays, saw-state-stays}
+use Rattle.hwp_known.proofs.Seeing.{saw-bad-of-stays, saw-stays, saw-state-stays}
 use Rattle.hwp_hold.specs.declared.release.Release.{Release}
 use Rattle.hwp_hold.specs.declared.release.ReleaseAt.{ReleaseAt}
 use Rattle.hwp_hold.specs.declared.release.ReleaseAt.TheVariants as release_at
@@ -41,15 +41,15 @@ use Rattle.hwp_evict.specs.Evictions.{entry_of, SawLines, SawRefusal, IsCaused}
 use Rattle.hwp_evict.specs.Evicts.{Comes, IsAhead, KnowsPut}
 
 module _ {layout : Layout} {by : Who} {step : Step} {put : Option Log} {old new : View} {found : ℕ} {got : Option BodyValue} (made : Steps layout by step put old new found got) where
-  lines-stay : (who : Who) (refusal : Refusal) → SawLines old who refusal → SawLines new who refusal
-  lines-stay who refusals.NotMapped saw = tt
-  lines-stay who refusals.NotResident saw = tt
-  lines-stay who refusals.Dirty saw = tt
-  lines-stay who refusals.Mapped saw = tt
-  lines-stay who (refusals.BadLines mask) saw = (saw.0, (saw.1.0, saw-stays made saw.1.1))
+  lines-stay : (who : Who) (page : Page) (refusal : Refusal) → SawLines layout old who page refusal → SawLines layout new who page refusal
+  lines-stay who page refusals.NotMapped saw = tt
+  lines-stay who page refusals.NotResident saw = tt
+  lines-stay who page refusals.Dirty saw = tt
+  lines-stay who page refusals.Mapped saw = tt
+  lines-stay who page (refusals.BadLines mask) saw = (saw.0, (saw.1.0, saw.1.1, saw-bad-of-stays made page saw.1.2))
 
   pub refusal-stays : {who : Who} {page : Page} {what : Eviction} {refusal : Refusal} {at : At} → SawRefusal layout old who page what refusal at → SawRefusal layout new who page what refusal at
-  refusal-stays {who} {page} {what} {refusal} saw = record { page_is = saw.page_is; state = saw-state-stays made saw.state; lines = lines-stay who refusal saw.lines }
+  refusal-stays {who} {page} {what} {refusal} saw = record { page_is = saw.page_is; state = saw-state-stays made saw.state; lines = lines-stay who page refusal saw.lines }
 
   -- where no entry more is the command's, what it answers stays so
   pub caused-stays : (who : Who) (page : Page) (what : Eviction) (answer : EvictAnswer) → deeds who new ≡ deeds who old → IsCaused layout old who page what answer → IsCaused layout new who page what answer

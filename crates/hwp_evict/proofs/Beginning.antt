@@ -51,7 +51,7 @@ begins-with who page (Some frame) count body = (refl, refl)
 
 module _ {layout : Layout} {view : View} {who : Who} {page : Page} (what : Eviction) (on : IsOnTurn view who) (inside : page.0 < length layout.pages) where
   -- ---- a refusal
-  pub refused-fits : (frame : Option Frame) (body : BodyValue) (refusal : Refusal) → HoldsPage layout view page frame body → SawLog view who (log_of body) → HasMadeNone view who → IsWhy what refusal (state_of layout (log_of body)) → SawLines view who refusal
+  pub refused-fits : (frame : Option Frame) (body : BodyValue) (refusal : Refusal) → HoldsPage layout view page frame body → SawLog view who (log_of body) → HasMadeNone view who → IsWhy what refusal (state_of layout (log_of body)) → SawLines layout view who page refusal
       → FitsAt layout view who page what (refused who page frame body refusal)
   refused-fits frame body refusal has saw none why lines = record {
     unhold = held-unholds layout view who page frame body on inside has;

@@ -28,7 +28,7 @@ use Rattle.hwp_step.specs.Hands.{Hand, body_in, hand_of, taking}
 use Rattle.hwp_step.proofs.Stepping.{content_of, hand-planned, steps-planned}
 use Rattle.hwp_known.specs.Known.{HasMadeNone, SawLog}
 use Rattle.hwp_known.proofs.Listing.{deeds-same}
-use Rattle.hwp_known.proofs.Seeing.{saw-load, saw-log-stays}
+use Rattle.hwp_known.proofs.Seeing.{saw-bad-of-load, saw-log-stays}
 use Rattle.hwp_hold.specs.declared.hold.Hold.{Hold}
 use Rattle.hwp_hold.specs.declared.hold.HoldAt.{HoldAt}
 use Rattle.hwp_hold.specs.declared.hold.HoldAt.TheVariants as hold_at
@@ -114,21 +114,21 @@ module _ {layout : Layout} {old new : View} (h : Hold) {step : Step} {found : �
       which (hold_at.Held frame body) e at = absurd (none-some step e)
 
 -- no bad line is shown where a page is barred or away
-away-lines : (view : View) (who : Who) (what : Eviction) → SawLines view who (absence what)
-away-lines view who (evictions.Free slot) = tt
-away-lines view who evictions.Sync = tt
-away-lines view who evictions.Drop = tt
-away-lines view who evictions.Out = tt
+away-lines : (layout : Layout) (view : View) (who : Who) (page : Page) (what : Eviction) → SawLines layout view who page (absence what)
+away-lines layout view who page (evictions.Free slot) = tt
+away-lines layout view who page evictions.Sync = tt
+away-lines layout view who page evictions.Drop = tt
+away-lines layout view who page evictions.Out = tt
 
-bars-lines : (view : View) (who : Who) (what : Eviction) (s : PageState) (refusal : Refusal) → Bars what s refusal → SawLines view who refusal
-bars-lines view who what s refusals.NotMapped bars = tt
-bars-lines view who what s refusals.NotResident bars = tt
-bars-lines view who what s refusals.Dirty bars = tt
-bars-lines view who what s refusals.Mapped bars = tt
-bars-lines view who (evictions.Free slot) s (refusals.BadLines mask) bars = absurd bars
-bars-lines view who evictions.Sync s (refusals.BadLines mask) bars = absurd bars
-bars-lines view who evictions.Drop s (refusals.BadLines mask) bars = absurd bars
-bars-lines view who evictions.Out s (refusals.BadLines mask) bars = absurd bars
+bars-lines : (layout : Layout) (view : View) (who : Who) (page : Page) (what : Eviction) (s : PageState) (refusal : Refusal) → Bars what s refusal → SawLines layout view who page refusal
+bars-lines layout view who page what s refusals.NotMapped bars = tt
+bars-lines layout view who page what s refusals.NotResident bars = tt
+bars-lines layout view who page what s refusals.Dirty bars = tt
+bars-lines layout view who page what s refusals.Mapped bars = tt
+bars-lines layout view who page (evictions.Free slot) s (refusals.BadLines mask) bars = absurd bars
+bars-lines layout view who page evictions.Sync s (refusals.BadLines mask) bars = absurd bars
+bars-lines layout view who page evictions.Drop s (refusals.BadLines mask) bars = absurd bars
+bars-lines layout view who page evictions.Out s (refusals.BadLines mask) bars = absurd bars
 
 -- what a command that copies nothing must have seen
 sees-nothing : (sights : List Sight) (who : Who) (frame : Frame) (what : Eviction) → copies what ≡ false → HasSeen sights who (Some frame) (entry_of what)
@@ -140,9 +140,9 @@ sees-nothing sights who frame evictions.Out is = absurd (both_ways true is refl)
 module _ {layout : Layout} {view : View} {who : Who} {page : Page} (what : Eviction) (on : IsOnTurn view who) (inside : page.0 < length layout.pages) (sound : IsSound layout) (kind : IsOfKind layout page what) (none : HasMadeNone view who) where
   -- ---- the page is held
   held-fits : (frame : Option Frame) (body : BodyValue) → HoldsPage layout view page frame body → SawLog view who (log_of body) → IsRecent view (hold_at.Held frame body) → (y : EvictAt) → AfterHeld who page what frame body y → FitsAt layout view who page what y
-  held-fits None body has saw recent y follows = subst (FitsAt layout view who page what) (sym follows) (refused-fits what on inside None body (absence what) has saw none (away-why what has.body_is) (away-lines view who what))
+  held-fits None body has saw recent y follows = subst (FitsAt layout view who page what) (sym follows) (refused-fits what on inside None body (absence what) has saw none (away-why what has.body_is) (away-lines layout view who page what))
   held-fits (Some frame) body has saw recent y (inr barred) = subst (FitsAt layout view who page what) (sym barred.next_is)
-      (refused-fits what on inside (Some frame) body barred.refusal has saw none (bars-why what barred.refusal has.body_is barred.bars) (bars-lines view who what body.state barred.refusal barred.bars))
+      (refused-fits what on inside (Some frame) body barred.refusal has saw none (bars-why what barred.refusal has.body_is barred.bars) (bars-lines layout view who page what body.state barred.refusal barred.bars))
   held-fits (Some frame) body has saw recent y (inl (passes, goes)) = which (copies what) refl goes
     where
       few : has.seen ≤ length view.sights
@@ -229,4 +229,4 @@ module _ {layout : Layout} {old new : View} {who : Who} {page : Page} {what : Ev
       which true zero follows = enters-fits on inside made.told.rule.sound frame body page-still none-still what kind (copying-passes what body.state has.copying) few-still
           (mask-seen (drop has.page_held.seen new.sights) who frame what has.copying (seen-zero (eqb-true found 0 zero))) y follows
       which false some follows = subst (FitsAt layout new who page what) (sym follows) (refused-fits what on inside (Some frame) body (refusals.BadLines (record { 0 = found })) page-still (saw-log-stays made has.saw) none-still
-          (lines-why what found (state_of layout (log_of body)) has.copying (is-cached has.page_held.body_is)) (eqb-false found 0 some, (frame, saw-load made)))
+          (lines-why what found (state_of layout (log_of body)) has.copying (is-cached has.page_held.body_is)) (eqb-false found 0 some, (frame, has.page_held.within frame refl, saw-bad-of-load made page (record { frame = frame; owner = page.0 + 1; handled = has.page_held.handled; poisoned = has.page_held.poisoned }) (ap (λ (h : Hand). slice_get h.locks 0) has.page_held.hand_is) refl refl)))

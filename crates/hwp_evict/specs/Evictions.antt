@@ -1,5 +1,5 @@
 -- What the commands ask by which a page, or a part of it, leaves its frame: the entry that each makes, and why it is refused.
-use Rattle.std.specs.Prelude.{◌≡◌, ◌≢◌, Bool, true, false, Option, slice_get, IsTrue, IsSomeAnd, MatchOption}
+use Rattle.std.specs.Prelude.{◌≡◌, ◌≢◌, ◌<◌, Bool, true, false, Option, slice_get, IsTrue, IsSomeAnd, MatchOption}
 use Rattle.std.specs.FinSet as set
 use Rattle.hwp_geom.specs.declared.Frame.{Frame}
 use Rattle.hwp_geom.specs.declared.Layout.{Layout}
@@ -12,9 +12,8 @@ use Rattle.hwp_page.specs.declared.What.{What}
 use Rattle.hwp_page.specs.declared.What.TheVariants as entries
 use Rattle.hwp_page.specs.Refusals.{IsAway, IsDirty, IsMapped, IsUnsaved, IsUnused}
 use Rattle.hwp_page.specs.Step.{IsOf, is_file}
-use Rattle.hwp_rule.specs.declared.Place.TheVariants as places
 use Rattle.hwp_rule.specs.declared.View.{View}
-use Rattle.hwp_known.specs.Known.{HasMade, HasMadeNone, Saw, SawStop}
+use Rattle.hwp_known.specs.Known.{HasMade, HasMadeNone, SawBadOf, SawStop}
 use Rattle.hwp_known.specs.Pages.{SawState}
 use Rattle.hwp_evict.specs.declared.evict.EvictAnswer.{EvictAnswer}
 use Rattle.hwp_evict.specs.declared.evict.EvictAnswer.TheVariants as answers
@@ -80,16 +79,16 @@ IsWhy evictions.Out refusals.NotResident s = IsAway s
 IsWhy evictions.Out (refusals.BadLines mask) s = s.cached ≡ true
 IsWhy what refusal s = ⊥
 
--- the bad lines were shown
-abbrev pub SawLines : View → Who → Refusal → Type 0
-SawLines view who (refusals.BadLines mask) = (mask.0 ≢ 0) × ((frame : Frame) × Saw view who (places.Bad frame) mask.0)
-SawLines view who refusal = Unit {0}
+-- the bad lines were shown, of a frame that the page owns
+abbrev pub SawLines : Layout → View → Who → Page → Refusal → Type 0
+SawLines layout view who page (refusals.BadLines mask) = (mask.0 ≢ 0) × ((frame : Frame) × (frame.0 < layout.frames) × SawBadOf view who page frame mask.0)
+SawLines layout view who page refusal = Unit {0}
 
 -- the command saw the page, after so many entries, in a state that bars it for this reason
 pub record SawRefusal (layout : Layout) (view : View) (who : Who) (page : Page) (what : Eviction) (refusal : Refusal) (at : At) : Type 0 where
   pub page_is : at.page ≡ page
   pub state : SawState layout view who page at.entry (IsWhy what refusal)
-  pub lines : SawLines view who refusal
+  pub lines : SawLines layout view who page refusal
 
 -- why the command answers so: what a step of it showed, or the one entry that it made
 abbrev pub IsCaused : Layout → View → Who → Page → Eviction → EvictAnswer → Type 0

@@ -117,7 +117,7 @@ module _ {layout : Layout} {seat : ℕ} {a b : State} {s t : Fail} {turned : Tur
   abbrev next-claim : Claim → Claim
   next-claim c = claims.next (claims.bare c) made.found made.got
 
-  claim-made : (c : Claim) → IsClaiming layout (view_of a seat) s.who s.frame c → claims.plan c ≡ Some made.step → Moves (claims.put c) → Made claim-member layout seat a b c (next-claim c) (claims.turn (claims.bare c) made.found)
+  claim-made : (c : Claim) → IsClaiming layout (view_of a seat) s.who s.frame s.hardware c → claims.plan c ≡ Some made.step → Moves (claims.put c) → Made claim-member layout seat a b c (next-claim c) (claims.turn (claims.bare c) made.found)
   claim-made c has e move = record {
     step = made.step;
     found = made.found;
@@ -131,10 +131,10 @@ module _ {layout : Layout} {seat : ℕ} {a b : State} {s t : Fail} {turned : Tur
     follows = (refl, refl);
   }
 
-  left-of : (c : Claim) → IsClaiming layout (view_of a seat) s.who s.frame c → (x : FailAt) → FollowsAt s.who s.frame s.required (bare_at (at.Claim c)) made.found made.got x turned → IsLeft s.frame (next-claim c).at x
+  left-of : (c : Claim) → IsClaiming layout (view_of a seat) s.who s.frame s.hardware c → (x : FailAt) → FollowsAt s.who s.frame s.required (bare_at (at.Claim c)) made.found made.got x turned → IsLeft s.frame (next-claim c).at x
   left-of c has x follows = left s.who s.frame s.required (next-claim c) has.frame_is (next-claim c).at x follows.0
 
-  act-less : (cycle : ℕ) (c : Act) → IsActing layout (view_of a seat) s.who s.frame s.required cycle c → acts.plan c ≡ Some made.step → acts.Shows (acts.bare c) made.found → (x : FailAt) → ActsOn cycle (acts.bare c) made.found x turned → cost_at x now < acts.cost c w
+  act-less : (cycle : ℕ) (c : Act) → IsActing layout (view_of a seat) s.who s.frame s.required s.hardware cycle c → acts.plan c ≡ Some made.step → acts.Shows (acts.bare c) made.found → (x : FailAt) → ActsOn cycle (acts.bare c) made.found x turned → cost_at x now < acts.cost c w
   act-less cycle c has e shows x on = subst (λ (y : FailAt). cost_at y now < acts.cost c w) (sym on.next_is)
       (let less : acts.cost on.after now < acts.cost c w = act-falls layout (view_of a seat) w now c made.step made.found on.after turned has.act e shows on.follows in
       let ends : cost_at (after_act cycle on.after) now ≤ acts.cost on.after now = act-cost cycle on.after now in
@@ -145,7 +145,7 @@ module _ {layout : Layout} {seat : ℕ} {a b : State} {s t : Fail} {turned : Tur
   abbrev Falls : FailAt → FailAt → Type 0
   Falls x y = (cost_at y now < cost_at x w) ⊎ ((failures_left now < failures_left w) × (cost_at y now ≤ 583))
 
-  falls-at : (x : FailAt) → FitsAt layout (view_of a seat) s.who s.frame s.required x → plan_at x ≡ Some made.step → Moves (put_at x) → ShowsAt (bare_at x) made.found made.got → FollowsAt s.who s.frame s.required (bare_at x) made.found made.got t.at turned → is_waits turned ≡ false → Falls x t.at
+  falls-at : (x : FailAt) → FitsAt layout (view_of a seat) s.who s.frame s.required s.hardware x → plan_at x ≡ Some made.step → Moves (put_at x) → ShowsAt (bare_at x) made.found made.got → FollowsAt s.who s.frame s.required (bare_at x) made.found made.got t.at turned → is_waits turned ≡ false → Falls x t.at
   falls-at (at.Claim c) has e move shows follows goes =
       let ends : cost_at t.at now ≤ claims.cost_with 571 (next-claim c).at now = (left-of c has t.at follows).cost now in
       elim (claim-falls (claim-made c has e move) 571 (omega arith) (sym (ap is_waits follows.1) ∙ goes)) [
@@ -163,7 +163,7 @@ module _ {layout : Layout} {seat : ℕ} {a b : State} {s t : Fail} {turned : Tur
   abbrev Waits : FailAt → FailAt → Type 0
   Waits x y = (cost_at y now < cost_at x w) ⊎ ((aborts_at y ≡ true) × OtherHand a seat)
 
-  waits-at : (x : FailAt) → FitsAt layout (view_of a seat) s.who s.frame s.required x → plan_at x ≡ Some made.step → Moves (put_at x) → FollowsAt s.who s.frame s.required (bare_at x) made.found made.got t.at turned → is_waits turned ≡ true → Quiet (class_at x) layout a seat → Waits x t.at
+  waits-at : (x : FailAt) → FitsAt layout (view_of a seat) s.who s.frame s.required s.hardware x → plan_at x ≡ Some made.step → Moves (put_at x) → FollowsAt s.who s.frame s.required (bare_at x) made.found made.got t.at turned → is_waits turned ≡ true → Quiet (class_at x) layout a seat → Waits x t.at
   waits-at (at.Claim c) has e move follows waits quiet =
       let rest : IsLeft s.frame (next-claim c).at t.at = left-of c has t.at follows in
       let ends : cost_at t.at now ≤ claims.cost_with 571 (next-claim c).at now = rest.cost now in
@@ -182,7 +182,7 @@ module _ {layout : Layout} {seat : ℕ} {a b : State} {s t : Fail} {turned : Tur
   fail-leaves : aborts s ≡ true → 1 < class t
   fail-leaves gives = which s.at made.fits.at made.follows.1 gives
     where
-      which : (x : FailAt) → FitsAt layout (view_of a seat) s.who s.frame s.required x → FollowsAt s.who s.frame s.required (bare_at x) made.found made.got t.at turned → aborts_at x ≡ true → 1 < class_at t.at
+      which : (x : FailAt) → FitsAt layout (view_of a seat) s.who s.frame s.required s.hardware x → FollowsAt s.who s.frame s.required (bare_at x) made.found made.got t.at turned → aborts_at x ≡ true → 1 < class_at t.at
       which (at.Claim c) has follows is = (left-of c has t.at follows).class (claim-leaves c made.found made.got is)
       which (at.Act cycle c) has follows is = absurd (both_ways true (sym is) refl)
       which (at.Over answer) has follows is = absurd (both_ways true (sym is) refl)
@@ -225,12 +225,12 @@ module _ {layout : Layout} {seat : ℕ} {a b : State} {s t : Fail} {turned : Tur
     abbrev Owns : FailAt → FailAt → Type 0
     Owns x y = (claims_at s.frame y ≡ Some (frame, cycle)) ⊎ (Pending w frame cycle × (claims_at s.frame x ≢ Some (frame, cycle)))
 
-    act-owns : (own : ℕ) (c : Act) → IsActing layout (view_of a seat) s.who s.frame s.required own c → acts.plan c ≡ Some made.step → ActsOn own (acts.bare c) made.found t.at turned → Owns (at.Act own c) t.at
+    act-owns : (own : ℕ) (c : Act) → IsActing layout (view_of a seat) s.who s.frame s.required s.hardware own c → acts.plan c ≡ Some made.step → ActsOn own (acts.bare c) made.found t.at turned → Owns (at.Act own c) t.at
     act-owns own c has e on = subst (λ (o : Option (Frame × ℕ)). (o ≡ Some (frame, cycle)) ⊎ (Pending w frame cycle × (claims_at s.frame (at.Act own c) ≢ Some (frame, cycle)))) (sym (ap (claims_at s.frame) on.next_is ∙ act-claim s.frame own on.after))
         (owned-by w now (claims_at s.frame (at.Act own c)) (claim-on s.frame own (has_retired_at on.after.at)) frame cycle
         (act-keeps own c has.frame_is c.at on.after.at has.act.at e on.follows.1 going) (pending-kept made (act-mild c made.step e) frame cycle pending) pending)
 
-    owns-at : (x : FailAt) → FitsAt layout (view_of a seat) s.who s.frame s.required x → plan_at x ≡ Some made.step → Moves (put_at x) → FollowsAt s.who s.frame s.required (bare_at x) made.found made.got t.at turned → Owns x t.at
+    owns-at : (x : FailAt) → FitsAt layout (view_of a seat) s.who s.frame s.required s.hardware x → plan_at x ≡ Some made.step → Moves (put_at x) → FollowsAt s.who s.frame s.required (bare_at x) made.found made.got t.at turned → Owns x t.at
     owns-at (at.Claim c) has e move follows = elim (claim-ranked.owns layout seat a b c (next-claim c) (claims.turn (claims.bare c) made.found) frame cycle (claim-made c has e move) (sym (ap is_refused follows.1) ∙ going) pending) [
       | inl own ↦ inl ((left-of c has t.at follows).claim ∙ ap (λ (f : Frame). claims.claims_at f (next-claim c).at) (sym has.frame_is) ∙ own)
       | inr other ↦ inr other

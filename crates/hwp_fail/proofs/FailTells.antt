@@ -79,7 +79,7 @@ act-idle layout view a fits unanswered none = which a.at fits.at unanswered none
 idle : (layout : Layout) (view : View) (f : Fail) → Fits layout view f → Idle view (plan f)
 idle layout view f fits none = which f.at fits.at none
   where
-    which : (x : FailAt) → FitsAt layout view f.who f.frame f.required x → Idle view (plan_at x)
+    which : (x : FailAt) → FitsAt layout view f.who f.frame f.required f.hardware x → Idle view (plan_at x)
     which (at.Claim c) has none = claim-idle layout view c has.claim has.unanswered none
     which (at.Act cycle a) has none = (act-idle layout view a has.act has.unanswered none).0
     which (at.Over answer) has none = has.0
@@ -111,7 +111,7 @@ claim-goes layout view c frame cycle fits unanswered is = which c.at fits.at una
 goes : (layout : Layout) (view : View) (f : Fail) (frame : Frame) (cycle : ℕ) → Fits layout view f → claims_of f ≡ Some (frame, cycle) → Goes (class f) (plan f)
 goes layout view f frame cycle fits is = which f.at fits.at is
   where
-    which : (x : FailAt) → FitsAt layout view f.who f.frame f.required x → claims_at f.frame x ≡ Some (frame, cycle) → Goes (class_at x) (plan_at x)
+    which : (x : FailAt) → FitsAt layout view f.who f.frame f.required f.hardware x → claims_at f.frame x ≡ Some (frame, cycle) → Goes (class_at x) (plan_at x)
     which (at.Claim c) has is = claim-goes layout view c frame cycle has.claim has.unanswered is
     which (at.Act own a) has is = (omega arith, λ none. none-some (frame, cycle) (sym (ap (claim-on f.frame own) (act-idle layout view a has.act has.unanswered none).1) ∙ is))
     which (at.Over answer) has is = absurd (none-some (frame, cycle) is)

@@ -147,12 +147,12 @@ inject-ranked = record {
 frame-told : (layout : Layout) (view : View) (who : Who) (frame : Frame) (x : InjectAt) → FitsAt layout view who frame x → HasFrame view → (class_at x ≡ 1) × (plan_at x ≢ None)
 frame-told layout view who frame at.LoadStop has some = absurd (no-frame view has.hand_is refl refl refl some)
 frame-told layout view who frame (at.Fail f) has some = fail-tells-class.frame layout view f has.fail some
-frame-told layout view who frame at.Stopped has some = absurd (no-frame view has.0 refl refl refl some)
+frame-told layout view who frame at.Stopped has some = absurd (no-frame view has.0.hand_is refl refl refl some)
 
 page-told : (layout : Layout) (view : View) (who : Who) (frame : Frame) (x : InjectAt) → FitsAt layout view who frame x → HasPage view → (class_at x ≤ 2) × (plan_at x ≢ None)
 page-told layout view who frame at.LoadStop has some = absurd (no-page view has.hand_is refl some)
 page-told layout view who frame (at.Fail f) has some = fail-tells-class.page layout view f has.fail some
-page-told layout view who frame at.Stopped has some = absurd (no-page view has.0 refl some)
+page-told layout view who frame at.Stopped has some = absurd (no-page view has.0.hand_is refl some)
 
 claim-told : (layout : Layout) (view : View) (who : Who) (frame : Frame) (x : InjectAt) (of : Frame) (cycle : ℕ) → FitsAt layout view who frame x → claims_at x ≡ Some (of, cycle) → (class_at x ≤ 3) × (plan_at x ≢ None)
 claim-told layout view who frame at.LoadStop of cycle has claimed = absurd (none-some (of, cycle) claimed)

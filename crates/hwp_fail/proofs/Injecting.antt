@@ -1,18 +1,24 @@
 -- The laws of `Inject`: its steps can be made, and what follows them fits.
-use Rattle.std.proofs.Common.{◌≡◌, ℕ, ◌<◌, ◌==◌, Bool, true, false, cond, Option, Some, None, is_none, inl, refl, sym, ap, ◌∙◌, subst}
+use Rattle.std.proofs.Common.{◌≡◌, ℕ, ◌<◌, ◌==◌, ◌&&◌, Bool, true, false, cond, List, [], ◌∷◌, ◌++◌, Option, Some, None, is_none, inl, inr, filter, map, refl, sym, ap, ◌∙◌, subst}
+use Rattle.std.proofs.lemmas.List.{map-append}
+use Rattle.std.proofs.lemmas.List.Elements.{filter-append}
 use Rattle.std.proofs.lemmas.Option.{none-some}
 use Rattle.std.specs.declared.alloc.Global.{Global}
 use Rattle.hwp_geom.specs.declared.Frame.{Frame}
 use Rattle.hwp_geom.specs.declared.Layout.{Layout}
+use Rattle.hwp_geom.specs.declared.Thread.{Thread}
 use Rattle.hwp_geom.specs.declared.Who.{Who}
 use Rattle.hwp_geom.specs.Layout.{IsSound}
 use Rattle.hwp_page.specs.History.{BodyValue}
 use Rattle.hwp_words.specs.Frames.{count_of, cycle_of, is_kernel, is_poisoned}
 use Rattle.hwp_words.specs.Stops.{is_stopped}
+use Rattle.hwp_rule.specs.declared.Mark.{Mark}
 use Rattle.hwp_rule.specs.declared.Place.TheVariants as places
 use Rattle.hwp_rule.specs.declared.Step.{Step}
 use Rattle.hwp_rule.specs.declared.Step.TheVariants as steps
 use Rattle.hwp_rule.specs.declared.View.{View}
+use Rattle.hwp_rule.proofs.Lists.{same-number}
+use Rattle.hwp_known.specs.Known.{deeds}
 use Rattle.hwp_step.specs.declared.Turn.{Turn}
 use Rattle.hwp_step.specs.Calls.{CanMake, IsOnTurn, Steps, logs}
 use Rattle.hwp_step.proofs.Stepping.{can-make, hand-planned, on-turn-after, steps-planned}
@@ -22,6 +28,7 @@ use Rattle.hwp_hold.specs.declared.unlock.Unlock.{Unlock}
 use Rattle.hwp_hold.specs.Unlocks as unlocks
 use Rattle.hwp_act.specs.declared.abandon.Failed.{Failed}
 use Rattle.hwp_act.specs.declared.act.Act.{Act}
+use Rattle.hwp_act.specs.Abandoned.{failed_in}
 use Rattle.hwp_act.specs.Acts as acts
 use Rattle.hwp_claim.specs.declared.claim.Claim.{Claim}
 use Rattle.hwp_claim.specs.declared.claim.ClaimAt.{ClaimAt}
@@ -35,7 +42,8 @@ use Rattle.hwp_claim.specs.declared.meet.MeetAt.TheVariants as meet_at
 use Rattle.hwp_claim.specs.declared.meet.MeetAnswer.{MeetAnswer}
 use Rattle.hwp_claim.specs.declared.meet.MeetAnswer.TheVariants as meet_answers
 use Rattle.hwp_claim.specs.Claims as claims
-use Rattle.hwp_claim.specs.Claims.{HasMarkedNone}
+use Rattle.hwp_claim.specs.Claims.{is_own, marks_by}
+use Rattle.hwp_claim.specs.Done.{Marking, marked_in, marking_of}
 use Rattle.hwp_claim.specs.Grabs as grabs
 use Rattle.hwp_claim.specs.Meets as meets
 use Rattle.hwp_claim.specs.Meets.{is_ended}
@@ -45,8 +53,10 @@ use Rattle.hwp_fail.specs.declared.fail.FailAt.TheVariants as fail_at
 use Rattle.hwp_fail.specs.declared.inject.Inject.{Inject}
 use Rattle.hwp_fail.specs.declared.inject.InjectAt.{InjectAt}
 use Rattle.hwp_fail.specs.declared.inject.InjectAt.TheVariants as at
+use Rattle.hwp_fail.specs.Done.{Adds, failed_at, marked_at}
 use Rattle.hwp_fail.specs.Fails as fails
 use Rattle.hwp_fail.specs.Injects.{Fits, FitsAt, Follows, FollowsAt, IsAtRest, IsFailing, Shows, ShowsAt, bare, bare_at, loaded, plan, plan_at, put, put_at, recovers_at, recovers_in}
+use Rattle.hwp_fail.proofs.Adding.{fail-adds}
 use Rattle.hwp_fail.proofs.Failing as failing
 
 pub can : (layout : Layout) (view : View) (i : Inject) (step : Step) → Fits layout view i → plan i ≡ Some step → CanMake layout i.who step (put i) view
@@ -70,35 +80,38 @@ module _ {layout : Layout} {old new : View} {who : Who} {found : ℕ} {got : Opt
 
 -- a failure begins
 begun : {layout : Layout} {view : View} (who : Who) (frame : Frame) (alloc : Global) → IsOnTurn view who → IsSound layout → frame.0 < layout.frames → IsAtRest view who → IsFailing layout view who frame (fails.begin alloc who frame None false layout.recovery)
-begun {layout} {view} who frame alloc on sound inside rest = record {
-  fail = record {
-    on_turn = on;
-    sound = sound;
-    frame = inside;
-    at = record {
-      claim = record { on_turn = on; frame = inside; unreported = refl; made = rest.made; paid = rest.paid; at = holds layout.recovery };
+begun {layout} {view} who frame alloc on sound inside rest = which layout.recovery refl
+  where
+    fits : (x : ClaimAt) → claims.FitsAt layout view who frame false x → claims.answer_at x ≡ None → fails.Fits layout view (record { alloc = alloc; who = who; frame = frame; required = None; hardware = false; at = fail_at.Claim (record { who = who; frame = frame; hardware = false; at = x }) })
+    fits x has none = record {
+      on_turn = on;
+      sound = sound;
+      frame = inside;
+      at = record {
+        claim = record { on_turn = on; frame = inside; paid = rest.paid; at = has };
+        own = refl;
+        frame_is = refl;
+        hardware_is = refl;
+        unanswered = none;
+      };
+    }
+
+    failing : (x : ClaimAt) → claims.FitsAt layout view who frame false x → claims.answer_at x ≡ None → layout.recovery ≡ recovers_in x → marked_in frame false x ≡ []
+        → IsFailing layout view who frame (record { alloc = alloc; who = who; frame = frame; required = None; hardware = false; at = fail_at.Claim (record { who = who; frame = frame; hardware = false; at = x }) })
+    failing x has none recovers unmarked = record {
+      fail = fits x has none;
       own = refl;
       frame_is = refl;
-      unanswered = answers layout.recovery;
-    };
-  };
-  own = refl;
-  frame_is = refl;
-  unrequired = refl;
-  recovery = recovers layout.recovery;
-}
-  where
-    holds : (b : Bool) → claims.FitsAt layout view who frame false (claims.start b)
-    holds true = (rest.hand_is, rest.unmarked)
-    holds false = (rest.hand_is, rest.unmarked)
+      unrequired = refl;
+      software = refl;
+      recovery = recovers;
+      marks = ap (map marking_of) rest.unmarked ∙ sym unmarked;
+      entries = ap (map failed_in) rest.made;
+    }
 
-    answers : (b : Bool) → claims.answer_at (claims.start b) ≡ None
-    answers true = refl
-    answers false = refl
-
-    recovers : (b : Bool) → b ≡ recovers_in (claims.start b)
-    recovers true = refl
-    recovers false = refl
+    which : (b : Bool) → layout.recovery ≡ b → IsFailing layout view who frame (fails.begin alloc who frame None false b)
+    which true is = failing claim_at.Poison rest.hand_is refl is refl
+    which false is = failing claim_at.Stop rest.hand_is refl is refl
 
 -- ---- whether the machine recovers
 
@@ -201,13 +214,39 @@ after-claim who frame required c x follows = which c.at refl follows
     which (claim_at.Kernel cycle) same is = ap recovers_at is ∙ sym same
     which (claim_at.Owned cycle page body) same has = ap recovers_at has.next_is ∙ act-recovers cycle has.act ∙ sym same
 
-fail-recovers : (f after : Fail) (found : ℕ) (got : Option BodyValue) (turn : Turn) → fails.Follows (fails.bare f) found got after turn → recovers_at after.at ≡ recovers_at f.at
+pub fail-recovers : (f after : Fail) (found : ℕ) (got : Option BodyValue) (turn : Turn) → fails.Follows (fails.bare f) found got after turn → recovers_at after.at ≡ recovers_at f.at
 fail-recovers f after found got turn follows = which f.at follows.1
   where
     which : (x : FailAt) → fails.FollowsAt f.who f.frame f.required (fails.bare_at x) found got after.at turn → recovers_at after.at ≡ recovers_at x
     which (fail_at.Claim c) next = after-claim f.who f.frame f.required (claims.next (claims.bare c) found got) after.at next.0 ∙ claim-recovers c.who c.frame c.at found got
     which (fail_at.Act cycle a) next = ap recovers_at next.next_is ∙ act-recovers cycle next.after
     which (fail_at.Over answer) next = ap recovers_at next.0
+
+-- ---- what the command has marked and entered
+
+abbrev markings : List Mark → List Marking
+markings l = map marking_of l
+
+abbrev told : List Failed → List (Option Failed)
+told l = map (λ (f : Failed). Some f) l
+
+own-command : (who other : Who) → other ≡ who → ((other.cpu.0 == who.cpu.0) && (other.seq == who.seq)) ≡ true
+own-command who other own = ap (λ (b : Bool). b && (other.seq == who.seq)) (same-number other.cpu.0 who.cpu.0 (ap (λ (w : Who). w.cpu.0) own)) ∙ same-number other.seq who.seq (ap (λ (w : Who). w.seq) own)
+
+module _ {old new : View} (who : Who) where
+  marks-grow : (frame : Frame) {x y : FailAt} → Adds old new who frame false None x y → markings (marks_by who old) ≡ marked_at frame false x → markings (marks_by who new) ≡ marked_at frame false y
+  marks-grow frame {x} {y} adds has = elim adds.marked [
+    | inl same ↦ ap (λ (l : List Mark). markings (filter (is_own who) l)) same.0 ∙ has ∙ sym same.1
+    | inr grown ↦ ap (λ (l : List Mark). markings (filter (is_own who) l)) grown.1 ∙ ap markings (filter-append (is_own who) old.marks (grown.0 ∷ [])) ∙ map-append marking_of (marks_by who old) (filter (is_own who) (grown.0 ∷ []))
+        ∙ ap (λ (b : Bool). markings (marks_by who old) ++ markings (cond b (grown.0 ∷ []) [])) (own-command who grown.0.stamp.who grown.2) ∙ ap (λ (l : List Marking). l ++ marking_of grown.0 ∷ []) has ∙ sym grown.3
+  ]
+
+  entries-grow : {frame : Frame} {x y : FailAt} → Adds old new who frame false None x y → map failed_in (deeds who old) ≡ told (failed_at None x) → map failed_in (deeds who new) ≡ told (failed_at None y)
+  entries-grow {frame} {x} {y} adds has = elim adds.failed [
+    | inl same ↦ ap (map failed_in) same.0 ∙ has ∙ sym (ap told same.1)
+    | inr grown ↦ ap (map failed_in) grown.2 ∙ map-append failed_in (deeds who old) (grown.0 ∷ []) ∙ ap (λ (o : Option Failed). map failed_in (deeds who old) ++ o ∷ []) grown.3 ∙ ap (λ (l : List (Option Failed)). l ++ Some grown.1 ∷ []) has
+        ∙ sym (ap told grown.4 ∙ map-append (λ (f : Failed). Some f) (failed_at None x) (grown.1 ∷ []))
+  ]
 
 -- ---- each step
 
@@ -219,7 +258,7 @@ module _ {layout : Layout} {new : View} {who : Who} {frame : Frame} (on : IsOnTu
       rest = rests made has
 
       which : (b : Bool) → is_stopped found ≡ b → FitsAt layout new who frame (cond b at.Stopped (at.Fail (fails.begin alloc who frame None false layout.recovery)))
-      which true is = (rest.hand_is, rest.paid, (rest.made, rest.unmarked, inl (record { word = found; stopped = is; saw = saw-load made })))
+      which true is = (rest, inl (record { word = found; stopped = is; saw = saw-load made }))
       which false is = begun who frame alloc on sound inside rest
 
 both : (layout : Layout) (old new : View) (i : Inject) (step : Step) (found : ℕ) (got : Option BodyValue) → Fits layout old i → plan i ≡ Some step → Steps layout i.who step (logs (put i)) old new found got
@@ -229,6 +268,14 @@ both layout old new i step found got fits is made = let all = which i.at fits.at
   where
     on : IsOnTurn new i.who
     on = on-turn-after fits.on_turn made
+
+    adds : (f : Fail) → IsFailing layout old i.who i.frame f → fails.plan f ≡ Some step → Steps layout i.who step (logs (fails.put f)) old new found got → (after : Fail) (turn : Turn) → fails.Follows (fails.bare f) found got after turn → Adds old new i.who i.frame false None f.at after.at
+    adds f has e made after turn follows =
+        subst (λ (r : Option Thread). Adds old new i.who i.frame false r f.at after.at) has.unrequired
+        (subst (λ (h : Bool). Adds old new i.who i.frame h f.required f.at after.at) has.software
+        (subst (λ (n : Frame). Adds old new i.who n f.hardware f.required f.at after.at) has.frame_is
+        (subst (λ (w : Who). Adds old new w f.frame f.hardware f.required f.at after.at) has.own
+        (fail-adds layout old new f step found got has.fail e (subst (λ (w : Who). Steps layout w step (logs (fails.put f)) old new found got) (sym has.own) made) after turn follows))))
 
     which : (x : InjectAt) → FitsAt layout old i.who i.frame x → plan_at x ≡ Some step → Steps layout i.who step (logs (put_at x)) old new found got
         → ShowsAt (bare_at x) found got × ((y : InjectAt) (turn : Turn) → FollowsAt layout i.alloc i.who i.frame (bare_at x) found got y turn → FitsAt layout new i.who i.frame y)
@@ -240,7 +287,10 @@ both layout old new i step found got fits is made = let all = which i.at fits.at
         own = ap (λ (g : Fail). g.who) next.follows.0 ∙ has.own;
         frame_is = ap (λ (g : Fail). g.frame) next.follows.0 ∙ has.frame_is;
         unrequired = ap (λ (g : Fail). g.required) next.follows.0 ∙ has.unrequired;
+        software = ap (λ (g : Fail). g.hardware) next.follows.0 ∙ has.software;
         recovery = has.recovery ∙ sym (fail-recovers f next.after found got turn next.follows);
+        marks = marks-grow i.who i.frame (adds f has e made next.after turn next.follows) has.marks;
+        entries = entries-grow i.who (adds f has e made next.after turn next.follows) has.entries;
       }),
     )
     which at.Stopped has e made = absurd (none-some step e)

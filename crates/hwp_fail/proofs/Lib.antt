@@ -1,7 +1,9 @@
-pub mod Marks
+pub mod Quiet
 pub mod Failing
+pub mod Adding
 pub mod FailLeaves
 pub mod FailRank
 pub mod FailTells
 pub mod Injecting
+pub mod InjectEnds
 pub mod InjectRank

@@ -18,7 +18,6 @@ use Rattle.hwp_step.specs.declared.Turn.{Turn}
 use Rattle.hwp_step.specs.declared.Turn.TheVariants.{Moved}
 use Rattle.hwp_step.specs.Calls.{IsOnTurn}
 use Rattle.hwp_step.specs.Hands.{hand_of, empty}
-use Rattle.hwp_known.specs.Known.{HasMadeNone}
 use Rattle.hwp_act.specs.declared.abandon.Failed.{Failed}
 use Rattle.hwp_act.specs.declared.abandon.AbandonAt.{AbandonAt}
 use Rattle.hwp_act.specs.declared.abandon.AbandonAt.TheVariants as abandon_at
@@ -32,7 +31,7 @@ use Rattle.hwp_claim.specs.declared.claim.Claim.{Claim}
 use Rattle.hwp_claim.specs.declared.ClaimAnswer.{ClaimAnswer}
 use Rattle.hwp_claim.specs.declared.ClaimAnswer.TheVariants as claim_answers
 use Rattle.hwp_claim.specs.Claims as claims
-use Rattle.hwp_claim.specs.Claims.{HasMarked, HasMarkedNone, IsStopped, SawPoison}
+use Rattle.hwp_claim.specs.Claims.{HasMarked, IsStopped, SawPoison}
 use Rattle.hwp_fail.specs.declared.fail.Fail.{Fail}
 use Rattle.hwp_fail.specs.declared.fail.FailAt.{FailAt}
 use Rattle.hwp_fail.specs.declared.fail.FailAt.TheVariants as at
@@ -43,7 +42,7 @@ abbrev pub start : Who → Frame → Bool → Bool → FailAt
 start who frame hardware recovery = at.Claim (claims.begin who frame hardware recovery)
 
 abbrev pub begin : Global → Who → Frame → Option Thread → Bool → Bool → Fail
-begin alloc who frame required hardware recovery = record { alloc = alloc; who = who; frame = frame; required = required; at = start who frame hardware recovery }
+begin alloc who frame required hardware recovery = record { alloc = alloc; who = who; frame = frame; required = required; hardware = hardware; at = start who frame hardware recovery }
 
 abbrev pub plan_at : FailAt → Option Step
 plan_at (at.Claim c) = claims.plan c
@@ -141,19 +140,20 @@ Follows f found got after turn = (after ≡ record f { at = after.at }) × Follo
 
 -- ---- what is held, and what the command has done
 
-pub record IsClaiming (layout : Layout) (view : View) (who : Who) (frame : Frame) (c : Claim) : Type 0 where
+pub record IsClaiming (layout : Layout) (view : View) (who : Who) (frame : Frame) (hardware : Bool) (c : Claim) : Type 0 where
   pub claim : claims.Fits layout view c
   pub own : c.who ≡ who
   pub frame_is : c.frame ≡ frame
+  pub hardware_is : c.hardware ≡ hardware
   pub unanswered : claims.answer c ≡ None
 
-pub record IsActing (layout : Layout) (view : View) (who : Who) (frame : Frame) (required : Option Thread) (cycle : ℕ) (a : Act) : Type 0 where
+pub record IsActing (layout : Layout) (view : View) (who : Who) (frame : Frame) (required : Option Thread) (hardware : Bool) (cycle : ℕ) (a : Act) : Type 0 where
   pub act : acting.Fits layout view a
   pub own : a.who ≡ who
   pub frame_is : a.frame ≡ frame
   pub required_is : acting.IsFor required a.at
   pub unanswered : acts.answer a ≡ None
-  pub marked : HasMarked view who frame false cycle
+  pub marked : HasMarked view who frame hardware cycle
   pub users : slice_get layout.kernel frame.0 ≡ Some false
 
 -- a failure without a page is of a free frame, or of one of the kernel's
@@ -162,27 +162,27 @@ IsPageless layout frame situations.Free = slice_get layout.kernel frame.0 ≡ So
 IsPageless layout frame situations.Kernel = slice_get layout.kernel frame.0 ≡ Some true
 IsPageless layout frame _ = ⊥
 
--- the command made no entry, or the one of its failure
+-- it made no entry, or the last one of the command
 abbrev pub HasDone : Layout → View → Who → Frame → Option Thread → Situation → Option At → Bool → Type 0
-HasDone layout view who frame required situation None signalled = HasMadeNone view who × IsPageless layout frame situation × (signalled ≡ false)
+HasDone layout view who frame required situation None signalled = IsPageless layout frame situation × (signalled ≡ false)
 HasDone layout view who frame required situation (Some place) signalled = HasFailed view who (record { situation = situation; required = required; at = place; signalled = signalled }) × (slice_get layout.kernel frame.0 ≡ Some false)
 
-abbrev pub FitsOver : Layout → View → Who → Frame → Option Thread → FailAnswer → Type 0
-FitsOver layout view who frame required answers.Stopped = HasMadeNone view who × HasMarkedNone view who × IsStopped view who
-FitsOver layout view who frame required answers.Already = HasMadeNone view who × HasMarkedNone view who × SawPoison view who frame
-FitsOver layout view who frame required (answers.Done situation cycle place signalled) = HasMarked view who frame false cycle × HasDone layout view who frame required situation place signalled
+abbrev pub FitsOver : Layout → View → Who → Frame → Option Thread → Bool → FailAnswer → Type 0
+FitsOver layout view who frame required hardware answers.Stopped = IsStopped view who
+FitsOver layout view who frame required hardware answers.Already = SawPoison view who frame
+FitsOver layout view who frame required hardware (answers.Done situation cycle place signalled) = HasMarked view who frame hardware cycle × HasDone layout view who frame required situation place signalled
 
-abbrev pub FitsAt : Layout → View → Who → Frame → Option Thread → FailAt → Type 0
-FitsAt layout view who frame required (at.Claim c) = IsClaiming layout view who frame c
-FitsAt layout view who frame required (at.Act cycle a) = IsActing layout view who frame required cycle a
-FitsAt layout view who frame required (at.Over answer) = (hand_of view ≡ empty) × (view.owed.losses ≡ []) × FitsOver layout view who frame required answer
+abbrev pub FitsAt : Layout → View → Who → Frame → Option Thread → Bool → FailAt → Type 0
+FitsAt layout view who frame required hardware (at.Claim c) = IsClaiming layout view who frame hardware c
+FitsAt layout view who frame required hardware (at.Act cycle a) = IsActing layout view who frame required hardware cycle a
+FitsAt layout view who frame required hardware (at.Over answer) = (hand_of view ≡ empty) × (view.owed.losses ≡ []) × FitsOver layout view who frame required hardware answer
 
--- until machine checks are served, no bank reported the failure
+-- what the command has done before is left open: it may have made entries, and have failed other frames
 pub record Fits (layout : Layout) (view : View) (f : Fail) : Type 0 where
   pub on_turn : IsOnTurn view f.who
   pub sound : IsSound layout
   pub frame : f.frame.0 < layout.frames
-  pub at : FitsAt layout view f.who f.frame f.required f.at
+  pub at : FitsAt layout view f.who f.frame f.required f.hardware f.at
 
 -- ---- the rank
 

@@ -1,12 +1,20 @@
 -- A memory failure that a command brings about: the task's states, its steps and what they come to.
-use Rattle.std.specs.Prelude.{◌≡◌, ℕ, ◌<◌, Bool, true, false, cond, [], Option, Some, None}
+use Rattle.std.specs.Prelude.{◌≡◌, ℕ, ◌<◌, Bool, true, false, cond, List, [], ◌∷◌, Option, Some, None, map, slice_get}
 use Rattle.std.specs.declared.alloc.Global.{Global}
 use Rattle.hwp_geom.specs.declared.Frame.{Frame}
 use Rattle.hwp_geom.specs.declared.Layout.{Layout}
 use Rattle.hwp_geom.specs.declared.Who.{Who}
 use Rattle.hwp_geom.specs.Layout.{IsSound}
+use Rattle.hwp_kill.specs.declared.Seen.{Seen}
+use Rattle.hwp_kill.specs.declared.Signal.{Signal}
+use Rattle.hwp_page.specs.declared.At.{At}
+use Rattle.hwp_page.specs.declared.Situation.{Situation}
+use Rattle.hwp_page.specs.declared.What.TheVariants as entries
 use Rattle.hwp_page.specs.History.{BodyValue}
 use Rattle.hwp_words.specs.Stops.{is_stopped}
+use Rattle.hwp_rule.specs.declared.Made.{Made}
+use Rattle.hwp_rule.specs.declared.Mark.{Mark}
+use Rattle.hwp_rule.specs.declared.MarkKind.TheVariants as mark_kinds
 use Rattle.hwp_rule.specs.declared.Place.TheVariants as places
 use Rattle.hwp_rule.specs.declared.Step.{Step}
 use Rattle.hwp_rule.specs.declared.Step.TheVariants as steps
@@ -16,10 +24,14 @@ use Rattle.hwp_step.specs.declared.Turn.{Turn}
 use Rattle.hwp_step.specs.declared.Turn.TheVariants.{Moved}
 use Rattle.hwp_step.specs.Calls.{IsOnTurn}
 use Rattle.hwp_step.specs.Hands.{hand_of, empty}
-use Rattle.hwp_known.specs.Known.{HasMadeNone}
+use Rattle.hwp_known.specs.Known.{HasMade, HasMadeNone, deeds}
+use Rattle.hwp_act.specs.declared.abandon.Failed.{Failed}
+use Rattle.hwp_act.specs.Abandoned.{IsOfPage, failed_in}
+use Rattle.hwp_act.specs.Abandons.{signals_now}
 use Rattle.hwp_claim.specs.declared.claim.ClaimAt.{ClaimAt}
 use Rattle.hwp_claim.specs.declared.claim.ClaimAt.TheVariants as claim_at
-use Rattle.hwp_claim.specs.Claims.{HasMarkedNone}
+use Rattle.hwp_claim.specs.Claims.{HasMarkedNone, IsStopped, SawPoison, marks_by}
+use Rattle.hwp_claim.specs.Done.{marking_of}
 use Rattle.hwp_fail.specs.declared.fail.Fail.{Fail}
 use Rattle.hwp_fail.specs.declared.fail.FailAt.{FailAt}
 use Rattle.hwp_fail.specs.declared.fail.FailAt.TheVariants as fail_at
@@ -28,6 +40,7 @@ use Rattle.hwp_fail.specs.declared.fail.FailAnswer.TheVariants as answers
 use Rattle.hwp_fail.specs.declared.inject.Inject.{Inject}
 use Rattle.hwp_fail.specs.declared.inject.InjectAt.{InjectAt}
 use Rattle.hwp_fail.specs.declared.inject.InjectAt.TheVariants as at
+use Rattle.hwp_fail.specs.Done.{failed_at, marked_at}
 use Rattle.hwp_fail.specs.Fails as fails
 
 abbrev pub begin : Global → Who → Frame → Inject
@@ -111,23 +124,54 @@ recovers_at (fail_at.Act cycle a) = true
 recovers_at (fail_at.Over answers.Stopped) = false
 recovers_at (fail_at.Over answer) = true
 
+-- the command has poisoned no other frame, and made no other entry
 pub record IsFailing (layout : Layout) (view : View) (who : Who) (frame : Frame) (f : Fail) : Type 0 where
   pub fail : fails.Fits layout view f
   pub own : f.who ≡ who
   pub frame_is : f.frame ≡ frame
   pub unrequired : f.required ≡ None
+  pub software : f.hardware ≡ false
   pub recovery : layout.recovery ≡ recovers_at f.at
+  pub marks : map marking_of (marks_by who view) ≡ marked_at frame false f.at
+  pub entries : map failed_in (deeds who view) ≡ map (λ (x : Failed). Some x) (failed_at None f.at)
 
 abbrev pub FitsAt : Layout → View → Who → Frame → InjectAt → Type 0
 FitsAt layout view who frame at.LoadStop = IsAtRest view who
 FitsAt layout view who frame (at.Fail f) = IsFailing layout view who frame f
-FitsAt layout view who frame at.Stopped = (hand_of view ≡ empty) × (view.owed.losses ≡ []) × fails.FitsOver layout view who frame None answers.Stopped
+FitsAt layout view who frame at.Stopped = IsAtRest view who × IsStopped view who
 
 pub record Fits (layout : Layout) (view : View) (i : Inject) : Type 0 where
   pub on_turn : IsOnTurn view i.who
   pub sound : IsSound layout
   pub frame : i.frame.0 < layout.frames
   pub at : FitsAt layout view i.who i.frame i.at
+
+-- ---- what the command has done once it is answered
+
+-- it poisoned this frame alone, in this cycle of it
+pub record HasMarkedOne (view : View) (who : Who) (frame : Frame) (cycle : ℕ) : Type 0 where
+  pub mark : Mark
+  pub marks : marks_by who view ≡ mark ∷ []
+  pub frame_is : mark.frame ≡ frame
+  pub cycle_is : mark.cycle ≡ cycle
+  pub kind_is : mark.kind ≡ mark_kinds.Poisoned false
+
+-- it made this entry alone, of a page that was in the frame
+pub record HasMadeOne (view : View) (who : Who) (situation : Situation) (place : At) (signalled : Bool) : Type 0 where
+  pub seen : List Seen
+  pub signals : List Signal
+  pub made : HasMade (λ (m : Made). ⊥) view who place.page place.entry (entries.Fail situation None seen signals)
+  pub signalled_is : signalled ≡ signals_now signals
+  pub paged : IsOfPage situation
+
+abbrev pub HasDone : Layout → View → Who → Frame → Situation → Option At → Bool → Type 0
+HasDone layout view who frame situation None signalled = HasMadeNone view who × fails.IsPageless layout frame situation × (signalled ≡ false)
+HasDone layout view who frame situation (Some place) signalled = HasMadeOne view who situation place signalled × (slice_get layout.kernel frame.0 ≡ Some false)
+
+abbrev pub HasEnded : Layout → View → Who → Frame → FailAnswer → Type 0
+HasEnded layout view who frame answers.Stopped = HasMadeNone view who × HasMarkedNone view who × IsStopped view who
+HasEnded layout view who frame answers.Already = HasMadeNone view who × HasMarkedNone view who × SawPoison view who frame
+HasEnded layout view who frame (answers.Done situation cycle place signalled) = HasMarkedOne view who frame cycle × HasDone layout view who frame situation place signalled
 
 -- ---- the rank
 

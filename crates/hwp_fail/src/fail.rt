@@ -31,6 +31,7 @@ pub struct Fail {
     who: Who,
     frame: Frame,
     required: Option<Thread>,
+    hardware: bool,
     at: FailAt,
 }
 
@@ -77,10 +78,18 @@ impl Fail {
             who,
             frame,
             required,
+            hardware,
             at: FailAt::Claim {
                 claim: Claim::new(layout, who, frame, hardware),
             },
         }
+    }
+
+    /// Whether a bank of the processor reported it.
+    pub fn hardware(&self) -> bool
+        ensures { result ≡ self.now.hardware }
+    {
+        self.hardware
     }
 
     /// What it came to; `None` until it is over, and where it gave up.

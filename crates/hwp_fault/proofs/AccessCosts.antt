@@ -70,14 +70,14 @@ use Rattle.hwp_fault.specs.declared.fault.FaultAnswer.TheVariants as fault_answe
 use Rattle.hwp_fault.specs.Accesses.{plan, plan_at, put, put_at, bare, bare_at, at_start, after_process, at_process, leading, at_translation, pinned, ended, unlocked, after_fault, is_frame, leads_to, Prepares, LooksOf, LooksAgain, Next, NextAt, FaultStepped, IsPinned, IsFaulting, IsOfFrame, Fits, FitsAt, class, class_at, moved_away, then_cost, cost, cost_at}
 use Rattle.hwp_fault.specs.Faults as faults
 use Rattle.hwp_fault.proofs.Accessing.{slot-within}
-use Rattle.hwp_fault.proofs.FaultCosts.{fault-mild, fault-ranked, fault-below, fault-class}
+use Rattle.hwp_fault.proofs.FaultCosts.{fault-mild, fault-ranked, fault-small, fault-class}
 use Rattle.hwp_fault.proofs.Faulting as faulting
 use Rattle.hwp_fault.proofs.Translating.{named-referenced}
 
 -- ---- costs
 
 -- what is left of an access that starts over, with few words of free frames
-again-few : (slot : VSlot) (w : Words) → length w.frees ≤ 4 → faults.again slot w ≤ 4120
+pub again-few : (slot : VSlot) (w : Words) → length w.frees ≤ 4 → faults.again slot w ≤ 4120
 again-few slot w few = let most : stale (is_some (frame_in (slice_index w.trans slot.0))) ≤ 4096 = stale-most (is_some (frame_in (slice_index w.trans slot.0))) in omega arith
 
 moved-few : (slot : VSlot) (frame : Frame) (w : Words) → moved_away slot frame w ≤ 8192
@@ -105,14 +105,14 @@ give-up-goes g = which g.at
     which give_up_at.Over = refl
 
 -- each cost is small, where the words of free frames are at most four
-pub access-below : (w : Words) (a : Access) → length w.frees ≤ 4 → cost a w < 32768
-access-below w a few = which a.at
+pub access-small : (w : Words) (a : Access) → length w.frees ≤ 4 → cost a w ≤ 12307
+access-small w a few = which a.at
   where
     then-few : (then : Option AccessAnswer) → then_cost a.request.slot then w ≤ 4120
     then-few None = again-few a.request.slot w few
     then-few (Some answer) = omega arith
 
-    which : (x : AccessAt) → cost_at a.request.slot x w < 32768
+    which : (x : AccessAt) → cost_at a.request.slot x w ≤ 12307
     which at.LoadStop = let most : faults.again a.request.slot w ≤ 4120 = again-few a.request.slot w few in omega arith
     which at.LoadProcess = let most : faults.again a.request.slot w ≤ 4120 = again-few a.request.slot w few in omega arith
     which at.LoadTranslation = let most : faults.again a.request.slot w ≤ 4120 = again-few a.request.slot w few in omega arith
@@ -121,9 +121,12 @@ access-below w a few = which a.at
     which (at.LoadAgain frame body) = let too : moved_away a.request.slot frame w ≤ 8192 = moved-few a.request.slot frame w in omega arith
     which (at.LoadBad frame body) = omega arith
     which (at.Unlock u then) = let most : unlocks.cost u w ≤ 4 = unlock-small w u in let rest : then_cost a.request.slot then w ≤ 4120 = then-few then in omega (arith, most, rest)
-    which (at.Fault f) = fault-below w f few
+    which (at.Fault f) = fault-small w f few
     which (at.GiveUp g) = let most : give_ups.cost g w ≤ 6 = give-up-few w g in omega (arith, most)
     which (at.Over answer) = omega arith
+
+pub access-below : (w : Words) (a : Access) → length w.frees ≤ 4 → cost a w < 32768
+access-below w a few = let some : cost a w ≤ 12307 = access-small w a few in omega (arith, some)
 
 pub access-class : (a : Access) → (1 ≤ class a) × (class a ≤ 4)
 access-class a = which a.at

@@ -20,6 +20,7 @@ use Rattle.hwp_words.specs.Frames.{is_locked, is_handled, is_poisoned, owner_of}
 use Rattle.hwp_words.specs.Names.{page_named}
 use Rattle.hwp_words.specs.Stops.{is_stopped}
 use Rattle.hwp_rule.specs.declared.FrameLock.{FrameLock}
+use Rattle.hwp_rule.specs.declared.InHand.{InHand}
 use Rattle.hwp_rule.specs.declared.Log.{Log}
 use Rattle.hwp_rule.specs.declared.Made.{Made}
 use Rattle.hwp_rule.specs.declared.Place.TheVariants as places
@@ -31,7 +32,7 @@ use Rattle.hwp_rule.specs.Lists.{EachMember}
 use Rattle.hwp_rule.specs.Logs.{log_of}
 use Rattle.hwp_rule.specs.Slots.{frame_slot, is_out, moved_out}
 use Rattle.hwp_rule.specs.Steps.{goes}
-use Rattle.hwp_rule.specs.Views.{frame_in, refs_on, locks_on, lock_found, noted, taken}
+use Rattle.hwp_rule.specs.Views.{body_of, frame_in, more_of, refs_on, locks_on, lock_found, noted, taken}
 use Rattle.hwp_rule.specs.Words.{words_of}
 use Rattle.hwp_rule.specs.parts.Bodies.{content_name}
 use Rattle.hwp_rule.proofs.FittingWords.{same-page}
@@ -41,7 +42,7 @@ use Rattle.hwp_step.specs.declared.Turn.{Turn}
 use Rattle.hwp_step.specs.Calls.{CanMake, FitsLayout, Steps, IsOnTurn, logs}
 use Rattle.hwp_step.specs.Hands.{Hand, hand_of, empty, taking, body_in}
 use Rattle.hwp_step.proofs.Stepping.{on-turn-after, content_of, brought, was-home, hand-planned, steps-planned, can-make}
-use Rattle.hwp_known.specs.Known.{Saw, HasMadeNone, BringsIn, HasOnly, HasMade, IsAt, deeds}
+use Rattle.hwp_known.specs.Known.{Saw, HasMadeNone, Precedes, HasOnly, HasMade, IsAt, deeds}
 use Rattle.hwp_known.proofs.Listing.{ListsNone, deeds-same, frame-lists, deeds-none, deeds-one, has-made, has-made-stays, has-only-stays}
 use Rattle.hwp_known.specs.Pages.{SawState}
 use Rattle.hwp_known.proofs.Seeing.{saw-stays, saw-load, saw-state-stays}
@@ -81,13 +82,14 @@ use Rattle.hwp_fault.specs.declared.fault.FaultAt.{FaultAt}
 use Rattle.hwp_fault.specs.declared.fault.FaultAt.TheVariants as fault_at
 use Rattle.hwp_fault.specs.declared.fault.FaultAnswer.{FaultAnswer}
 use Rattle.hwp_fault.specs.declared.fault.FaultAnswer.TheVariants as fault_answers
-use Rattle.hwp_fault.specs.Accesses.{begin, answer, answer_at, plan, plan_at, put, put_at, bare, bare_at, at_start, after_process, at_process, leading, at_translation, pinned, ended, unlocked, touch_of, after_fault_at, after_fault, is_frame, leads_to, what_by, what_of, word_in, reply, reply_by, reached, Reaches, Prepares, LooksOf, LooksAgain, FaultStepped, Next, NextAt, Shows, ShowsAt, GoesOn, HasReached, Answered, HasTaken, HasLocked, HasToList, IsReady, FitsThen, IsBegun, IsLooking, IsPinning, IsPinned, IsLocked, IsUnlocking, IsFaulting, IsOfFrame, IsAnswered, IsDeclared, Fits, FitsAt}
+use Rattle.hwp_fault.specs.Accesses.{begin, again, answer, answer_at, plan, plan_at, put, put_at, bare, bare_at, at_start, after_process, at_process, leading, at_translation, pinned, ended, unlocked, touch_of, after_fault_at, after_fault, is_bad, is_frame, leads_to, what_by, what_of, met_by, met_of, entry_of, word_in, reply_by, reply_where, reply, reached, Reaches, Prepares, LooksOf, LooksAgain, FaultStepped, Next, NextAt, Shows, ShowsAt, GoesOn, HasReached, HasChecked, Answered, HasTaken, HasLocked, HasToList, IsReady, FitsThen, IsBegun, IsAnew, IsLooking, IsPinning, IsPinned, IsLocked, IsUnlocking, IsFaulting, IsOfFrame, IsAnswered, IsDeclared, Fits, FitsAt}
 use Rattle.hwp_fault.specs.declared.touch.Touch.{Touch}
 use Rattle.hwp_fault.specs.Faults as faults
 use Rattle.hwp_fault.specs.Touches.{IsTouch}
+use Rattle.hwp_fault.proofs.Deeds.{give-up-bare}
 use Rattle.hwp_fault.proofs.Faulting as faulting
-use Rattle.hwp_fault.proofs.Reaching.{in-hand, still-held, still-more, one-more, reached-held, taken-still, bad-shown}
-use Rattle.hwp_fault.proofs.Translating.{trans-word, ending-named, line-good, names-own, lock-owner, in-use, owner-in-slot}
+use Rattle.hwp_fault.proofs.Reaching.{bit-good, bit-set, in-hand, still-held, still-more, one-more, reached-held, taken-still, bad-shown}
+use Rattle.hwp_fault.proofs.Translating.{trans-word, ending-named, names-own, lock-owner, in-use, owner-in-slot}
 
 -- ---- the steps can be made
 
@@ -145,8 +147,11 @@ none-only : (Such : Made → Type 0) (view : View) (who : Who) → HasMadeNone v
 none-only Such view who none = subst (EachMember Such) (sym none) (λ i x e. absurd (none-some x e))
 
 module _ (a : Request) {layout : Layout} {old new : View} {step : Step} {found : ℕ} {got : Option BodyValue} (lists : ListsNone step) (made : Steps layout a.who step None old new found got) where
+  only-stays : HasOnly (Precedes a.page a.slot a.line) old a.who → HasOnly (Precedes a.page a.slot a.line) new a.who
+  only-stays only = has-only-stays a.who old new (deeds-same a.who lists made) only
+
   goes-on : GoesOn a old → GoesOn a new
-  goes-on on = record { alive = saw-stays made on.alive; brings = has-only-stays a.who old new (deeds-same a.who lists made) on.brings }
+  goes-on on = record { alive = saw-stays made on.alive; only = only-stays on.only }
 
   none-stays : HasMadeNone old a.who → HasMadeNone new a.who
   none-stays none = deeds-same a.who lists made ∙ none
@@ -154,12 +159,16 @@ module _ (a : Request) {layout : Layout} {old new : View} {step : Step} {found :
   reached-stays : {word place : ℕ} → HasReached a old word place → HasReached a new word place
   reached-stays has = record { alive = saw-stays made has.alive; mask = has.mask; good = has.good; made = has-made-stays a.who old new (deeds-same a.who lists made) has.made }
 
+  checked-stays : {frame : Frame} {place : ℕ} → HasChecked layout a old frame place → HasChecked layout a new frame place
+  checked-stays has = record { alive = saw-stays made has.alive; mask = has.mask; bad = has.bad; saw = saw-stays made has.saw; within = has.within; made = has-made-stays a.who old new (deeds-same a.who lists made) has.made }
+
   answer-stays : (answer : AccessAnswer) → Answered layout old a answer → Answered layout new a answer
   answer-stays (answers.Value word page place) has = (has.0, has.1, reached-stays has.2)
   answer-stays (answers.Stored page place) has = (has.0, has.1, has.2, reached-stays has.3)
+  answer-stays (answers.Checked frame page place) has = (has.0, checked-stays has.1)
   answer-stays (answers.Sigbus page place) has = (has.0, record { alive = saw-stays made has.1.alive; made = has-made-stays a.who old new (deeds-same a.who lists made) has.1.made })
   answer-stays answers.NoFrame has = (goes-on has.0, saw-stays made has.1, has.2, saw-state-stays made has.3)
-  answer-stays (answers.Gone page) has = (saw-stays made has.0, none-stays has.1)
+  answer-stays (answers.Gone page) has = (saw-stays made has.0, only-stays has.1)
   answer-stays answers.Stopped has = (record { word = has.0.word; stopped = has.0.stopped; saw = saw-stays made has.0.saw }, none-stays has.1)
 
 -- ---- the first loads
@@ -170,21 +179,21 @@ module _ {layout : Layout} {a : Request} {old new : View} {found : ℕ} {got : O
     where
       which : (b : Bool) → is_stopped found ≡ b → FitsAt layout new a (cond b (at.Over answers.Stopped) at.LoadProcess)
       which true is = record { hand_is = hand-planned made refl has.hand_is; answered = (record { word = found; stopped = is; saw = saw-load made }, none-stays a tt made has.none) }
-      which false is = record { hand_is = hand-planned made refl has.hand_is; none = none-stays a tt made has.none }
+      which false is = record { hand_is = hand-planned made refl has.hand_is; only = none-only (Precedes a.page a.slot a.line) new a.who (none-stays a tt made has.none) }
 
-  process-loaded : IsBegun old a → Steps layout a.who (steps.Load (places.Process a.process)) None old new found got → FitsAt layout new a (at_process found)
+  process-loaded : IsAnew old a → Steps layout a.who (steps.Load (places.Process a.process)) None old new found got → FitsAt layout new a (at_process found)
   process-loaded has made = which (page_named found) refl
     where
       which : (p : Option Page) → page_named found ≡ p → FitsAt layout new a (after_process p)
       which None is = record {
         hand_is = hand-planned made refl has.hand_is;
-        on = record { alive = subst (λ (n : ℕ). Saw new a.who (places.Process a.process) n) (none-named found is) (saw-load made); brings = none-only (BringsIn a.page a.slot) new a.who (none-stays a tt made has.none) };
+        on = record { alive = subst (λ (n : ℕ). Saw new a.who (places.Process a.process) n) (none-named found is) (saw-load made); only = only-stays a tt made has.only };
       }
       which (Some page) is = record {
         hand_is = hand-planned made refl has.hand_is;
         answered = (
           subst (λ (n : ℕ). Saw new a.who (places.Process a.process) n) (ending-named layout made.told.board made.told.rule a.process found page names.process made.told.met is) (saw-load made),
-          none-stays a tt made has.none,
+          only-stays a tt made has.only,
         );
       }
 
@@ -202,7 +211,7 @@ module _ {layout : Layout} {a : Request} {old new : View} {found : ℕ} {got : O
       on = goes-on a tt made has.on
 
       which : (f : Option Frame) → frame_in found ≡ f → FitsAt layout new a (leading a f)
-      which None is = record { fault = faulting.begins on_turn names.page (is-of layout a names) (touches layout a names) hand on.brings; own = refl; page_is = refl; slot_is = refl; touch_is = refl; unanswered = refl; alive = on.alive }
+      which None is = record { fault = faulting.begins on_turn names.page (is-of layout a names) (touches layout a names) hand on.only; own = refl; page_is = refl; slot_is = refl; touch_is = refl; unanswered = refl; alive = on.alive }
       which (Some frame) is = record {
         hand_is = hand;
         pin = record {
@@ -348,6 +357,10 @@ module _ {layout : Layout} {a : Request} {old new : View} {found : ℕ} {got : O
           (in-use layout made.told.board made.told.rule a.slot names.decl names.declared found at-word frame (leads-named leads) made.told.seat old made.told.me lock-of lock-at refl (body_in (Some frame) (log_of body) has.seen)
           (ap (λ (h : Hand). slice_get h.bodies 0) has.hand_is) (ap (λ (h : Hand). h.pages) has.hand_is) refl)
 
+      still-put : (b : BodyValue) → Some body ≡ Some b → (taken : InHand) × (body_of b.page new ≡ Some taken) × (more_of taken (log_of b) ≡ [])
+      still-put b is = subst (λ (x : BodyValue). (taken : InHand) × (body_of x.page new ≡ Some taken) × (more_of taken (log_of x) ≡ [])) (same_Some body b is)
+          (body_in (Some frame) (log_of body) taken-new.seen, in-hand taken-new, still-more taken-new a.who)
+
       prepared : GoesOn a new → (y : AccessAt) → Prepares a frame body y → FitsAt layout new a y
       prepared on (at.LoadBad of ready) is = subst (λ (f : Frame). FitsAt layout new a (at.LoadBad f ready)) (sym is.0) (subst (λ (b : BodyValue). FitsAt layout new a (at.LoadBad frame b)) (sym is.1) (record {
         taken = record {
@@ -365,7 +378,7 @@ module _ {layout : Layout} {a : Request} {old new : View} {found : ℕ} {got : O
         spare = is.2;
         on = on;
       }))
-      prepared on (at.GiveUp g) is = subst (λ (x : GiveUp). FitsAt layout new a (at.GiveUp x)) (sym is) (record { give_up = giving_up.frame-given-up layout new a.who frame body on_turn (still-held taken-new a.who); own = refl; of_frame = tt })
+      prepared on (at.GiveUp g) is = subst (λ (x : GiveUp). FitsAt layout new a (at.GiveUp x)) (sym is) (record { give_up = giving_up.frame-given-up layout new a.who frame body on_turn (still-held taken-new a.who); own = refl; of_frame = tt; still = still-put })
       prepared on at.LoadStop is = absurd is
       prepared on at.LoadProcess is = absurd is
       prepared on at.LoadTranslation is = absurd is
@@ -416,30 +429,27 @@ module _ {layout : Layout} {a : Request} {old new : View} {found : ℕ} {got : O
 
 module _ {layout : Layout} {a : Request} {old new : View} {found : ℕ} {got : Option BodyValue} (on_turn : IsOnTurn new a.who) (names : IsDeclared layout a) (frame : Frame) (body : BodyValue)
     (made : Steps layout a.who (steps.Load (places.Bad frame)) None old new found got) (has : IsReady layout old a frame body) where
-  good-line : ¬ IsBitSet found a.line
-  good-line = line-good layout made.told.board made.told.rule frame found a.line has.taken.within names.line made.told.met
-
   abbrev still-taken : HasTaken layout new frame body
   still-taken = taken-still has.taken (hand-planned made refl refl) (subst (λ (l : List Sight). length old.sights ≤ length l) (sym (ap (λ (v : View). v.sights) made.told.next)) (let more = length-append old.sights in omega arith))
 
-  pub reached-moved : Reaches a body found × FitsAt layout new a (at.Unlock (unlocks.begin a.who frame (Some (reached a found body))) (Some (reply a body)))
+  reached-moved : Reaches a body × FitsAt layout new a (at.Unlock (unlocks.begin a.who frame (Some (reached a found body))) (Some (reply a frame found body)))
   reached-moved = (
-    record { used = has.used; good = good-line; spare = has.spare },
+    record { used = has.used; spare = has.spare },
     record {
-      unlock = record { on_turn = on_turn; at = reached-held still-taken a found has.used good-line (bad-shown has.taken made) };
+      unlock = record { on_turn = on_turn; at = reached-held still-taken a found has.used (bad-shown has.taken made) };
       own = refl;
       under_way = refl;
-      goal = record { before = body; mask = found; taken = still-taken; page_is = has.page_is; good = good-line; body_is = refl; answer_is = refl; on = goes-on a tt made has.on };
+      goal = record { before = body; mask = found; taken = still-taken; page_is = has.page_is; saw = saw-load made; body_is = refl; answer_is = refl; on = goes-on a tt made has.on };
     },
   )
 
 -- ---- the frame let go
 
 module _ (layout : Layout) (a : Request) (new : View) where
-  reply-answered : (kind : AccessKind) → a.kind ≡ kind → (word place mask : ℕ) → Saw new a.who (places.Process a.process) 0 → ¬ IsBitSet mask a.line → HasMade (BringsIn a.page a.slot) new a.who a.page place (what_of a mask word)
+  word-answered : (kind : AccessKind) → a.kind ≡ kind → (word place mask : ℕ) → Saw new a.who (places.Process a.process) 0 → ¬ IsBitSet mask a.line → HasMade (Precedes a.page a.slot a.line) new a.who a.page place (what_of a mask word)
       → Answered layout new a (reply_by kind word a.page place)
-  reply-answered kinds.Load is word place mask alive good made = (is, refl, record { alive = alive; mask = mask; good = good; made = made })
-  reply-answered (kinds.Store stored) is word place mask alive good made = (
+  word-answered kinds.Load is word place mask alive good made = (is, refl, record { alive = alive; mask = mask; good = good; made = made })
+  word-answered (kinds.Store stored) is word place mask alive good made = (
     stored,
     is,
     refl,
@@ -447,12 +457,18 @@ module _ (layout : Layout) (a : Request) (new : View) where
       alive = alive;
       mask = mask;
       good = good;
-      made = subst (λ (w : What). HasMade (BringsIn a.page a.slot) new a.who a.page place w) (by word ∙ sym (by stored)) made;
+      made = subst (λ (w : What). HasMade (Precedes a.page a.slot a.line) new a.who a.page place w) (by word ∙ sym (by stored)) made;
     },
   )
     where
       by : (w : ℕ) → what_of a mask w ≡ what_by (kinds.Store stored) a.slot a.line (record { 0 = mask }) w
       by w = ap (λ (k : AccessKind). what_by k a.slot a.line (record { 0 = mask }) w) is
+
+  -- by whether the line is bad
+  reply-answered : (bad : Bool) (frame : Frame) (mask : ℕ) (body : BodyValue) → is_bad mask a.line ≡ bad → Saw new a.who (places.Process a.process) 0 → Saw new a.who (places.Bad frame) mask → frame.0 < layout.frames
+      → HasMade (Precedes a.page a.slot a.line) new a.who a.page (length body.log) (met_by bad a mask (word_in a body)) → Answered layout new a (reply_where bad a frame body)
+  reply-answered true frame mask body is alive saw within made = (refl, record { alive = alive; mask = mask; bad = bit-set mask a.line is; saw = saw; within = within; made = made })
+  reply-answered false frame mask body is alive saw within made = word-answered a.kind refl (word_in a body) (length body.log) mask alive (bit-good mask a.line is) made
 
 -- what a fault that is over has made
 abbrev MadeBy : View → FaultAnswer → Who → Page → VSlot → Touch → Type 0
@@ -477,19 +493,22 @@ module _ (layout : Layout) (a : Request) (old new : View) (found : ℕ) (got : O
   listed : (frame : Frame) (body : Option BodyValue) (answer : AccessAnswer) → HasToList layout old a frame body answer → Steps layout a.who (steps.UnlockFrame frame) (logs body) old new found got → Answered layout new a answer
   listed frame None answer has made = absurd has
   listed frame (Some b) answer has made = subst (Answered layout new a) (sym has.answer_is)
-      (reply-answered layout a new a.kind refl (word_in a has.before) (length has.before.log) has.mask (saw-stays made has.on.alive) has.good
-      (has-made a.who old new one.0 one.1 (subst (λ (p : Page). IsAt p (length has.before.log) (what_of a has.mask (word_in a has.before)) one.0) has.page_is one.2) has.on.brings))
+      (reply-answered layout a new (is_bad has.mask a.line) frame has.mask has.before refl (saw-stays made has.on.alive) (saw-stays made has.saw) has.taken.within
+      (has-made a.who old new one.0 one.1 (subst (λ (p : Page). IsAt p (length has.before.log) what one.0) has.page_is one.2) has.on.only))
     where
+      what : What
+      what = met_of a has.mask (word_in a has.before)
+
       own : Steps layout a.who (steps.UnlockFrame frame) (Some (log_of (reached a has.mask has.before))) old new found got
       own = subst (λ (x : BodyValue). Steps layout a.who (steps.UnlockFrame frame) (Some (log_of x)) old new found got) has.body_is made
 
-      one : (m : Made) × (deeds a.who new ≡ deeds a.who old ++ m ∷ []) × IsAt has.before.page (length has.before.log) (what_of a has.mask (word_in a has.before)) m
-      one = deeds-one a.who (frame-lists (in-hand has.taken) own) (record { who = a.who; what = what_of a has.mask (word_in a has.before) }) (one-more has.taken a has.mask) refl
+      one : (m : Made) × (deeds a.who new ≡ deeds a.who old ++ m ∷ []) × IsAt has.before.page (length has.before.log) what m
+      one = deeds-one a.who (frame-lists (in-hand has.taken) own) (entry_of a what) (one-more has.taken a has.mask) refl
 
   -- the frame was let go as it was: the command made nothing
   unchanged : (frame : Frame) (body : Option BodyValue) → HasLocked layout old frame body → GoesOn a old → Steps layout a.who (steps.UnlockFrame frame) (logs body) old new found got → GoesOn a new
   unchanged frame None has on made = goes-on a tt made on
-  unchanged frame (Some b) has on made = record { alive = saw-stays made on.alive; brings = has-only-stays a.who old new (deeds-none a.who (frame-lists (in-hand has) made) (still-more has a.who)) on.brings }
+  unchanged frame (Some b) has on made = record { alive = saw-stays made on.alive; only = has-only-stays a.who old new (deeds-none a.who (frame-lists (in-hand has) made) (still-more has a.who)) on.only }
 
   then-moved : (x : UnlockAt) (step : Step) (then : Option AccessAnswer) → unlocks.plan_at x ≡ Some step → FitsThen layout old a x then → Steps layout a.who step (logs (unlocks.put_at x)) old new found got
       → FitsThen layout new a (unlocks.next_at a.who (unlocks.bare_at x) found) then
@@ -579,12 +598,12 @@ module _ (layout : Layout) (a : Request) (old new : View) (found : ℕ) (got : O
 
           which : (answer : Option FaultAnswer) → faults.answer g ≡ answer → FitsAt layout new a (after_fault_at a.page g answer)
           which None is = record { fault = fits; own = own; page_is = page-is; slot_is = slot-is; touch_is = touch-is; unanswered = is; alive = alive }
-          which (Some fault_answers.Again) is = record { hand_is = (over-known g fault_answers.Again fits is).0; on = record { alive = alive; brings = made-by fault_answers.Again is } }
+          which (Some fault_answers.Again) is = record { hand_is = (over-known g fault_answers.Again fits is).0; on = record { alive = alive; only = made-by fault_answers.Again is } }
           which (Some (fault_answers.NoFrame place)) is = let over = over-known g (fault_answers.NoFrame place) fits is in let why : Saw new g.who places.Available 0 × SawState layout new g.who g.page place IsAway = over.1 in
               record {
                 hand_is = over.0;
                 answered = (
-                  record { alive = alive; brings = made-by (fault_answers.NoFrame place) is },
+                  record { alive = alive; only = made-by (fault_answers.NoFrame place) is },
                   subst (λ (w : Who). Saw new w places.Available 0) own why.0,
                   place,
                   subst (λ (w : Who). SawState layout new w a.page place IsAway) own (subst (λ (p : Page). SawState layout new g.who p place IsAway) page-is why.1),
@@ -630,6 +649,7 @@ both layout old new a step found got fits is made = which a.at is fits.at made
         give_up = giving_up.moved layout old new g step found got has.give_up e (subst (λ (w : Who). Steps layout w step (logs (give_ups.put g)) old new found got) (sym has.own) made);
         own = has.own;
         of_frame = of-frame-after g.at found has.of_frame;
+        still = λ b is. absurd (none-some b (sym (give-up-bare g found) ∙ is));
       }),
     )
     which (at.Over answer) e has made = absurd (none-some step e)
@@ -647,8 +667,12 @@ stays layout old new a step found got fits is made =
 
 -- ---- before it and after it
 
-pub begins : (layout : Layout) (view : View) (a : Request) → IsOnTurn view a.who → IsDeclared layout a → hand_of view ≡ empty → HasMadeNone view a.who → Fits layout view (begin a.who a.thread a.slot a.line a.kind a.page a.process)
+pub begins : (layout : Layout) (view : View) (a : Request) → IsOnTurn view a.who → IsDeclared layout a → hand_of view ≡ empty → HasMadeNone view a.who → Fits layout view (begin a)
 begins layout view a on names hand none = record { on_turn = on; names = names; at = record { hand_is = hand; none = none } }
+
+pub begins-again : (layout : Layout) (view : View) (a : Request) → IsOnTurn view a.who → IsDeclared layout a → hand_of view ≡ empty → HasOnly (Precedes a.page a.slot a.line) view a.who
+    → Fits layout view (again a)
+begins-again layout view a on names hand only = record { on_turn = on; names = names; at = record { hand_is = hand; only = only } }
 
 pub answered : (layout : Layout) (view : View) (a : Access) (x : AccessAnswer) → Fits layout view a → answer a ≡ Some x → IsAnswered layout view a.request x
 answered layout view a x fits is = which a.at is fits.at

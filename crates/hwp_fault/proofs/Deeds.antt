@@ -1,5 +1,5 @@
 -- What a command has made after each step of a fault.
-use Rattle.std.proofs.Common.{◌≡◌, inl, inr, ℕ, zero, suc, Bool, true, false, cond, List, [], ◌∷◌, ◌++◌, ◌⊎◌, Option, Some, None, is_none, filter, length, refl, sym, ap, ◌∙◌, subst}
+use Rattle.std.proofs.Common.{◌≡◌, inl, inr, ℕ, Bool, true, false, cond, List, [], ◌∷◌, ◌++◌, ◌⊎◌, Option, Some, None, is_none, filter, length, refl, sym, ap, ◌∙◌, subst}
 use Rattle.std.proofs.Math.Seq.{drop-append_seam}
 use Rattle.std.proofs.lemmas.Bool.{both_ways}
 use Rattle.std.proofs.lemmas.List.Elements.{filter-append}
@@ -9,6 +9,8 @@ use Rattle.hwp_geom.specs.declared.Layout.{Layout}
 use Rattle.hwp_geom.specs.declared.Page.{Page}
 use Rattle.hwp_geom.specs.declared.VSlot.{VSlot}
 use Rattle.hwp_geom.specs.declared.Who.{Who}
+use Rattle.hwp_page.specs.declared.What.{What}
+use Rattle.hwp_page.specs.declared.What.TheVariants as entries
 use Rattle.hwp_page.specs.Endings.{ends}
 use Rattle.hwp_page.specs.History.{BodyValue}
 use Rattle.hwp_words.specs.declared.Pte.{Pte}
@@ -29,8 +31,8 @@ use Rattle.hwp_rule.proofs.Without.{find-is}
 use Rattle.hwp_step.specs.Calls.{CanMake, Steps, logs}
 use Rattle.hwp_step.specs.Hands.{body_in, hand_of}
 use Rattle.hwp_step.proofs.Stepping.{hand-planned, steps-planned}
-use Rattle.hwp_known.specs.Known.{BringsIn, HasMade, HasOnly, IsAt, deeds, is_by}
-use Rattle.hwp_known.proofs.Listing.{Lists, ListsNone, deeds-none, deeds-one, deeds-same, frame-lists, has-made, has-made-stays, has-only-stays, page-lists}
+use Rattle.hwp_known.specs.Known.{HasMade, HasOnly, IsAt, IsOnTheWay, Precedes, deeds, is_by}
+use Rattle.hwp_known.proofs.Listing.{Lists, ListsNone, deeds-none, deeds-one, deeds-same, each-filter, frame-lists, has-made, has-made-stays, has-only-stays, page-lists}
 use Rattle.hwp_hold.specs.declared.Fill.{Fill}
 use Rattle.hwp_hold.specs.declared.fill.FillAt.{FillAt}
 use Rattle.hwp_hold.specs.declared.fill.FillAt.TheVariants as fill_at
@@ -102,7 +104,7 @@ refer-lists r step is = which r.at is
     which (refer_at.Get seen) e = subst ListsNone (same_Some (steps.GetRef r.frame seen r.count) step e) tt
     which refer_at.Over e = absurd (none-some step e)
 
-fill-lists : (f : Fill) (step : Step) → fills.plan f ≡ Some step → ListsNone step
+pub fill-lists : (f : Fill) (step : Step) → fills.plan f ≡ Some step → ListsNone step
 fill-lists f step is = which f.at is
   where
     which : (x : FillAt) → fills.plan_at f.page x ≡ Some step → ListsNone step
@@ -112,7 +114,7 @@ fill-lists f step is = which f.at is
     which (fill_at.SetCache frame) e = subst ListsNone (same_Some (steps.SetCache f.page (Some frame)) step e) tt
     which (fill_at.Over frame) e = absurd (none-some step e)
 
-map-in-lists : (m : MapIn) (step : Step) → map_ins.plan m ≡ Some step → ListsNone step
+pub map-in-lists : (m : MapIn) (step : Step) → map_ins.plan m ≡ Some step → ListsNone step
 map-in-lists m step is = which m.at is
   where
     which : (x : MapInAt) → map_ins.plan_at m.slot m.frame x ≡ Some step → ListsNone step
@@ -122,26 +124,19 @@ map-in-lists m step is = which m.at is
 
 -- ---- a body that goes home
 
-each-cons : {A : Type 0} (P : A → Type 0) (a : A) (l : List A) → P a → EachMember P l → EachMember P (a ∷ l)
-each-cons P a l here each zero x e = subst P (same_Some a x e) here
-each-cons P a l here each (suc i) x e = each i x e
-
-each-chosen : {A : Type 0} (P : A → Type 0) (b : Bool) (x : A) (l : List A) → P x → EachMember P l → EachMember P (cond b (x ∷ l) l)
-each-chosen P true x l here each = each-cons P x l here each
-each-chosen P false x l here each = each
-
-each-filter : {A : Type 0} (P : A → Type 0) (test : A → Bool) (l : List A) → EachMember P l → EachMember P (filter test l)
-each-filter P test [] each = each
-each-filter P test (x ∷ xs) each = each-chosen P (test x) x (filter test xs) (each 0 x refl) (each-filter P test xs (λ i y e. each (suc i) y e))
-
-can-planned : {layout : Layout} {who : Who} {step other : Step} {put : Option BodyValue} {view : View} → Some other ≡ Some step → CanMake layout who step put view → CanMake layout who other put view
+pub can-planned : {layout : Layout} {who : Who} {step other : Step} {put : Option BodyValue} {view : View} → Some other ≡ Some step → CanMake layout who step put view → CanMake layout who other put view
 can-planned {layout} {who} {step} {other} {put} {view} e can = subst (λ (s : Step). CanMake layout who s put view) (sym (same_Some other step e)) can
 
-module _ (who : Who) (page : Page) (slot : VSlot) {old new : View} (only : HasOnly (BringsIn page slot) old who) where
-  listed : (body : BodyValue) (b : InHand) {stamp : Stamp} → body_of body.page old ≡ Some b → Lists old new stamp b (log_of body) → AddsOnly old page slot body → HasOnly (BringsIn page slot) new who
-  listed body b {stamp} there lists adds = subst (EachMember (BringsIn page slot)) (sym (ap (filter (is_by who)) lists.made_is ∙ filter-append (is_by who) old.made more))
-      (each-append (BringsIn page slot) (deeds who old) (filter (is_by who) more) only
-      (each-filter (BringsIn page slot) (is_by who) more (made-each (BringsIn page slot) stamp body.page b.frame (length b.log.entries) (more_of b (log_of body)) (λ i e listed n. (adds.of, each i e listed)))))
+-- an entry that brings the page in, or the translation into use, is one on the way
+on-the-way : (slot : VSlot) (line : ℕ) (what : What) → (what ≡ entries.FaultIn) ⊎ (what ≡ entries.Map slot) → IsOnTheWay slot line what
+on-the-way slot line what (inl is) = subst (IsOnTheWay slot line) (sym is) tt
+on-the-way slot line what (inr is) = subst (IsOnTheWay slot line) (sym is) refl
+
+module _ (who : Who) (page : Page) (slot : VSlot) (line : ℕ) {old new : View} (only : HasOnly (Precedes page slot line) old who) where
+  listed : (body : BodyValue) (b : InHand) {stamp : Stamp} → body_of body.page old ≡ Some b → Lists old new stamp b (log_of body) → AddsOnly old page slot body → HasOnly (Precedes page slot line) new who
+  listed body b {stamp} there lists adds = subst (EachMember (Precedes page slot line)) (sym (ap (filter (is_by who)) lists.made_is ∙ filter-append (is_by who) old.made more))
+      (each-append (Precedes page slot line) (deeds who old) (filter (is_by who) more) only
+      (each-filter (Precedes page slot line) (is_by who) more (made-each (Precedes page slot line) stamp body.page b.frame (length b.log.entries) (more_of b (log_of body)) (λ i e listed n. inl (adds.of, on-the-way slot line e.what (each i e listed))))))
     where
       more : List Made
       more = made_from stamp body.page b.frame (length b.log.entries) (more_of b (log_of body))
@@ -149,35 +144,35 @@ module _ (who : Who) (page : Page) (slot : VSlot) {old new : View} (only : HasOn
       each : EachMember (IsBringing slot) (more_of b (log_of body))
       each = let in-hand = find-is (is_body_of body.page) old.bodies b there in adds.only in-hand.0 b in-hand.1
 
-module _ {layout : Layout} {who : Who} (page : Page) (slot : VSlot) {old new : View} {found : ℕ} {got : Option BodyValue} (only : HasOnly (BringsIn page slot) old who) where
-  only-kept : {step : Step} → ListsNone step → Steps layout who step None old new found got → HasOnly (BringsIn page slot) new who
+module _ {layout : Layout} {who : Who} (page : Page) (slot : VSlot) (line : ℕ) {old new : View} {found : ℕ} {got : Option BodyValue} (only : HasOnly (Precedes page slot line) old who) where
+  only-kept : {step : Step} → ListsNone step → Steps layout who step None old new found got → HasOnly (Precedes page slot line) new who
   only-kept lists made = has-only-stays who old new (deeds-same who lists made) only
 
   frame-puts : {frame : Frame} (body : Option BodyValue) → CanMake layout who (steps.UnlockFrame frame) body old → Steps layout who (steps.UnlockFrame frame) (logs body) old new found got → ((b : BodyValue) → body ≡ Some b → AddsOnly old page slot b)
-      → HasOnly (BringsIn page slot) new who
+      → HasOnly (Precedes page slot line) new who
   frame-puts None can made adds = has-only-stays who old new (deeds-same who tt made) only
-  frame-puts (Some b) can made adds = listed who page slot only b can.asks.kind.put.body can.asks.kind.put.body_is (frame-lists can.asks.kind.put.body_is made) (adds b refl)
+  frame-puts (Some b) can made adds = listed who page slot line only b can.asks.kind.put.body can.asks.kind.put.body_is (frame-lists can.asks.kind.put.body_is made) (adds b refl)
 
   page-puts : {freed : Page} (body : Option BodyValue) → CanMake layout who (steps.UnlockPage freed) body old → Steps layout who (steps.UnlockPage freed) (logs body) old new found got → ((b : BodyValue) → body ≡ Some b → AddsOnly old page slot b)
-      → HasOnly (BringsIn page slot) new who
+      → HasOnly (Precedes page slot line) new who
   page-puts None can made adds = has-only-stays who old new (deeds-same who tt made) only
-  page-puts (Some b) can made adds = listed who page slot only b can.asks.kind.put.body can.asks.kind.put.body_is (page-lists can.asks.kind.put.body_is made) (adds b refl)
+  page-puts (Some b) can made adds = listed who page slot line only b can.asks.kind.put.body can.asks.kind.put.body_is (page-lists can.asks.kind.put.body_is made) (adds b refl)
 
   unhold-only : {step : Step} (u : Unhold) (x : UnholdAt) → unholds.plan_at u.page x ≡ Some step → CanMake layout who step (unholds.put_at x) old → Steps layout who step (logs (unholds.put_at x)) old new found got
-      → ((b : BodyValue) → unholds.put_at x ≡ Some b → AddsOnly old page slot b) → HasOnly (BringsIn page slot) new who
+      → ((b : BodyValue) → unholds.put_at x ≡ Some b → AddsOnly old page slot b) → HasOnly (Precedes page slot line) new who
   unhold-only {step} u (unhold_at.UnlockFrame frame count body) e can made adds = frame-puts body (can-planned e can) (steps-planned e made) adds
   unhold-only {step} u (unhold_at.Release r) e can made adds = only-kept (release-lists r step e) made
   unhold-only {step} u (unhold_at.UnlockPage body) e can made adds = page-puts body (can-planned e can) (steps-planned e made) adds
   unhold-only {step} u unhold_at.Over e can made adds = absurd (none-some step e)
 
   unlock-only : {step : Step} (x : UnlockAt) → unlocks.plan_at x ≡ Some step → CanMake layout who step (unlocks.put_at x) old → Steps layout who step (logs (unlocks.put_at x)) old new found got
-      → ((b : BodyValue) → unlocks.put_at x ≡ Some b → AddsOnly old page slot b) → HasOnly (BringsIn page slot) new who
+      → ((b : BodyValue) → unlocks.put_at x ≡ Some b → AddsOnly old page slot b) → HasOnly (Precedes page slot line) new who
   unlock-only {step} (unlock_at.UnlockFrame frame body) e can made adds = frame-puts body (can-planned e can) (steps-planned e made) adds
   unlock-only {step} (unlock_at.Release r) e can made adds = only-kept (release-lists r step e) made
   unlock-only {step} unlock_at.Over e can made adds = absurd (none-some step e)
 
   give-up-only : {step : Step} (x : GiveUpAt) → give_ups.plan_at x ≡ Some step → CanMake layout who step (give_ups.put_at x) old → Steps layout who step (logs (give_ups.put_at x)) old new found got
-      → ((b : BodyValue) → give_ups.put_at x ≡ Some b → AddsOnly old page slot b) → HasOnly (BringsIn page slot) new who
+      → ((b : BodyValue) → give_ups.put_at x ≡ Some b → AddsOnly old page slot b) → HasOnly (Precedes page slot line) new who
   give-up-only {step} (give_up_at.Unhold u) e can made adds = unhold-only u u.at e can made adds
   give-up-only {step} (give_up_at.Unlock u) e can made adds = unlock-only u.at e can made adds
   give-up-only {step} give_up_at.GiveUp e can made adds = only-kept (subst ListsNone (same_Some steps.GiveUp step e) tt) made
@@ -242,7 +237,7 @@ put-begins who page None body = refl
 put-begins who page (Some frame) body = refl
 
 -- once the body is home, the command has made the entry
-entry-made : {who : Who} {page : Page} {slot : VSlot} {touch : Touch} {old new : View} {place : ℕ} {put : Option BodyValue} (has : HasToList old who page slot touch put place) {stamp : Stamp} → Lists old new stamp has.taken (log_of has.body) → HasMade (BringsIn page slot) new who page place (refusal slot touch)
+entry-made : {who : Who} {page : Page} {slot : VSlot} {touch : Touch} {old new : View} {place : ℕ} {put : Option BodyValue} (has : HasToList old who page slot touch put place) {stamp : Stamp} → Lists old new stamp has.taken (log_of has.body) → HasMade (Precedes page slot touch.line) new who page place (refusal slot touch)
 entry-made {who} {page} {slot} {touch} {old} {new} {place} has lists = has-made who old new one.0 one.1
     (subst (λ (n : ℕ). IsAt page n (refusal slot touch) one.0) has.place_is (subst (λ (p : Page). IsAt p (length has.taken.log.entries) (refusal slot touch) one.0) has.page_is one.2)) has.only
   where
@@ -250,23 +245,23 @@ entry-made {who} {page} {slot} {touch} {old} {new} {place} has lists = has-made 
     one = deeds-one who lists (refusal_entry who slot touch) has.more refl
 
 module _ {layout : Layout} {who : Who} {page : Page} {slot : VSlot} {touch : Touch} {old new : View} {found : ℕ} {got : Option BodyValue} {place : ℕ} where
-  frame-entry : (frame : Frame) (body : Option BodyValue) → HasToList old who page slot touch body place → Steps layout who (steps.UnlockFrame frame) (logs body) old new found got → HasMade (BringsIn page slot) new who page place (refusal slot touch)
+  frame-entry : (frame : Frame) (body : Option BodyValue) → HasToList old who page slot touch body place → Steps layout who (steps.UnlockFrame frame) (logs body) old new found got → HasMade (Precedes page slot touch.line) new who page place (refusal slot touch)
   frame-entry frame body has made = entry-made has (frame-lists has.taken_is (subst (λ (b : Option BodyValue). Steps layout who (steps.UnlockFrame frame) (logs b) old new found got) has.put_is made))
 
-  page-entry : (freed : Page) (body : Option BodyValue) → HasToList old who page slot touch body place → Steps layout who (steps.UnlockPage freed) (logs body) old new found got → HasMade (BringsIn page slot) new who page place (refusal slot touch)
+  page-entry : (freed : Page) (body : Option BodyValue) → HasToList old who page slot touch body place → Steps layout who (steps.UnlockPage freed) (logs body) old new found got → HasMade (Precedes page slot touch.line) new who page place (refusal slot touch)
   page-entry freed body has made = entry-made has (page-lists has.taken_is (subst (λ (b : Option BodyValue). Steps layout who (steps.UnlockPage freed) (logs b) old new found got) has.put_is made))
 
   -- and where it had made it, it has
-  frame-rest : (frame : Frame) (body : Option BodyValue) → HasListed old who page slot touch body place → Steps layout who (steps.UnlockFrame frame) (logs body) old new found got → HasMade (BringsIn page slot) new who page place (refusal slot touch)
+  frame-rest : (frame : Frame) (body : Option BodyValue) → HasListed old who page slot touch body place → Steps layout who (steps.UnlockFrame frame) (logs body) old new found got → HasMade (Precedes page slot touch.line) new who page place (refusal slot touch)
   frame-rest frame None has made = has-made-stays who old new (deeds-same who tt made) has.made
   frame-rest frame (Some b) has made = let rest = has.rest b refl in has-made-stays who old new (deeds-none who (frame-lists rest.1 made) rest.2) has.made
 
-  page-rest : (freed : Page) (body : Option BodyValue) → HasListed old who page slot touch body place → Steps layout who (steps.UnlockPage freed) (logs body) old new found got → HasMade (BringsIn page slot) new who page place (refusal slot touch)
+  page-rest : (freed : Page) (body : Option BodyValue) → HasListed old who page slot touch body place → Steps layout who (steps.UnlockPage freed) (logs body) old new found got → HasMade (Precedes page slot touch.line) new who page place (refusal slot touch)
   page-rest freed None has made = has-made-stays who old new (deeds-same who tt made) has.made
   page-rest freed (Some b) has made = let rest = has.rest b refl in has-made-stays who old new (deeds-none who (page-lists rest.1 made) rest.2) has.made
 
   refusal-on : {step : Step} (u : Unhold) (x : UnholdAt) → unholds.plan_at u.page x ≡ Some step → HasToList old who page slot touch (unholds.put_at x) place ⊎ HasListed old who page slot touch (unholds.put_at x) place
-      → Steps layout who step (logs (unholds.put_at x)) old new found got → HasMade (BringsIn page slot) new who page place (refusal slot touch)
+      → Steps layout who step (logs (unholds.put_at x)) old new found got → HasMade (Precedes page slot touch.line) new who page place (refusal slot touch)
   refusal-on u (unhold_at.UnlockFrame frame count body) e (inl has) made = frame-entry frame body has (steps-planned e made)
   refusal-on u (unhold_at.UnlockFrame frame count body) e (inr has) made = frame-rest frame body has (steps-planned e made)
   refusal-on u (unhold_at.Release r) e (inl has) made = absurd (none-some has.body has.put_is)
@@ -277,7 +272,7 @@ module _ {layout : Layout} {who : Who} {page : Page} {slot : VSlot} {touch : Tou
 
 -- ---- what follows each step
 
-module _ (layout : Layout) (who : Who) (page : Page) (slot : VSlot) (touch : Touch) (new : View) (only : HasOnly (BringsIn page slot) new who) where
+module _ (layout : Layout) (who : Who) (page : Page) (slot : VSlot) (touch : Touch) (new : View) (only : HasOnly (Precedes page slot touch.line) new who) where
   abbrev MadeNow : FaultAt → Type 0
   MadeNow x = MadeAt new who page slot touch x
 
@@ -351,7 +346,7 @@ module _ (layout : Layout) (who : Who) (page : Page) (slot : VSlot) (touch : Tou
     pte-made ptes.Poison spare = refuse-made spare
 
 -- once the entry of a refusal is made, it stays so
-sigbus-made : (who : Who) (page : Page) (slot : VSlot) (touch : Touch) (new : View) (u : Unhold) (place : ℕ) → HasMade (BringsIn page slot) new who page place (refusal slot touch) → unholds.put u ≡ None
+sigbus-made : (who : Who) (page : Page) (slot : VSlot) (touch : Touch) (new : View) (u : Unhold) (place : ℕ) → HasMade (Precedes page slot touch.line) new who page place (refusal slot touch) → unholds.put u ≡ None
     → MadeAt new who page slot touch (after_unhold u (answers.Sigbus place))
 sigbus-made who page slot touch new u place made none = by (is_none (unholds.plan u))
   where
@@ -365,10 +360,10 @@ page-still same has = record { seen = has.seen; handled = has.handled; poisoned 
 
 module _ (layout : Layout) (who : Who) (page : Page) (slot : VSlot) (touch : Touch) (old new : View) (step : Step) (found : ℕ) (got : Option BodyValue) where
   -- after the process was ended
-  kill-made : (frame : Option Frame) (body : BodyValue) (place : ℕ) → IsEnding layout old who page slot touch frame body place → HasOnly (BringsIn page slot) old who
+  kill-made : (frame : Option Frame) (body : BodyValue) (place : ℕ) → IsEnding layout old who page slot touch frame body place → HasOnly (Precedes page slot touch.line) old who
       → Steps layout who (steps.Kill touch.process page (as_snapshot body)) None old new found got → MadeAt new who page slot touch (let_go who page frame body (answers.Sigbus place))
   kill-made frame body place has only made = inr (record {
-    made = subst (λ (n : ℕ). HasMade (BringsIn page slot) new who page n (refusal slot touch)) (sym has.place_is) (refusal-made who slot touch has.held has.allowed has.ending own only);
+    made = subst (λ (n : ℕ). HasMade (Precedes page slot touch.line) new who page n (refusal slot touch)) (sym has.place_is) (refusal-made who slot touch has.held has.allowed has.ending own only);
     rest = λ b e. none-left who slot touch has.held has.allowed has.ending own b (same_Some b body (sym e ∙ put-begins who page frame body) ∙ has.body_is);
   })
     where
@@ -377,17 +372,17 @@ module _ (layout : Layout) (who : Who) (page : Page) (slot : VSlot) (touch : Tou
 
   pub made-next : (x : FaultAt) (spare : Option ℕ) → MadeAt old who page slot touch x → FitsAt layout old who page slot touch x → plan_at page slot touch x ≡ Some step → CanMake layout who step (put_at x) old
       → Steps layout who step (logs (put_at x)) old new found got → MadeAt new who page slot touch (next_at layout who page slot touch (bare_at x) found got spare)
-  made-next (at.Hold h) spare was has e can made = hold-made layout who page slot touch new (only-kept page slot was (hold-lists h step e) made) (holds.next h found got) (holds.next_at h.who h.at found got)
-  made-next (at.LoadPte frame body) spare was has e can made = pte-made layout who page slot touch new (only-kept page slot was (subst ListsNone (same_Some (steps.Load (places.Trans slot)) step e) tt) made) frame body
+  made-next (at.Hold h) spare was has e can made = hold-made layout who page slot touch new (only-kept page slot touch.line was (hold-lists h step e) made) (holds.next h found got) (holds.next_at h.who h.at found got)
+  made-next (at.LoadPte frame body) spare was has e can made = pte-made layout who page slot touch new (only-kept page slot touch.line was (subst ListsNone (same_Some (steps.Load (places.Trans slot)) step e) tt) made) frame body
       (page-still (hand-planned made e refl) has.held) (pte_reading found) spare
   made-next (at.Kill frame body place) spare was has e can made = kill-made frame body place has was (steps-planned e made)
-  made-next (at.Fill f) spare was has e can made = fill-made layout who page slot touch new (only-kept page slot was (fill-lists f step e) made) (fills.next layout f found) (fills.next_at layout f.who f.at found) spare
-  made-next (at.MapIn m) spare was has e can made = map-made layout who page slot touch new (only-kept page slot was (map-in-lists m step e) made) (map_ins.next m found) (map_ins.next_at m.at found)
+  made-next (at.Fill f) spare was has e can made = fill-made layout who page slot touch new (only-kept page slot touch.line was (fill-lists f step e) made) (fills.next layout f found) (fills.next_at layout f.who f.at found) spare
+  made-next (at.MapIn m) spare was has e can made = map-made layout who page slot touch new (only-kept page slot touch.line was (map-in-lists m step e) made) (map_ins.next m found) (map_ins.next_at m.at found)
   made-next (at.Unhold u answers.Again) spare was has e can made =
-      unhold-made layout who page slot touch new (unhold-only page slot was u u.at e can made (has.adds refl)) (unholds.next (unholds.bare u) found) answers.Again refl
+      unhold-made layout who page slot touch new (unhold-only page slot touch.line was u u.at e can made (has.adds refl)) (unholds.next (unholds.bare u) found) answers.Again refl
   made-next (at.Unhold u (answers.NoFrame place)) spare was has e can made =
-      unhold-made layout who page slot touch new (unhold-only page slot was u u.at e can made (has.adds refl)) (unholds.next (unholds.bare u) found) (answers.NoFrame place) refl
+      unhold-made layout who page slot touch new (unhold-only page slot touch.line was u u.at e can made (has.adds refl)) (unholds.next (unholds.bare u) found) (answers.NoFrame place) refl
   made-next (at.Unhold u (answers.Sigbus place)) spare was has e can made =
       sigbus-made who page slot touch new (unholds.next (unholds.bare u) found) place (refusal-on u u.at e was made) (unhold-bare u found)
-  made-next (at.GiveUp g) spare was has e can made = give-up-made layout who page slot touch new (give-up-only page slot was g.at e can made has.adds) (give_ups.next (give_ups.bare g) found)
+  made-next (at.GiveUp g) spare was has e can made = give-up-made layout who page slot touch new (give-up-only page slot touch.line was g.at e can made has.adds) (give_ups.next (give_ups.bare g) found)
   made-next (at.Over answer) spare was has e can made = absurd (none-some step e)

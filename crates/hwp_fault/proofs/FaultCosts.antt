@@ -86,7 +86,7 @@ abbrev Lowers : Turn → ℕ → Layout → State → ℕ → Type 0
 Lowers turn class layout a seat = (is_waits turn ≡ false) ⊎ ((is_waits turn ≡ true) × Quiet class layout a seat)
 
 -- the turn lowered the cost, or it didn't wait and left fewer frames to fail
-abbrev Lowered : Turn → Layout → State → State → ℕ → ℕ → Type 0
+abbrev pub Lowered : Turn → Layout → State → State → ℕ → ℕ → Type 0
 Lowered turn layout a b after before = (after < before) ⊎ ((is_waits turn ≡ false) × (failures_left (words_at layout b) < failures_left (words_at layout a)))
 
 part-falls : {S : Type 0} {m : Member S} {layout : Layout} {seat : ℕ} {a b : State} {s t : S} {turn : Turn} → IsRanked m → m.aborts t ≡ false → Made m layout seat a b s t turn → Lowers turn (m.class s) layout a seat
@@ -462,9 +462,6 @@ fault-small w f few = which f.at
     which (at.GiveUp g) = let some : give_ups.cost g w ≤ 6 = give-up-few g w in omega (arith, some)
     which (at.Over None) = omega arith
     which (at.Over (Some answer)) = let more : rest f.slot answer w ≤ 4120 = rest-few f.slot answer w few in omega (arith, more)
-
-pub fault-below : (w : Words) (f : Fault) → length w.frees ≤ 4 → cost f w < 32768
-fault-below w f few = let some : cost f w ≤ 12307 = fault-small w f few in omega (arith, some)
 
 pub fault-class : (f : Fault) → (1 ≤ class f) × (class f ≤ 4)
 fault-class f = which f.at

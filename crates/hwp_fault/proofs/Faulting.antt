@@ -36,7 +36,7 @@ use Rattle.hwp_step.specs.Calls.{CanMake, Steps, IsOnTurn, logs}
 use Rattle.hwp_step.specs.Hands.{Hand, hand_of, body_in, empty}
 use Rattle.hwp_step.proofs.Stepping.{on-turn-after, hand-planned, steps-planned, can-make}
 use Rattle.hwp_step.specs.Ranks.{HasFrame, HasPage}
-use Rattle.hwp_known.specs.Known.{SawLog, HasOnly, BringsIn}
+use Rattle.hwp_known.specs.Known.{SawLog, HasOnly, Precedes}
 use Rattle.hwp_known.proofs.Seeing.{saw-stays, saw-log-stays, saw-state-stays}
 use Rattle.hwp_hold.specs.declared.Fill.{Fill}
 use Rattle.hwp_hold.specs.declared.fill.FillAt.{FillAt}
@@ -452,7 +452,7 @@ stays layout old new f step found got fits is made =
 -- ---- before it and after it
 
 pub begins : {layout : Layout} {view : View} {who : Who} {page : Page} {slot : VSlot} {touch : Touch} → IsOnTurn view who → page.0 < length layout.pages → IsOf layout page slot → IsTouch layout slot touch → hand_of view ≡ empty
-    → HasOnly (BringsIn page slot) view who → Fits layout view (begin who page slot touch)
+    → HasOnly (Precedes page slot touch.line) view who → Fits layout view (begin who page slot touch)
 begins on inside of names none only = record {
   on_turn = on;
   page = inside;

@@ -11,3 +11,4 @@ pub mod Reaching
 pub mod Accessing
 pub mod AccessCosts
 pub mod Rooming
+pub mod Adding

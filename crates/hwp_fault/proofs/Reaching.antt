@@ -1,7 +1,7 @@
 -- A body that goes home to a locked frame: as it was taken, and with the entry of an access.
-use Rattle.std.proofs.Common.{◌≡◌, ℕ, zero, suc, ◌≤◌, inl, Bool, true, false, cond, List, [], ◌∷◌, ◌++◌, Option, Some, None, length, drop, option_map, slice_get, refl, sym, ap, ◌∙◌, subst, arith}
+use Rattle.std.proofs.Common.{◌≡◌, ℕ, zero, suc, ◌^◌, ◌≤◌, ◌==◌, inl, Bool, true, false, not, bit_and, cond, List, [], ◌∷◌, ◌++◌, Option, Some, None, length, drop, option_map, slice_get, refl, sym, ap, ◌∙◌, subst, arith}
 use Rattle.std.proofs.Math.Seq.{drop-append_seam}
-use Rattle.std.proofs.lemmas.Bool.{both_ways}
+use Rattle.std.proofs.lemmas.Bool.{both_ways, eqb-true}
 use Rattle.std.proofs.lemmas.List.{drop-append-le}
 use Rattle.std.proofs.lemmas.List.Sums.{fold-append}
 use Rattle.std.proofs.lemmas.Option.{none-some, same_Some}
@@ -15,6 +15,7 @@ use Rattle.hwp_geom.specs.declared.Who.{Who}
 use Rattle.hwp_page.specs.Endings.{has_ending}
 use Rattle.hwp_page.specs.declared.Entry.{Entry}
 use Rattle.hwp_page.specs.declared.PageState.{PageState}
+use Rattle.hwp_page.specs.declared.What.{What}
 use Rattle.hwp_page.specs.History.{BodyValue, Leads}
 use Rattle.hwp_page.specs.Step.{Allowed, after}
 use Rattle.hwp_rule.specs.declared.FrameLock.{FrameLock}
@@ -39,7 +40,18 @@ use Rattle.hwp_hold.proofs.Linking.{as-taken, none-more}
 use Rattle.hwp_fault.specs.declared.touch.AccessKind.{AccessKind}
 use Rattle.hwp_fault.specs.declared.touch.AccessKind.TheVariants as kinds
 use Rattle.hwp_fault.specs.declared.access.Request.{Request}
-use Rattle.hwp_fault.specs.Accesses.{what_by, what_of, word_in, reached, HasTaken}
+use Rattle.hwp_fault.specs.Accesses.{entry_of, is_bad, met_by, met_of, reached, what_by, word_in, HasTaken}
+
+-- whether the line is bad, as the test says it and as the bit does
+pub bit-set : (mask line : ℕ) → is_bad mask line ≡ true → IsBitSet mask line
+bit-set mask line is none = both_ways (is_bad mask line) (ap not (same-number (bit_and mask (2 ^ line)) 0 none)) is
+
+pub bit-good : (mask line : ℕ) → is_bad mask line ≡ false → ¬ IsBitSet mask line
+bit-good mask line is set = which (bit_and mask (2 ^ line) == 0) refl
+  where
+    which : (b : Bool) → (bit_and mask (2 ^ line) == 0) ≡ b → ⊥
+    which true none = set (eqb-true (bit_and mask (2 ^ line)) 0 none)
+    which false some = both_ways (is_bad mask line) is (ap not some)
 
 -- the one member of a list
 only-member : {A : Type 0} (P : A → Type 0) (l : List A) (a : A) → l ≡ a ∷ [] → P a → EachMember P l
@@ -91,8 +103,11 @@ module _ {layout : Layout} {view : View} {frame : Frame} {body : BodyValue} (has
 
   -- with the entry of an access
   module _ (a : Request) (mask : ℕ) where
+    abbrev what : What
+    what = met_of a mask (word_in a body)
+
     abbrev entry : Entry
-    entry = record { who = a.who; what = what_of a mask (word_in a body) }
+    entry = entry_of a what
 
     abbrev more : Log
     more = log_of (reached a mask body)
@@ -106,47 +121,57 @@ module _ {layout : Layout} {view : View} {frame : Frame} {body : BodyValue} (has
     state-is : after (state_of layout (log_of body)) entry.what ≡ state_of layout more
     state-is = sym (fold-append (λ (t : PageState) (e : Entry). after t e.what) (opening_at (slice_get layout.pages body.page.0)) body.log (entry ∷ []))
 
-    module _ (used : set.contains body.state.maps a.slot.0 ≡ true) (good : ¬ IsBitSet mask a.line) where
-      allowed-by : (kind : AccessKind) → Allowed layout body.page body.state (what_by kind a.slot a.line (record { 0 = mask }) (word_in a body))
-      allowed-by kinds.Load = (used, good, refl)
-      allowed-by (kinds.Store stored) = (used, good)
+    module _ (used : set.contains body.state.maps a.slot.0 ≡ true) where
+      word-allowed : ¬ IsBitSet mask a.line → (kind : AccessKind) → Allowed layout body.page body.state (what_by kind a.slot a.line (record { 0 = mask }) (word_in a body))
+      word-allowed good kinds.Load = (used, good, refl)
+      word-allowed good (kinds.Store stored) = (used, good)
 
-      allowed : Allowed layout body.page (state_of layout (log_of body)) entry.what
-      allowed = subst (λ (s : PageState). Allowed layout body.page s entry.what) (sym (replay-state has.replay)) (allowed-by a.kind)
+      allowed-by : (bad : Bool) → is_bad mask a.line ≡ bad → Allowed layout body.page body.state (met_by bad a mask (word_in a body))
+      allowed-by true is = (used, bit-set mask a.line is)
+      allowed-by false is = word-allowed (bit-good mask a.line is) a.kind
 
-      seen-by : (kind : AccessKind) (sights : List Sight) → SomeMember (Shows a.who frame (places.Bad frame) mask) sights → HasSeen sights a.who (Some frame) (what_by kind a.slot a.line (record { 0 = mask }) (word_in a body))
-      seen-by kinds.Load sights some = some
-      seen-by (kinds.Store stored) sights some = some
+      allowed : Allowed layout body.page (state_of layout (log_of body)) what
+      allowed = subst (λ (s : PageState). Allowed layout body.page s what) (sym (replay-state has.replay)) (allowed-by (is_bad mask a.line) refl)
 
-      same-by : (kind : AccessKind) (s : PageState) → HasSameWords (after s (what_by kind a.slot a.line (record { 0 = mask }) (word_in a body))) s
-      same-by kinds.Load s = record { cached = refl; maps = refl; bar = refl }
-      same-by (kinds.Store stored) s = record { cached = refl; maps = refl; bar = refl }
+    -- it rests on the bad lines that were shown, leaves what words say of the page, and ends no process
+    abbrev IsPlain : What → Type 0
+    IsPlain what =
+        ((sights : List Sight) → SomeMember (Shows a.who frame (places.Bad frame) mask) sights → HasSeen sights a.who (Some frame) what)
+        × ((s : PageState) → HasSameWords (after s what) s)
+        × ((process : Proc) → has_ending layout process (entry_of a what ∷ []) ≡ false)
 
-      ends-by : (kind : AccessKind) (process : Proc) → has_ending layout process (record { who = a.who; what = what_by kind a.slot a.line (record { 0 = mask }) (word_in a body) } ∷ []) ≡ false
-      ends-by kinds.Load process = refl
-      ends-by (kinds.Store stored) process = refl
+    word-plain : (kind : AccessKind) → IsPlain (what_by kind a.slot a.line (record { 0 = mask }) (word_in a body))
+    word-plain kinds.Load = (λ sights some. some, λ s. record { cached = refl; maps = refl; bar = refl }, λ process. refl)
+    word-plain (kinds.Store stored) = (λ sights some. some, λ s. record { cached = refl; maps = refl; bar = refl }, λ process. refl)
 
-      pub reached-held : SomeMember (Shows a.who frame (places.Bad frame) mask) (drop has.seen view.sights) → HoldsFrame layout a.who view frame (Some (reached a mask body))
-      reached-held some = record {
-        body = reached a mask body;
-        given_is = refl;
-        taken = taken;
-        handled = has.handled;
-        poisoned = has.poisoned;
-        hand_is = has.hand_is;
-        home = home-with a.who more.entries (record {
-          page_is = refl;
-          longer = ap (λ (list : List Entry). body.log ++ list) (sym one-more);
-          leads = subst (λ (list : List Entry). Leads layout body.page (state_of layout (log_of body)) list (state_of layout more)) (sym one-more) (allowed, state-is);
-          own = of-entry (λ (e : Entry). e.who ≡ a.who) refl;
-          seen = of-entry (λ (e : Entry). HasSeen (drop has.seen view.sights) a.who (Some frame) e.what) (seen-by a.kind (drop has.seen view.sights) some);
-        })
-            (subst (λ (s : PageState). HasSameWords s (state_of layout (log_of body))) state-is (same-by a.kind (state_of layout (log_of body))))
-            (λ process. ap (has_ending layout process) one-more ∙ ends-by a.kind process);
-        taken_is = refl;
-        layout_is = has.layout_is;
-        within = has.within;
-      }
+    plain-by : (bad : Bool) → IsPlain (met_by bad a mask (word_in a body))
+    plain-by true = (λ sights some. some, λ s. record { cached = refl; maps = refl; bar = refl }, λ process. refl)
+    plain-by false = word-plain a.kind
+
+    plain : IsPlain what
+    plain = plain-by (is_bad mask a.line)
+
+    pub reached-held : set.contains body.state.maps a.slot.0 ≡ true → SomeMember (Shows a.who frame (places.Bad frame) mask) (drop has.seen view.sights) → HoldsFrame layout a.who view frame (Some (reached a mask body))
+    reached-held used some = record {
+      body = reached a mask body;
+      given_is = refl;
+      taken = taken;
+      handled = has.handled;
+      poisoned = has.poisoned;
+      hand_is = has.hand_is;
+      home = home-with a.who more.entries (record {
+        page_is = refl;
+        longer = ap (λ (list : List Entry). body.log ++ list) (sym one-more);
+        leads = subst (λ (list : List Entry). Leads layout body.page (state_of layout (log_of body)) list (state_of layout more)) (sym one-more) (allowed used, state-is);
+        own = of-entry (λ (e : Entry). e.who ≡ a.who) refl;
+        seen = of-entry (λ (e : Entry). HasSeen (drop has.seen view.sights) a.who (Some frame) e.what) (plain.0 (drop has.seen view.sights) some);
+      })
+          (subst (λ (s : PageState). HasSameWords s (state_of layout (log_of body))) state-is (plain.1 (state_of layout (log_of body))))
+          (λ process. ap (has_ending layout process) one-more ∙ plain.2 process);
+      taken_is = refl;
+      layout_is = has.layout_is;
+      within = has.within;
+    }
 
 -- ---- after a load
 

@@ -35,7 +35,7 @@ use Rattle.hwp_rule.proofs.Lists.{same-number}
 use Rattle.hwp_step.specs.Calls.{IsOnTurn, Steps}
 use Rattle.hwp_step.specs.Hands.{Hand, body_in, hand_of, killing, listing, listing_of}
 use Rattle.hwp_step.proofs.Stepping.{hand-made}
-use Rattle.hwp_known.specs.Known.{BringsIn, HasMade, HasOnly, IsAt, deeds}
+use Rattle.hwp_known.specs.Known.{HasMade, HasOnly, IsAt, Precedes, deeds}
 use Rattle.hwp_known.proofs.Listing.{deeds-one, has-made, kill-lists}
 use Rattle.hwp_hold.specs.Holds.{HoldsPage, held, page_lock}
 use Rattle.hwp_hold.specs.Unholds as unholds
@@ -306,7 +306,7 @@ module _ {layout : Layout} {view : View} {page : Page} {frame : Option Frame} {b
         lets-go-killed on inside = lets-go new gone hand-now gone-home has.body_is.page_is on inside
 
       -- the entry is the last one that the command made
-      pub refusal-made : HasOnly (BringsIn page slot) view who → HasMade (BringsIn page slot) new who page (length before.log) (refusal slot touch)
+      pub refusal-made : HasOnly (Precedes page slot touch.line) view who → HasMade (Precedes page slot touch.line) new who page (length before.log) (refusal slot touch)
       refusal-made only = has-made who view new one.0 one.1 (subst (λ (p : Page). IsAt p (length before.log) (refusal slot touch) one.0) has.body_is.page_is one.2) only
         where
           one : (m : Made) × (deeds who new ≡ deeds who view ++ m ∷ []) × IsAt before.page (length before.log) (refusal slot touch) m

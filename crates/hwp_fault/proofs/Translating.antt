@@ -1,14 +1,11 @@
 -- What a translation word that a step met says of a board that keeps the rule: of the frame that it names, and of the body
--- that was in that frame; and what a process's word and a frame's bad lines say.
-use Rattle.std.proofs.Common.{◌≡◌, ◌≢◌, ℕ, ◌+◌, ◌-◌, ◌/◌, ◌%◌, ◌^◌, ◌<◌, ◌≤◌, ◌==◌, Bool, true, false, cond, List, [], ◌∷◌, Option, Some, None, map, length, min, slice_get, slice_index, inl, inr, refl, sym, ap, ◌∙◌, subst, arith}
-use Rattle.std.specs.Int.{IsBitSet, bit_at, from_bool}
+-- that was in that frame; and what a process's word says.
+use Rattle.std.proofs.Common.{◌≡◌, ◌≢◌, ℕ, ◌+◌, ◌-◌, ◌%◌, ◌^◌, ◌<◌, ◌≤◌, ◌==◌, Bool, true, false, cond, List, [], Option, Some, None, length, slice_get, slice_index, inl, inr, refl, sym, ap, ◌∙◌, subst, arith}
+use Rattle.std.specs.Int.{from_bool}
 use Rattle.std.specs.FinSet as set
-use Rattle.std.specs.Int.Bits.{bit_and}
 use Rattle.std.specs.List.{sum_by}
 use Rattle.std.proofs.lemmas.Bool.{both_ways, ne_eqb}
 use Rattle.std.proofs.lemmas.List.Elements.{All-get_or}
-use Rattle.std.proofs.lemmas.Nat.{bit_set_by_shift}
-use Rattle.std.proofs.lemmas.Nat.Bits.{shr_and_one}
 use Rattle.std.proofs.lemmas.Option.{none-some, same_Some, slice_get_within, slice_get-get_or, get_or_from_slice_get}
 use Rattle.hwp_geom.specs.declared.Frame.{Frame}
 use Rattle.hwp_geom.specs.declared.Layout.{Layout}
@@ -16,7 +13,6 @@ use Rattle.hwp_geom.specs.declared.Page.{Page}
 use Rattle.hwp_geom.specs.declared.Proc.{Proc}
 use Rattle.hwp_geom.specs.declared.TransDecl.{TransDecl}
 use Rattle.hwp_geom.specs.declared.VSlot.{VSlot}
-use Rattle.hwp_geom.specs.Limits.{line_limit}
 use Rattle.hwp_words.specs.declared.Pte.TheVariants as ptes
 use Rattle.hwp_words.specs.Frames.{count_of, owner_of, handled_of, is_handled, lock_of}
 use Rattle.hwp_words.specs.Names.{page_named}
@@ -26,10 +22,8 @@ use Rattle.hwp_rule.specs.declared.InHand.{InHand}
 use Rattle.hwp_rule.specs.declared.Log.{Log}
 use Rattle.hwp_rule.specs.declared.PageLock.{PageLock}
 use Rattle.hwp_rule.specs.declared.Place.TheVariants as places
-use Rattle.hwp_rule.specs.declared.Spoiled.{Spoiled}
 use Rattle.hwp_rule.specs.declared.State.{State}
 use Rattle.hwp_rule.specs.declared.View.{View}
-use Rattle.hwp_rule.specs.Lists.{sum_all}
 use Rattle.hwp_rule.specs.Logs.{state_of, fitting_word}
 use Rattle.hwp_rule.specs.Rule.{Holds}
 use Rattle.hwp_rule.specs.Slots.{IsIn, frame_slot}
@@ -37,15 +31,13 @@ use Rattle.hwp_rule.specs.Views.{frame_in}
 use Rattle.hwp_rule.specs.Words.{words_of, index}
 use Rattle.hwp_rule.specs.parts.Bodies.{IsAtHome, content_name}
 use Rattle.hwp_rule.specs.parts.Counts.{named}
-use Rattle.hwp_rule.specs.parts.Damage.{is_spoil}
 use Rattle.hwp_rule.specs.parts.Fits.{Fits}
 use Rattle.hwp_rule.specs.parts.Locks.{IsLocked}
 use Rattle.hwp_rule.specs.parts.Owners.{NamesOwn}
 use Rattle.hwp_rule.proofs.FittingWords.{same-page}
-use Rattle.hwp_rule.proofs.Lists.{at_map, term-le, same-number, sum-zero, each-weaken}
+use Rattle.hwp_rule.proofs.Lists.{at_map, term-le, same-number}
 use Rattle.hwp_rule.proofs.Meeting.{frame-word, frame-named}
 use Rattle.hwp_rule.proofs.Moving.{shaped}
-use Rattle.hwp_rule.proofs.Undamaged.{nothing-damaged}
 use Rattle.hwp_rule.proofs.WordsByKind.{words-read}
 
 -- a name is of one frame
@@ -62,10 +54,6 @@ module _ (layout : Layout) (s : State) (h : Holds layout s) where
   pub process-word : (process : Proc) (found : ℕ) → process.0 < layout.procs → found ≡ slice_index s.words (index layout (places.Process process)) → slice_get (words_of layout s.words).processes process.0 ≡ Some found
   process-word process found inside met =
       slice_get-get_or (words_of layout s.words).processes process.0 0 (subst (λ (n : ℕ). process.0 < n) (sym (shaped layout s h).processes) inside) ∙ ap (λ (n : ℕ). Some n) (words-read layout s.words (places.Process process) inside ∙ sym met)
-
-  pub bad-word : (frame : Frame) (found : ℕ) → frame.0 < layout.frames → found ≡ slice_index s.words (index layout (places.Bad frame)) → slice_get (words_of layout s.words).bads frame.0 ≡ Some found
-  bad-word frame found inside met =
-      slice_get-get_or (words_of layout s.words).bads frame.0 0 (subst (λ (n : ℕ). frame.0 < n) (sym (shaped layout s h).bads) inside) ∙ ap (λ (n : ℕ). Some n) (words-read layout s.words (places.Bad frame) inside ∙ sym met)
 
   -- the page of a translation is one of the layout
   pub page-within : (slot : VSlot) (t : TransDecl) → slice_get layout.trans slot.0 ≡ Some t → t.page.0 < length layout.pages
@@ -86,20 +74,6 @@ module _ (layout : Layout) (s : State) (h : Holds layout s) where
           let pages : length layout.pages ≤ 256 = h.sound.pages in
           let other : found ≢ 0 = λ e. both_ways (found == 0) some (same-number found 0 e) in
           omega (arith, few)
-
-  -- no line of a frame is bad, as long as none goes bad
-  pub line-good : (frame : Frame) (found line : ℕ) → frame.0 < layout.frames → line < line_limit → found ≡ slice_index s.words (index layout (places.Bad frame)) → ¬ IsBitSet found line
-  line-good frame found line inside within met set =
-      let bit : bit_at found line ≡ min (sum_all (λ (x : Spoiled). from_bool (is_spoil frame.0 line true x)) (map (λ (v : View). v.spoiled) s.views)) 1 = h.rule.failures.damage.bad frame.0 found (bad-word frame found inside met) line within in
-      let none : sum_all (λ (x : Spoiled). from_bool (is_spoil frame.0 line true x)) (map (λ (v : View). v.spoiled) s.views) ≡ 0 = sum-zero (sum_by (λ (x : Spoiled). from_bool (is_spoil frame.0 line true x))) (map (λ (v : View). v.spoiled) s.views)
-      (each-weaken (λ (l : List Spoiled). length l ≡ 0) (λ (l : List Spoiled). sum_by (λ (x : Spoiled). from_bool (is_spoil frame.0 line true x)) l ≡ 0) (map (λ (v : View). v.spoiled) s.views) empty (nothing-damaged layout s h).unspoiled) in
-      let one : bit_and (found / 2 ^ line) 1 ≡ 1 = (bit_set_by_shift found line).1 set in
-      let same : bit_and (found / 2 ^ line) 1 ≡ bit_at found line = shr_and_one found line in
-      omega (arith, bit, none, one, same)
-    where
-      empty : (l : List Spoiled) → length l ≡ 0 → sum_by (λ (x : Spoiled). from_bool (is_spoil frame.0 line true x)) l ≡ 0
-      empty [] none = refl
-      empty (x ∷ xs) some = absurd (omega (arith, some))
 
   module _ (slot : VSlot) (t : TransDecl) (decl : slice_get layout.trans slot.0 ≡ Some t) (found : ℕ) (there : slice_get (words_of layout s.words).trans slot.0 ≡ Some found) (frame : Frame) (names : frame_in found ≡ Some frame) where
     -- a word that names a frame names one of the layout, which the translation's page owns

@@ -1,16 +1,13 @@
 -- An access: the task's states, its steps and what they come to.
-use Rattle.std.specs.Prelude.{◌≡◌, ℕ, ◌+◌, ◌-◌, ◌<◌, ◌≤◌, ◌==◌, Bool, true, false, cond, [], ◌∷◌, ◌++◌, Option, Some, None, is_some, is_none, length, slice_get, slice_index, IsBitSet, IsTrue}
+use Rattle.std.specs.Prelude.{◌≡◌, ℕ, ◌+◌, ◌-◌, ◌^◌, ◌<◌, ◌≤◌, ◌==◌, Bool, true, false, not, bit_and, cond, [], ◌∷◌, ◌++◌, Option, Some, None, is_some, is_none, length, slice_get, slice_index, IsBitSet, IsTrue}
 use Rattle.std.specs.FinSet as set
 use Rattle.hwp_geom.specs.declared.Frame.{Frame}
 use Rattle.hwp_geom.specs.declared.Layout.{Layout}
 use Rattle.hwp_geom.specs.declared.Mask.{Mask}
 use Rattle.hwp_geom.specs.declared.Page.{Page}
-use Rattle.hwp_geom.specs.declared.Proc.{Proc}
-use Rattle.hwp_geom.specs.declared.Thread.{Thread}
 use Rattle.hwp_geom.specs.declared.ThreadDecl.{ThreadDecl}
 use Rattle.hwp_geom.specs.declared.TransDecl.{TransDecl}
 use Rattle.hwp_geom.specs.declared.VSlot.{VSlot}
-use Rattle.hwp_geom.specs.declared.Who.{Who}
 use Rattle.hwp_geom.specs.Limits.{line_limit}
 use Rattle.hwp_page.specs.declared.Entry.{Entry}
 use Rattle.hwp_page.specs.declared.Met.TheVariants.{Word}
@@ -22,19 +19,20 @@ use Rattle.hwp_page.specs.Step.{after}
 use Rattle.hwp_words.specs.Frames.{is_locked}
 use Rattle.hwp_words.specs.Names.{page_named}
 use Rattle.hwp_words.specs.Stops.{is_stopped}
+use Rattle.hwp_rule.specs.declared.InHand.{InHand}
 use Rattle.hwp_rule.specs.declared.Place.TheVariants as places
 use Rattle.hwp_rule.specs.declared.Step.{Step}
 use Rattle.hwp_rule.specs.declared.Step.TheVariants as steps
 use Rattle.hwp_rule.specs.declared.View.{View}
 use Rattle.hwp_rule.specs.Logs.{log_of}
-use Rattle.hwp_rule.specs.Views.{frame_in}
+use Rattle.hwp_rule.specs.Views.{body_of, frame_in, more_of}
 use Rattle.hwp_rule.specs.Words.{Words}
 use Rattle.hwp_step.specs.declared.Turn.{Turn}
 use Rattle.hwp_step.specs.declared.Turn.TheVariants.{Moved, Waits}
 use Rattle.hwp_step.specs.Calls.{IsOnTurn}
 use Rattle.hwp_step.specs.Hands.{hand_of, empty, body_in}
 use Rattle.hwp_step.specs.Ranks.{stale}
-use Rattle.hwp_known.specs.Known.{Saw, SawStop, HasMadeNone, BringsIn, HasOnly, HasMade}
+use Rattle.hwp_known.specs.Known.{Saw, SawStop, HasMadeNone, Precedes, HasOnly, HasMade}
 use Rattle.hwp_known.specs.Pages.{SawState}
 use Rattle.hwp_hold.specs.declared.GiveUp.{GiveUp}
 use Rattle.hwp_hold.specs.declared.give_up.GiveUpAt.{GiveUpAt}
@@ -64,8 +62,12 @@ use Rattle.hwp_fault.specs.declared.touch.Touch.{Touch}
 use Rattle.hwp_fault.specs.Faults as faults
 use Rattle.hwp_fault.specs.Touches.{refusal}
 
-abbrev pub begin : Who → Thread → VSlot → ℕ → AccessKind → Page → Proc → Access
-begin who thread slot line kind page process = record { request = record { who = who; thread = thread; slot = slot; line = line; kind = kind; page = page; process = process }; at = at.LoadStop }
+abbrev pub begin : Request → Access
+begin a = record { request = a; at = at.LoadStop }
+
+-- the same request, from the word of the process on
+abbrev pub again : Request → Access
+again a = record { request = a; at = at.LoadProcess }
 
 abbrev pub plan_at : Request → AccessAt → Option Step
 plan_at a at.LoadStop = Some (steps.Load places.Stop)
@@ -159,6 +161,10 @@ is_frame frame (Some named) = named.0 == frame.0
 abbrev pub leads_to : Frame → ℕ → Bool
 leads_to frame word = is_frame frame (frame_in word)
 
+-- the line is one of the bad ones
+abbrev pub is_bad : ℕ → ℕ → Bool
+is_bad mask line = not (bit_and mask (2 ^ line) == 0)
+
 -- the entry of an access that met a word, and these bad lines
 abbrev pub what_by : AccessKind → VSlot → ℕ → Mask → ℕ → What
 what_by kinds.Load slot line mask word = entries.Load slot line (Word mask word)
@@ -167,10 +173,27 @@ what_by (kinds.Store stored) slot line mask word = entries.Store slot line (Word
 abbrev pub what_of : Request → ℕ → ℕ → What
 what_of a mask word = what_by a.kind a.slot a.line (record { 0 = mask }) word
 
-abbrev pub entry_of : Request → ℕ → ℕ → Entry
-entry_of a mask word = record { who = a.who; what = what_of a mask word }
+-- the entry of one whose line is among these bad ones
+abbrev pub check_of : Request → ℕ → What
+check_of a mask = entries.Mce a.slot a.line (record { 0 = mask })
 
--- the word at the line, and what the access then answers
+-- the entry of an access: whether its line is bad decides
+abbrev pub met_by : Bool → Request → ℕ → ℕ → What
+met_by true a mask word = check_of a mask
+met_by false a mask word = what_of a mask word
+
+abbrev pub met_of : Request → ℕ → ℕ → What
+met_of a mask word = met_by (is_bad mask a.line) a mask word
+
+-- an entry of the access
+abbrev pub entry_of : Request → What → Entry
+entry_of a what = record { who = a.who; what = what }
+
+-- the body with it
+abbrev pub entered : Request → What → BodyValue → BodyValue
+entered a what body = record body { state = after body.state what; log = body.log ++ entry_of a what ∷ []; spare = body.spare - 1 }
+
+-- the word at the line, and what the access answers that got it, or stored another
 abbrev pub word_in : Request → BodyValue → ℕ
 word_in a body = slice_index body.state.val a.line
 
@@ -178,21 +201,27 @@ abbrev pub reply_by : AccessKind → ℕ → Page → ℕ → AccessAnswer
 reply_by kinds.Load word page place = answers.Value word page place
 reply_by (kinds.Store stored) word page place = answers.Stored page place
 
-abbrev pub reply : Request → BodyValue → AccessAnswer
-reply a body = reply_by a.kind (word_in a body) a.page (length body.log)
+abbrev pub word_reply : Request → BodyValue → AccessAnswer
+word_reply a body = reply_by a.kind (word_in a body) a.page (length body.log)
 
--- the body with the entry of the access
+-- the answer of one that met a bad line in this frame
+abbrev pub checked : Request → Frame → BodyValue → AccessAnswer
+checked a frame body = answers.Checked frame a.page (length body.log)
+
+-- what an access that met these bad lines comes to: the body with its entry, and its answer
 abbrev pub reached : Request → ℕ → BodyValue → BodyValue
-reached a mask body = record body {
-  state = after body.state (what_of a mask (word_in a body));
-  log = body.log ++ entry_of a mask (word_in a body) ∷ [];
-  spare = body.spare - 1;
-}
+reached a mask body = entered a (met_of a mask (word_in a body)) body
 
--- the translation is in use, the line is good, and there is room for the entry
-pub record Reaches (a : Request) (body : BodyValue) (mask : ℕ) : Type 0 where
+abbrev pub reply_where : Bool → Request → Frame → BodyValue → AccessAnswer
+reply_where true a frame body = checked a frame body
+reply_where false a frame body = word_reply a body
+
+abbrev pub reply : Request → Frame → ℕ → BodyValue → AccessAnswer
+reply a frame mask body = reply_where (is_bad mask a.line) a frame body
+
+-- the translation is in use, and there is room for the entry
+pub record Reaches (a : Request) (body : BodyValue) : Type 0 where
   pub used : IsTrue (set.contains body.state.maps a.slot.0)
-  pub good : ¬ IsBitSet mask a.line
   pub spare : 0 < body.spare
 
 -- room was made for the entry; or, where it was refused, the command is given up
@@ -224,7 +253,7 @@ NextAt layout a (at.Pin p) found got next turn = (next ≡ pinned (pins.next p f
 NextAt layout a (at.LockFrame frame) found got next turn =
     (next ≡ cond (is_locked found) (at.LockFrame frame) (at.LoadAgain frame got)) × (turn ≡ cond (is_locked found) (Waits found) Moved)
 NextAt layout a (at.LoadAgain frame body) found got next turn = LooksAgain a frame body found next × (turn ≡ Moved)
-NextAt layout a (at.LoadBad frame body) found got next turn = (next ≡ at.Unlock (unlocks.begin a.who frame (Some (reached a found body))) (Some (reply a body))) × (turn ≡ Moved)
+NextAt layout a (at.LoadBad frame body) found got next turn = (next ≡ at.Unlock (unlocks.begin a.who frame (Some (reached a found body))) (Some (reply a frame found body))) × (turn ≡ Moved)
 NextAt layout a (at.Unlock u then) found got next turn = (next ≡ unlocked (unlocks.next u found) then) × (turn ≡ Moved)
 NextAt layout a (at.Fault f) found got next turn = FaultStepped layout a.page f found got next turn
 NextAt layout a (at.GiveUp g) found got next turn = (next ≡ at.GiveUp (give_ups.next g found)) × (turn ≡ give_ups.turn g)
@@ -237,7 +266,7 @@ pub record Next (layout : Layout) (a : Access) (found : ℕ) (got : Option BodyV
 -- the frame's body is there where the translation leads to it, and the entry can be made where it is to be
 abbrev pub ShowsAt : Request → AccessAt → ℕ → Option BodyValue → Type 0
 ShowsAt a (at.LoadAgain frame body) found got = leads_to frame found ≡ true → is_some body ≡ true
-ShowsAt a (at.LoadBad frame body) found got = Reaches a body found
+ShowsAt a (at.LoadBad frame body) found got = Reaches a body
 ShowsAt a (at.Fault f) found got = faults.Shows f found got
 ShowsAt a _ found got = Unit {0}
 
@@ -253,30 +282,40 @@ answer a = answer_at a.at
 
 -- ---- what the command knows and has made
 
--- so far it has only brought the page in, and the process goes on
+-- so far it has made only entries that may stand before its answer, and the process goes on
 pub record GoesOn (a : Request) (view : View) : Type 0 where
   pub alive : Saw view a.who (places.Process a.process) 0
-  pub brings : HasOnly (BringsIn a.page a.slot) view a.who
+  pub only : HasOnly (Precedes a.page a.slot a.line) view a.who
 
 -- the entry of a load of this word, or of a store, is the last one that the command made
 pub record HasReached (a : Request) (view : View) (word place : ℕ) : Type 0 where
   pub alive : Saw view a.who (places.Process a.process) 0
   pub mask : ℕ
   pub good : ¬ IsBitSet mask a.line
-  pub made : HasMade (BringsIn a.page a.slot) view a.who a.page place (what_of a mask word)
+  pub made : HasMade (Precedes a.page a.slot a.line) view a.who a.page place (what_of a mask word)
+
+-- the entry that the line was bad in this frame, as a step of the command showed, is the last one that the command made
+pub record HasChecked (layout : Layout) (a : Request) (view : View) (frame : Frame) (place : ℕ) : Type 0 where
+  pub alive : Saw view a.who (places.Process a.process) 0
+  pub mask : ℕ
+  pub bad : IsBitSet mask a.line
+  pub saw : Saw view a.who (places.Bad frame) mask
+  pub within : frame.0 < layout.frames
+  pub made : HasMade (Precedes a.page a.slot a.line) view a.who a.page place (check_of a mask)
 
 -- the entry that the access was answered by SIGBUS is the last one that the command made
 pub record HasRefusal (a : Request) (view : View) (place : ℕ) : Type 0 where
   pub alive : Saw view a.who (places.Process a.process) 0
-  pub made : HasMade (BringsIn a.page a.slot) view a.who a.page place (refusal a.slot (touch_of a))
+  pub made : HasMade (Precedes a.page a.slot a.line) view a.who a.page place (refusal a.slot (touch_of a))
 
 -- each answer rests on what the command was shown, and on the entry that it made
 abbrev pub Answered : Layout → View → Request → AccessAnswer → Type 0
 Answered layout view a (answers.Value word page place) = (a.kind ≡ kinds.Load) × (page ≡ a.page) × HasReached a view word place
 Answered layout view a (answers.Stored page place) = (stored : ℕ) × (a.kind ≡ kinds.Store stored) × (page ≡ a.page) × HasReached a view stored place
+Answered layout view a (answers.Checked frame page place) = (page ≡ a.page) × HasChecked layout a view frame place
 Answered layout view a (answers.Sigbus page place) = (page ≡ a.page) × HasRefusal a view place
 Answered layout view a answers.NoFrame = GoesOn a view × Saw view a.who places.Available 0 × (place : ℕ) × SawState layout view a.who a.page place IsAway
-Answered layout view a (answers.Gone page) = Saw view a.who (places.Process a.process) (page.0 + 1) × HasMadeNone view a.who
+Answered layout view a (answers.Gone page) = Saw view a.who (places.Process a.process) (page.0 + 1) × HasOnly (Precedes a.page a.slot a.line) view a.who
 Answered layout view a answers.Stopped = SawStop view a.who × HasMadeNone view a.who
 
 -- ---- what is held
@@ -310,9 +349,9 @@ pub record IsReached (layout : Layout) (view : View) (a : Request) (frame : Fram
   pub mask : ℕ
   pub taken : HasTaken layout view frame before
   pub page_is : before.page ≡ a.page
-  pub good : ¬ IsBitSet mask a.line
+  pub saw : Saw view a.who (places.Bad frame) mask
   pub body_is : body ≡ reached a mask before
-  pub answer_is : answer ≡ reply a before
+  pub answer_is : answer ≡ reply a frame mask before
   pub on : GoesOn a view
 
 abbrev pub HasToList : Layout → View → Request → Frame → Option BodyValue → AccessAnswer → Type 0
@@ -338,6 +377,11 @@ FitsThen layout view a x (Some answer) = HoldsReached layout view a x answer
 pub record IsBegun (view : View) (a : Request) : Type 0 where
   pub hand_is : hand_of view ≡ empty
   pub none : HasMadeNone view a.who
+
+-- nothing is held, and no other entry is made but such as may stand before the answer
+pub record IsAnew (view : View) (a : Request) : Type 0 where
+  pub hand_is : hand_of view ≡ empty
+  pub only : HasOnly (Precedes a.page a.slot a.line) view a.who
 
 -- nothing is held, and the process goes on
 pub record IsLooking (view : View) (a : Request) : Type 0 where
@@ -385,11 +429,12 @@ abbrev pub IsOfFrame : GiveUpAt → Type 0
 IsOfFrame (give_up_at.Unhold u) = ⊥
 IsOfFrame _ = Unit {0}
 
--- the command is being given up
+-- the command is being given up, and a body that goes home has no entry more than it was taken with
 pub record IsGivingUp (layout : Layout) (view : View) (a : Request) (g : GiveUp) : Type 0 where
   pub give_up : give_ups.Fits layout view g
   pub own : g.who ≡ a.who
   pub of_frame : IsOfFrame g.at
+  pub still : (body : BodyValue) → give_ups.put g ≡ Some body → (taken : InHand) × (body_of body.page view ≡ Some taken) × (more_of taken (log_of body) ≡ [])
 
 -- nothing is held any more, and the answer has its cause
 pub record IsAnswered (layout : Layout) (view : View) (a : Request) (answer : AccessAnswer) : Type 0 where
@@ -398,7 +443,7 @@ pub record IsAnswered (layout : Layout) (view : View) (a : Request) (answer : Ac
 
 abbrev pub FitsAt : Layout → View → Request → AccessAt → Type 0
 FitsAt layout view a at.LoadStop = IsBegun view a
-FitsAt layout view a at.LoadProcess = IsBegun view a
+FitsAt layout view a at.LoadProcess = IsAnew view a
 FitsAt layout view a at.LoadTranslation = IsLooking view a
 FitsAt layout view a (at.Pin p) = IsPinning layout view a p
 FitsAt layout view a (at.LockFrame frame) = IsPinned layout view a frame

@@ -29,7 +29,7 @@ use Rattle.hwp_step.specs.declared.Turn.TheVariants.{Moved}
 use Rattle.hwp_step.specs.Calls.{IsOnTurn}
 use Rattle.hwp_step.specs.Hands.{hand_of, empty}
 use Rattle.hwp_step.specs.Ranks.{stale}
-use Rattle.hwp_known.specs.Known.{Saw, SawLog, HasOnly, HasMade, BringsIn}
+use Rattle.hwp_known.specs.Known.{Saw, SawLog, HasOnly, HasMade, Precedes}
 use Rattle.hwp_known.specs.Pages.{SawState}
 use Rattle.hwp_hold.specs.declared.Fill.{Fill}
 use Rattle.hwp_hold.specs.declared.fill.FillAt.{FillAt}
@@ -328,9 +328,10 @@ FitsAt layout view who page slot touch (at.Unhold u answer) = IsLettingGo layout
 FitsAt layout view who page slot touch (at.GiveUp g) = IsGivingUp layout view who page slot g
 FitsAt layout view who page slot touch (at.Over answer) = FitsOver layout view who page answer
 
--- the command has made no entries but those that bring the page in; and the body that goes home has that of the refusal more
+-- the command has made no entries but those that may stand before its answer; and the body that goes home has that of the refusal
+-- more
 pub record HasToList (view : View) (who : Who) (page : Page) (slot : VSlot) (touch : Touch) (put : Option BodyValue) (place : ℕ) : Type 0 where
-  pub only : HasOnly (BringsIn page slot) view who
+  pub only : HasOnly (Precedes page slot touch.line) view who
   pub body : BodyValue
   pub put_is : put ≡ Some body
   pub taken : InHand
@@ -341,15 +342,14 @@ pub record HasToList (view : View) (who : Who) (page : Page) (slot : VSlot) (tou
 
 -- the command has made the entry of the refusal, and a body that goes home has none more
 pub record HasListed (view : View) (who : Who) (page : Page) (slot : VSlot) (touch : Touch) (put : Option BodyValue) (place : ℕ) : Type 0 where
-  pub made : HasMade (BringsIn page slot) view who page place (refusal slot touch)
+  pub made : HasMade (Precedes page slot touch.line) view who page place (refusal slot touch)
   pub rest : (body : BodyValue) → put ≡ Some body → (taken : InHand) × (body_of body.page view ≡ Some taken) × (more_of taken (log_of body) ≡ [])
 
--- what the command has made: entries that bring the page in, or the translation into use; and then, where the access was
--- refused, the one that it was
+-- what the command has made: entries that may stand before its answer; and then, where the access was refused, the one that it was
 abbrev pub MadeAt : View → Who → Page → VSlot → Touch → FaultAt → Type 0
 MadeAt view who page slot touch (at.Unhold u (answers.Sigbus place)) = HasToList view who page slot touch (unholds.put u) place ⊎ HasListed view who page slot touch (unholds.put u) place
-MadeAt view who page slot touch (at.Over (Some (answers.Sigbus place))) = HasMade (BringsIn page slot) view who page place (refusal slot touch)
-MadeAt view who page slot touch _ = HasOnly (BringsIn page slot) view who
+MadeAt view who page slot touch (at.Over (Some (answers.Sigbus place))) = HasMade (Precedes page slot touch.line) view who page place (refusal slot touch)
+MadeAt view who page slot touch _ = HasOnly (Precedes page slot touch.line) view who
 
 -- The processor holds nothing at first and in the end. The translation is one of the page, and the names are of the layout.
 pub record Fits (layout : Layout) (view : View) (f : Fault) : Type 0 where

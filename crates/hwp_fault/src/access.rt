@@ -1,4 +1,4 @@
-ghost use Rattle.std.specs.Prelude.{◌≡◌, Option, is_none};
+ghost use Rattle.std.specs.Prelude.{◌≡◌, ◌↔◌, Option, IsBitSet, IsTrue, is_none};
 
 use crate::fault::{Fault, FaultAnswer};
 use crate::touch::{AccessKind, Touch};
@@ -20,30 +20,48 @@ pub struct Access {
 
 /// Who accesses what: the thread is one of the process, and the translation one of the process to the page.
 #[derive(Clone, Copy)]
-struct Request {
-    who: Who,
-    thread: Thread,
-    slot: VSlot,
-    line: Line,
-    kind: AccessKind,
-    page: Page,
-    process: Proc,
+pub struct Request {
+    pub who: Who,
+    pub thread: Thread,
+    pub slot: VSlot,
+    pub line: Line,
+    pub kind: AccessKind,
+    pub page: Page,
+    pub process: Proc,
 }
 
 /// What an `Access` came to. A place is the number of an entry in the page's history, from 0 (this project's rule).
 #[derive(Clone, Copy, Debug, PartialEq, Eq)]
 pub enum AccessAnswer {
     /// This word was read: the entry at the place.
-    Value { word: u64, page: Page, place: u64 },
+    Value {
+        word: u64,
+        page: Page,
+        place: u64,
+    },
     /// The word was written: the entry at the place.
-    Stored { page: Page, place: u64 },
+    Stored {
+        page: Page,
+        place: u64,
+    },
+    /// The line was bad in this frame, so its content was neither read nor written: the entry at the place.
+    Checked {
+        frame: Frame,
+        page: Page,
+        place: u64,
+    },
     /// The access was answered by SIGBUS, because the translation has a poison entry or the page's content is lost: the
     /// entry at the place.
-    Sigbus { page: Page, place: u64 },
+    Sigbus {
+        page: Page,
+        place: u64,
+    },
     /// No frame was available for the page.
     NoFrame,
     /// The thread's process has ended, by a signal in the history of this page.
-    Gone { page: Page },
+    Gone {
+        page: Page,
+    },
     /// A processor had stopped the machine.
     Stopped,
 }
@@ -83,32 +101,25 @@ enum AccessAt {
 }
 
 impl Access {
-    ghost use Rattle.hwp_fault.specs.Accesses.{begin, answer, at_start, at_process, pinned, unlocked, after_fault};
+    ghost use Rattle.hwp_fault.specs.Accesses.{begin, again, answer, at_start, at_process, pinned, unlocked, after_fault};
 
-    /// The thread, which is one of the process, accesses the line through the translation, which is one of the process to
-    /// the page.
-    pub fn new(
-        who: Who,
-        thread: Thread,
-        slot: VSlot,
-        line: Line,
-        kind: AccessKind,
-        page: Page,
-        process: Proc,
-    ) -> Access
-        ensures { result ≡ begin who thread slot line kind page process }
+    /// The access at its beginning.
+    pub fn new(request: Request) -> Access
+        ensures { result ≡ begin request }
     {
         Access {
-            request: Request {
-                who,
-                thread,
-                slot,
-                line,
-                kind,
-                page,
-                process,
-            },
+            request,
             at: AccessAt::LoadStop,
+        }
+    }
+
+    /// The access once more, after a machine check in its command: it begins with the word of the process.
+    pub fn again(request: Request) -> Access
+        ensures { result ≡ again request }
+    {
+        Access {
+            request,
+            at: AccessAt::LoadProcess,
         }
     }
 
@@ -195,7 +206,7 @@ impl Access {
 
 impl Request {
     ghost use Rattle.std.specs.Prelude.{is_some, true};
-    ghost use Rattle.hwp_fault.specs.Accesses.{at_translation, LooksAgain, Prepares, Reaches, reached, reply, entry_of, leads_to, touch_of};
+    ghost use Rattle.hwp_fault.specs.Accesses.{at_translation, LooksAgain, Prepares, Reaches, check_of, checked, entered, entry_of, leads_to, reached, reply, touch_of, what_of, word_in, word_reply};
 
     fn at_translation(&self, found: u64) -> AccessAt
         ensures { result ≡ at_translation self.now found }
@@ -252,11 +263,49 @@ impl Request {
         }
     }
 
-    /// Reads or writes the word, and appends the entry of it; `mask` has the frame's bad lines.
-    fn reach(&self, body: &mut Body, mask: u64) -> AccessAnswer
-        requires { Reaches self.now body.old mask }
+    /// Makes the entry of the access, by whether its line is bad; `mask` has the frame's bad lines.
+    fn reach(&self, frame: Frame, body: &mut Body, mask: u64) -> AccessAnswer
+        requires { Reaches self.now body.old }
         ensures body { body.new ≡ reached self.now mask body.old }
-        ensures reply { result ≡ reply self.now body.old }
+        ensures reply { result ≡ reply self.now frame mask body.old }
+    {
+        if is_bad(mask, self.line) {
+            self.check(frame, body, mask)
+        } else {
+            self.touch_word(body, mask)
+        }
+    }
+
+    /// Makes the entry that the line is bad.
+    fn check(&self, frame: Frame, body: &mut Body, mask: u64) -> AccessAnswer
+        requires reaches { Reaches self.now body.old }
+        requires bad { IsBitSet mask self.now.line }
+        ensures body { body.new ≡ entered self.now (check_of self.now mask) body.old }
+        ensures reply { result ≡ checked self.now frame body.old }
+    {
+        let place = body.len();
+        let check = Entry {
+            who: self.who,
+            what: What::Mce {
+                slot: self.slot,
+                line: self.line,
+                mask: Mask(mask),
+            },
+        };
+        body.append(check);
+        AccessAnswer::Checked {
+            frame,
+            page: self.page,
+            place,
+        }
+    }
+
+    /// Reads or writes the word, and makes the entry of it.
+    fn touch_word(&self, body: &mut Body, mask: u64) -> AccessAnswer
+        requires reaches { Reaches self.now body.old }
+        requires good { ¬ IsBitSet mask self.now.line }
+        ensures body { body.new ≡ entered self.now (what_of self.now mask (word_in self.now body.old)) body.old }
+        ensures reply { result ≡ word_reply self.now body.old }
     {
         let place = body.len();
         let word = body.state().val.get(self.line);
@@ -276,7 +325,7 @@ impl Request {
     }
 
     fn entry(&self, mask: u64, word: u64) -> Entry
-        ensures { result ≡ entry_of self.now mask word }
+        ensures { result ≡ entry_of self.now (what_of self.now mask word) }
     {
         let mask = Mask(mask);
         match self.kind {
@@ -300,7 +349,15 @@ impl Request {
     }
 }
 
-ghost use Rattle.hwp_fault.specs.Accesses.{leads_to};
+ghost use Rattle.hwp_fault.specs.Accesses.{is_bad, leads_to};
+
+/// The line is one of the bad ones, which `mask` has.
+fn is_bad(mask: u64, line: Line) -> bool
+    ensures value { result ≡ is_bad mask line }
+    ensures bit { IsTrue result ↔ IsBitSet mask line }
+{
+    Mask(mask).has(line)
+}
 
 /// The translation's word leads to the frame.
 fn leads_to(frame: Frame, word: u64) -> bool
@@ -403,7 +460,7 @@ impl Machine for Access {
                 Turn::Moved
             }
             AccessAt::LoadBad { frame, mut body } => {
-                let answer = self.request.reach(&mut body, found);
+                let answer = self.request.reach(frame, &mut body, found);
                 self.at = AccessAt::Unlock {
                     unlock: Unlock::new(self.request.who, frame, Some(body)),
                     then: Some(answer),

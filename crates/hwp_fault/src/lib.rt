@@ -7,7 +7,7 @@ mod fault;
 mod map_in;
 mod touch;
 
-pub use access::{Access, AccessAnswer};
+pub use access::{Access, AccessAnswer, Request};
 pub use fault::{Fault, FaultAnswer};
 pub use map_in::MapIn;
 pub use touch::{AccessKind, Touch};

@@ -89,11 +89,13 @@ module _ {layout : Layout} {old new : View} {p : Prctl} {after : Job} (s : Stepp
 
 -- what follows isn't a call, or is one that hasn't got past the word of the process
 not-replied : {layout : Layout} {old new : View} {j after : Job} → Stepped layout old new j after → (thread : Thread) → HasEnded layout old thread → HasNotReplied thread j → HasNotReplied thread after
-not-replied {j = jobs.Access a} s thread ended not_ = subst (HasNotReplied thread) (sym s.follows.1) tt
+not-replied {j = jobs.Prctl p} s thread ended not_ = subst (HasNotReplied thread) (sym s.follows.0) (λ own. not-past s thread ended own (not_ own))
+not-replied {j = jobs.Instruction i} s thread ended not_ = subst (HasNotReplied thread) (sym s.follows.1) tt
 not-replied {j = jobs.Evict e} s thread ended not_ = subst (HasNotReplied thread) (sym s.follows.1) tt
 not-replied {j = jobs.Fsync f} s thread ended not_ = subst (HasNotReplied thread) (sym s.follows.0) tt
-not-replied {j = jobs.Prctl p} s thread ended not_ = subst (HasNotReplied thread) (sym s.follows.0) (λ own. not-past s thread ended own (not_ own))
-not-replied {j = jobs.ReadStop r} s thread ended not_ = subst (HasNotReplied thread) (sym s.follows.0) tt
+not-replied {j = jobs.Log l} s thread ended not_ = subst (HasNotReplied thread) (sym s.follows.0) tt
+not-replied {j = jobs.Raise r} s thread ended not_ = subst (HasNotReplied thread) (sym s.follows.1) tt
+not-replied {j = jobs.Spoil p} s thread ended not_ = subst (HasNotReplied thread) (sym s.follows.0) tt
 not-replied {j = jobs.Nested n} s thread ended not_ = subst (HasNotReplied thread) (sym s.follows.0) tt
 not-replied {j = jobs.Inject i} s thread ended not_ = subst (HasNotReplied thread) (sym s.follows.1) tt
 

@@ -1,6 +1,7 @@
 -- What a step of a command does beside entries: it poisons a frame or counts that, takes the losses of a file, sets a policy, or
 -- leaves what the view lists of these.
-use Rattle.std.proofs.Common.{◌≡◌, inl, inr, ℕ, suc, ◌+◌, ◌-◌, ◌<◌, ◌==◌, Bool, true, false, cond, List, [], ◌∷◌, ◌++◌, Some, option_map, filter, map, refl, sym, ap, ◌∙◌, arith}
+use Rattle.std.proofs.Common.{◌≡◌, inl, inr, ℕ, suc, ◌+◌, ◌==◌, Bool, true, false, cond, List, [], ◌∷◌, ◌++◌, Option, Some, None, option_map, filter, filter_map, map, refl, sym, ap, ◌∙◌, subst, arith, true≢false}
+use Rattle.std.specs.List.{cons_option}
 use Rattle.std.proofs.lemmas.Bool.{eqb-true}
 use Rattle.std.proofs.lemmas.List.{map-append}
 use Rattle.std.proofs.lemmas.List.Elements.{filter-append}
@@ -8,66 +9,108 @@ use Rattle.std.proofs.lemmas.Option.{none-some}
 use Rattle.hwp_geom.specs.declared.FileNo.{FileNo}
 use Rattle.hwp_geom.specs.declared.Frame.{Frame}
 use Rattle.hwp_geom.specs.declared.Layout.{Layout}
+use Rattle.hwp_geom.specs.declared.Page.{Page}
 use Rattle.hwp_geom.specs.declared.Thread.{Thread}
 use Rattle.hwp_geom.specs.declared.Who.{Who}
 use Rattle.hwp_kill.specs.declared.Policy.{Policy}
 use Rattle.hwp_kill.specs.Prctl.{reply}
-use Rattle.hwp_words.specs.Frames.{cycle_of}
 use Rattle.hwp_words.specs.Names.{page_named}
 use Rattle.hwp_words.specs.Policies as words
 use Rattle.hwp_words.specs.Stops.{is_stopped}
 use Rattle.hwp_report.specs.declared.Answer.{Answer}
-use Rattle.hwp_rule.specs.declared.MarkKind.TheVariants as mark_kinds
+use Rattle.hwp_rule.specs.declared.Made.{Made}
+use Rattle.hwp_rule.specs.declared.Mark.{Mark}
 use Rattle.hwp_rule.specs.declared.Place.TheVariants as places
 use Rattle.hwp_rule.specs.declared.Step.TheVariants as steps
 use Rattle.hwp_rule.specs.declared.View.{View}
 use Rattle.hwp_rule.specs.Lists.{EachMember}
-use Rattle.hwp_rule.specs.Views.{noted, sighted, stamp_of}
+use Rattle.hwp_rule.specs.Views.{noted, stamp_of}
+use Rattle.hwp_step.specs.Calls.{Steps, logs}
 use Rattle.hwp_step.proofs.Stepping.{steps-planned}
+use Rattle.hwp_known.proofs.Listing.{deeds-same}
 use Rattle.hwp_control.specs.declared.Nested.{Nested}
 use Rattle.hwp_control.specs.declared.Prctl.{Prctl}
+use Rattle.hwp_control.specs.declared.Spoil.{Spoil}
 use Rattle.hwp_control.specs.declared.nested.NestedAt.{NestedAt}
 use Rattle.hwp_control.specs.declared.nested.NestedAt.TheVariants as nested_at
 use Rattle.hwp_control.specs.declared.prctl.PrctlAt.{PrctlAt}
 use Rattle.hwp_control.specs.declared.prctl.PrctlAt.TheVariants as prctl_at
+use Rattle.hwp_control.specs.declared.spoil.SpoilAt.{SpoilAt}
+use Rattle.hwp_control.specs.declared.spoil.SpoilAt.TheVariants as spoil_at
 use Rattle.hwp_control.specs.Nesteds as nesteds
 use Rattle.hwp_control.specs.Prctls as prctls
+use Rattle.hwp_control.specs.Spoils as spoils
+use Rattle.hwp_evict.specs.declared.EvictAnswer.{EvictAnswer}
+use Rattle.hwp_evict.specs.declared.EvictAnswer.TheVariants as evict_answers
+use Rattle.hwp_evict.specs.declared.Eviction.{Eviction}
+use Rattle.hwp_evict.specs.declared.Eviction.TheVariants as evictions
 use Rattle.hwp_evict.specs.declared.Fsync.{Fsync}
 use Rattle.hwp_evict.specs.declared.FsyncAnswer.TheVariants as fsync_answers
 use Rattle.hwp_evict.specs.declared.fsync.FsyncAt.{FsyncAt}
 use Rattle.hwp_evict.specs.declared.fsync.FsyncAt.TheVariants as fsync_at
+use Rattle.hwp_evict.specs.Evictions.{IsCaused, entry_of}
+use Rattle.hwp_evict.specs.Evicts as evicts
 use Rattle.hwp_evict.specs.Fsyncs as fsyncs
+use Rattle.hwp_act.specs.declared.Failed.{Failed}
+use Rattle.hwp_act.specs.Abandoned.{AddsFailure, failed_in, failed_of}
+use Rattle.hwp_claim.specs.Done.{Grows, counts_owed, marking_of}
+use Rattle.hwp_fail.specs.declared.fail.Fail.{Fail}
 use Rattle.hwp_fail.specs.declared.fail.FailAt.{FailAt}
 use Rattle.hwp_fail.specs.declared.fail.FailAt.TheVariants as fail_at
 use Rattle.hwp_fail.specs.declared.inject.Inject.{Inject}
 use Rattle.hwp_fail.specs.declared.inject.InjectAt.{InjectAt}
 use Rattle.hwp_fail.specs.declared.inject.InjectAt.TheVariants as inject_at
+use Rattle.hwp_fail.specs.Done as fail_done
 use Rattle.hwp_fail.specs.Fails as fails
 use Rattle.hwp_fail.specs.Injects as injects
+use Rattle.hwp_fail.proofs.Adding.{fail-adds}
+use Rattle.hwp_fail.proofs.Quiet.{Alike, leaves}
+use Rattle.hwp_handler.specs.declared.Told.{Told}
+use Rattle.hwp_handler.specs.Done.{failed_in as failed_told, marked_in}
+use Rattle.hwp_handler.proofs.Handling.{stop-leaves}
+use Rattle.hwp_instr.specs.declared.Instruction.{Instruction}
+use Rattle.hwp_instr.specs.Done as instruction_done
+use Rattle.hwp_instr.specs.Done.{FailuresGrow, failures_by}
+use Rattle.hwp_instr.specs.Instructions as instructions
+use Rattle.hwp_instr.proofs.Adding.{instruction-adds}
+use Rattle.hwp_instr.proofs.Growing.{failures-grow}
+use Rattle.hwp_raise.specs.declared.Raise.{Raise}
+use Rattle.hwp_raise.specs.Done as raise_done
+use Rattle.hwp_raise.specs.Raises as raises
+use Rattle.hwp_raise.specs.Raises.{thread_of}
+use Rattle.hwp_raise.proofs.Adding.{raise-adds}
 use Rattle.hwp_job.specs.declared.job.Job.{Job}
 use Rattle.hwp_job.specs.declared.job.Job.TheVariants as jobs
 use Rattle.hwp_job.specs.Answers.{fail_answer}
-use Rattle.hwp_job.specs.Done.{Grows, counts_owed, HasDone, marked_at, marked_now, owed_at, owed_by_fail, owed_now, policies_now, taken_at, taken_now}
-use Rattle.hwp_job.specs.Jobs.{answer, plan, who}
+use Rattle.hwp_job.specs.Done.{HasDone, can_fail, failed_at, failed_now, marked_at, marked_now, owed_at, owed_now, policies_now, taken_at, taken_now}
+use Rattle.hwp_job.specs.Jobs.{Fits, answer, who}
 use Rattle.hwp_job.specs.Settings.{set_at}
 use Rattle.hwp_job.specs.Stays.{IsAtStop, Stepped}
-use Rattle.hwp_job.proofs.Injecting.{Account, account_now, HasPoisoned, IsCount, IsPoison, IsStepOf, Still, count-leaves, count-view, poison-leaves, poison-view, step-of, stop-leaves}
-use Rattle.hwp_job.proofs.Quiet.{Alike, PlansQuiet, access, evict, leaves, read}
+use Rattle.hwp_job.proofs.Ending.{evict-caused, instruction-over, mapped, raise-over}
+use Rattle.hwp_job.proofs.Leaving.{Rest}
+use Rattle.hwp_job.proofs.Quiet.{evict, read}
+use Rattle.hwp_job.proofs.Resting.{inject-left, instruction-left, quiet-step, raise-left}
 use Rattle.hwp_job.proofs.Setting.{ended, replied, stopped}
-use Rattle.hwp_job.proofs.Stopping.{quiet-step}
+
+-- ---- commands of which no memory fails
+
+-- the command marks no frame and owes no count, and its memory can't fail
+abbrev IsBlank : Job → Type 0
+IsBlank j = (can_fail j ≡ false) × (marked_now j ≡ []) × (owed_now j ≡ 0)
+
+unfailed : {A : Type 0} {b : Bool} → b ≡ false → b ≡ true → A
+unfailed cannot can = absurd (true≢false (sym can ∙ cannot))
 
 module _ {layout : Layout} {old new : View} {j after : Job} (s : Stepped layout old new j after) where
   -- a step after which the view lists the same
-  nothing : Alike old new → account_now after ≡ account_now j → taken_now after ≡ taken_now j → policies_now after ≡ policies_now j → HasDone old new (who j) j after
-  nothing same account taken set = record {
-    marked = inl (same.marks, ap (λ (a : Account). a.0) account);
+  nothing : Alike old new → IsBlank j → IsBlank after → taken_now after ≡ taken_now j → policies_now after ≡ policies_now j → HasDone old new (who j) j after
+  nothing same before blank taken set = record {
+    marked = inl (same.marks, blank.1 ∙ sym before.1);
+    failed = unfailed blank.0;
     taken = inl (same.reported, taken);
     set = inl (same.settings, set);
-    counted = λ has. same.owed ∙ has ∙ sym (ap (λ (a : Account). a.1) account);
+    counted = λ has. same.owed ∙ has ∙ before.2 ∙ sym blank.2;
   }
-
-  quietly : PlansQuiet (plan j) → account_now after ≡ account_now j → taken_now after ≡ taken_now j → policies_now after ≡ policies_now j → HasDone old new (who j) j after
-  quietly quiet account taken set = nothing (leaves s.made (quiet-step quiet s.planned)) account taken set
 
 -- the losses of a file
 module _ {layout : Layout} {old new : View} {f : Fsync} {after : Job} (s : Stepped layout old new (jobs.Fsync f) after) where
@@ -85,18 +128,19 @@ module _ {layout : Layout} {old new : View} {f : Fsync} {after : Job} (s : Stepp
       none : policies_now after ≡ []
       none = ap policies_now s.follows.0
 
-      unmarked : account_now after ≡ ([], 0)
-      unmarked = ap account_now s.follows.0
+      blank : IsBlank after
+      blank = subst IsBlank (sym s.follows.0) (refl, refl, refl)
 
       now : (x : FsyncAt) → f.at ≡ x → taken_now after ≡ taken_at f.file (fsyncs.next_at x s.found)
       now x at = ap taken_now s.follows.0 ∙ ap (λ (y : FsyncAt). taken_at f.file (fsyncs.next_at y s.found)) at
 
       which : (x : FsyncAt) → f.at ≡ x → fsyncs.plan_at f.file x ≡ Some s.step → HasDone old new f.who (jobs.Fsync f) after
-      which fsync_at.LoadStop at e = nothing s (leaves s.made (quiet-step {o = Some (steps.Load places.Stop)} tt e)) unmarked (now fsync_at.LoadStop at ∙ by-stop (is_stopped s.found) ∙ sym (ap (taken_at f.file) at)) none
+      which fsync_at.LoadStop at e = nothing s (leaves s.made (quiet-step {o = Some (steps.Load places.Stop)} tt e)) (refl, refl, refl) blank (now fsync_at.LoadStop at ∙ by-stop (is_stopped s.found) ∙ sym (ap (taken_at f.file) at)) none
       which fsync_at.Report at e =
           let own = steps-planned {other = steps.ReportLost f.file} e s.made in
           record {
-            marked = inl (ap (λ (v : View). v.marks) own.told.next, ap (λ (a : Account). a.0) unmarked);
+            marked = inl (ap (λ (v : View). v.marks) own.told.next, blank.1);
+            failed = unfailed blank.0;
             taken = inr (
               record { stamp = stamp_of f.who (noted f.who old); file = f.file; count = s.found },
               ap (λ (v : View). v.reported) own.told.next,
@@ -104,7 +148,7 @@ module _ {layout : Layout} {old new : View} {f : Fsync} {after : Job} (s : Stepp
               now fsync_at.Report at ∙ by-count (s.found == 0) refl ∙ ap (λ (l : List (FileNo × ℕ)). l ++ (f.file, s.found) ∷ []) (sym (ap (taken_at f.file) at)),
             );
             set = inl (ap (λ (v : View). v.settings) own.told.next, none);
-            counted = λ has. ap counts_owed own.told.next ∙ has ∙ sym (ap (λ (a : Account). a.1) unmarked);
+            counted = λ has. ap counts_owed own.told.next ∙ has ∙ sym blank.2;
           }
       which (fsync_at.Over answer) at e = absurd (none-some s.step e)
 
@@ -119,8 +163,8 @@ module _ {layout : Layout} {old new : View} {p : Prctl} {after : Job} (s : Stepp
       none : taken_now after ≡ []
       none = ap taken_now s.follows.0
 
-      unmarked : account_now after ≡ ([], 0)
-      unmarked = ap account_now s.follows.0
+      blank : IsBlank after
+      blank = subst IsBlank (sym s.follows.0) (refl, refl, refl)
 
       now : (x : PrctlAt) → p.at ≡ x → policies_now after ≡ told_at (prctls.next_at p.arguments x s.found)
       now x at = ap policies_now s.follows.0 ∙ ap (λ (y : PrctlAt). told_at (prctls.next_at p.arguments y s.found)) at
@@ -129,14 +173,15 @@ module _ {layout : Layout} {old new : View} {p : Prctl} {after : Job} (s : Stepp
       unset x at before next = now x at ∙ ap (λ (l : List Policy). map (λ (policy : Policy). (p.thread, policy)) l) (next ∙ sym (ap set_at at ∙ before))
 
       which : (x : PrctlAt) → p.at ≡ x → prctls.plan_at p.thread p.process x ≡ Some s.step → HasDone old new p.who (jobs.Prctl p) after
-      which prctl_at.LoadStop at e = nothing s (leaves s.made (quiet-step {o = Some (steps.Load places.Stop)} tt e)) unmarked none (unset prctl_at.LoadStop at refl (stopped p s.found (is_stopped s.found)))
-      which prctl_at.LoadProcess at e = nothing s (leaves s.made (quiet-step {o = Some (steps.Load (places.Process p.process))} tt e)) unmarked none (unset prctl_at.LoadProcess at refl (ended p s.found (page_named s.found)))
-      which prctl_at.LoadPolicy at e = nothing s (leaves s.made (quiet-step {o = Some (steps.Load (places.Policy p.thread))} tt e)) unmarked none
+      which prctl_at.LoadStop at e = nothing s (leaves s.made (quiet-step {o = Some (steps.Load places.Stop)} tt e)) (refl, refl, refl) blank none (unset prctl_at.LoadStop at refl (stopped p s.found (is_stopped s.found)))
+      which prctl_at.LoadProcess at e = nothing s (leaves s.made (quiet-step {o = Some (steps.Load (places.Process p.process))} tt e)) (refl, refl, refl) blank none (unset prctl_at.LoadProcess at refl (ended p s.found (page_named s.found)))
+      which prctl_at.LoadPolicy at e = nothing s (leaves s.made (quiet-step {o = Some (steps.Load (places.Policy p.thread))} tt e)) (refl, refl, refl) blank none
           (unset prctl_at.LoadPolicy at refl (replied p s.found (words.settings_of s.found) (reply (words.policy_of s.found) p.arguments)))
       which (prctl_at.SetPolicy policy settings) at e =
           let own = steps-planned {other = steps.SetPolicy p.thread policy settings} e s.made in
           record {
-            marked = inl (ap (λ (v : View). v.marks) own.told.next, ap (λ (a : Account). a.0) unmarked);
+            marked = inl (ap (λ (v : View). v.marks) own.told.next, blank.1);
+            failed = unfailed blank.0;
             taken = inl (ap (λ (v : View). v.reported) own.told.next, none);
             set = inr (
               record { stamp = stamp_of p.who (noted p.who old); thread = p.thread; policy = policy },
@@ -144,148 +189,179 @@ module _ {layout : Layout} {old new : View} {p : Prctl} {after : Job} (s : Stepp
               refl,
               now (prctl_at.SetPolicy policy settings) at ∙ ap (λ (l : List (Thread × Policy)). l ++ (p.thread, policy) ∷ []) (sym (ap told_at at)),
             );
-            counted = λ has. ap counts_owed own.told.next ∙ has ∙ sym (ap (λ (a : Account). a.1) unmarked);
+            counted = λ has. ap counts_owed own.told.next ∙ has ∙ sym blank.2;
           }
       which (prctl_at.Over answer) at e = absurd (none-some s.step e)
 
--- a machine check inside a machine check does none of these
+-- a machine check inside a machine check does none of these, nor does damage to a line
 module _ {layout : Layout} {old new : View} {n : Nested} {after : Job} (s : Stepped layout old new (jobs.Nested n) after) where
   nested-done : HasDone old new n.who (jobs.Nested n) after
   nested-done = which n.at s.planned
     where
-      none : taken_now after ≡ []
-      none = ap taken_now s.follows.0
-
-      unset : policies_now after ≡ []
-      unset = ap policies_now s.follows.0
-
-      unmarked : account_now after ≡ ([], 0)
-      unmarked = ap account_now s.follows.0
-
-      by : {A : Type 0} (f : View → A) (b : Bool) (x y : View) → f x ≡ f old → f y ≡ f old → f (cond b x y) ≡ f old
-      by f true x y e g = e
-      by f false x y e g = g
+      blank : IsBlank after
+      blank = subst IsBlank (sym s.follows.0) (refl, refl, refl)
 
       which : (x : NestedAt) → nesteds.plan_at n.who x ≡ Some s.step → HasDone old new n.who (jobs.Nested n) after
-      which nested_at.LoadStop e = nothing s (leaves s.made (quiet-step {o = Some (steps.Load places.Stop)} tt e)) unmarked none unset
+      which nested_at.LoadStop e = nothing s (leaves s.made (quiet-step {o = Some (steps.Load places.Stop)} tt e)) (refl, refl, refl) blank (ap taken_now s.follows.0) (ap policies_now s.follows.0)
       which nested_at.Stop e =
           let own = steps-planned {other = steps.Stop n.who.cpu} e s.made in
           record {
-            marked = inl (ap (λ (v : View). v.marks) own.told.next ∙ by (λ (v : View). v.marks) (s.found == 0) (record (noted n.who old) { stops = old.stops ++ n.who ∷ [] }) (sighted n.who places.Stop s.found (noted n.who old)) refl refl, ap (λ (a : Account). a.0) unmarked);
-            taken = inl (ap (λ (v : View). v.reported) own.told.next ∙ by (λ (v : View). v.reported) (s.found == 0) (record (noted n.who old) { stops = old.stops ++ n.who ∷ [] }) (sighted n.who places.Stop s.found (noted n.who old)) refl refl, none);
-            set = inl (ap (λ (v : View). v.settings) own.told.next ∙ by (λ (v : View). v.settings) (s.found == 0) (record (noted n.who old) { stops = old.stops ++ n.who ∷ [] }) (sighted n.who places.Stop s.found (noted n.who old)) refl refl, unset);
-            counted = λ has. ap counts_owed own.told.next ∙ by counts_owed (s.found == 0) (record (noted n.who old) { stops = old.stops ++ n.who ∷ [] }) (sighted n.who places.Stop s.found (noted n.who old)) refl refl ∙ has ∙ sym (ap (λ (a : Account). a.1) unmarked);
+            marked = inl (stop-leaves own (λ (v : View). v.marks) refl refl, blank.1);
+            failed = unfailed blank.0;
+            taken = inl (stop-leaves own (λ (v : View). v.reported) refl refl, ap taken_now s.follows.0);
+            set = inl (stop-leaves own (λ (v : View). v.settings) refl refl, ap policies_now s.follows.0);
+            counted = λ has. stop-leaves own counts_owed refl refl ∙ has ∙ sym blank.2;
           }
       which (nested_at.Over answer) e = absurd (none-some s.step e)
 
--- a memory failure marks its frame with its poison, and counts that with the next step
-module _ {layout : Layout} {old new : View} {i : Inject} {after : Job} (s : Stepped layout old new (jobs.Inject i) after) where
-  none-taken : taken_now after ≡ []
-  none-taken = ap taken_now s.follows.1
-
-  none-set : policies_now after ≡ []
-  none-set = ap policies_now s.follows.1
-
-  poison-done : IsPoison i after s.step s.found → HasDone old new i.who (jobs.Inject i) after
-  poison-done poison = by poison.now
+module _ {layout : Layout} {old new : View} {p : Spoil} {after : Job} (s : Stepped layout old new (jobs.Spoil p) after) where
+  spoil-done : HasDone old new p.who (jobs.Spoil p) after
+  spoil-done = which p.at s.planned
     where
-      left : Still old new
-      left = poison-leaves s poison
+      blank : IsBlank after
+      blank = subst IsBlank (sym s.follows.0) (refl, refl, refl)
 
-      by : HasPoisoned i after s.found → HasDone old new i.who (jobs.Inject i) after
-      by (inl (was, now)) = record {
-        marked = inl (ap (λ (v : View). v.marks) (poison-view s poison false was), ap (λ (a : Account). a.0) (now ∙ sym poison.before));
-        taken = inl (left.reported, none-taken);
-        set = inl (left.settings, none-set);
-        counted = λ has. ap counts_owed (poison-view s poison false was) ∙ has ∙ ap (λ (a : Account). a.1) (poison.before ∙ sym now);
-      }
-      by (inr (goes_on, now)) = record {
-        marked = inr (
-          record { stamp = stamp_of i.who (noted i.who old); frame = i.frame; cycle = cycle_of s.found; kind = mark_kinds.Poisoned false },
-          ap (λ (v : View). v.marks) (poison-view s poison true goes_on),
-          refl,
-          ap (λ (a : Account). a.0) now ∙ ap (λ (l : List Frame). l ++ i.frame ∷ []) (sym (ap (λ (a : Account). a.0) poison.before)),
-        );
-        taken = inl (left.reported, none-taken);
-        set = inl (left.settings, none-set);
-        counted = λ has. let was : counts_owed old ≡ 0 = has ∙ ap (λ (a : Account). a.1) poison.before in
-            let is : counts_owed new ≡ old.owed.counts + 1 + old.owed.hardware + old.owed.uncounts = ap counts_owed (poison-view s poison true goes_on) in
-            let one : owed_now after ≡ 1 = ap (λ (a : Account). a.1) now in
-            omega (arith, was, is, one);
-      }
+      which : (x : SpoilAt) → spoils.plan_at p.frame p.line p.damage x ≡ Some s.step → HasDone old new p.who (jobs.Spoil p) after
+      which spoil_at.LoadStop e = nothing s (leaves s.made (quiet-step {o = Some (steps.Load places.Stop)} tt e)) (refl, refl, refl) blank (ap taken_now s.follows.0) (ap policies_now s.follows.0)
+      which spoil_at.Spoil e =
+          let own = steps-planned {other = steps.Spoil p.frame p.line p.damage} e s.made in
+          record {
+            marked = inl (ap (λ (v : View). v.marks) own.told.next, blank.1);
+            failed = unfailed blank.0;
+            taken = inl (ap (λ (v : View). v.reported) own.told.next, ap taken_now s.follows.0);
+            set = inl (ap (λ (v : View). v.settings) own.told.next, ap policies_now s.follows.0);
+            counted = λ has. ap counts_owed own.told.next ∙ has ∙ sym blank.2;
+          }
+      which (spoil_at.Over answer) e = absurd (none-some s.step e)
 
-  count-done : IsCount i after s.step old → HasDone old new i.who (jobs.Inject i) after
-  count-done count = record {
-    marked = inl (ap (λ (v : View). v.marks) (count-view s count), ap (λ (a : Account). a.0) count.now ∙ sym (ap (λ (a : Account). a.0) count.before));
-    taken = inl ((count-leaves s count).reported, none-taken);
-    set = inl ((count-leaves s count).settings, none-set);
-    counted = λ has. let was : counts_owed old ≡ 1 = has ∙ ap (λ (a : Account). a.1) count.before in
-        let is : counts_owed new ≡ old.owed.counts - 1 + old.owed.hardware + old.owed.uncounts = ap counts_owed (count-view s count) in
-        let none : owed_now after ≡ 0 = ap (λ (a : Account). a.1) count.now in
-        let owes : 0 < old.owed.counts = count.owes in
-        omega (arith, was, is, none, owes);
-  }
+-- ---- commands of which memory can fail
+
+-- what a step adds to what the view lists of the command, and to what the command has done
+record Adds (old new : View) (j after : Job) : Type 0 where
+  marked : Grows (λ (m : Mark). m.stamp.who) marking_of old.marks new.marks (who j) (marked_now j) (marked_now after)
+  failed : FailuresGrow (failures_by (who j) old) (failures_by (who j) new) (failed_now j) (failed_now after)
+  counted : counts_owed new + owed_now j ≡ counts_owed old + owed_now after
+
+adds-done : {old new : View} {j after : Job} → Adds old new j after → Rest old new → taken_now after ≡ taken_now j → policies_now after ≡ policies_now j → HasDone old new (who j) j after
+adds-done {old} {new} {j} {after} adds rest taken set = record {
+  marked = adds.marked;
+  failed = λ can. adds.failed;
+  taken = inl (rest.reported, taken);
+  set = inl (rest.settings, set);
+  counted = λ has. let sum = adds.counted in omega (arith, sum, has);
+}
+
+module _ {layout : Layout} {old new : View} {i : Instruction} {after : Job} (s : Stepped layout old new (jobs.Instruction i) after) where
+  instruction-done : HasDone old new i.request.who (jobs.Instruction i) after
+  instruction-done = subst (HasDone old new i.request.who (jobs.Instruction i)) (sym s.follows.1)
+      (let adds = instruction-adds layout old new i s.step s.found s.got s.fits s.planned s.made s.follows.0 s.turn s.follows.2 in
+      adds-done (record { marked = adds.marked; failed = adds.failed; counted = adds.counted }) (instruction-left s).rest refl refl)
+
+module _ {layout : Layout} {old new : View} {r : Raise} {after : Job} (s : Stepped layout old new (jobs.Raise r) after) where
+  raise-done-so : HasDone old new r.who (jobs.Raise r) after
+  raise-done-so = subst (HasDone old new r.who (jobs.Raise r)) (sym s.follows.1)
+      (let adds = raise-adds layout old new r s.step s.found s.got s.fits s.planned s.made s.follows.0 s.turn s.follows.2 in
+      adds-done (record { marked = adds.marked; failed = failures-grow r.who old new adds.failed; counted = adds.counted }) (raise-left s).rest refl refl)
+
+module _ {layout : Layout} {old new : View} {i : Inject} {after : Job} (s : Stepped layout old new (jobs.Inject i) after) where
+  abbrev injected : Inject
+  injected = s.follows.0
+
+  frame-is : injected.frame ≡ i.frame
+  frame-is = ap (λ (k : Inject). k.frame) s.follows.2.0
+
+  -- what it adds by where it is then
+  abbrev AddsAt : InjectAt → InjectAt → Type 0
+  AddsAt x y = Grows (λ (m : Mark). m.stamp.who) marking_of old.marks new.marks i.who (marked_at i.frame x) (marked_at i.frame y) × AddsFailure i.who old new (failed_at x) (failed_at y) × (counts_owed new + owed_at x ≡ counts_owed old + owed_at y)
+
+  look-adds : Steps layout i.who (steps.Load places.Stop) None old new s.found s.got → AddsAt inject_at.LoadStop (injects.loaded layout.recovery i.alloc i.who i.frame s.found)
+  look-adds own = by (is_stopped s.found) layout.recovery
+    where
+      same : Alike old new
+      same = leaves own tt
+
+      by : (b c : Bool) → AddsAt inject_at.LoadStop (cond b inject_at.Stopped (inject_at.Fail (fails.begin i.alloc i.who i.frame None false c)))
+      by true c = (inl (same.marks, refl), inl (deeds-same i.who tt own, refl), ap (λ (n : ℕ). n + 0) same.owed)
+      by false true = (inl (same.marks, refl), inl (deeds-same i.who tt own, refl), ap (λ (n : ℕ). n + 0) same.owed)
+      by false false = (inl (same.marks, refl), inl (deeds-same i.who tt own, refl), ap (λ (n : ℕ). n + 0) same.owed)
+
+  fail-step : (f g : Fail) (turn : _) → injects.IsFailing layout old i.who i.frame f → fails.plan f ≡ Some s.step → Steps layout i.who s.step (logs (fails.put f)) old new s.found s.got → fails.Follows (fails.bare f) s.found s.got g turn → AddsAt (inject_at.Fail f) (inject_at.Fail g)
+  fail-step f g turn has e made follows = (
+    subst (λ (w : Who). Grows (λ (m : Mark). m.stamp.who) marking_of old.marks new.marks w (fail_done.marked_at i.frame false f.at) (fail_done.marked_at i.frame false g.at)) has.own
+        (subst (λ (n : Frame). Grows (λ (m : Mark). m.stamp.who) marking_of old.marks new.marks f.who (fail_done.marked_at n false f.at) (fail_done.marked_at n false g.at)) has.frame_is
+        (subst (λ (h : Bool). Grows (λ (m : Mark). m.stamp.who) marking_of old.marks new.marks f.who (fail_done.marked_at f.frame h f.at) (fail_done.marked_at f.frame h g.at)) has.software adds.marked)),
+    subst (λ (w : Who). AddsFailure w old new (fail_done.failed_at None f.at) (fail_done.failed_at None g.at)) has.own
+        (subst (λ (t : Option Thread). AddsFailure f.who old new (fail_done.failed_at t f.at) (fail_done.failed_at t g.at)) has.unrequired adds.failed),
+    adds.counted,
+  )
+    where
+      adds : fail_done.Adds old new f.who f.frame f.hardware f.required f.at g.at
+      adds = fail-adds layout old new f s.step s.found s.got has.fail e (subst (λ (w : Who). Steps layout w s.step (logs (fails.put f)) old new s.found s.got) (sym has.own) made) g turn follows
+
+  inject-adds : AddsAt i.at injected.at
+  inject-adds = which i.at s.fits.at s.planned s.made s.follows.2.1
+    where
+      which : (x : InjectAt) → injects.FitsAt layout old i.who i.frame x → injects.plan_at x ≡ Some s.step → Steps layout i.who s.step (logs (injects.put_at x)) old new s.found s.got
+          → injects.FollowsAt layout i.alloc i.who i.frame (injects.bare_at x) s.found s.got injected.at s.turn → AddsAt x injected.at
+      which inject_at.LoadStop has e made follows = subst (AddsAt inject_at.LoadStop) (sym follows.0) (look-adds (steps-planned e made))
+      which (inject_at.Fail f) has e made follows = subst (AddsAt (inject_at.Fail f)) (sym follows.next_is) (fail-step f follows.after s.turn has e made follows.follows)
+      which inject_at.Stopped has e made follows = absurd (none-some s.step e)
 
   inject-done : HasDone old new i.who (jobs.Inject i) after
-  inject-done = which (step-of s)
-    where
-      which : IsStepOf i after s.step s.found old → HasDone old new i.who (jobs.Inject i) after
-      which (inl silent) = let same = leaves s.made silent.quiet in record {
-        marked = inl (same.marks, ap (λ (a : Account). a.0) silent.same);
-        taken = inl (same.reported, none-taken);
-        set = inl (same.settings, none-set);
-        counted = λ has. same.owed ∙ has ∙ sym (ap (λ (a : Account). a.1) silent.same);
-      }
-      which (inr (inl stop)) = let same = stop-leaves s stop in record {
-        marked = inl (same.marks, ap (λ (a : Account). a.0) stop.same);
-        taken = inl (same.reported, none-taken);
-        set = inl (same.settings, none-set);
-        counted = λ has. same.owed ∙ has ∙ sym (ap (λ (a : Account). a.1) stop.same);
-      }
-      which (inr (inr (inl poison))) = poison-done poison
-      which (inr (inr (inr count))) = count-done count
+  inject-done = subst (HasDone old new i.who (jobs.Inject i)) (sym s.follows.1) (adds-done (record {
+    marked = subst (λ (n : Frame). Grows (λ (m : Mark). m.stamp.who) marking_of old.marks new.marks i.who (marked_at i.frame i.at) (marked_at n injected.at)) (sym frame-is) inject-adds.0;
+    failed = failures-grow i.who old new inject-adds.1;
+    counted = inject-adds.2;
+  }) (inject-left s).rest refl refl)
 
 pub done : {layout : Layout} {old new : View} {j after : Job} → Stepped layout old new j after → HasDone old new (who j) j after
-done {j = jobs.Access a} s = quietly s (access a.request a.at) (ap account_now s.follows.1) (ap taken_now s.follows.1) (ap policies_now s.follows.1)
-done {j = jobs.Evict e} s = quietly s (evict e.at) (ap account_now s.follows.1) (ap taken_now s.follows.1) (ap policies_now s.follows.1)
+done {j = jobs.Instruction i} s = instruction-done s
+done {j = jobs.Evict e} s = nothing s (leaves s.made (quiet-step (evict e.at) s.planned)) (refl, refl, refl) (subst IsBlank (sym s.follows.1) (refl, refl, refl)) (ap taken_now s.follows.1) (ap policies_now s.follows.1)
 done {j = jobs.Fsync f} s = fsync-done s
 done {j = jobs.Prctl p} s = prctl-done s
-done {j = jobs.ReadStop r} s = quietly s (read r.at) (ap account_now s.follows.0) (ap taken_now s.follows.0) (ap policies_now s.follows.0)
+done {j = jobs.Log l} s = nothing s (leaves s.made (quiet-step (read l.read.at) s.planned)) (refl, refl, refl) (subst IsBlank (sym s.follows.0) (refl, refl, refl)) (ap taken_now s.follows.0) (ap policies_now s.follows.0)
+done {j = jobs.Raise r} s = raise-done-so s
+done {j = jobs.Spoil p} s = spoil-done s
 done {j = jobs.Nested n} s = nested-done s
 done {j = jobs.Inject i} s = inject-done s
 
--- at its beginning a command has done nothing
+-- ---- at its beginning a command has done nothing
+
 pub untaken-at-start : (j : Job) → IsAtStop j → taken_now j ≡ []
-untaken-at-start (jobs.Access a) start = refl
-untaken-at-start (jobs.Evict e) start = refl
 untaken-at-start (jobs.Fsync f) start = ap (taken_at f.file) start
-untaken-at-start (jobs.Prctl p) start = refl
-untaken-at-start (jobs.ReadStop r) start = refl
-untaken-at-start (jobs.Nested n) start = refl
-untaken-at-start (jobs.Inject i) start = refl
+untaken-at-start _ start = refl
 
 pub unset-policies-at-start : (j : Job) → IsAtStop j → policies_now j ≡ []
-unset-policies-at-start (jobs.Access a) start = refl
-unset-policies-at-start (jobs.Evict e) start = refl
-unset-policies-at-start (jobs.Fsync f) start = refl
 unset-policies-at-start (jobs.Prctl p) start = ap (λ (x : PrctlAt). map (λ (policy : Policy). (p.thread, policy)) (set_at x)) start
-unset-policies-at-start (jobs.ReadStop r) start = refl
-unset-policies-at-start (jobs.Nested n) start = refl
-unset-policies-at-start (jobs.Inject i) start = refl
+unset-policies-at-start _ start = refl
 
 pub unmarked-at-start : (j : Job) → IsAtStop j → marked_now j ≡ []
+unmarked-at-start (jobs.Instruction i) start = ap (λ (l : List Told). instruction_done.marked_by l ++ instruction_done.marked_at i.at) start.3 ∙ ap instruction_done.marked_at start.1
+unmarked-at-start (jobs.Raise r) start = ap (λ (l : List Told). filter_map marked_in l ++ raise_done.marked_at r.at) start.1 ∙ ap raise_done.marked_at start.0
 unmarked-at-start (jobs.Inject i) start = ap (marked_at i.frame) start
 unmarked-at-start _ start = refl
 
+pub unfailed-at-start : (j : Job) → IsAtStop j → failed_now j ≡ []
+unfailed-at-start (jobs.Instruction i) start = ap (λ (l : List Told). instruction_done.failed_by (Some i.request.thread) l ++ instruction_done.failed_at i.at) start.3 ∙ ap instruction_done.failed_at start.1
+unfailed-at-start (jobs.Raise r) start = ap (λ (l : List Told). filter_map (failed_told (thread_of r.raiser)) l ++ raise_done.failed_at r.at) start.1 ∙ ap raise_done.failed_at start.0
+unfailed-at-start (jobs.Inject i) start = ap failed_at start
+unfailed-at-start _ start = refl
+
 pub unowed-at-start : (j : Job) → IsAtStop j → owed_now j ≡ 0
+unowed-at-start (jobs.Instruction i) start = ap instruction_done.owed_at start.1
+unowed-at-start (jobs.Raise r) start = ap raise_done.owed_at start.0
 unowed-at-start (jobs.Inject i) start = ap owed_at start
 unowed-at-start _ start = refl
 
--- once a command is answered it has counted each frame that it marked
+-- ---- once it is answered
+
+-- it has counted each frame that it marked
 pub unowed-at-end : (j : Job) {a : Answer} → answer j ≡ Some a → owed_now j ≡ 0
+unowed-at-end (jobs.Instruction i) is = ap instruction_done.owed_at (instruction-over i (mapped _ (instructions.answer i) is).1)
+unowed-at-end (jobs.Raise r) is = ap raise_done.owed_at (raise-over r (mapped _ (raises.answer r) is).1)
 unowed-at-end (jobs.Inject i) {a} is = which i.at is
   where
-    by : (y : FailAt) → option_map fail_answer (fails.answer_at y) ≡ Some a → owed_by_fail y ≡ 0
+    by : (y : FailAt) → option_map fail_answer (fails.answer_at y) ≡ Some a → fail_done.owed_at y ≡ 0
     by (fail_at.Over answer) is_ = refl
     by _ is_ = absurd (none-some a is_)
 
@@ -294,6 +370,37 @@ unowed-at-end (jobs.Inject i) {a} is = which i.at is
     which (inject_at.Fail f) is_ = by f.at is_
     which inject_at.Stopped is_ = refl
 unowed-at-end _ is = refl
+
+-- an eviction makes no failure
+none-among : (l : List Made) → EachMember (λ (m : Made). ⊥) l → l ≡ []
+none-among [] each = refl
+none-among (m ∷ ms) each = absurd (each 0 m refl)
+
+evict-unfailed : (page : Page) (place : ℕ) (what : Eviction) → failed_of page place (entry_of what) ≡ None
+evict-unfailed page place (evictions.Free slot) = refl
+evict-unfailed page place evictions.Drop = refl
+evict-unfailed page place evictions.Sync = refl
+evict-unfailed page place evictions.Out = refl
+
+evict-failures : (layout : Layout) (view : View) (who : Who) (page : Page) (what : Eviction) (x : EvictAnswer) → IsCaused layout view who page what x → failures_by who view ≡ []
+evict-failures layout view who page what evict_answers.Stopped caused = ap (filter_map failed_in) caused.0
+evict-failures layout view who page what (evict_answers.Refused refusal at) caused = ap (filter_map failed_in) caused.0
+evict-failures layout view who page what (evict_answers.Done at) caused =
+    let has = caused.1 in
+    ap (filter_map failed_in) (has.all ∙ ap (λ (l : List Made). l ++ has.last ∷ []) (none-among has.before has.such))
+    ∙ ap (λ (o : Option Failed). cons_option o []) (ap (failed_of has.last.page has.last.place) has.at.2 ∙ evict-unfailed has.last.page has.last.place what)
+
+-- its failures are those that its entries tell
+pub failures-at-end : (layout : Layout) (view : View) (j : Job) {a : Answer} → Fits layout view j → answer j ≡ Some a → (can_fail j ≡ true → failures_by (who j) view ≡ failed_now j) → failures_by (who j) view ≡ failed_now j
+failures-at-end layout view (jobs.Instruction i) fits is has = has refl
+failures-at-end layout view (jobs.Raise r) fits is has = has refl
+failures-at-end layout view (jobs.Inject i) fits is has = has refl
+failures-at-end layout view (jobs.Evict e) fits is has = let own = mapped _ (evicts.answer e) is in evict-failures layout view e.who e.page e.what own.0 (evict-caused e fits own.1).1
+failures-at-end layout view (jobs.Fsync f) fits is has = ap (filter_map failed_in) fits.made_none
+failures-at-end layout view (jobs.Prctl p) fits is has = ap (filter_map failed_in) fits.made
+failures-at-end layout view (jobs.Log l) fits is has = ap (filter_map failed_in) fits.read.made
+failures-at-end layout view (jobs.Spoil s) fits is has = ap (filter_map failed_in) fits.made
+failures-at-end layout view (jobs.Nested n) fits is has = ap (filter_map failed_in) fits.made
 
 -- ---- what a view lists of a command
 

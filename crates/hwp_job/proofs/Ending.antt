@@ -1,11 +1,8 @@
--- A command that is answered holds nothing, and makes no more steps.
-use Rattle.std.proofs.Common.{◌≡◌, ◌⊎◌, inl, inr, true, [], Option, Some, None, refl, ap, ◌∙◌, subst}
+-- A command that is answered makes no more steps, and its processor holds nothing.
+use Rattle.std.proofs.Common.{◌≡◌, ◌⊎◌, inl, inr, true, false, [], Option, Some, None, refl, sym, ap, ◌∙◌, subst}
 use Rattle.std.specs.Option.{option_map}
 use Rattle.std.proofs.lemmas.Option.{none-some, same_Some}
-use Rattle.hwp_geom.specs.declared.Frame.{Frame}
 use Rattle.hwp_geom.specs.declared.Layout.{Layout}
-use Rattle.hwp_geom.specs.declared.Thread.{Thread}
-use Rattle.hwp_geom.specs.declared.Who.{Who}
 use Rattle.hwp_report.specs.declared.Answer.{Answer}
 use Rattle.hwp_rule.specs.declared.View.{View}
 use Rattle.hwp_step.specs.Hands.{hand_of, empty}
@@ -15,15 +12,20 @@ use Rattle.hwp_control.specs.declared.prctl.PrctlAt.{PrctlAt}
 use Rattle.hwp_control.specs.declared.prctl.PrctlAt.TheVariants as prctl_at
 use Rattle.hwp_control.specs.declared.read_stop.ReadStopAt.{ReadStopAt}
 use Rattle.hwp_control.specs.declared.read_stop.ReadStopAt.TheVariants as read_at
+use Rattle.hwp_control.specs.declared.spoil.SpoilAt.{SpoilAt}
+use Rattle.hwp_control.specs.declared.spoil.SpoilAt.TheVariants as spoil_at
 use Rattle.hwp_control.specs.declared.Nested.{Nested}
 use Rattle.hwp_control.specs.declared.Prctl.{Prctl}
 use Rattle.hwp_control.specs.declared.ReadStop.{ReadStop}
+use Rattle.hwp_control.specs.declared.Spoil.{Spoil}
 use Rattle.hwp_control.specs.declared.NestedAnswer.{NestedAnswer}
 use Rattle.hwp_control.specs.declared.PrctlAnswer.{PrctlAnswer}
 use Rattle.hwp_control.specs.declared.ReadStopAnswer.{ReadStopAnswer}
+use Rattle.hwp_control.specs.declared.SpoilAnswer.{SpoilAnswer}
 use Rattle.hwp_control.specs.Nesteds as nesteds
 use Rattle.hwp_control.specs.Prctls as prctls
 use Rattle.hwp_control.specs.ReadStops as read_stops
+use Rattle.hwp_control.specs.Spoils as spoils
 use Rattle.hwp_evict.specs.declared.evict.EvictAt.{EvictAt}
 use Rattle.hwp_evict.specs.declared.evict.EvictAt.TheVariants as evict_at
 use Rattle.hwp_evict.specs.declared.fsync.FsyncAt.{FsyncAt}
@@ -42,17 +44,28 @@ use Rattle.hwp_fail.specs.declared.FailAnswer.TheVariants as fail_answers
 use Rattle.hwp_fail.specs.declared.inject.Inject.{Inject}
 use Rattle.hwp_fail.specs.declared.inject.InjectAt.{InjectAt}
 use Rattle.hwp_fail.specs.declared.inject.InjectAt.TheVariants as inject_at
+use Rattle.hwp_fail.specs.Done as failures
 use Rattle.hwp_fail.specs.Fails as fails
 use Rattle.hwp_fail.specs.Injects as injects
-use Rattle.hwp_fault.specs.declared.access.AccessAt.{AccessAt}
-use Rattle.hwp_fault.specs.declared.access.AccessAt.TheVariants as access_at
-use Rattle.hwp_fault.specs.declared.Access.{Access}
-use Rattle.hwp_fault.specs.declared.AccessAnswer.{AccessAnswer}
-use Rattle.hwp_fault.specs.Accesses as accesses
-use Rattle.hwp_fault.proofs.Accessing as accessing
+use Rattle.hwp_fail.proofs.InjectEnds as inject_ends
+use Rattle.hwp_handler.specs.Fits.{IsAtRest}
+use Rattle.hwp_instr.specs.declared.Instruction.{Instruction}
+use Rattle.hwp_instr.specs.declared.InstructionAnswer.{InstructionAnswer}
+use Rattle.hwp_instr.specs.declared.instruction.InstructionAt.{InstructionAt}
+use Rattle.hwp_instr.specs.declared.instruction.InstructionAt.TheVariants as instruction_at
+use Rattle.hwp_instr.specs.Fits as instruction_fits
+use Rattle.hwp_instr.specs.Instructions as instructions
+use Rattle.hwp_raise.specs.declared.Raise.{Raise}
+use Rattle.hwp_raise.specs.declared.RaiseAnswer.{RaiseAnswer}
+use Rattle.hwp_raise.specs.declared.raise.RaiseAt.{RaiseAt}
+use Rattle.hwp_raise.specs.declared.raise.RaiseAt.TheVariants as raise_at
+use Rattle.hwp_raise.specs.Fits as raise_fits
+use Rattle.hwp_raise.specs.Logs as logs
+use Rattle.hwp_raise.specs.Raises as raises
 use Rattle.hwp_job.specs.declared.job.Job.{Job}
 use Rattle.hwp_job.specs.declared.job.Job.TheVariants as jobs
-use Rattle.hwp_job.specs.Done.{marked_at, marked_by_fail, marked_now, marked_over}
+use Rattle.hwp_job.specs.Answers.{fail_answer}
+use Rattle.hwp_job.specs.Done.{failed_now, marked_at, marked_now}
 use Rattle.hwp_job.specs.Jobs.{Fits, answer, plan}
 
 -- the answer of the task itself
@@ -62,11 +75,11 @@ mapped f (Some a) {b} is = (a, refl, same_Some (f a) b is)
 
 -- ---- each kind of task is over once it has an answer
 
-access-over : (a : Access) {x : AccessAnswer} → accesses.answer a ≡ Some x → a.at ≡ access_at.Over x
-access-over a {x} is = which a.at is
+pub instruction-over : (i : Instruction) {x : InstructionAnswer} → instructions.answer i ≡ Some x → i.at ≡ instruction_at.Over (Some x)
+instruction-over i {x} is = which i.at is
   where
-    which : (y : AccessAt) → accesses.answer_at y ≡ Some x → y ≡ access_at.Over x
-    which (access_at.Over other) some = ap access_at.Over (same_Some other x some)
+    which : (y : InstructionAt) → instructions.answer_at y ≡ Some x → y ≡ instruction_at.Over (Some x)
+    which (instruction_at.Over other) some = ap instruction_at.Over some
     which _ none = absurd (none-some x none)
 
 evict-over : (e : Evict) {x : EvictAnswer} → evicts.answer e ≡ Some x → e.at ≡ evict_at.Over x
@@ -97,6 +110,20 @@ read-over r {x} is = which r.at is
     which (read_at.Over other) some = ap read_at.Over (same_Some other x some)
     which _ none = absurd (none-some x none)
 
+pub raise-over : (r : Raise) {x : RaiseAnswer} → raises.answer r ≡ Some x → r.at ≡ raise_at.Over (Some x)
+raise-over r {x} is = which r.at is
+  where
+    which : (y : RaiseAt) → raises.answer_at y ≡ Some x → y ≡ raise_at.Over (Some x)
+    which (raise_at.Over other) some = ap raise_at.Over some
+    which _ none = absurd (none-some x none)
+
+pub spoil-over : (s : Spoil) {x : SpoilAnswer} → spoils.answer s ≡ Some x → s.at ≡ spoil_at.Over x
+spoil-over s {x} is = which s.at is
+  where
+    which : (y : SpoilAt) → spoils.answer_at y ≡ Some x → y ≡ spoil_at.Over x
+    which (spoil_at.Over other) some = ap spoil_at.Over (same_Some other x some)
+    which _ none = absurd (none-some x none)
+
 pub nested-over : (n : Nested) {x : NestedAnswer} → nesteds.answer n ≡ Some x → n.at ≡ nested_at.Over (Some x)
 nested-over n {x} is = which n.at is
   where
@@ -104,14 +131,13 @@ nested-over n {x} is = which n.at is
     which (nested_at.Over other) some = ap nested_at.Over some
     which _ none = absurd (none-some x none)
 
--- what a memory failure that is over knows: it holds nothing, owes no loss and plans no step; its answer has its cause, and says what
+-- what a memory failure that is over knows: it holds nothing and owes no loss; its answer has its cause, and says what
 -- it has marked; and but for `stopped` the machine recovers
 pub record InjectEnded (layout : Layout) (view : View) (i : Inject) (x : FailAnswer) : Type 0 where
   pub hand_is : hand_of view ≡ empty
   pub paid : view.owed.losses ≡ []
-  pub over : fails.FitsOver layout view i.who i.frame None x
-  pub plan_is : injects.plan i ≡ None
-  pub marked : marked_now (jobs.Inject i) ≡ marked_over i.frame x
+  pub over : injects.HasEnded layout view i.who i.frame x
+  pub marked : marked_now (jobs.Inject i) ≡ failures.marked_over i.frame false x
   pub recovery : (x ≡ fail_answers.Stopped) ⊎ (layout.recovery ≡ true)
 
 pub inject-ended : {layout : Layout} {view : View} (i : Inject) {x : FailAnswer} → injects.Fits layout view i → injects.answer i ≡ Some x → InjectEnded layout view i x
@@ -119,7 +145,7 @@ inject-ended {layout} {view} i {x} fits is = which i.at refl fits.at is
   where
     which : (y : InjectAt) → i.at ≡ y → injects.FitsAt layout view i.who i.frame y → injects.answer_at y ≡ Some x → InjectEnded layout view i x
     which inject_at.LoadStop at has e = absurd (none-some x e)
-    which inject_at.Stopped at has e = subst (InjectEnded layout view i) (same_Some fail_answers.Stopped x e) (record { hand_is = has.0; paid = has.1; over = has.2; plan_is = ap injects.plan_at at; marked = ap (marked_at i.frame) at; recovery = inl refl })
+    which inject_at.Stopped at has e = subst (InjectEnded layout view i) (same_Some fail_answers.Stopped x e) (record { hand_is = has.0.hand_is; paid = has.0.paid; over = (has.0.made, has.0.unmarked, has.1); marked = ap (marked_at i.frame) at; recovery = inl refl })
     which (inject_at.Fail f) at has e = by f.at refl has.fail.at e
       where
         recovers : (answer : FailAnswer) → layout.recovery ≡ injects.recovers_at (fail_at.Over answer) → (answer ≡ fail_answers.Stopped) ⊎ (layout.recovery ≡ true)
@@ -127,29 +153,68 @@ inject-ended {layout} {view} i {x} fits is = which i.at refl fits.at is
         recovers fail_answers.Already so = inr so
         recovers (fail_answers.Done situation cycle place signalled) so = inr so
 
-        by : (y : FailAt) → f.at ≡ y → fails.FitsAt layout view f.who f.frame f.required y → fails.answer_at y ≡ Some x → InjectEnded layout view i x
+        by : (y : FailAt) → f.at ≡ y → fails.FitsAt layout view f.who f.frame f.required f.hardware y → fails.answer_at y ≡ Some x → InjectEnded layout view i x
         by (fail_at.Over answer) over known said = subst (InjectEnded layout view i) (same_Some answer x said) (record {
           hand_is = known.0;
           paid = known.1;
-          over = subst (λ (r : Option Thread). fails.FitsOver layout view i.who i.frame r answer) has.unrequired
-              (subst (λ (n : Frame). fails.FitsOver layout view i.who n f.required answer) has.frame_is (subst (λ (w : Who). fails.FitsOver layout view w f.frame f.required answer) has.own known.2));
-          plan_is = ap injects.plan_at at ∙ ap fails.plan_at over;
-          marked = ap (marked_at i.frame) at ∙ ap (marked_by_fail i.frame) over;
+          over = subst (injects.HasEnded layout view i.who i.frame) (sym (same_Some answer x said)) (inject_ends.inject-ended layout view i x fits is);
+          marked = ap (marked_at i.frame) at ∙ ap (failures.marked_at i.frame false) over;
           recovery = recovers answer (has.recovery ∙ ap injects.recovers_at over);
         })
         by _ over known said = absurd (none-some x said)
 
 -- ---- a command that is answered
 
+-- an instruction that is answered has its end, after its machine checks
+pub instruction-ended : {layout : Layout} {view : View} (i : Instruction) {x : InstructionAnswer} (fits : instruction_fits.Fits layout view i) → instructions.answer i ≡ Some x → instruction_fits.IsAnswered layout view i fits.checks x
+instruction-ended {layout} {view} i fits is = subst (instruction_fits.FitsAt layout view i fits.checks) (instruction-over i is) fits.at
+
+-- and so has a machine check that was raised
+pub raise-ended : {layout : Layout} {view : View} (r : Raise) {x : RaiseAnswer} → raise_fits.Fits layout view r → raises.answer r ≡ Some x → IsAtRest view × raise_fits.IsEnd layout view r x
+raise-ended {layout} {view} r fits is = subst (raise_fits.FitsAt layout view r) (raise-over r is) fits.at
+
 pub evict-caused : {layout : Layout} {view : View} (e : Evict) {x : EvictAnswer} → evicts.Fits layout view e → evicts.answer e ≡ Some x → (hand_of view ≡ empty) × IsCaused layout view e.who e.page e.what x
 evict-caused {layout} {view} e fits is = subst (evicts.FitsAt layout view e.who e.page e.what) (evict-over e is) fits.at
 
+-- it plans no step
+pub answered-over : {a : Answer} (j : Job) → answer j ≡ Some a → plan j ≡ None
+answered-over (jobs.Instruction i) is = ap instructions.plan_at (instruction-over i (mapped _ (instructions.answer i) is).1)
+answered-over (jobs.Evict e) is = ap evicts.plan_at (evict-over e (mapped _ (evicts.answer e) is).1)
+answered-over (jobs.Fsync f) is = ap (fsyncs.plan_at f.file) (fsync-over f (mapped _ (fsyncs.answer f) is).1)
+answered-over (jobs.Prctl p) is = ap (prctls.plan_at p.thread p.process) (prctl-over p (mapped _ (prctls.answer p) is).1)
+answered-over (jobs.Log l) is = ap read_stops.plan_at (read-over l.read (mapped _ (logs.answer l) is).1)
+answered-over (jobs.Raise r) is = ap raises.plan_at (raise-over r (mapped _ (raises.answer r) is).1)
+answered-over (jobs.Spoil s) is = ap (spoils.plan_at s.frame s.line s.damage) (spoil-over s (mapped _ (spoils.answer s) is).1)
+answered-over (jobs.Nested n) is = ap (nesteds.plan_at n.who) (nested-over n (mapped _ (nesteds.answer n) is).1)
+answered-over {a} (jobs.Inject i) is = which i.at is
+  where
+    by : (x : FailAt) → option_map fail_answer (fails.answer_at x) ≡ Some a → fails.plan_at x ≡ None
+    by (fail_at.Over x) said = refl
+    by _ said = absurd (none-some a said)
+
+    which : (x : InjectAt) → option_map fail_answer (injects.answer_at x) ≡ Some a → injects.plan_at x ≡ None
+    which inject_at.LoadStop said = absurd (none-some a said)
+    which (inject_at.Fail f) said = by f.at said
+    which inject_at.Stopped said = refl
+
+-- and its processor holds nothing
+empty-handed : (layout : Layout) (view : View) (j : Job) {a : Answer} → Fits layout view j → answer j ≡ Some a → hand_of view ≡ empty
+empty-handed layout view (jobs.Instruction i) fits is = (instruction-ended i fits (mapped _ (instructions.answer i) is).1).hand_is
+empty-handed layout view (jobs.Evict e) fits is = (evict-caused e fits (mapped _ (evicts.answer e) is).1).0
+empty-handed layout view (jobs.Fsync f) fits is = fits.hand_is
+empty-handed layout view (jobs.Prctl p) fits is = fits.hand_is
+empty-handed layout view (jobs.Log l) fits is = fits.read.hand_is
+empty-handed layout view (jobs.Raise r) fits is = (raise-ended r fits (mapped _ (raises.answer r) is).1).0.hand_is
+empty-handed layout view (jobs.Spoil s) fits is = fits.hand_is
+empty-handed layout view (jobs.Nested n) fits is = fits.hand_is
+empty-handed layout view (jobs.Inject i) fits is = (inject-ended i fits (mapped _ (injects.answer i) is).1).hand_is
+
 pub ends : (layout : Layout) (view : View) (j : Job) {a : Answer} → Fits layout view j → answer j ≡ Some a → (hand_of view ≡ empty) × (plan j ≡ None)
-ends layout view (jobs.Access a) fits is = let own = mapped _ (accesses.answer a) is in
-    ((accessing.answered layout view a own.0 fits own.1).hand_is, ap (accesses.plan_at a.request) (access-over a own.1))
-ends layout view (jobs.Evict e) fits is = let own = mapped _ (evicts.answer e) is in ((evict-caused e fits own.1).0, ap evicts.plan_at (evict-over e own.1))
-ends layout view (jobs.Fsync f) fits is = let own = mapped _ (fsyncs.answer f) is in (fits.hand_is, ap (fsyncs.plan_at f.file) (fsync-over f own.1))
-ends layout view (jobs.Prctl p) fits is = let own = mapped _ (prctls.answer p) is in (fits.hand_is, ap (prctls.plan_at p.thread p.process) (prctl-over p own.1))
-ends layout view (jobs.ReadStop r) fits is = let own = mapped _ (read_stops.answer r) is in (fits.hand_is, ap read_stops.plan_at (read-over r own.1))
-ends layout view (jobs.Nested n) fits is = let own = mapped _ (nesteds.answer n) is in (fits.hand_is, ap (nesteds.plan_at n.who) (nested-over n own.1))
-ends layout view (jobs.Inject i) fits is = let own = mapped _ (injects.answer i) is in let over = inject-ended i fits own.1 in (over.hand_is, over.plan_is)
+ends layout view j fits is = (empty-handed layout view j fits is, answered-over j is)
+
+-- a command of which memory can fail owes no loss, once it is answered
+pub paid-at-end : (layout : Layout) (view : View) (j : Job) {a : Answer} → Fits layout view j → answer j ≡ Some a → (view.owed.losses ≡ []) ⊎ (failed_now j ≡ [])
+paid-at-end layout view (jobs.Instruction i) fits is = inl (instruction-ended i fits (mapped _ (instructions.answer i) is).1).paid
+paid-at-end layout view (jobs.Raise r) fits is = inl (raise-ended r fits (mapped _ (raises.answer r) is).1).0.paid
+paid-at-end layout view (jobs.Inject i) fits is = inl (inject-ended i fits (mapped _ (injects.answer i) is).1).paid
+paid-at-end layout view _ fits is = inr refl

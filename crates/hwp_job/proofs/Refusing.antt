@@ -1,4 +1,4 @@
--- A turn by which a memory failure is refused memory leaves its command without an answer.
+-- A turn by which a memory failure, or a machine check, is refused memory leaves its command without an answer.
 use Rattle.std.proofs.Common.{◌≡◌, ℕ, ◌==◌, Bool, true, false, cond, Option, Some, None, is_none, refl, sym, ap, ◌∙◌, true≢false}
 use Rattle.hwp_geom.specs.declared.Frame.{Frame}
 use Rattle.hwp_geom.specs.declared.Layout.{Layout}
@@ -29,11 +29,16 @@ use Rattle.hwp_claim.specs.Meets as meets
 use Rattle.hwp_fail.specs.declared.fail.Fail.{Fail}
 use Rattle.hwp_fail.specs.declared.fail.FailAt.{FailAt}
 use Rattle.hwp_fail.specs.declared.fail.FailAt.TheVariants as fail_at
+use Rattle.hwp_fail.specs.declared.FailAnswer.{FailAnswer}
 use Rattle.hwp_fail.specs.declared.inject.Inject.{Inject}
 use Rattle.hwp_fail.specs.declared.inject.InjectAt.{InjectAt}
 use Rattle.hwp_fail.specs.declared.inject.InjectAt.TheVariants as inject_at
 use Rattle.hwp_fail.specs.Fails as fails
 use Rattle.hwp_fail.specs.Injects as injects
+use Rattle.hwp_handler.specs.declared.Handler.{Handler}
+use Rattle.hwp_handler.specs.declared.handler.HandlerAt.{HandlerAt}
+use Rattle.hwp_handler.specs.declared.handler.HandlerAt.TheVariants as handler_at
+use Rattle.hwp_handler.specs.Handlers as handlers
 
 -- such a turn is no other
 other : {A : Type 0} (turn : Turn) → is_refused turn ≡ false → is_refused turn ≡ true → A
@@ -105,3 +110,18 @@ refused-unanswered layout i k found got turn follows is = which i.at follows.1
     which inject_at.LoadStop next = other turn (ap is_refused next.1) is
     which (inject_at.Fail f) next = ap injects.answer_at next.next_is ∙ fail-refused f next.after found got turn next.follows is
     which inject_at.Stopped next = other turn (ap is_refused next.1) is
+
+pub handler-unanswered : (layout : Layout) (h after : Handler) (found : ℕ) (got : Option BodyValue) (turn : Turn) → handlers.Follows layout (handlers.bare h) found got after turn → is_refused turn ≡ true → handlers.answer after ≡ None
+handler-unanswered layout h after found got turn follows is = which h.at follows
+  where
+    stopping : (b c : Bool) → is_refused (cond b turns.Moved (cond c (turns.Changed found) turns.NoMemory)) ≡ true → handlers.answer_at (cond b (handler_at.Over true) (cond c (handler_at.Over true) handler_at.GaveUp)) ≡ None
+    stopping true c is_ = absurd (true≢false (sym is_))
+    stopping false true is_ = absurd (true≢false (sym is_))
+    stopping false false is_ = refl
+
+    which : (x : HandlerAt) → handlers.FollowsAt layout (handlers.bare h) (handlers.bare_at x) found got after turn → handlers.answer after ≡ None
+    which handler_at.Stop next = ap handlers.answer next.0 ∙ stopping (found == 0) (is_stopped found) (sym (ap is_refused next.1) ∙ is)
+    which (handler_at.Fail f) next = ap handlers.answer next.next_is
+        ∙ ap (λ (o : Option FailAnswer). handlers.answer (handlers.after_fail_by layout (record (handlers.bare h) { at = handler_at.Fail next.fail }) o)) (fail-refused f next.fail found got turn next.follows is)
+    which handler_at.GaveUp next = other turn (ap is_refused next.1) is
+    which (handler_at.Over stopped) next = other turn (ap is_refused next.1) is

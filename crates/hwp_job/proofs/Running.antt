@@ -1,100 +1,249 @@
 -- A task stays one of its command, from the beginning on; and a command that may begin fits.
-use Rattle.std.proofs.Common.{◌≡◌, ℕ, Option, refl, sym, ap, ◌∙◌, subst}
+use Rattle.std.proofs.Common.{◌≡◌, inl, inr, ℕ, Bool, true, false, [], Option, Some, None, refl, sym, ap, ◌∙◌, subst}
+use Rattle.std.specs.declared.alloc.Global.{Global}
+use Rattle.hwp_geom.specs.declared.Damage.{Damage}
 use Rattle.hwp_geom.specs.declared.Frame.{Frame}
 use Rattle.hwp_geom.specs.declared.Layout.{Layout}
+use Rattle.hwp_geom.specs.declared.Mode.{Mode}
 use Rattle.hwp_geom.specs.declared.Page.{Page}
 use Rattle.hwp_geom.specs.declared.Thread.{Thread}
 use Rattle.hwp_geom.specs.declared.VSlot.{VSlot}
 use Rattle.hwp_geom.specs.declared.Who.{Who}
+use Rattle.hwp_banks.specs.declared.Event.{Event}
+use Rattle.hwp_banks.specs.declared.Origin.{Origin}
+use Rattle.hwp_severity.specs.declared.McgBits.{McgBits}
 use Rattle.hwp_page.specs.History.{BodyValue}
+use Rattle.hwp_words.specs.Names.{page_named}
+use Rattle.hwp_words.specs.Stops.{is_stopped}
 use Rattle.hwp_form.specs.declared.Command.{Command}
 use Rattle.hwp_form.specs.declared.Command.TheVariants as commands
 use Rattle.hwp_form.specs.declared.PrctlArgs.{PrctlArgs}
 use Rattle.hwp_rule.specs.declared.View.{View}
 use Rattle.hwp_step.specs.declared.Turn.{Turn}
+use Rattle.hwp_law.specs.Checks.{Banks}
+use Rattle.hwp_control.specs.declared.ReadStopAnswer.{ReadStopAnswer}
 use Rattle.hwp_evict.specs.declared.Evict.{Evict}
 use Rattle.hwp_evict.specs.declared.Eviction.{Eviction}
 use Rattle.hwp_fail.specs.declared.Inject.{Inject}
-use Rattle.hwp_fault.specs.declared.Access.{Access}
+use Rattle.hwp_fault.specs.declared.AccessAnswer.{AccessAnswer}
+use Rattle.hwp_fault.specs.declared.AccessAnswer.TheVariants as access_answers
 use Rattle.hwp_fault.specs.declared.AccessKind.{AccessKind}
+use Rattle.hwp_fault.specs.declared.Request.{Request}
+use Rattle.hwp_fault.specs.Accesses as accesses
+use Rattle.hwp_handler.specs.declared.Handler.{Handler}
+use Rattle.hwp_handler.specs.Handlers as handlers
+use Rattle.hwp_instr.specs.declared.Instruction.{Instruction}
+use Rattle.hwp_instr.specs.declared.instruction.InstructionAt.{InstructionAt}
+use Rattle.hwp_instr.specs.declared.instruction.InstructionAt.TheVariants as instruction_at
+use Rattle.hwp_instr.specs.Fits.{IsOfAccess}
+use Rattle.hwp_instr.specs.Instructions as instructions
+use Rattle.hwp_instr.proofs.Instructing as instructing
+use Rattle.hwp_raise.specs.declared.Log.{Log}
+use Rattle.hwp_raise.specs.declared.Raise.{Raise}
+use Rattle.hwp_raise.specs.declared.Raiser.{Raiser}
+use Rattle.hwp_raise.specs.declared.raise.RaiseAt.{RaiseAt}
+use Rattle.hwp_raise.specs.declared.raise.RaiseAt.TheVariants as raise_at
+use Rattle.hwp_raise.specs.Logs as logs
+use Rattle.hwp_raise.specs.Raises as raises
 use Rattle.hwp_job.specs.declared.job.Job.{Job}
 use Rattle.hwp_job.specs.declared.job.Job.TheVariants as jobs
-use Rattle.hwp_job.specs.Begins.{Begins, BeginsAccess, BeginsEviction, BeginsInject, BeginsPrctl}
-use Rattle.hwp_job.specs.Jobs.{Fits, Next, bare, who}
+use Rattle.hwp_job.specs.Begins.{Begins, BeginsAccess, BeginsEviction, BeginsInject, BeginsLog, BeginsPrctl, BeginsRaiseKernel, BeginsRaiseUser, BeginsSpoil, request_of}
+use Rattle.hwp_job.specs.Done.{can_fail}
+use Rattle.hwp_job.specs.Jobs.{Fits, Next, banks_before, bare, claims, class, left_in, who}
 use Rattle.hwp_job.specs.Runs.{AtRest, Runs, anew}
+use Rattle.hwp_job.specs.Stays.{IsAtStop}
+
+-- ---- what a task asks for never changes
+
+abbrev AskedAccess : Type 0
+AskedAccess = Global × Request × Origin × Mode × Banks
+
+abbrev asked-access : Instruction → AskedAccess
+asked-access i = (i.alloc, i.request, i.origin, i.mode, i.before.value)
+
+access-handled : (i : Instruction) (frame : Frame) (h : Handler) → asked-access (instructions.after_handler i frame h) ≡ asked-access i
+access-handled i frame h = which (handlers.answer h)
+  where
+    which : (o : Option Bool) → asked-access (instructions.after_handler_by i frame h o) ≡ asked-access i
+    which None = refl
+    which (Some stopped) = refl
+
+instruction-kept : (layout : Layout) (i k : Instruction) (found : ℕ) (got : Option BodyValue) (turn : Turn) → instructions.Follows layout (instructions.bare i) found got k turn → asked-access k ≡ asked-access i
+instruction-kept layout i k found got turn follows = which i.at follows
+  where
+    accessed : (a : _) (o : Option AccessAnswer) → instructions.AfterAccessBy layout (instructions.bare i) a o k → asked-access k ≡ asked-access i
+    accessed a (Some (access_answers.Checked frame page place)) (inl refused) = ap asked-access refused
+    accessed a (Some (access_answers.Checked frame page place)) (inr (spare, room, is)) =
+        ap asked-access is ∙ access-handled (instructions.emptied (instructions.bare i) spare) frame (instructions.handler_of layout (instructions.bare i) frame)
+    accessed a None is = ap asked-access is
+    accessed a (Some (access_answers.Value word page place)) is = ap asked-access is
+    accessed a (Some (access_answers.Stored page place)) is = ap asked-access is
+    accessed a (Some (access_answers.Sigbus page place)) is = ap asked-access is
+    accessed a (Some access_answers.NoFrame) is = ap asked-access is
+    accessed a (Some (access_answers.Gone page)) is = ap asked-access is
+    accessed a (Some access_answers.Stopped) is = ap asked-access is
+
+    which : (x : InstructionAt) → instructions.FollowsAt layout (instructions.bare i) (instructions.bare_at x) found got k turn → asked-access k ≡ asked-access i
+    which (instruction_at.Access a) next = accessed next.access (accesses.answer next.access) next.next_is
+    which (instruction_at.Handle frame h) next = ap asked-access next.next_is ∙ access-handled (instructions.bare i) frame next.handler
+    which (instruction_at.LoadFrame frame) next = ap asked-access next.0
+    which (instruction_at.LoadStop frame) next = ap asked-access next.0
+    which instruction_at.GiveUp next = ap asked-access next.0
+    which (instruction_at.Over answer) next = ap asked-access next.0
+
+abbrev AskedRaise : Type 0
+AskedRaise = Global × Who × Option Raiser × McgBits × Banks
+
+abbrev asked-raise : Raise → AskedRaise
+asked-raise r = (r.alloc, r.who, r.raiser, r.mcg, r.before.value)
+
+raise-handled : (r : Raise) (h : Handler) → asked-raise (raises.after_handler r h) ≡ asked-raise r
+raise-handled r h = which (handlers.answer h)
+  where
+    which : (o : Option Bool) → asked-raise (raises.after_handler_by r h o) ≡ asked-raise r
+    which None = refl
+    which (Some stopped) = refl
+
+raise-kept : (layout : Layout) (r k : Raise) (found : ℕ) (got : Option BodyValue) (turn : Turn) → raises.Follows layout (raises.bare r) found got k turn → asked-raise k ≡ asked-raise r
+raise-kept layout r k found got turn follows = which r.at follows
+  where
+    begun : raises.BeginsCheck layout (raises.bare r) k → asked-raise k ≡ asked-raise r
+    begun (inl refused) = ap asked-raise refused
+    begun (inr (spare, room, is)) = ap asked-raise is ∙ raise-handled (raises.emptied (raises.bare r) spare) (raises.handler_of layout (raises.bare r))
+
+    by-stop : (b : Bool) (o : Option Raiser) → raises.AfterStopBy layout (raises.bare r) b o k → asked-raise k ≡ asked-raise r
+    by-stop true o is = ap asked-raise is
+    by-stop false (Some raiser) is = ap asked-raise is
+    by-stop false None is = begun is
+
+    by-process : (o : Option Page) → raises.AfterProcessBy layout (raises.bare r) o k → asked-raise k ≡ asked-raise r
+    by-process (Some page) is = ap asked-raise is
+    by-process None is = begun is
+
+    which : (x : RaiseAt) → raises.FollowsAt layout (raises.bare r) (raises.bare_at x) found got k turn → asked-raise k ≡ asked-raise r
+    which raise_at.LoadStop next = by-stop (is_stopped found) r.raiser next.0
+    which (raise_at.LoadProcess raiser) next = by-process (page_named found) next.0
+    which (raise_at.Handle h) next = ap asked-raise next.next_is ∙ raise-handled (raises.bare r) next.handler
+    which raise_at.GiveUp next = ap asked-raise next.0
+    which (raise_at.Over answer) next = ap asked-raise next.0
+
+abbrev asked-log : Log → Who × Event × Banks
+asked-log l = (l.read.who, l.event, l.before.value)
+
+log-kept : (l : Log) (found : ℕ) → asked-log (logs.next l found) ≡ asked-log l
+log-kept l found = which (logs.answer l)
+  where
+    which : (o : Option ReadStopAnswer) → asked-log (logs.next_by l found o) ≡ asked-log l
+    which None = refl
+    which (Some answer) = refl
 
 -- ---- a task of its command
 
--- a task begun anew is the same
-new-so : {x j : Job} → j ≡ x → anew x ≡ x → anew j ≡ j
-new-so is same = subst (λ (y : Job). anew y ≡ y) (sym is) same
+-- the same command goes on
+record GoesOn (j after : Job) : Type 0 where
+  anew_is : anew after ≡ anew j
+  before : (kept : Banks) → banks_before after kept ≡ banks_before j kept
+  fails : can_fail after ≡ can_fail j
 
-begins-anew : (layout : Layout) (who : Who) (command : Command) (j : Job) → Begins layout who command j → anew j ≡ j
-begins-anew layout who (commands.Load thread slot line) j begun = new-so begun.job_is refl
-begins-anew layout who (commands.Fetch thread slot line) j begun = new-so begun.job_is refl
-begins-anew layout who (commands.KLoad thread slot line) j begun = new-so begun.job_is refl
-begins-anew layout who (commands.Store thread slot line word) j begun = new-so begun.job_is refl
-begins-anew layout who (commands.Free slot) j begun = new-so begun.1.job_is refl
-begins-anew layout who (commands.Drop page) j begun = new-so begun.job_is refl
-begins-anew layout who (commands.Sync page) j begun = new-so begun.job_is refl
-begins-anew layout who (commands.Out page) j begun = new-so begun.job_is refl
-begins-anew layout who (commands.Fsync file) j begun = new-so begun.1 refl
-begins-anew layout who (commands.Prctl thread args) j begun = new-so begun.job_is refl
-begins-anew layout who (commands.Log status addr misc) j begun = new-so begun refl
-begins-anew layout who commands.RaiseNested j begun = new-so begun refl
-begins-anew layout who (commands.Inject frame) j begun = new-so begun.job_is refl
-begins-anew layout who _ j begun = absurd begun
+goes-on : (layout : Layout) (found : ℕ) (got : Option BodyValue) (turn : Turn) (j after : Job) → Next layout (bare j) found got after turn → GoesOn j after
+goes-on layout found got turn (jobs.Instruction i) after next = subst (GoesOn (jobs.Instruction i)) (sym next.1) (record {
+  anew_is = ap (λ (a : AskedAccess). jobs.Instruction (instructions.begin a.0 a.1 a.2 a.3 a.4)) (instruction-kept layout i next.0 found got turn next.2);
+  before = λ kept. ap (λ (a : AskedAccess). a.4) (instruction-kept layout i next.0 found got turn next.2);
+  fails = refl;
+})
+goes-on layout found got turn (jobs.Raise r) after next = subst (GoesOn (jobs.Raise r)) (sym next.1) (record {
+  anew_is = ap (λ (a : AskedRaise). jobs.Raise (raises.begin a.0 a.1 a.2 a.3 a.4)) (raise-kept layout r next.0 found got turn next.2);
+  before = λ kept. ap (λ (a : AskedRaise). a.4) (raise-kept layout r next.0 found got turn next.2);
+  fails = refl;
+})
+goes-on layout found got turn (jobs.Log l) after next = subst (GoesOn (jobs.Log l)) (sym next.0) (record {
+  anew_is = ap (λ (a : Who × Event × Banks). jobs.Log (logs.begin a.0 a.1 a.2)) (log-kept l found);
+  before = λ kept. ap (λ (a : Who × Event × Banks). a.2) (log-kept l found);
+  fails = refl;
+})
+goes-on layout found got turn (jobs.Evict e) after next = subst (GoesOn (jobs.Evict e)) (sym next.1) (record { anew_is = ap (λ (x : Evict). anew (jobs.Evict x)) next.2.0; before = λ kept. refl; fails = refl })
+goes-on layout found got turn (jobs.Inject i) after next = subst (GoesOn (jobs.Inject i)) (sym next.1) (record { anew_is = ap (λ (x : Inject). anew (jobs.Inject x)) next.2.0; before = λ kept. refl; fails = refl })
+goes-on layout found got turn (jobs.Fsync f) after next = subst (GoesOn (jobs.Fsync f)) (sym next.0) (record { anew_is = refl; before = λ kept. refl; fails = refl })
+goes-on layout found got turn (jobs.Prctl p) after next = subst (GoesOn (jobs.Prctl p)) (sym next.0) (record { anew_is = refl; before = λ kept. refl; fails = refl })
+goes-on layout found got turn (jobs.Spoil s) after next = subst (GoesOn (jobs.Spoil s)) (sym next.0) (record { anew_is = refl; before = λ kept. refl; fails = refl })
+goes-on layout found got turn (jobs.Nested n) after next = subst (GoesOn (jobs.Nested n)) (sym next.0) (record { anew_is = refl; before = λ kept. refl; fails = refl })
 
-pub begins-runs : (layout : Layout) (who : Who) (command : Command) (j : Job) → Begins layout who command j → Runs layout who command j
-begins-runs layout who command j begun = subst (Begins layout who command) (sym (begins-anew layout who command j begun)) begun
+pub before-stays : (layout : Layout) (j after : Job) (found : ℕ) (got : Option BodyValue) (turn : Turn) → Next layout (bare j) found got after turn → (kept : Banks) → banks_before after kept ≡ banks_before j kept
+before-stays layout j after found got turn next = (goes-on layout found got turn j after next).before
 
--- what a command asks for never changes
-next-anew : (layout : Layout) (found : ℕ) (got : Option BodyValue) (turn : Turn) (j after : Job) → Next layout (bare j) found got after turn → anew after ≡ anew j
-next-anew layout found got turn (jobs.Access a) after next = ap anew next.1 ∙ ap (λ (x : Access). anew (jobs.Access x)) next.2.rest
-next-anew layout found got turn (jobs.Evict e) after next = ap anew next.1 ∙ ap (λ (x : Evict). anew (jobs.Evict x)) next.2.0
-next-anew layout found got turn (jobs.Fsync f) after next = ap anew next.0
-next-anew layout found got turn (jobs.Prctl p) after next = ap anew next.0
-next-anew layout found got turn (jobs.ReadStop r) after next = ap anew next.0
-next-anew layout found got turn (jobs.Nested n) after next = ap anew next.0
-next-anew layout found got turn (jobs.Inject i) after next = ap anew next.1 ∙ ap (λ (x : Inject). anew (jobs.Inject x)) next.2.0
+pub can-fail-stays : (layout : Layout) (j after : Job) (found : ℕ) (got : Option BodyValue) (turn : Turn) → Next layout (bare j) found got after turn → can_fail after ≡ can_fail j
+can-fail-stays layout j after found got turn next = (goes-on layout found got turn j after next).fails
 
 pub runs-on : (layout : Layout) (who : Who) (command : Command) (j after : Job) (found : ℕ) (got : Option BodyValue) (turn : Turn) → Runs layout who command j → Next layout (bare j) found got after turn → Runs layout who command after
-runs-on layout who command j after found got turn runs next = subst (Begins layout who command) (sym (next-anew layout found got turn j after next)) runs
+runs-on layout by command j after found got turn runs next = let on = goes-on layout found got turn j after next in
+    subst (λ (b : Banks). Begins layout by command b (anew after)) (sym (on.before [])) (subst (Begins layout by command (banks_before j [])) (sym on.anew_is) runs)
+
+-- ---- where it begins
+
+-- a call of prctl(2), and other tasks; and commands that are one
+abbrev pub is_call : Job → Bool
+is_call (jobs.Prctl p) = true
+is_call _ = false
+
+abbrev pub is_prctl : Command → Bool
+is_prctl (commands.Prctl thread args) = true
+is_prctl _ = false
+
+-- a task at the beginning of its command
+pub record HasBegun (layout : Layout) (by : Who) (command : Command) (banks : Banks) (j : Job) : Type 0 where
+  pub runs : Runs layout by command j
+  pub who_is : who j ≡ by
+  pub start : IsAtStop j
+  pub before : banks_before j (left_in j banks) ≡ banks
+  pub idle : (class j ≡ 4) × (claims j ≡ None)
+  pub call : is_call j ≡ is_prctl command
+
+pub has-begun : (layout : Layout) (by : Who) (command : Command) (banks : Banks) (j : Job) → Begins layout by command banks j → HasBegun layout by command banks j
+has-begun layout by command banks j begun = which command begun
+  where
+    from : (c : Command) (x : Job) → j ≡ x → (Begins layout by c banks x → HasBegun layout by c banks x) → Begins layout by c banks j → HasBegun layout by c banks j
+    from c x is has b = subst (HasBegun layout by c banks) (sym is) (has (subst (Begins layout by c banks) is b))
+
+    which : (c : Command) → Begins layout by c banks j → HasBegun layout by c banks j
+    which (commands.Load thread slot line) b = from (commands.Load thread slot line) _ b.job_is (λ r. record { runs = r; who_is = refl; start = (_, refl, refl, refl); before = refl; idle = (refl, refl); call = refl }) b
+    which (commands.Fetch thread slot line) b = from (commands.Fetch thread slot line) _ b.job_is (λ r. record { runs = r; who_is = refl; start = (_, refl, refl, refl); before = refl; idle = (refl, refl); call = refl }) b
+    which (commands.KLoad thread slot line) b = from (commands.KLoad thread slot line) _ b.job_is (λ r. record { runs = r; who_is = refl; start = (_, refl, refl, refl); before = refl; idle = (refl, refl); call = refl }) b
+    which (commands.Store thread slot line word) b = from (commands.Store thread slot line word) _ b.job_is (λ r. record { runs = r; who_is = refl; start = (_, refl, refl, refl); before = refl; idle = (refl, refl); call = refl }) b
+    which (commands.Free slot) b = from (commands.Free slot) _ b.1.job_is (λ r. record { runs = r; who_is = refl; start = refl; before = refl; idle = (refl, refl); call = refl }) b
+    which (commands.Drop page) b = from (commands.Drop page) _ b.job_is (λ r. record { runs = r; who_is = refl; start = refl; before = refl; idle = (refl, refl); call = refl }) b
+    which (commands.Sync page) b = from (commands.Sync page) _ b.job_is (λ r. record { runs = r; who_is = refl; start = refl; before = refl; idle = (refl, refl); call = refl }) b
+    which (commands.Out page) b = from (commands.Out page) _ b.job_is (λ r. record { runs = r; who_is = refl; start = refl; before = refl; idle = (refl, refl); call = refl }) b
+    which (commands.Fsync file) b = from (commands.Fsync file) _ b.1 (λ r. record { runs = r; who_is = refl; start = refl; before = refl; idle = (refl, refl); call = refl }) b
+    which (commands.Prctl thread args) b = from (commands.Prctl thread args) _ b.job_is (λ r. record { runs = r; who_is = refl; start = refl; before = refl; idle = (refl, refl); call = refl }) b
+    which (commands.Bad frame line) b = from (commands.Bad frame line) _ b.job_is (λ r. record { runs = r; who_is = refl; start = refl; before = refl; idle = (refl, refl); call = refl }) b
+    which (commands.Weak frame line) b = from (commands.Weak frame line) _ b.job_is (λ r. record { runs = r; who_is = refl; start = refl; before = refl; idle = (refl, refl); call = refl }) b
+    which (commands.Log status addr misc) b = from (commands.Log status addr misc) _ b.job_is (λ r. record { runs = r; who_is = refl; start = refl; before = refl; idle = (refl, refl); call = refl }) b
+    which (commands.RaiseUser thread ripv eipv) b = from (commands.RaiseUser thread ripv eipv) _ b.job_is (λ r. record { runs = r; who_is = refl; start = (refl, refl); before = refl; idle = (refl, refl); call = refl }) b
+    which (commands.RaiseKernel ripv eipv) b = from (commands.RaiseKernel ripv eipv) _ b.job_is (λ r. record { runs = r; who_is = refl; start = (refl, refl); before = refl; idle = (refl, refl); call = refl }) b
+    which commands.RaiseNested b = from commands.RaiseNested _ b (λ r. record { runs = r; who_is = refl; start = refl; before = refl; idle = (refl, refl); call = refl }) b
+    which (commands.Inject frame) b = from (commands.Inject frame) _ b.job_is (λ r. record { runs = r; who_is = refl; start = refl; before = refl; idle = (refl, refl); call = refl }) b
+    which _ b = absurd b
+
+pub begins-runs : (layout : Layout) (who : Who) (command : Command) (banks : Banks) (j : Job) → Begins layout who command banks j → Runs layout who command j
+begins-runs layout by command banks j begun = (has-begun layout by command banks j begun).runs
+
+pub before-begins : (layout : Layout) (who : Who) (command : Command) (banks : Banks) (j : Job) → Begins layout who command banks j → banks_before j (left_in j banks) ≡ banks
+before-begins layout by command banks j begun = (has-begun layout by command banks j begun).before
 
 -- the command is the one that is its turn
 anew-who : (j : Job) → who (anew j) ≡ who j
-anew-who (jobs.Access a) = refl
-anew-who (jobs.Evict e) = refl
-anew-who (jobs.Fsync f) = refl
-anew-who (jobs.Prctl p) = refl
-anew-who (jobs.ReadStop r) = refl
-anew-who (jobs.Nested n) = refl
-anew-who (jobs.Inject i) = refl
-
-begins-who : (layout : Layout) (by : Who) (command : Command) (j : Job) → Begins layout by command j → who j ≡ by
-begins-who layout by (commands.Load thread slot line) j begun = ap who begun.job_is
-begins-who layout by (commands.Fetch thread slot line) j begun = ap who begun.job_is
-begins-who layout by (commands.KLoad thread slot line) j begun = ap who begun.job_is
-begins-who layout by (commands.Store thread slot line word) j begun = ap who begun.job_is
-begins-who layout by (commands.Free slot) j begun = ap who begun.1.job_is
-begins-who layout by (commands.Drop page) j begun = ap who begun.job_is
-begins-who layout by (commands.Sync page) j begun = ap who begun.job_is
-begins-who layout by (commands.Out page) j begun = ap who begun.job_is
-begins-who layout by (commands.Fsync file) j begun = ap who begun.1
-begins-who layout by (commands.Prctl thread args) j begun = ap who begun.job_is
-begins-who layout by (commands.Log status addr misc) j begun = ap who begun
-begins-who layout by commands.RaiseNested j begun = ap who begun
-begins-who layout by (commands.Inject frame) j begun = ap who begun.job_is
-begins-who layout by _ j begun = absurd begun
+anew-who (jobs.Instruction i) = refl
+anew-who _ = refl
 
 pub runs-who : (layout : Layout) (by : Who) (command : Command) (j : Job) → Runs layout by command j → who j ≡ by
-runs-who layout by command j runs = sym (anew-who j) ∙ begins-who layout by command (anew j) runs
+runs-who layout by command j runs = sym (anew-who j) ∙ (has-begun layout by command (banks_before j []) (anew j) runs).who_is
 
 -- ---- a command that may begin
 
 module _ {layout : Layout} {view : View} {who : Who} (rest : AtRest view who) {j : Job} where
-  access-fits : {thread : Thread} {slot : VSlot} {line : ℕ} {kind : AccessKind} → BeginsAccess layout who thread slot line kind j → Fits layout view j
-  access-fits begun = subst (Fits layout view) (sym begun.job_is) (record { on_turn = rest.on_turn; names = begun.names; at = record { hand_is = rest.hand_is; none = rest.made } })
+  access-fits : {thread : Thread} {slot : VSlot} {line : ℕ} {kind : AccessKind} {origin : Origin} {mode : Mode} {banks : Banks} → IsOfAccess origin → BeginsAccess layout who thread slot line kind origin mode banks j → Fits layout view j
+  access-fits {thread} {slot} {line} {kind} {origin} {mode} {banks} of begun = subst (Fits layout view) (sym begun.job_is)
+      (instructing.begins layout view (instructions.begin begun.alloc (request_of who thread slot line kind begun.page begun.process) origin mode banks) refl rest.on_turn begun.sound begun.names of begun.three rest.hand_is rest.paid rest.made)
 
   eviction-fits : {page : Page} {what : Eviction} → BeginsEviction layout who page what j → Fits layout view j
   eviction-fits begun = subst (Fits layout view) (sym begun.job_is) (record { on_turn = rest.on_turn; page = begun.within; kind = begun.kind; at = (rest.hand_is, rest.made) })
@@ -112,6 +261,30 @@ module _ {layout : Layout} {view : View} {who : Who} (rest : AtRest view who) {j
     at = rest.left thread;
   })
 
+  spoil-fits : {frame : Frame} {line : ℕ} {damage : Damage} → BeginsSpoil layout who frame line damage j → Fits layout view j
+  spoil-fits begun = subst (Fits layout view) (sym begun.job_is) (record { on_turn = rest.on_turn; hand_is = rest.hand_is; made = rest.made; frame = begun.within; at = tt })
+
+  log-fits : {event : Event} {banks : Banks} → BeginsLog layout who event banks j → Fits layout view j
+  log-fits begun = subst (Fits layout view) (sym begun.job_is) (record { read = record { on_turn = rest.on_turn; hand_is = rest.hand_is; made = rest.made; at = tt }; three = begun.three; banks_are = refl })
+
+  raise-user-fits : {thread : Thread} {mcg : McgBits} {banks : Banks} → BeginsRaiseUser layout who thread mcg banks j → Fits layout view j
+  raise-user-fits begun = subst (Fits layout view) (sym begun.job_is) (record {
+    on_turn = rest.on_turn;
+    sound = begun.sound;
+    raiser = record { decl = begun.decl; declared = begun.declared; process_is = refl; process = begun.within };
+    three = begun.three;
+    at = record { rest = record { hand_is = rest.hand_is; paid = rest.paid }; unchecked = record { told_none = refl; banks_are = refl; made = rest.made } };
+  })
+
+  raise-kernel-fits : {mcg : McgBits} {banks : Banks} → BeginsRaiseKernel layout who mcg banks j → Fits layout view j
+  raise-kernel-fits begun = subst (Fits layout view) (sym begun.job_is) (record {
+    on_turn = rest.on_turn;
+    sound = begun.sound;
+    raiser = tt;
+    three = begun.three;
+    at = record { rest = record { hand_is = rest.hand_is; paid = rest.paid }; unchecked = record { told_none = refl; banks_are = refl; made = rest.made } };
+  })
+
   inject-fits : {frame : Frame} → BeginsInject layout who frame j → Fits layout view j
   inject-fits begun = subst (Fits layout view) (sym begun.job_is) (record {
     on_turn = rest.on_turn;
@@ -120,19 +293,22 @@ module _ {layout : Layout} {view : View} {who : Who} (rest : AtRest view who) {j
     at = record { hand_is = rest.hand_is; paid = rest.paid; made = rest.made; unmarked = rest.unmarked };
   })
 
-pub begins-fits : (layout : Layout) (view : View) (who : Who) (command : Command) (j : Job) → Begins layout who command j → AtRest view who → Fits layout view j
-begins-fits layout view who (commands.Load thread slot line) j begun rest = access-fits rest begun
-begins-fits layout view who (commands.Fetch thread slot line) j begun rest = access-fits rest begun
-begins-fits layout view who (commands.KLoad thread slot line) j begun rest = access-fits rest begun
-begins-fits layout view who (commands.Store thread slot line word) j begun rest = access-fits rest begun
-begins-fits layout view who (commands.Free slot) j begun rest = eviction-fits rest begun.1
-begins-fits layout view who (commands.Drop page) j begun rest = eviction-fits rest begun
-begins-fits layout view who (commands.Sync page) j begun rest = eviction-fits rest begun
-begins-fits layout view who (commands.Out page) j begun rest = eviction-fits rest begun
-begins-fits layout view who (commands.Fsync file) j begun rest =
-    subst (Fits layout view) (sym begun.1) (record { on_turn = rest.on_turn; file = begun.0; hand_is = rest.hand_is; made_none = rest.made; at = tt })
-begins-fits layout view who (commands.Prctl thread args) j begun rest = prctl-fits rest begun
-begins-fits layout view who (commands.Log status addr misc) j begun rest = subst (Fits layout view) (sym begun) (record { on_turn = rest.on_turn; hand_is = rest.hand_is; made = rest.made; at = tt })
-begins-fits layout view who (commands.Inject frame) j begun rest = inject-fits rest begun
-begins-fits layout view who commands.RaiseNested j begun rest = subst (Fits layout view) (sym begun) (record { on_turn = rest.on_turn; hand_is = rest.hand_is; made = rest.made; at = tt })
-begins-fits layout view who _ j begun rest = absurd begun
+pub begins-fits : (layout : Layout) (view : View) (who : Who) (command : Command) (banks : Banks) (j : Job) → Begins layout who command banks j → AtRest view who → Fits layout view j
+begins-fits layout view by (commands.Load thread slot line) banks j begun rest = access-fits rest tt begun
+begins-fits layout view by (commands.Fetch thread slot line) banks j begun rest = access-fits rest tt begun
+begins-fits layout view by (commands.KLoad thread slot line) banks j begun rest = access-fits rest tt begun
+begins-fits layout view by (commands.Store thread slot line word) banks j begun rest = access-fits rest tt begun
+begins-fits layout view by (commands.Free slot) banks j begun rest = eviction-fits rest begun.1
+begins-fits layout view by (commands.Drop page) banks j begun rest = eviction-fits rest begun
+begins-fits layout view by (commands.Sync page) banks j begun rest = eviction-fits rest begun
+begins-fits layout view by (commands.Out page) banks j begun rest = eviction-fits rest begun
+begins-fits layout view by (commands.Fsync file) banks j begun rest = subst (Fits layout view) (sym begun.1) (record { on_turn = rest.on_turn; hand_is = rest.hand_is; file = begun.0; made_none = rest.made; at = tt })
+begins-fits layout view by (commands.Prctl thread args) banks j begun rest = prctl-fits rest begun
+begins-fits layout view by (commands.Bad frame line) banks j begun rest = spoil-fits rest begun
+begins-fits layout view by (commands.Weak frame line) banks j begun rest = spoil-fits rest begun
+begins-fits layout view by (commands.Log status addr misc) banks j begun rest = log-fits rest begun
+begins-fits layout view by (commands.RaiseUser thread ripv eipv) banks j begun rest = raise-user-fits rest begun
+begins-fits layout view by (commands.RaiseKernel ripv eipv) banks j begun rest = raise-kernel-fits rest begun
+begins-fits layout view by (commands.Inject frame) banks j begun rest = inject-fits rest begun
+begins-fits layout view by commands.RaiseNested banks j begun rest = subst (Fits layout view) (sym begun) (record { on_turn = rest.on_turn; hand_is = rest.hand_is; made = rest.made; at = tt })
+begins-fits layout view by _ banks j begun rest = absurd begun

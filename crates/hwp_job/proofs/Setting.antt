@@ -1,5 +1,5 @@
 -- The policies that a view lists after a step: those before it, and what the command has set with it.
-use Rattle.std.proofs.Common.{◌≡◌, inl, inr, ℕ, ◌==◌, Bool, true, false, cond, List, [], ◌∷◌, ◌++◌, Option, Some, None, map, append-nil, refl, sym, ap, ◌∙◌}
+use Rattle.std.proofs.Common.{◌≡◌, ℕ, ◌==◌, Bool, true, false, cond, List, [], ◌∷◌, ◌++◌, Option, Some, None, map, append-nil, refl, sym, ap, ◌∙◌}
 use Rattle.std.proofs.lemmas.List.{map-append}
 use Rattle.std.proofs.lemmas.List.Elements.{filter-append}
 use Rattle.std.proofs.lemmas.Option.{none-some}
@@ -18,31 +18,21 @@ use Rattle.hwp_rule.specs.declared.Setting.{Setting}
 use Rattle.hwp_rule.specs.declared.Step.{Step}
 use Rattle.hwp_rule.specs.declared.Step.TheVariants as steps
 use Rattle.hwp_rule.specs.declared.View.{View}
-use Rattle.hwp_rule.specs.Views.{noted, sighted, stamp_of}
+use Rattle.hwp_rule.specs.Views.{noted, stamp_of}
 use Rattle.hwp_rule.specs.parts.Policies.{settings_of}
 use Rattle.hwp_step.proofs.Stepping.{steps-planned}
-use Rattle.hwp_control.specs.declared.Nested.{Nested}
 use Rattle.hwp_control.specs.declared.Prctl.{Prctl}
 use Rattle.hwp_control.specs.declared.PrctlAnswer.TheVariants as prctl_answers
-use Rattle.hwp_control.specs.declared.nested.NestedAt.{NestedAt}
-use Rattle.hwp_control.specs.declared.nested.NestedAt.TheVariants as nested_at
 use Rattle.hwp_control.specs.declared.prctl.PrctlAt.{PrctlAt}
 use Rattle.hwp_control.specs.declared.prctl.PrctlAt.TheVariants as prctl_at
-use Rattle.hwp_control.specs.Nesteds as nesteds
 use Rattle.hwp_control.specs.Prctls as prctls
-use Rattle.hwp_evict.specs.declared.Fsync.{Fsync}
-use Rattle.hwp_evict.specs.declared.fsync.FsyncAt.{FsyncAt}
-use Rattle.hwp_evict.specs.declared.fsync.FsyncAt.TheVariants as fsync_at
-use Rattle.hwp_evict.specs.Fsyncs as fsyncs
-use Rattle.hwp_fail.specs.declared.inject.Inject.{Inject}
+use Rattle.hwp_fail.proofs.Quiet.{leaves}
 use Rattle.hwp_job.specs.declared.job.Job.{Job}
 use Rattle.hwp_job.specs.declared.job.Job.TheVariants as jobs
 use Rattle.hwp_job.specs.Jobs.{plan}
 use Rattle.hwp_job.specs.Settings.{policies_in, set_at, set_now}
 use Rattle.hwp_job.specs.Stays.{Stepped}
-use Rattle.hwp_job.proofs.Injecting.{IsStepOf, count-leaves, poison-leaves, step-of, stop-leaves}
-use Rattle.hwp_job.proofs.Quiet.{access, evict, leaves, read}
-use Rattle.hwp_job.proofs.Stopping.{quiet-step}
+use Rattle.hwp_job.proofs.Resting.{evict-left, fsync-left, inject-left, instruction-left, log-left, nested-left, quiet-step, raise-left, spoil-left}
 
 pub either-same : (b : Bool) (l : List Policy) → cond b l l ≡ l
 either-same true l = refl
@@ -50,9 +40,6 @@ either-same false l = refl
 
 -- a command that makes a step has set nothing yet
 pub unset-before : (thread : Thread) (j : Job) {step : Step} → plan j ≡ Some step → set_now thread j ≡ []
-unset-before thread (jobs.Access a) is = refl
-unset-before thread (jobs.Evict e) is = refl
-unset-before thread (jobs.Fsync f) is = refl
 unset-before thread (jobs.Prctl p) {step} is = ap (λ (l : List Policy). cond (p.thread.0 == thread.0) l []) (which p.at is) ∙ either-same (p.thread.0 == thread.0) []
   where
     which : (x : PrctlAt) → prctls.plan_at p.thread p.process x ≡ Some step → set_at x ≡ []
@@ -61,9 +48,7 @@ unset-before thread (jobs.Prctl p) {step} is = ap (λ (l : List Policy). cond (p
     which prctl_at.LoadPolicy e = refl
     which (prctl_at.SetPolicy policy settings) e = refl
     which (prctl_at.Over answer) e = absurd (none-some step e)
-unset-before thread (jobs.ReadStop r) is = refl
-unset-before thread (jobs.Nested n) is = refl
-unset-before thread (jobs.Inject i) is = refl
+unset-before thread _ is = refl
 
 module _ (thread : Thread) (old new : View) (after : Job) where
   -- a step that leaves the settings, by a command that has set nothing
@@ -120,47 +105,14 @@ module _ {layout : Layout} {old new : View} {p : Prctl} {after : Job} (s : Stepp
           ∙ ap (λ (l : List Policy). policies_in thread old ++ l) (sym (so (prctl_at.SetPolicy policy settings) at))
       which (prctl_at.Over answer) at e = absurd (none-some s.step e)
 
--- a machine check inside a machine check sets nothing
-module _ {layout : Layout} {old new : View} {n : Nested} {after : Job} (s : Stepped layout old new (jobs.Nested n) after) where
-  nested-leaves : new.settings ≡ old.settings
-  nested-leaves = which n.at s.planned
-    where
-      by : (b : Bool) (x y : View) → x.settings ≡ old.settings → y.settings ≡ old.settings → (cond b x y).settings ≡ old.settings
-      by true x y e f = e
-      by false x y e f = f
-
-      which : (x : NestedAt) → nesteds.plan_at n.who x ≡ Some s.step → new.settings ≡ old.settings
-      which nested_at.LoadStop e = (leaves s.made (quiet-step {o = Some (steps.Load places.Stop)} tt e)).settings
-      which nested_at.Stop e = ap (λ (v : View). v.settings) (steps-planned {other = steps.Stop n.who.cpu} e s.made).told.next
-          ∙ by (s.found == 0) (record (noted n.who old) { stops = old.stops ++ n.who ∷ [] }) (sighted n.who places.Stop s.found (noted n.who old)) refl refl
-      which (nested_at.Over answer) e = absurd (none-some s.step e)
-
--- nor does a call of fsync(2)
-module _ {layout : Layout} {old new : View} {f : Fsync} {after : Job} (s : Stepped layout old new (jobs.Fsync f) after) where
-  fsync-leaves : new.settings ≡ old.settings
-  fsync-leaves = which f.at s.planned
-    where
-      which : (x : FsyncAt) → fsyncs.plan_at f.file x ≡ Some s.step → new.settings ≡ old.settings
-      which fsync_at.LoadStop e = (leaves s.made (quiet-step {o = Some (steps.Load places.Stop)} tt e)).settings
-      which fsync_at.Report e = ap (λ (v : View). v.settings) (steps-planned {other = steps.ReportLost f.file} e s.made).told.next
-      which (fsync_at.Over answer) e = absurd (none-some s.step e)
-
--- nor does a memory failure
-module _ {layout : Layout} {old new : View} {i : Inject} {after : Job} (s : Stepped layout old new (jobs.Inject i) after) where
-  inject-leaves : new.settings ≡ old.settings
-  inject-leaves = which (step-of s)
-    where
-      which : IsStepOf i after s.step s.found old → new.settings ≡ old.settings
-      which (inl silent) = (leaves s.made silent.quiet).settings
-      which (inr (inl stop)) = (stop-leaves s stop).settings
-      which (inr (inr (inl poison))) = (poison-leaves s poison).settings
-      which (inr (inr (inr count))) = (count-leaves s count).settings
-
+-- the settings after a step: those before it, and what the command has set with it
 pub settings-after : {layout : Layout} {old new : View} {j after : Job} → Stepped layout old new j after → (thread : Thread) → policies_in thread new ≡ policies_in thread old ++ set_now thread after
-settings-after {old = old} {new = new} {j = jobs.Access a} {after = after} s thread = kept thread old new after (leaves s.made (quiet-step (access a.request a.at) s.planned)).settings (ap (set_now thread) s.follows.1)
-settings-after {old = old} {new = new} {j = jobs.Evict e} {after = after} s thread = kept thread old new after (leaves s.made (quiet-step (evict e.at) s.planned)).settings (ap (set_now thread) s.follows.1)
-settings-after {old = old} {new = new} {j = jobs.Fsync f} {after = after} s thread = kept thread old new after (fsync-leaves s) (ap (set_now thread) s.follows.0)
 settings-after {old = old} {new = new} {j = jobs.Prctl p} {after = after} s thread = call-sets s thread
-settings-after {old = old} {new = new} {j = jobs.ReadStop r} {after = after} s thread = kept thread old new after (leaves s.made (quiet-step (read r.at) s.planned)).settings (ap (set_now thread) s.follows.0)
-settings-after {old = old} {new = new} {j = jobs.Nested n} {after = after} s thread = kept thread old new after (nested-leaves s) (ap (set_now thread) s.follows.0)
-settings-after {old = old} {new = new} {j = jobs.Inject i} {after = after} s thread = kept thread old new after (inject-leaves s) (ap (set_now thread) s.follows.1)
+settings-after {old = old} {new = new} {j = jobs.Instruction i} {after = after} s thread = kept thread old new after (instruction-left s).rest.settings (ap (set_now thread) s.follows.1)
+settings-after {old = old} {new = new} {j = jobs.Evict e} {after = after} s thread = kept thread old new after (evict-left s).rest.settings (ap (set_now thread) s.follows.1)
+settings-after {old = old} {new = new} {j = jobs.Fsync f} {after = after} s thread = kept thread old new after (fsync-left s).0 (ap (set_now thread) s.follows.0)
+settings-after {old = old} {new = new} {j = jobs.Log l} {after = after} s thread = kept thread old new after (log-left s).rest.settings (ap (set_now thread) s.follows.0)
+settings-after {old = old} {new = new} {j = jobs.Raise r} {after = after} s thread = kept thread old new after (raise-left s).rest.settings (ap (set_now thread) s.follows.1)
+settings-after {old = old} {new = new} {j = jobs.Spoil p} {after = after} s thread = kept thread old new after (spoil-left s).0 (ap (set_now thread) s.follows.0)
+settings-after {old = old} {new = new} {j = jobs.Nested n} {after = after} s thread = kept thread old new after (nested-left s).rest.settings (ap (set_now thread) s.follows.0)
+settings-after {old = old} {new = new} {j = jobs.Inject i} {after = after} s thread = kept thread old new after (inject-left s).rest.settings (ap (set_now thread) s.follows.1)

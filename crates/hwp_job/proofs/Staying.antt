@@ -38,12 +38,13 @@ use Rattle.hwp_control.specs.Prctls.{HasSettingLeft}
 use Rattle.hwp_job.specs.declared.job.Job.{Job}
 use Rattle.hwp_job.specs.declared.job.Job.TheVariants as jobs
 use Rattle.hwp_job.specs.Answers.{prctl_answer}
-use Rattle.hwp_job.specs.Begins.{Begins, BeginsPrctl}
-use Rattle.hwp_job.specs.Jobs.{Fits, answer}
+use Rattle.hwp_job.specs.Begins.{BeginsPrctl}
+use Rattle.hwp_job.specs.Jobs.{Fits, answer, banks_before}
 use Rattle.hwp_job.specs.Runs.{Runs, anew}
 use Rattle.hwp_job.specs.Settings.{HasReplied, IsCounted, policies_in, set_at, set_now}
 use Rattle.hwp_job.specs.Stays.{CannotReply, HasEnded, HasNotReplied, IsAtStop, IsBarred, IsNotPast, KnowsPolicies, Stepped}
 use Rattle.hwp_job.proofs.Barring.{barred-stays, process-declared}
+use Rattle.hwp_job.proofs.Running.{has-begun, is_call, is_prctl}
 use Rattle.hwp_job.proofs.Setting.{either-same, settings-after, unset-before}
 use Rattle.hwp_job.proofs.Stopping.{stopped-halts}
 
@@ -51,22 +52,12 @@ use Rattle.hwp_job.proofs.Stopping.{stopped-halts}
 
 -- it has set nothing, and hasn't been replied to
 unset-at-start : (thread : Thread) (j : Job) → IsAtStop j → set_now thread j ≡ []
-unset-at-start thread (jobs.Access a) start = refl
-unset-at-start thread (jobs.Evict e) start = refl
-unset-at-start thread (jobs.Fsync f) start = refl
 unset-at-start thread (jobs.Prctl p) start = ap (λ (x : PrctlAt). cond (p.thread.0 == thread.0) (set_at x) []) start ∙ either-same (p.thread.0 == thread.0) []
-unset-at-start thread (jobs.ReadStop r) start = refl
-unset-at-start thread (jobs.Nested n) start = refl
-unset-at-start thread (jobs.Inject i) start = refl
+unset-at-start thread _ start = refl
 
 unreplied-at-start : (thread : Thread) (j : Job) → IsAtStop j → HasNotReplied thread j
-unreplied-at-start thread (jobs.Access a) start = tt
-unreplied-at-start thread (jobs.Evict e) start = tt
-unreplied-at-start thread (jobs.Fsync f) start = tt
 unreplied-at-start thread (jobs.Prctl p) start = λ own. subst IsNotPast (sym start) tt
-unreplied-at-start thread (jobs.ReadStop r) start = tt
-unreplied-at-start thread (jobs.Nested n) start = tt
-unreplied-at-start thread (jobs.Inject i) start = tt
+unreplied-at-start thread _ start = tt
 
 -- a thread that is barred stays so in the command that begins
 barred-at-start : (layout : Layout) (view : View) (thread : Thread) (j : Job) → IsAtStop j → IsBarred layout view thread → CannotReply layout view thread j
@@ -177,49 +168,18 @@ call-set view by thread given replies.Einval says = ap (λ (o : Option Policy). 
 
 -- ---- when the next command begins
 
--- a call of prctl(2), and other tasks; and commands that are one
-abbrev is_call : Job → Bool
-is_call (jobs.Prctl p) = true
-is_call _ = false
-
-abbrev is_prctl : Command → Bool
-is_prctl (commands.Prctl thread args) = true
-is_prctl _ = false
-
-begins-call : (layout : Layout) (by : Who) (command : Command) (j : Job) → Begins layout by command j → is_call j ≡ is_prctl command
-begins-call layout by (commands.Load thread slot line) j begins = ap is_call begins.job_is
-begins-call layout by (commands.Fetch thread slot line) j begins = ap is_call begins.job_is
-begins-call layout by (commands.KLoad thread slot line) j begins = ap is_call begins.job_is
-begins-call layout by (commands.Store thread slot line word) j begins = ap is_call begins.job_is
-begins-call layout by (commands.Free slot) j begins = ap is_call begins.1.job_is
-begins-call layout by (commands.Drop page) j begins = ap is_call begins.job_is
-begins-call layout by (commands.Sync page) j begins = ap is_call begins.job_is
-begins-call layout by (commands.Out page) j begins = ap is_call begins.job_is
-begins-call layout by (commands.Fsync file) j begins = ap is_call begins.1
-begins-call layout by (commands.Prctl thread args) j begins = ap is_call begins.job_is
-begins-call layout by (commands.Log status addr misc) j begins = ap is_call begins
-begins-call layout by commands.RaiseNested j begins = ap is_call begins
-begins-call layout by (commands.Inject frame) j begins = ap is_call begins.job_is
-begins-call layout by _ j begins = absurd begins
-
 anew-call : (j : Job) → is_call (anew j) ≡ is_call j
-anew-call (jobs.Access a) = refl
-anew-call (jobs.Evict e) = refl
-anew-call (jobs.Fsync f) = refl
-anew-call (jobs.Prctl p) = refl
-anew-call (jobs.ReadStop r) = refl
-anew-call (jobs.Nested n) = refl
-anew-call (jobs.Inject i) = refl
+anew-call (jobs.Instruction i) = refl
+anew-call _ = refl
+
+-- a command is a call of prctl(2) as its task is
+runs-call : (layout : Layout) (by : Who) (command : Command) (j : Job) → Runs layout by command j → is_call j ≡ is_prctl command
+runs-call layout by command j runs = sym (anew-call j) ∙ (has-begun layout by command (banks_before j []) (anew j) runs).call
 
 -- a command that is no call sets nothing
 no-call : (thread : Thread) (j : Job) → is_call j ≡ false → set_now thread j ≡ []
-no-call thread (jobs.Access a) is = refl
-no-call thread (jobs.Evict e) is = refl
-no-call thread (jobs.Fsync f) is = refl
 no-call thread (jobs.Prctl p) is = absurd (true≢false is)
-no-call thread (jobs.ReadStop r) is = refl
-no-call thread (jobs.Nested n) is = refl
-no-call thread (jobs.Inject i) is = refl
+no-call thread _ is = refl
 
 no-setting : (thread : Thread) (command : Command) → is_prctl command ≡ false → setting_of thread command ≡ None
 no-setting thread (commands.Prctl other args) is = absurd (true≢false is)
@@ -274,10 +234,10 @@ module _ (layout : Layout) (view : View) (by : Who) (thread : Thread) where
           which _ at saw e = absurd (none-some a e)
 
   other-leaves : (command : Command) (j : Job) → Runs layout by command j → is_prctl command ≡ false → Leaves layout view thread command j
-  other-leaves command j runs none = inr (ap (λ (o : Option Policy). cons_option o []) (no-setting thread command none) ∙ sym (no-call thread j (sym (anew-call j) ∙ begins-call layout by command (anew j) runs ∙ none)))
+  other-leaves command j runs none = inr (ap (λ (o : Option Policy). cons_option o []) (no-setting thread command none) ∙ sym (no-call thread j (runs-call layout by command j runs ∙ none)))
 
   leaves : (command : Command) (j : Job) (a : Answer) → Runs layout by command j → Fits layout view j → answer j ≡ Some a → Leaves layout view thread command j
-  leaves (commands.Prctl other args) j a runs fits is = which j runs fits is (sym (anew-call j) ∙ begins-call layout by (commands.Prctl other args) (anew j) runs)
+  leaves (commands.Prctl other args) j a runs fits is = which j runs fits is (runs-call layout by (commands.Prctl other args) j runs)
     where
       which : (k : Job) → Runs layout by (commands.Prctl other args) k → Fits layout view k → answer k ≡ Some a → is_call k ≡ true → Leaves layout view thread (commands.Prctl other args) k
       which (jobs.Prctl p) r f e call = call-leaves other args p a r f e

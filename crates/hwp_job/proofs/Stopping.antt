@@ -1,5 +1,5 @@
 -- A machine that has stopped stays so, and a command that has yet to look, or that was answered `stopped`, comes to nothing else.
-use Rattle.std.proofs.Common.{◌≡◌, ◌≢◌, ◌⊎◌, inl, inr, ℕ, ◌+◌, ◌==◌, not, Bool, true, false, cond, [], ◌∷◌, ◌++◌, Option, Some, None, option_map, refl, sym, ap, ◌∙◌, subst, arith, true≢false}
+use Rattle.std.proofs.Common.{◌≡◌, ◌≢◌, ◌⊎◌, inl, inr, ℕ, ◌+◌, not, Bool, true, false, cond, [], ◌∷◌, ◌++◌, Option, Some, None, length, option_map, refl, sym, ap, ◌∙◌, subst, arith, true≢false}
 use Rattle.std.proofs.lemmas.Bool.{eq-eqb, ne_eqb}
 use Rattle.std.proofs.lemmas.Option.{none-some, same_Some}
 use Rattle.hwp_geom.specs.declared.Layout.{Layout}
@@ -15,11 +15,11 @@ use Rattle.hwp_words.specs.Stops.{is_stopped, stopper_of}
 use Rattle.hwp_rule.specs.declared.Log.{Log}
 use Rattle.hwp_rule.specs.declared.Place.TheVariants as places
 use Rattle.hwp_rule.specs.declared.Sight.{Sight}
-use Rattle.hwp_rule.specs.declared.Step.{Step}
+use Rattle.hwp_rule.specs.declared.Spoiled.{Spoiled}
 use Rattle.hwp_rule.specs.declared.Step.TheVariants as steps
 use Rattle.hwp_rule.specs.declared.View.{View}
 use Rattle.hwp_rule.specs.Lists.{SomeMember}
-use Rattle.hwp_rule.specs.Views.{noted, sighted}
+use Rattle.hwp_rule.specs.Views.{noted, stamp_of}
 use Rattle.hwp_rule.specs.Words.{words_of}
 use Rattle.hwp_rule.proofs.Lists.{at_map, some-push}
 use Rattle.hwp_step.specs.Calls.{Steps}
@@ -27,26 +27,32 @@ use Rattle.hwp_step.proofs.Stepping.{steps-planned}
 use Rattle.hwp_known.specs.Known.{SawStop}
 use Rattle.hwp_known.proofs.Seeing.{saw-stays}
 use Rattle.hwp_form.specs.declared.Command.{Command}
-use Rattle.hwp_form.specs.declared.Command.TheVariants as commands
 use Rattle.hwp_report.specs.declared.Answer.{Answer}
 use Rattle.hwp_report.specs.declared.Answer.TheVariants as answers
 use Rattle.hwp_law.specs.Answers.{reply_answer}
+use Rattle.hwp_law.specs.Checks.{Banks}
 use Rattle.hwp_law.specs.Records.{outcome_answer}
 use Rattle.hwp_control.specs.declared.Nested.{Nested}
 use Rattle.hwp_control.specs.declared.NestedAnswer.TheVariants as nested_answers
 use Rattle.hwp_control.specs.declared.Prctl.{Prctl}
 use Rattle.hwp_control.specs.declared.PrctlAnswer.TheVariants as prctl_answers
 use Rattle.hwp_control.specs.declared.ReadStop.{ReadStop}
+use Rattle.hwp_control.specs.declared.ReadStopAnswer.{ReadStopAnswer}
 use Rattle.hwp_control.specs.declared.ReadStopAnswer.TheVariants as read_stop_answers
+use Rattle.hwp_control.specs.declared.Spoil.{Spoil}
+use Rattle.hwp_control.specs.declared.SpoilAnswer.TheVariants as spoil_answers
 use Rattle.hwp_control.specs.declared.nested.NestedAt.{NestedAt}
 use Rattle.hwp_control.specs.declared.nested.NestedAt.TheVariants as nested_at
 use Rattle.hwp_control.specs.declared.prctl.PrctlAt.{PrctlAt}
 use Rattle.hwp_control.specs.declared.prctl.PrctlAt.TheVariants as prctl_at
 use Rattle.hwp_control.specs.declared.read_stop.ReadStopAt.{ReadStopAt}
 use Rattle.hwp_control.specs.declared.read_stop.ReadStopAt.TheVariants as read_stop_at
+use Rattle.hwp_control.specs.declared.spoil.SpoilAt.{SpoilAt}
+use Rattle.hwp_control.specs.declared.spoil.SpoilAt.TheVariants as spoil_at
 use Rattle.hwp_control.specs.Nesteds as nesteds
 use Rattle.hwp_control.specs.Prctls as prctls
 use Rattle.hwp_control.specs.ReadStops as read_stops
+use Rattle.hwp_control.specs.Spoils as spoils
 use Rattle.hwp_hold.specs.Holds as holds
 use Rattle.hwp_evict.specs.declared.Evict.{Evict}
 use Rattle.hwp_evict.specs.declared.EvictAnswer.TheVariants as evict_answers
@@ -62,7 +68,6 @@ use Rattle.hwp_evict.specs.Evicts as evicts
 use Rattle.hwp_evict.specs.Fsyncs as fsyncs
 use Rattle.hwp_claim.specs.Claims.{IsStopped}
 use Rattle.hwp_fail.specs.declared.fail.FailAt.{FailAt}
-use Rattle.hwp_fail.specs.declared.fail.FailAt.TheVariants as fail_at
 use Rattle.hwp_fail.specs.declared.FailAnswer.{FailAnswer}
 use Rattle.hwp_fail.specs.declared.FailAnswer.TheVariants as fail_answers
 use Rattle.hwp_fail.specs.declared.inject.Inject.{Inject}
@@ -70,19 +75,37 @@ use Rattle.hwp_fail.specs.declared.inject.InjectAt.{InjectAt}
 use Rattle.hwp_fail.specs.declared.inject.InjectAt.TheVariants as inject_at
 use Rattle.hwp_fail.specs.Fails as fails
 use Rattle.hwp_fail.specs.Injects as injects
+use Rattle.hwp_fault.specs.declared.AccessAnswer.{AccessAnswer}
 use Rattle.hwp_fault.specs.declared.AccessAnswer.TheVariants as access_answers
+use Rattle.hwp_fault.specs.declared.Request.{Request}
 use Rattle.hwp_fault.specs.declared.access.AccessAt.{AccessAt}
 use Rattle.hwp_fault.specs.declared.access.AccessAt.TheVariants as access_at
 use Rattle.hwp_fault.specs.Accesses as accesses
+use Rattle.hwp_fail.proofs.Quiet.{leaves}
+use Rattle.hwp_instr.specs.declared.Instruction.{Instruction}
+use Rattle.hwp_instr.specs.declared.InstructionAnswer.{InstructionAnswer}
+use Rattle.hwp_instr.specs.declared.InstructionAnswer.TheVariants as instruction_answers
+use Rattle.hwp_instr.specs.declared.instruction.InstructionAt.{InstructionAt}
+use Rattle.hwp_instr.specs.declared.instruction.InstructionAt.TheVariants as instruction_at
+use Rattle.hwp_instr.specs.Fits.{IsEnd}
+use Rattle.hwp_instr.specs.Instructions as instructions
+use Rattle.hwp_raise.specs.declared.Raise.{Raise}
+use Rattle.hwp_raise.specs.declared.RaiseAnswer.{RaiseAnswer}
+use Rattle.hwp_raise.specs.declared.RaiseAnswer.TheVariants as raise_answers
+use Rattle.hwp_raise.specs.declared.raise.RaiseAt.{RaiseAt}
+use Rattle.hwp_raise.specs.declared.raise.RaiseAt.TheVariants as raise_at
+use Rattle.hwp_raise.specs.Fits as raise_fits
+use Rattle.hwp_raise.specs.Logs as logs
+use Rattle.hwp_raise.specs.Raises as raises
 use Rattle.hwp_job.specs.declared.job.Job.{Job}
 use Rattle.hwp_job.specs.declared.job.Job.TheVariants as jobs
-use Rattle.hwp_job.specs.Answers.{access_answer, evict_answer, fail_answer, fsync_answer, nested_answer, prctl_answer, read_stop_answer, refusal_answer}
+use Rattle.hwp_job.specs.Answers.{evict_answer, fail_answer, fsync_answer, instruction_answer, nested_answer, prctl_answer, raise_answer, read_stop_answer, refusal_answer, spoil_answer}
 use Rattle.hwp_job.specs.Begins.{Begins}
-use Rattle.hwp_job.specs.Jobs.{Fits, answer, plan, who}
-use Rattle.hwp_job.specs.Stays.{EndsStopped, HasStopped, IsAtStop, IsHalted, IsStopping, Stepped, StopsItself}
-use Rattle.hwp_job.proofs.Ending.{InjectEnded, inject-ended, mapped}
-use Rattle.hwp_job.proofs.Injecting.{IsStepOf, count-leaves, poison-leaves, step-of}
-use Rattle.hwp_job.proofs.Quiet.{PlansQuiet, IsQuiet, access, evict, leaves, read}
+use Rattle.hwp_job.specs.Jobs.{Fits, answer, who}
+use Rattle.hwp_job.specs.Stays.{EndsStopped, HasSpoiled, HasStopped, IsAtStop, IsHalted, IsStopping, Stepped, StopsItself}
+use Rattle.hwp_job.proofs.Ending.{InjectEnded, answered-over, inject-ended, instruction-ended, mapped, raise-ended}
+use Rattle.hwp_job.proofs.Resting.{StopsLeft, evict-left, fsync-left, inject-left, instruction-left, log-left, nested-left, prctl-left, raise-left, spoil-left}
+use Rattle.hwp_job.proofs.Running.{has-begun}
 
 -- ---- answers
 
@@ -95,60 +118,20 @@ other a is e = true≢false (sym (ap says_stopped e) ∙ is)
 
 -- a command that has yet to look has no answer
 unanswered : (j : Job) → IsAtStop j → answer j ≡ None
-unanswered (jobs.Access a) is = ap (λ (x : AccessAt). option_map access_answer (accesses.answer_at x)) is
+unanswered (jobs.Instruction i) is = ap (λ (x : InstructionAt). option_map instruction_answer (instructions.answer_at x)) is.1
 unanswered (jobs.Evict e) is = ap (λ (x : EvictAt). option_map evict_answer (evicts.answer_at x)) is
 unanswered (jobs.Fsync f) is = ap (λ (x : FsyncAt). option_map fsync_answer (fsyncs.answer_at x)) is
 unanswered (jobs.Prctl p) is = ap (λ (x : PrctlAt). option_map prctl_answer (prctls.answer_at x)) is
-unanswered (jobs.ReadStop r) is = ap (λ (x : ReadStopAt). option_map read_stop_answer (read_stops.answer_at x)) is
+unanswered (jobs.Log l) is = ap (λ (x : ReadStopAt). option_map read_stop_answer (read_stops.answer_at x)) is
+unanswered (jobs.Raise r) is = ap (λ (x : RaiseAt). option_map (raise_answer (length r.lines.told)) (raises.answer_at x)) is.0
+unanswered (jobs.Spoil s) is = ap (λ (x : SpoilAt). option_map spoil_answer (spoils.answer_at x)) is
 unanswered (jobs.Nested n) is = ap (λ (x : NestedAt). option_map nested_answer (nesteds.answer_at x)) is
 unanswered (jobs.Inject i) is = ap (λ (x : InjectAt). option_map fail_answer (injects.answer_at x)) is
 
--- and one that is answered makes no step
-module _ {a : Answer} where
-  over-access : (r : _) (x : AccessAt) → option_map access_answer (accesses.answer_at x) ≡ Some a → accesses.plan_at r x ≡ None
-  over-access r (access_at.Over b) is = refl
-  over-access r _ is = absurd (none-some a is)
-
-  over-evict : (x : EvictAt) → option_map evict_answer (evicts.answer_at x) ≡ Some a → evicts.plan_at x ≡ None
-  over-evict (evict_at.Over b) is = refl
-  over-evict _ is = absurd (none-some a is)
-
-  over-fsync : (f : _) (x : FsyncAt) → option_map fsync_answer (fsyncs.answer_at x) ≡ Some a → fsyncs.plan_at f x ≡ None
-  over-fsync f (fsync_at.Over b) is = refl
-  over-fsync f _ is = absurd (none-some a is)
-
-  over-prctl : (t : _) (p : _) (x : PrctlAt) → option_map prctl_answer (prctls.answer_at x) ≡ Some a → prctls.plan_at t p x ≡ None
-  over-prctl t p (prctl_at.Over b) is = refl
-  over-prctl t p _ is = absurd (none-some a is)
-
-  over-read : (x : ReadStopAt) → option_map read_stop_answer (read_stops.answer_at x) ≡ Some a → read_stops.plan_at x ≡ None
-  over-read (read_stop_at.Over b) is = refl
-  over-read read_stop_at.LoadStop is = absurd (none-some a is)
-
-  over-nested : (w : Who) (x : NestedAt) → option_map nested_answer (nesteds.answer_at x) ≡ Some a → nesteds.plan_at w x ≡ None
-  over-nested w (nested_at.Over b) is = refl
-  over-nested w _ is = absurd (none-some a is)
-
-  over-fail : (x : FailAt) → option_map fail_answer (fails.answer_at x) ≡ Some a → fails.plan_at x ≡ None
-  over-fail (fail_at.Over b) is = refl
-  over-fail _ is = absurd (none-some a is)
-
-  over-inject : (x : InjectAt) → option_map fail_answer (injects.answer_at x) ≡ Some a → injects.plan_at x ≡ None
-  over-inject inject_at.LoadStop is = absurd (none-some a is)
-  over-inject (inject_at.Fail f) is = over-fail f.at is
-  over-inject inject_at.Stopped is = refl
-
-  pub answered-over : (j : Job) → answer j ≡ Some a → plan j ≡ None
-  answered-over (jobs.Access x) is = over-access x.request x.at is
-  answered-over (jobs.Evict x) is = over-evict x.at is
-  answered-over (jobs.Fsync x) is = over-fsync x.file x.at is
-  answered-over (jobs.Prctl x) is = over-prctl x.thread x.process x.at is
-  answered-over (jobs.ReadStop x) is = over-read x.at is
-  answered-over (jobs.Nested x) is = over-nested x.who x.at is
-  answered-over (jobs.Inject x) is = over-inject x.at is
-
 -- a command that has stopped the machine is answered `stopped`
 pub has-stopped : (j : Job) → HasStopped j → answer j ≡ Some answers.Stopped
+has-stopped (jobs.Instruction i) has = ap (option_map instruction_answer) has.0
+has-stopped (jobs.Raise r) has = ap (option_map (raise_answer (length r.lines.told))) has.0
 has-stopped (jobs.Nested n) has = ap (λ (x : NestedAt). option_map nested_answer (nesteds.answer_at x)) has
 has-stopped (jobs.Inject i) has = ap (λ (x : InjectAt). option_map fail_answer (injects.answer_at x)) has.1 ∙ ap (λ (x : FailAt). option_map fail_answer (fails.answer_at x)) has.2
 has-stopped _ has = absurd has
@@ -170,8 +153,20 @@ abbrev starts_inject : InjectAt → Bool
 starts_inject inject_at.LoadStop = true
 starts_inject _ = false
 
+abbrev starts_access : InstructionAt → Bool
+starts_access (instruction_at.Access a) = true
+starts_access _ = false
+
+abbrev starts_raise : RaiseAt → Bool
+starts_raise raise_at.LoadStop = true
+starts_raise _ = false
+
 -- and it stops the machine no more
 not-stopping : (j : Job) → EndsStopped j → IsStopping j → ⊥
+not-stopping (jobs.Instruction i) (inl (a, start, look, none)) (frame, h, handles, stop) = true≢false (sym (ap starts_access start) ∙ ap starts_access handles)
+not-stopping (jobs.Instruction i) (inr stopped) (frame, h, handles, stop) = none-some answers.Stopped (sym (ap (λ (x : InstructionAt). option_map instruction_answer (instructions.answer_at x)) handles) ∙ stopped)
+not-stopping (jobs.Raise r) (inl (start, none)) (h, handles, stop) = true≢false (sym (ap starts_raise start) ∙ ap starts_raise handles)
+not-stopping (jobs.Raise r) (inr stopped) (h, handles, stop) = none-some answers.Stopped (sym (ap (λ (x : RaiseAt). option_map (raise_answer (length r.lines.told)) (raises.answer_at x)) handles) ∙ stopped)
 not-stopping (jobs.Nested n) (inl start) stopping = true≢false (sym (ap starts start) ∙ ap starts stopping)
 not-stopping (jobs.Nested n) (inr stopped) stopping = none-some answers.Stopped (sym (ap (λ (x : NestedAt). option_map nested_answer (nesteds.answer_at x)) stopping) ∙ stopped)
 not-stopping (jobs.Inject i) (inl start) (f, c, at, is, stop) = true≢false (sym (ap starts_inject start) ∙ ap starts_inject at)
@@ -206,85 +201,45 @@ stop-word {layout} {by} {body} {old} {new} {found} made halted = ap not (ne_eqb 
         made.told.rule.rule.processors.stops.named made.told.seat old.stops (at_map (λ (v : View). v.stops) made.told.board.views made.told.seat old made.told.me) own.0 own.1 own.2 in
         absurd (let zero : stopper_of stop ≡ 0 = met ∙ none in omega arith)
 
--- ---- stops
-
-pub quiet-step : {o : Option Step} {step : Step} → PlansQuiet o → o ≡ Some step → IsQuiet step
-quiet-step quiet is = subst PlansQuiet is quiet
-
-module _ {layout : Layout} {old new : View} {j after : Job} (s : Stepped layout old new j after) where
-  -- of a step that doesn't stop the machine
-  by-quiet : PlansQuiet (plan j) → (new.stops ≡ old.stops) ⊎ StopsItself j after old new
-  by-quiet quiet = inl (leaves s.made (quiet-step quiet s.planned)).stops
-
-module _ {layout : Layout} {old new : View} {n : Nested} {after : Job} (s : Stepped layout old new (jobs.Nested n) after) where
-  nested-stops : (new.stops ≡ old.stops) ⊎ StopsItself (jobs.Nested n) after old new
-  nested-stops = which n.at refl s.planned
-    where
-      which : (x : NestedAt) → n.at ≡ x → nesteds.plan_at n.who x ≡ Some s.step → (new.stops ≡ old.stops) ⊎ StopsItself (jobs.Nested n) after old new
-      which nested_at.LoadStop at e = inl (leaves s.made (quiet-step {o = Some (steps.Load places.Stop)} tt e)).stops
-      which nested_at.Stop at e = by (s.found == 0) refl
-        where
-          own : Steps layout n.who (steps.Stop n.who.cpu) None old new s.found s.got
-          own = steps-planned e s.made
-
-          stops-by : (b : Bool) → (s.found == 0) ≡ b → new.stops ≡ (cond b (record (noted n.who old) { stops = old.stops ++ n.who ∷ [] }) (sighted n.who places.Stop s.found (noted n.who old))).stops
-          stops-by b zero = ap (λ (v : View). v.stops) own.told.next ∙ ap (λ (c : Bool). (cond c (record (noted n.who old) { stops = old.stops ++ n.who ∷ [] }) (sighted n.who places.Stop s.found (noted n.who old))).stops) zero
-
-          by : (b : Bool) → (s.found == 0) ≡ b → (new.stops ≡ old.stops) ⊎ StopsItself (jobs.Nested n) after old new
-          by false zero = inl (stops-by false zero)
-          by true zero = inr (record {
-            stopping = at;
-            has = subst HasStopped (sym s.follows.0) (ap (λ (x : NestedAt). nesteds.next_at x s.found) at
-                ∙ ap (λ (b : Bool). nested_at.Over (cond b (Some nested_answers.Shutdown) (cond (is_stopped s.found) (Some nested_answers.Stopped) None))) zero);
-            stops_are = stops-by true zero;
-          })
-      which (nested_at.Over b) at e = absurd (none-some s.step e)
-
-prctl-stops : {layout : Layout} {old new : View} {p : Prctl} {after : Job} → Stepped layout old new (jobs.Prctl p) after → new.stops ≡ old.stops
-prctl-stops {layout} {old} {new} {p} s = which p.at s.planned
-  where
-    which : (x : PrctlAt) → prctls.plan_at p.thread p.process x ≡ Some s.step → new.stops ≡ old.stops
-    which prctl_at.LoadStop e = (leaves s.made (quiet-step {o = Some (steps.Load places.Stop)} tt e)).stops
-    which prctl_at.LoadProcess e = (leaves s.made (quiet-step {o = Some (steps.Load (places.Process p.process))} tt e)).stops
-    which prctl_at.LoadPolicy e = (leaves s.made (quiet-step {o = Some (steps.Load (places.Policy p.thread))} tt e)).stops
-    which (prctl_at.SetPolicy policy settings) e = ap (λ (v : View). v.stops) (steps-planned {other = steps.SetPolicy p.thread policy settings} e s.made).told.next
-    which (prctl_at.Over b) e = absurd (none-some s.step e)
-
-fsync-stops : {layout : Layout} {old new : View} {f : Fsync} {after : Job} → Stepped layout old new (jobs.Fsync f) after → new.stops ≡ old.stops
-fsync-stops {layout} {old} {new} {f} s = which f.at s.planned
-  where
-    which : (x : FsyncAt) → fsyncs.plan_at f.file x ≡ Some s.step → new.stops ≡ old.stops
-    which fsync_at.LoadStop e = (leaves s.made (quiet-step {o = Some (steps.Load places.Stop)} tt e)).stops
-    which fsync_at.Report e = ap (λ (v : View). v.stops) (steps-planned {other = steps.ReportLost f.file} e s.made).told.next
-    which (fsync_at.Over b) e = absurd (none-some s.step e)
-
-module _ {layout : Layout} {old new : View} {i : Inject} {after : Job} (s : Stepped layout old new (jobs.Inject i) after) where
-  inject-stops : (new.stops ≡ old.stops) ⊎ StopsItself (jobs.Inject i) after old new
-  inject-stops = which (step-of s)
-    where
-      which : IsStepOf i after s.step s.found old → (new.stops ≡ old.stops) ⊎ StopsItself (jobs.Inject i) after old new
-      which (inl silent) = inl (leaves s.made silent.quiet).stops
-      which (inr (inl stop)) = by (s.found == 0) refl
-        where
-          stops-by : (b : Bool) → (s.found == 0) ≡ b → new.stops ≡ (cond b (record (noted i.who old) { stops = old.stops ++ i.who ∷ [] }) (sighted i.who places.Stop s.found (noted i.who old))).stops
-          stops-by b zero = ap (λ (v : View). v.stops) (steps-planned stop.step_is s.made).told.next
-              ∙ ap (λ (c : Bool). (cond c (record (noted i.who old) { stops = old.stops ++ i.who ∷ [] }) (sighted i.who places.Stop s.found (noted i.who old))).stops) zero
-
-          by : (b : Bool) → (s.found == 0) ≡ b → (new.stops ≡ old.stops) ⊎ StopsItself (jobs.Inject i) after old new
-          by false zero = inl (stops-by false zero)
-          by true zero = inr (record { stopping = stop.stopping; has = stop.has zero; stops_are = stops-by true zero })
-      which (inr (inr (inl poison))) = inl (poison-leaves s poison).stops
-      which (inr (inr (inr count))) = inl (count-leaves s count).stops
+-- ---- over a step
 
 -- a step leaves the stops of the view, or is the stop of a command that stops the machine itself
-pub stops-after : {layout : Layout} {old new : View} {j after : Job} → Stepped layout old new j after → (new.stops ≡ old.stops) ⊎ StopsItself j after old new
-stops-after {j = jobs.Access a} s = by-quiet s (access a.request a.at)
-stops-after {j = jobs.Evict e} s = by-quiet s (evict e.at)
-stops-after {j = jobs.Fsync f} s = inl (fsync-stops s)
-stops-after {j = jobs.Prctl p} s = inl (prctl-stops s)
-stops-after {j = jobs.ReadStop r} s = by-quiet s (read r.at)
-stops-after {j = jobs.Nested n} s = nested-stops s
-stops-after {j = jobs.Inject i} s = inject-stops s
+pub stops-after : {layout : Layout} {old new : View} {j after : Job} → Stepped layout old new j after → StopsLeft j after old new
+stops-after {j = jobs.Instruction i} s = (instruction-left s).stops
+stops-after {j = jobs.Evict e} s = (evict-left s).stops
+stops-after {j = jobs.Fsync f} s = inl (fsync-left s).2
+stops-after {j = jobs.Prctl p} s = inl (prctl-left s).2
+stops-after {j = jobs.Log l} s = (log-left s).stops
+stops-after {j = jobs.Raise r} s = (raise-left s).stops
+stops-after {j = jobs.Spoil p} s = inl (spoil-left s).2
+stops-after {j = jobs.Nested n} s = (nested-left s).stops
+stops-after {j = jobs.Inject i} s = (inject-left s).stops
+
+-- the damage that a view lists stays, or is made by the command
+pub spoils-after : {layout : Layout} {old new : View} {j after : Job} → Stepped layout old new j after → (new.spoiled ≡ old.spoiled) ⊎ ((x : Spoiled) × (new.spoiled ≡ old.spoiled ++ x ∷ []) × HasSpoiled after x)
+spoils-after {j = jobs.Instruction i} s = inl (instruction-left s).rest.spoiled
+spoils-after {j = jobs.Evict e} s = inl (evict-left s).rest.spoiled
+spoils-after {j = jobs.Fsync f} s = inl (fsync-left s).1
+spoils-after {j = jobs.Prctl p} s = inl (prctl-left s).1
+spoils-after {j = jobs.Log l} s = inl (log-left s).rest.spoiled
+spoils-after {j = jobs.Raise r} s = inl (raise-left s).rest.spoiled
+spoils-after {old = old} {new = new} {j = jobs.Spoil p} {after = after} s = which p.at refl s.planned
+  where
+    which : (x : SpoilAt) → p.at ≡ x → spoils.plan_at p.frame p.line p.damage x ≡ Some s.step → (new.spoiled ≡ old.spoiled) ⊎ ((y : Spoiled) × (new.spoiled ≡ old.spoiled ++ y ∷ []) × HasSpoiled after y)
+    which spoil_at.LoadStop at e = inl (leaves (steps-planned {other = steps.Load places.Stop} e s.made) tt).spoiled
+    which spoil_at.Spoil at e = inr (
+      record { stamp = stamp_of p.who (noted p.who old); frame = p.frame; line = p.line; damage = p.damage },
+      ap (λ (v : View). v.spoiled) (steps-planned {other = steps.Spoil p.frame p.line p.damage} e s.made).told.next,
+      subst (λ (k : Job). HasSpoiled k (record { stamp = stamp_of p.who (noted p.who old); frame = p.frame; line = p.line; damage = p.damage })) (sym s.follows.0) (ap (λ (x : SpoilAt). spoils.next_at x s.found) at, refl, refl, refl, refl),
+    )
+    which (spoil_at.Over answer) at e = absurd (none-some s.step e)
+spoils-after {j = jobs.Nested n} s = inl (nested-left s).rest.spoiled
+spoils-after {j = jobs.Inject i} s = inl (inject-left s).rest.spoiled
+
+-- a command that damaged a line is answered so
+pub has-spoiled : (j : Job) (x : Spoiled) → HasSpoiled j x → answer j ≡ Some answers.Done
+has-spoiled (jobs.Spoil s) x has = ap (λ (y : SpoilAt). option_map spoil_answer (spoils.answer_at y)) has.0
+has-spoiled _ x has = absurd has
 
 -- ---- a machine that has stopped
 
@@ -305,10 +260,13 @@ module _ {layout : Layout} {old new : View} {j after : Job} (s : Stepped layout 
 
 -- a command that looks for the first time finds that the machine has stopped
 looks : {layout : Layout} {old new : View} (j after : Job) → Stepped layout old new j after → IsHalted old → IsAtStop j → answer after ≡ Some answers.Stopped
-looks {layout} {old} {new} (jobs.Access a) after s halted start =
-    let word : is_stopped s.found ≡ true = stop-word (steps-planned {other = steps.Load places.Stop} (sym (ap (accesses.plan_at a.request) start) ∙ s.planned) s.made) halted in
-    let at = subst (λ (x : AccessAt). accesses.NextAt layout a.request (accesses.bare_at x) s.found s.got s.follows.0.at s.turn) start s.follows.2.at in
-    ap answer s.follows.1 ∙ ap (λ (x : AccessAt). option_map access_answer (accesses.answer_at x)) at.0 ∙ ap (λ (b : Bool). option_map access_answer (accesses.answer_at (cond b (access_at.Over access_answers.Stopped) access_at.LoadProcess))) word
+looks {layout} {old} {new} (jobs.Instruction i) after s halted (a, start, look, none) =
+    let word : is_stopped s.found ≡ true = stop-word (steps-planned {other = steps.Load places.Stop} (sym (ap instructions.plan_at start ∙ ap (accesses.plan_at a.request) look) ∙ s.planned) s.made) halted in
+    let stepped = subst (λ (x : InstructionAt). instructions.FollowsAt layout (instructions.bare i) (instructions.bare_at x) s.found s.got s.follows.0 s.turn) start s.follows.2 in
+    let at = subst (λ (x : AccessAt). accesses.NextAt layout a.request (accesses.bare_at x) s.found s.got stepped.access.at s.turn) look stepped.follows.at in
+    let over : accesses.answer stepped.access ≡ Some access_answers.Stopped = ap accesses.answer_at at.0 ∙ ap (λ (b : Bool). accesses.answer_at (cond b (access_at.Over access_answers.Stopped) access_at.LoadProcess)) word in
+    let next = subst (λ (o : Option AccessAnswer). instructions.AfterAccessBy layout (instructions.bare i) stepped.access o s.follows.0) over stepped.next_is in
+    ap answer s.follows.1 ∙ ap (λ (k : Instruction). option_map instruction_answer (instructions.answer k)) next
 looks {layout} {old} {new} (jobs.Evict e) after s halted start =
     let word : is_stopped s.found ≡ true = stop-word (steps-planned {other = steps.Load places.Stop} (sym (ap evicts.plan_at start) ∙ s.planned) s.made) halted in
     let at = subst (λ (x : EvictAt). evicts.FollowsAt e.who e.page e.what (evicts.bare_at x) s.found s.got s.follows.0.at s.turn) start s.follows.2.1 in
@@ -322,10 +280,20 @@ looks (jobs.Prctl p) after s halted start =
     let word : is_stopped s.found ≡ true = stop-word (steps-planned {other = steps.Load places.Stop} (sym (ap (prctls.plan_at p.thread p.process) start) ∙ s.planned) s.made) halted in
     ap answer s.follows.0 ∙ ap (λ (x : PrctlAt). option_map prctl_answer (prctls.answer_at (prctls.next_at p.arguments x s.found))) start
     ∙ ap (λ (b : Bool). option_map prctl_answer (prctls.answer_at (cond b (prctl_at.Over prctl_answers.Stopped) prctl_at.LoadProcess))) word
-looks (jobs.ReadStop r) after s halted start =
+looks (jobs.Log l) after s halted start =
     let word : is_stopped s.found ≡ true = stop-word (steps-planned {other = steps.Load places.Stop} (sym (ap read_stops.plan_at start) ∙ s.planned) s.made) halted in
-    ap answer s.follows.0 ∙ ap (λ (x : ReadStopAt). option_map read_stop_answer (read_stops.answer_at (read_stops.next_at x s.found))) start
+    ap answer s.follows.0 ∙ ap (λ (o : Option ReadStopAnswer). option_map read_stop_answer (logs.answer (logs.next_by l s.found o))) (ap read_stops.answer_at start)
+    ∙ ap (λ (x : ReadStopAt). option_map read_stop_answer (read_stops.answer_at (read_stops.next_at x s.found))) start
     ∙ ap (λ (b : Bool). Some (read_stop_answer (cond b read_stop_answers.Stopped read_stop_answers.Done))) word
+looks {layout} (jobs.Raise r) after s halted (start, none) =
+    let word : is_stopped s.found ≡ true = stop-word (steps-planned {other = steps.Load places.Stop} (sym (ap raises.plan_at start) ∙ s.planned) s.made) halted in
+    let stepped = subst (λ (x : RaiseAt). raises.FollowsAt layout (raises.bare r) (raises.bare_at x) s.found s.got s.follows.0 s.turn) start s.follows.2 in
+    let next = subst (λ (b : Bool). raises.AfterStopBy layout (raises.bare r) b r.raiser s.follows.0) word stepped.0 in
+    ap answer s.follows.1 ∙ ap (λ (k : Raise). option_map (raise_answer (length k.lines.told)) (raises.answer k)) next
+looks (jobs.Spoil p) after s halted start =
+    let word : is_stopped s.found ≡ true = stop-word (steps-planned {other = steps.Load places.Stop} (sym (ap (spoils.plan_at p.frame p.line p.damage) start) ∙ s.planned) s.made) halted in
+    ap answer s.follows.0 ∙ ap (λ (x : SpoilAt). option_map spoil_answer (spoils.answer_at (spoils.next_at x s.found))) start
+    ∙ ap (λ (b : Bool). option_map spoil_answer (spoils.answer_at (cond b (spoil_at.Over spoil_answers.Stopped) spoil_at.Spoil))) word
 looks (jobs.Nested n) after s halted start =
     let word : is_stopped s.found ≡ true = stop-word (steps-planned {other = steps.Load places.Stop} (sym (ap (nesteds.plan_at n.who) start) ∙ s.planned) s.made) halted in
     ap answer s.follows.0 ∙ ap (λ (x : NestedAt). option_map nested_answer (nesteds.answer_at (nesteds.next_at x s.found))) start
@@ -346,25 +314,16 @@ halted-stays {layout} {old} {new} {j} {after} s halted ends = (still-halted s ha
 
 -- ---- the beginning and the end of a command
 
-pub begins-stop : (layout : Layout) (by : Who) (command : Command) (j : Job) → Begins layout by command j → IsAtStop j
-begins-stop layout by (commands.Load thread slot line) j begins = subst IsAtStop (sym begins.job_is) refl
-begins-stop layout by (commands.Fetch thread slot line) j begins = subst IsAtStop (sym begins.job_is) refl
-begins-stop layout by (commands.KLoad thread slot line) j begins = subst IsAtStop (sym begins.job_is) refl
-begins-stop layout by (commands.Store thread slot line word) j begins = subst IsAtStop (sym begins.job_is) refl
-begins-stop layout by (commands.Free slot) j begins = subst IsAtStop (sym begins.1.job_is) refl
-begins-stop layout by (commands.Drop page) j begins = subst IsAtStop (sym begins.job_is) refl
-begins-stop layout by (commands.Sync page) j begins = subst IsAtStop (sym begins.job_is) refl
-begins-stop layout by (commands.Out page) j begins = subst IsAtStop (sym begins.job_is) refl
-begins-stop layout by (commands.Fsync file) j begins = subst IsAtStop (sym begins.1) refl
-begins-stop layout by (commands.Prctl thread args) j begins = subst IsAtStop (sym begins.job_is) refl
-begins-stop layout by (commands.Log status addr misc) j begins = subst IsAtStop (sym begins) refl
-begins-stop layout by commands.RaiseNested j begins = subst IsAtStop (sym begins) refl
-begins-stop layout by (commands.Inject frame) j begins = subst IsAtStop (sym begins.job_is) refl
-begins-stop layout by _ j begins = absurd begins
+pub begins-stop : (layout : Layout) (by : Who) (command : Command) (banks : Banks) (j : Job) → Begins layout by command banks j → IsAtStop j
+begins-stop layout by command banks j begins = (has-begun layout by command banks j begins).start
 
 -- what a command saw of the stop word
 halts : {view : View} {by : Who} → SawStop view by → IsHalted view
 halts saw = inl (saw.saw.0, saw.saw.1, saw.saw.2, (saw.saw.3.1, ap is_stopped saw.saw.3.2 ∙ saw.stopped))
+
+stops : {view : View} {by : Who} → IsStopped view by → IsHalted view
+stops (inl saw) = halts saw
+stops (inr own) = inr (own.0, own.1, own.2, tt)
 
 refused : (refusal : Refusal) (at : At) → says_stopped (Some (refusal_answer refusal at)) ≡ false
 refused refusals.NotMapped at = refl
@@ -379,14 +338,25 @@ replied (replies.Is policy) = refl
 replied replies.Einval = refl
 
 module _ (layout : Layout) (view : View) where
-  access-halts : (a : _) (x : AccessAt) → accesses.FitsAt layout view a x → option_map access_answer (accesses.answer_at x) ≡ Some answers.Stopped → IsHalted view
-  access-halts a (access_at.Over (access_answers.Value word page place)) fits is = absurd (other _ refl is)
-  access-halts a (access_at.Over (access_answers.Stored page place)) fits is = absurd (other _ refl is)
-  access-halts a (access_at.Over (access_answers.Sigbus page place)) fits is = absurd (other _ refl is)
-  access-halts a (access_at.Over access_answers.NoFrame) fits is = absurd (other _ refl is)
-  access-halts a (access_at.Over (access_answers.Gone page)) fits is = absurd (other _ refl is)
-  access-halts a (access_at.Over access_answers.Stopped) fits is = halts fits.answered.0
-  access-halts a _ fits is = absurd (none-some _ is)
+  instruction-halts : (a : Request) (told : _) (x : InstructionAnswer) → IsEnd layout view a told x → instruction_answer x ≡ answers.Stopped → IsHalted view
+  instruction-halts a told instruction_answers.Stopped (inl own) is = halts own.answered.0
+  instruction-halts a told instruction_answers.Stopped (inr halted) is = stops halted.stopped
+  instruction-halts a told (instruction_answers.Value word place) ended is = absurd (other _ refl (ap (λ (y : Answer). Some y) is))
+  instruction-halts a told (instruction_answers.Stored place) ended is = absurd (other _ refl (ap (λ (y : Answer). Some y) is))
+  instruction-halts a told (instruction_answers.Sigbus place) ended is = absurd (other _ refl (ap (λ (y : Answer). Some y) is))
+  instruction-halts a told instruction_answers.NoFrame ended is = absurd (other _ refl (ap (λ (y : Answer). Some y) is))
+  instruction-halts a told (instruction_answers.Gone page) ended is = absurd (other _ refl (ap (λ (y : Answer). Some y) is))
+
+  raise-halts : (r : Raise) (x : RaiseAnswer) → raise_fits.IsEnd layout view r x → raise_answer (length r.lines.told) x ≡ answers.Stopped → IsHalted view
+  raise-halts r raise_answers.Stopped (inl unchecked) is = halts unchecked.1
+  raise-halts r raise_answers.Stopped (inr checked) is = stops checked.stops
+  raise-halts r raise_answers.Raised ended is = absurd (other _ refl (ap (λ (y : Answer). Some y) is))
+  raise-halts r (raise_answers.Gone page) ended is = absurd (other _ refl (ap (λ (y : Answer). Some y) is))
+
+  spoil-halts : (s : Spoil) (x : SpoilAt) → spoils.FitsAt view s.who s.frame s.line s.damage x → option_map spoil_answer (spoils.answer_at x) ≡ Some answers.Stopped → IsHalted view
+  spoil-halts s (spoil_at.Over spoil_answers.Stopped) fits is = halts fits
+  spoil-halts s (spoil_at.Over spoil_answers.Done) fits is = absurd (other _ refl is)
+  spoil-halts s _ fits is = absurd (none-some _ is)
 
   evict-halts : (e : Evict) (x : EvictAt) → evicts.FitsAt layout view e.who e.page e.what x → option_map evict_answer (evicts.answer_at x) ≡ Some answers.Stopped → IsHalted view
   evict-halts e (evict_at.Over evict_answers.Stopped) fits is = halts fits.1.1
@@ -422,20 +392,18 @@ module _ (layout : Layout) (view : View) where
   came outcomes.Ignored = refl
 
   inject-halts : (i : Inject) (x : FailAnswer) → InjectEnded layout view i x → fail_answer x ≡ answers.Stopped → IsHalted view
-  inject-halts i fail_answers.Stopped ended is = which ended.over.2
-    where
-      which : IsStopped view i.who → IsHalted view
-      which (inl saw) = halts saw
-      which (inr own) = inr (own.0, own.1, own.2, tt)
+  inject-halts i fail_answers.Stopped ended is = stops ended.over.2
   inject-halts i fail_answers.Already ended is = absurd (other _ refl (ap (λ (a : Answer). Some a) is))
   inject-halts i (fail_answers.Done situation cycle at signalled) ended is = absurd (other _ (came (outcome_of situation)) (ap (λ (a : Answer). Some a) is))
 
 -- a command that is answered `stopped` shows that the machine has stopped
 pub stopped-halts : (layout : Layout) (view : View) (j : Job) → Fits layout view j → answer j ≡ Some answers.Stopped → IsHalted view
-stopped-halts layout view (jobs.Access a) fits is = access-halts layout view a.request a.at fits.at is
+stopped-halts layout view (jobs.Instruction i) fits is = let own = mapped _ (instructions.answer i) is in instruction-halts layout view i.request i.lines.told own.0 (instruction-ended i fits own.1).ended own.2
 stopped-halts layout view (jobs.Evict e) fits is = evict-halts layout view e e.at fits.at is
 stopped-halts layout view (jobs.Fsync f) fits is = fsync-halts layout view f f.at fits.at is
 stopped-halts layout view (jobs.Prctl p) fits is = prctl-halts layout view p p.at fits.at is
-stopped-halts layout view (jobs.ReadStop r) fits is = read-halts layout view r r.at fits.at is
+stopped-halts layout view (jobs.Log l) fits is = read-halts layout view l.read l.read.at fits.read.at is
+stopped-halts layout view (jobs.Raise r) fits is = let own = mapped _ (raises.answer r) is in raise-halts layout view r own.0 (raise-ended r fits own.1).1 own.2
+stopped-halts layout view (jobs.Spoil s) fits is = spoil-halts layout view s s.at fits.at is
 stopped-halts layout view (jobs.Nested n) fits is = nested-halts layout view n n.at fits.at is
 stopped-halts layout view (jobs.Inject i) fits is = let own = mapped _ (injects.answer i) is in inject-halts layout view i own.0 (inject-ended i fits own.1) own.2

@@ -1,4 +1,5 @@
 -- What the line of a report says of what a command came to.
+use Rattle.std.specs.Prelude.{ℕ}
 use Rattle.hwp_page.specs.declared.At.{At}
 use Rattle.hwp_report.specs.declared.Answer.{Answer}
 use Rattle.hwp_report.specs.declared.Answer.TheVariants as answers
@@ -11,24 +12,28 @@ use Rattle.hwp_control.specs.declared.PrctlAnswer.{PrctlAnswer}
 use Rattle.hwp_control.specs.declared.PrctlAnswer.TheVariants as prctl
 use Rattle.hwp_control.specs.declared.ReadStopAnswer.{ReadStopAnswer}
 use Rattle.hwp_control.specs.declared.ReadStopAnswer.TheVariants as read_stop
+use Rattle.hwp_control.specs.declared.SpoilAnswer.{SpoilAnswer}
+use Rattle.hwp_control.specs.declared.SpoilAnswer.TheVariants as spoil
 use Rattle.hwp_evict.specs.declared.EvictAnswer.{EvictAnswer}
 use Rattle.hwp_evict.specs.declared.EvictAnswer.TheVariants as evict
 use Rattle.hwp_evict.specs.declared.FsyncAnswer.{FsyncAnswer}
 use Rattle.hwp_evict.specs.declared.FsyncAnswer.TheVariants as fsync
 use Rattle.hwp_evict.specs.declared.Refusal.{Refusal}
 use Rattle.hwp_evict.specs.declared.Refusal.TheVariants as refusals
-use Rattle.hwp_fault.specs.declared.AccessAnswer.{AccessAnswer}
-use Rattle.hwp_fault.specs.declared.AccessAnswer.TheVariants as access
 use Rattle.hwp_fail.specs.declared.FailAnswer.{FailAnswer}
 use Rattle.hwp_fail.specs.declared.FailAnswer.TheVariants as fail
+use Rattle.hwp_instr.specs.declared.InstructionAnswer.{InstructionAnswer}
+use Rattle.hwp_instr.specs.declared.InstructionAnswer.TheVariants as instruction
+use Rattle.hwp_raise.specs.declared.RaiseAnswer.{RaiseAnswer}
+use Rattle.hwp_raise.specs.declared.RaiseAnswer.TheVariants as raise
 
-abbrev pub access_answer : AccessAnswer → Answer
-access_answer (access.Value word page place) = answers.Value word (record { page = page; entry = place })
-access_answer (access.Stored page place) = answers.Stored (record { page = page; entry = place })
-access_answer (access.Sigbus page place) = answers.Sigbus (record { page = page; entry = place })
-access_answer (access.NoFrame) = answers.NoFrame
-access_answer (access.Gone page) = answers.Gone page
-access_answer access.Stopped = answers.Stopped
+abbrev pub instruction_answer : InstructionAnswer → Answer
+instruction_answer (instruction.Value word at) = answers.Value word at
+instruction_answer (instruction.Stored at) = answers.Stored at
+instruction_answer (instruction.Sigbus at) = answers.Sigbus at
+instruction_answer instruction.NoFrame = answers.NoFrame
+instruction_answer (instruction.Gone page) = answers.Gone page
+instruction_answer instruction.Stopped = answers.Stopped
 
 abbrev pub refusal_answer : Refusal → At → Answer
 refusal_answer refusals.NotMapped at = answers.NotMapped at
@@ -55,6 +60,16 @@ prctl_answer prctl.Stopped = answers.Stopped
 abbrev pub read_stop_answer : ReadStopAnswer → Answer
 read_stop_answer read_stop.Done = answers.Done
 read_stop_answer read_stop.Stopped = answers.Stopped
+
+-- a machine check tells how many event lines it has
+abbrev pub raise_answer : ℕ → RaiseAnswer → Answer
+raise_answer lines raise.Raised = answers.Raised lines
+raise_answer lines (raise.Gone page) = answers.Gone page
+raise_answer lines raise.Stopped = answers.Stopped
+
+abbrev pub spoil_answer : SpoilAnswer → Answer
+spoil_answer spoil.Done = answers.Done
+spoil_answer spoil.Stopped = answers.Stopped
 
 abbrev pub nested_answer : NestedAnswer → Answer
 nested_answer nested.Shutdown = answers.Stopped

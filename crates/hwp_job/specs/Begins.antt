@@ -1,8 +1,12 @@
 -- The task that a command begins as.
 use Rattle.std.specs.declared.alloc.Global.{Global}
-use Rattle.std.specs.Prelude.{◌≡◌, ℕ, ◌<◌, Bool, true, false, Some, length, slice_get}
+use Rattle.std.specs.Prelude.{◌≡◌, ℕ, ◌<◌, Bool, true, false, Some, None, length, slice_get}
+use Rattle.hwp_geom.specs.declared.Damage.{Damage}
+use Rattle.hwp_geom.specs.declared.Damage.TheVariants as damages
 use Rattle.hwp_geom.specs.declared.Frame.{Frame}
 use Rattle.hwp_geom.specs.declared.Layout.{Layout}
+use Rattle.hwp_geom.specs.declared.Mode.{Mode}
+use Rattle.hwp_geom.specs.declared.Mode.TheVariants as modes
 use Rattle.hwp_geom.specs.declared.Page.{Page}
 use Rattle.hwp_geom.specs.declared.Proc.{Proc}
 use Rattle.hwp_geom.specs.declared.Thread.{Thread}
@@ -10,13 +14,22 @@ use Rattle.hwp_geom.specs.declared.ThreadDecl.{ThreadDecl}
 use Rattle.hwp_geom.specs.declared.VSlot.{VSlot}
 use Rattle.hwp_geom.specs.declared.Who.{Who}
 use Rattle.hwp_geom.specs.Layout.{IsSound}
+use Rattle.hwp_geom.specs.Limits.{line_limit}
+use Rattle.hwp_banks.specs.declared.Event.{Event}
+use Rattle.hwp_banks.specs.declared.Origin.{Origin}
+use Rattle.hwp_banks.specs.declared.Origin.TheVariants as origins
+use Rattle.hwp_banks.specs.Events.{bank_count}
+use Rattle.hwp_severity.specs.declared.McgBits.{McgBits}
 use Rattle.hwp_form.specs.declared.Command.{Command}
 use Rattle.hwp_form.specs.declared.Command.TheVariants as commands
 use Rattle.hwp_form.specs.declared.PrctlArgs.{PrctlArgs}
+use Rattle.hwp_law.specs.Checks.{Banks}
+use Rattle.hwp_law.specs.Commands.{arrival_of}
+use Rattle.hwp_law.specs.Events.{raw_event}
 use Rattle.hwp_law.specs.Policies.{arguments}
 use Rattle.hwp_control.specs.Nesteds as nesteds
 use Rattle.hwp_control.specs.Prctls as prctls
-use Rattle.hwp_control.specs.ReadStops as read_stops
+use Rattle.hwp_control.specs.Spoils as spoils
 use Rattle.hwp_evict.specs.declared.Eviction.{Eviction}
 use Rattle.hwp_evict.specs.declared.Eviction.TheVariants as evictions
 use Rattle.hwp_evict.specs.Evictions.{IsOfKind}
@@ -24,28 +37,37 @@ use Rattle.hwp_evict.specs.Evicts as evicts
 use Rattle.hwp_evict.specs.Fsyncs as fsyncs
 use Rattle.hwp_fault.specs.declared.AccessKind.{AccessKind}
 use Rattle.hwp_fault.specs.declared.AccessKind.TheVariants as kinds
+use Rattle.hwp_fault.specs.declared.Request.{Request}
 use Rattle.hwp_fault.specs.Accesses as accesses
 use Rattle.hwp_fail.specs.Injects as injects
+use Rattle.hwp_instr.specs.Instructions as instructions
+use Rattle.hwp_raise.specs.Logs as logs
+use Rattle.hwp_raise.specs.Raises as raises
 use Rattle.hwp_job.specs.declared.job.Job.{Job}
 use Rattle.hwp_job.specs.declared.job.Job.TheVariants as jobs
 
--- processors run the command: all but those of errors of the hardware, `soft` and `unpoison`
+-- processors run the command: all but `scrub`, `soft` and `unpoison`
 abbrev pub is_supported : Command → Bool
-is_supported (commands.Bad frame line) = false
-is_supported (commands.Weak frame line) = false
 is_supported (commands.Scrub first last) = false
-is_supported (commands.RaiseUser thread ripv eipv) = false
-is_supported (commands.RaiseKernel ripv eipv) = false
 is_supported (commands.Soft frame) = false
 is_supported (commands.Unpoison frame) = false
 is_supported command = true
 
--- an access by a thread, through a translation of the thread's own process to the page
-pub record BeginsAccess (layout : Layout) (who : Who) (thread : Thread) (slot : VSlot) (line : ℕ) (kind : AccessKind) (j : Job) : Type 0 where
+abbrev pub request_of : Who → Thread → VSlot → ℕ → AccessKind → Page → Proc → Request
+request_of who thread slot line kind page process = record { who = who; thread = thread; slot = slot; line = line; kind = kind; page = page; process = process }
+
+abbrev pub begun_access : Global → Request → Origin → Mode → Banks → Job
+begun_access alloc request origin mode banks = jobs.Instruction (instructions.begin alloc request origin mode banks)
+
+-- an access by a thread, through a translation of the thread's own process to the page; it takes what the banks hold
+pub record BeginsAccess (layout : Layout) (who : Who) (thread : Thread) (slot : VSlot) (line : ℕ) (kind : AccessKind) (origin : Origin) (mode : Mode) (banks : Banks) (j : Job) : Type 0 where
+  pub sound : IsSound layout
+  pub three : length banks ≡ bank_count
   pub page : Page
   pub process : Proc
-  pub names : accesses.IsDeclared layout (accesses.begin who thread slot line kind page process).request
-  pub job_is : j ≡ jobs.Access (accesses.begin who thread slot line kind page process)
+  pub names : accesses.IsDeclared layout (request_of who thread slot line kind page process)
+  pub alloc : Global
+  pub job_is : j ≡ begun_access alloc (request_of who thread slot line kind page process) origin mode banks
 
 -- an eviction of a page of the layout that is of the command's kind
 pub record BeginsEviction (layout : Layout) (who : Who) (page : Page) (what : Eviction) (j : Job) : Type 0 where
@@ -68,19 +90,52 @@ pub record BeginsInject (layout : Layout) (who : Who) (frame : Frame) (j : Job) 
   pub alloc : Global
   pub job_is : j ≡ jobs.Inject (injects.begin alloc who frame)
 
--- the task is at the beginning of the command
-abbrev pub Begins : Layout → Who → Command → Job → Type 0
-Begins layout who (commands.Load thread slot line) j = BeginsAccess layout who thread slot line kinds.Load j
-Begins layout who (commands.Fetch thread slot line) j = BeginsAccess layout who thread slot line kinds.Load j
-Begins layout who (commands.KLoad thread slot line) j = BeginsAccess layout who thread slot line kinds.Load j
-Begins layout who (commands.Store thread slot line word) j = BeginsAccess layout who thread slot line (kinds.Store word) j
-Begins layout who (commands.Free slot) j = (page : Page) × BeginsEviction layout who page (evictions.Free slot) j
-Begins layout who (commands.Drop page) j = BeginsEviction layout who page evictions.Drop j
-Begins layout who (commands.Sync page) j = BeginsEviction layout who page evictions.Sync j
-Begins layout who (commands.Out page) j = BeginsEviction layout who page evictions.Out j
-Begins layout who (commands.Fsync file) j = (file.0 < layout.files) × (j ≡ jobs.Fsync (fsyncs.begin who file))
-Begins layout who (commands.Prctl thread args) j = BeginsPrctl layout who thread args j
-Begins layout who (commands.Log status addr misc) j = j ≡ jobs.ReadStop (read_stops.begin who)
-Begins layout who (commands.Inject frame) j = BeginsInject layout who frame j
-Begins layout who commands.RaiseNested j = j ≡ jobs.Nested (nesteds.begin who)
-Begins layout who _ j = ⊥
+-- a raw event of these registers
+pub record BeginsLog (layout : Layout) (who : Who) (event : Event) (banks : Banks) (j : Job) : Type 0 where
+  pub three : length banks ≡ bank_count
+  pub job_is : j ≡ jobs.Log (logs.begin who event banks)
+
+-- a machine check by a thread of the processor, of what the banks hold
+pub record BeginsRaiseUser (layout : Layout) (who : Who) (thread : Thread) (mcg : McgBits) (banks : Banks) (j : Job) : Type 0 where
+  pub sound : IsSound layout
+  pub three : length banks ≡ bank_count
+  pub decl : ThreadDecl
+  pub declared : slice_get layout.threads thread.0 ≡ Some decl
+  pub own : decl.cpu ≡ who.cpu
+  pub within : decl.process.0 < layout.procs
+  pub alloc : Global
+  pub job_is : j ≡ jobs.Raise (raises.begin alloc who (Some (record { thread = thread; process = decl.process })) mcg banks)
+
+-- a machine check by the kernel, of what the banks hold
+pub record BeginsRaiseKernel (layout : Layout) (who : Who) (mcg : McgBits) (banks : Banks) (j : Job) : Type 0 where
+  pub sound : IsSound layout
+  pub three : length banks ≡ bank_count
+  pub alloc : Global
+  pub job_is : j ≡ jobs.Raise (raises.begin alloc who None mcg banks)
+
+-- damage to a line of a frame of the layout
+pub record BeginsSpoil (layout : Layout) (who : Who) (frame : Frame) (line : ℕ) (damage : Damage) (j : Job) : Type 0 where
+  pub within : frame.0 < layout.frames
+  pub inside : line < line_limit
+  pub job_is : j ≡ jobs.Spoil (spoils.begin who frame line damage)
+
+-- the task is at the beginning of the command, of a processor whose banks hold this
+abbrev pub Begins : Layout → Who → Command → Banks → Job → Type 0
+Begins layout who (commands.Load thread slot line) banks j = BeginsAccess layout who thread slot line kinds.Load origins.Access modes.User banks j
+Begins layout who (commands.Fetch thread slot line) banks j = BeginsAccess layout who thread slot line kinds.Load origins.Fetch modes.User banks j
+Begins layout who (commands.KLoad thread slot line) banks j = BeginsAccess layout who thread slot line kinds.Load origins.Access modes.Kernel banks j
+Begins layout who (commands.Store thread slot line word) banks j = BeginsAccess layout who thread slot line (kinds.Store word) origins.Access modes.User banks j
+Begins layout who (commands.Free slot) banks j = (page : Page) × BeginsEviction layout who page (evictions.Free slot) j
+Begins layout who (commands.Drop page) banks j = BeginsEviction layout who page evictions.Drop j
+Begins layout who (commands.Sync page) banks j = BeginsEviction layout who page evictions.Sync j
+Begins layout who (commands.Out page) banks j = BeginsEviction layout who page evictions.Out j
+Begins layout who (commands.Fsync file) banks j = (file.0 < layout.files) × (j ≡ jobs.Fsync (fsyncs.begin who file))
+Begins layout who (commands.Prctl thread args) banks j = BeginsPrctl layout who thread args j
+Begins layout who (commands.Bad frame line) banks j = BeginsSpoil layout who frame line damages.Bad j
+Begins layout who (commands.Weak frame line) banks j = BeginsSpoil layout who frame line damages.Weak j
+Begins layout who (commands.Log status addr misc) banks j = BeginsLog layout who (raw_event status addr misc) banks j
+Begins layout who (commands.RaiseUser thread ripv eipv) banks j = BeginsRaiseUser layout who thread (arrival_of (commands.RaiseUser thread ripv eipv)).mcg banks j
+Begins layout who (commands.RaiseKernel ripv eipv) banks j = BeginsRaiseKernel layout who (arrival_of (commands.RaiseKernel ripv eipv)).mcg banks j
+Begins layout who commands.RaiseNested banks j = j ≡ jobs.Nested (nesteds.begin who)
+Begins layout who (commands.Inject frame) banks j = BeginsInject layout who frame j
+Begins layout who _ banks j = ⊥

@@ -1,69 +1,58 @@
--- What a command has done so far beside its entries: the frame that it poisoned, the losses that it took, and the policy that it set.
-use Rattle.std.specs.Prelude.{◌≡◌, ◌⊎◌, ℕ, ◌+◌, false, List, [], ◌∷◌, ◌++◌, Option, Some, None, map}
+-- What a command has done so far beside what it answers: the frames that it poisoned, the failures that its entries tell, the losses
+-- that it took, and the policy that it set.
+use Rattle.std.specs.Prelude.{◌≡◌, ℕ, Bool, true, false, List, [], ◌∷◌, None, map}
 use Rattle.hwp_geom.specs.declared.FileNo.{FileNo}
 use Rattle.hwp_geom.specs.declared.Frame.{Frame}
 use Rattle.hwp_geom.specs.declared.Thread.{Thread}
 use Rattle.hwp_geom.specs.declared.Who.{Who}
 use Rattle.hwp_kill.specs.declared.Policy.{Policy}
-use Rattle.hwp_page.specs.Situations.{outcome_of}
 use Rattle.hwp_rule.specs.declared.Mark.{Mark}
 use Rattle.hwp_rule.specs.declared.Reported.{Reported}
 use Rattle.hwp_rule.specs.declared.Setting.{Setting}
 use Rattle.hwp_rule.specs.declared.View.{View}
-use Rattle.hwp_report.specs.declared.How.TheVariants as hows
-use Rattle.hwp_report.specs.declared.MarkLine.{MarkLine}
-use Rattle.hwp_report.specs.declared.MarkLine.TheVariants as marks
-use Rattle.hwp_claim.specs.declared.claim.ClaimAt.{ClaimAt}
-use Rattle.hwp_claim.specs.declared.claim.ClaimAt.TheVariants as claim_at
+use Rattle.hwp_act.specs.declared.Failed.{Failed}
+use Rattle.hwp_claim.specs.Done.{Grows, Marking, counts_owed, marking_of}
 use Rattle.hwp_evict.specs.declared.FsyncAnswer.TheVariants as fsync_answers
 use Rattle.hwp_evict.specs.declared.fsync.FsyncAt.{FsyncAt}
 use Rattle.hwp_evict.specs.declared.fsync.FsyncAt.TheVariants as fsync_at
-use Rattle.hwp_fail.specs.declared.fail.FailAt.{FailAt}
-use Rattle.hwp_fail.specs.declared.fail.FailAt.TheVariants as fail_at
-use Rattle.hwp_fail.specs.declared.FailAnswer.{FailAnswer}
-use Rattle.hwp_fail.specs.declared.FailAnswer.TheVariants as fail_answers
 use Rattle.hwp_fail.specs.declared.inject.InjectAt.{InjectAt}
 use Rattle.hwp_fail.specs.declared.inject.InjectAt.TheVariants as inject_at
-use Rattle.hwp_fail.specs.Injects as injects
+use Rattle.hwp_fail.specs.Done as fail_done
+use Rattle.hwp_instr.specs.Done as instruction_done
+use Rattle.hwp_instr.specs.Done.{FailuresGrow, failures_by}
+use Rattle.hwp_raise.specs.Done as raise_done
 use Rattle.hwp_job.specs.declared.job.Job.{Job}
 use Rattle.hwp_job.specs.declared.job.Job.TheVariants as jobs
 use Rattle.hwp_job.specs.Settings.{set_at}
 
--- the frames that the command has poisoned: its own from the poison on
-abbrev pub marked_in : Frame → ClaimAt → List Frame
-marked_in frame claim_at.Stop = []
-marked_in frame claim_at.Poison = []
-marked_in frame claim_at.GaveUp = []
-marked_in frame claim_at.Stopped = []
-marked_in frame claim_at.Already = []
-marked_in frame _ = frame ∷ []
-
-abbrev pub marked_over : Frame → FailAnswer → List Frame
-marked_over frame fail_answers.Stopped = []
-marked_over frame fail_answers.Already = []
-marked_over frame (fail_answers.Done situation cycle at signalled) = frame ∷ []
-
-abbrev pub marked_by_fail : Frame → FailAt → List Frame
-marked_by_fail frame (fail_at.Claim c) = marked_in frame c.at
-marked_by_fail frame (fail_at.Act cycle a) = frame ∷ []
-marked_by_fail frame (fail_at.Over answer) = marked_over frame answer
-
-abbrev pub marked_at : Frame → InjectAt → List Frame
-marked_at frame (inject_at.Fail f) = marked_by_fail frame f.at
+-- the poisonings that the command has made, in order
+abbrev pub marked_at : Frame → InjectAt → List Marking
+marked_at frame (inject_at.Fail f) = fail_done.marked_at frame false f.at
 marked_at frame _ = []
 
-abbrev pub marked_now : Job → List Frame
+abbrev pub marked_now : Job → List Marking
+marked_now (jobs.Instruction i) = instruction_done.marked_now i
+marked_now (jobs.Raise r) = raise_done.marked_now r
 marked_now (jobs.Inject i) = marked_at i.frame i.at
 marked_now _ = []
 
--- the line that it adds to the record of a frame, when it is over
-abbrev pub note_of : Who → Frame → Option FailAnswer → Option (Frame × MarkLine)
-note_of who frame (Some (fail_answers.Done situation cycle at signalled)) = Some (frame, marks.Poisoned cycle who (hows.Failure false situation (outcome_of situation)))
-note_of who frame _ = None
+-- the failures that its entries tell
+abbrev pub failed_at : InjectAt → List Failed
+failed_at (inject_at.Fail f) = fail_done.failed_at None f.at
+failed_at _ = []
 
-abbrev pub note : Job → Option (Frame × MarkLine)
-note (jobs.Inject i) = note_of i.who i.frame (injects.answer i)
-note _ = None
+abbrev pub failed_now : Job → List Failed
+failed_now (jobs.Instruction i) = instruction_done.failed_now i
+failed_now (jobs.Raise r) = raise_done.failed_now r
+failed_now (jobs.Inject i) = failed_at i.at
+failed_now _ = []
+
+-- the command can have a memory failure
+abbrev pub can_fail : Job → Bool
+can_fail (jobs.Instruction i) = true
+can_fail (jobs.Raise r) = true
+can_fail (jobs.Inject i) = true
+can_fail _ = false
 
 -- the losses that it has taken, with their file
 abbrev pub taken_at : FileNo → FsyncAt → List (FileNo × ℕ)
@@ -80,28 +69,14 @@ abbrev pub policies_now : Job → List (Thread × Policy)
 policies_now (jobs.Prctl p) = map (λ (policy : Policy). (p.thread, policy)) (set_at p.at)
 policies_now _ = []
 
--- a list that a view has is as it was, or has one member more, by the command; and what the command has done has grown by that
-abbrev pub Grows : {A B : Type 0} → (A → Who) → (A → B) → List A → List A → Who → List B → List B → Type 0
-Grows {A} {B} by told old new who before after = ((new ≡ old) × (after ≡ before)) ⊎ ((x : A) × (new ≡ old ++ x ∷ []) × (by x ≡ who) × (after ≡ before ++ told x ∷ []))
-
--- the frames that the processor marked and has yet to count
-abbrev pub counts_owed : View → ℕ
-counts_owed view = view.owed.counts + view.owed.hardware + view.owed.uncounts
-
--- a command counts the frame that it marked in the step after
-abbrev pub owed_in : ClaimAt → ℕ
-owed_in (claim_at.Count cycle) = 1
-owed_in _ = 0
-
-abbrev pub owed_by_fail : FailAt → ℕ
-owed_by_fail (fail_at.Claim c) = owed_in c.at
-owed_by_fail _ = 0
-
+-- the counts that it owes of its poisonings
 abbrev pub owed_at : InjectAt → ℕ
-owed_at (inject_at.Fail f) = owed_by_fail f.at
+owed_at (inject_at.Fail f) = fail_done.owed_at f.at
 owed_at _ = 0
 
 abbrev pub owed_now : Job → ℕ
+owed_now (jobs.Instruction i) = instruction_done.owed_now i
+owed_now (jobs.Raise r) = raise_done.owed_now r
 owed_now (jobs.Inject i) = owed_at i.at
 owed_now _ = 0
 
@@ -111,7 +86,8 @@ HasCounted j view = counts_owed view ≡ owed_now j
 
 -- what a step of the command has done
 pub record HasDone (old new : View) (who : Who) (j after : Job) : Type 0 where
-  pub marked : Grows (λ (m : Mark). m.stamp.who) (λ (m : Mark). m.frame) old.marks new.marks who (marked_now j) (marked_now after)
+  pub marked : Grows (λ (m : Mark). m.stamp.who) marking_of old.marks new.marks who (marked_now j) (marked_now after)
+  pub failed : can_fail after ≡ true → FailuresGrow (failures_by who old) (failures_by who new) (failed_now j) (failed_now after)
   pub taken : Grows (λ (r : Reported). r.stamp.who) (λ (r : Reported). (r.file, r.count)) old.reported new.reported who (taken_now j) (taken_now after)
   pub set : Grows (λ (s : Setting). s.stamp.who) (λ (s : Setting). (s.thread, s.policy)) old.settings new.settings who (policies_now j) (policies_now after)
   pub counted : HasCounted j old → HasCounted after new

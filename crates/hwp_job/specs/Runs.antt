@@ -1,14 +1,10 @@
 -- Which command a task is of, whatever state it is in, and what a processor has where a command begins.
 use Rattle.std.specs.Prelude.{◌≡◌, []}
-use Rattle.hwp_geom.specs.declared.Frame.{Frame}
 use Rattle.hwp_geom.specs.declared.Layout.{Layout}
 use Rattle.hwp_geom.specs.declared.Thread.{Thread}
 use Rattle.hwp_geom.specs.declared.Who.{Who}
 use Rattle.hwp_form.specs.declared.Command.{Command}
-use Rattle.hwp_rule.specs.declared.Place.TheVariants as places
-use Rattle.hwp_rule.specs.declared.Sight.{Sight}
 use Rattle.hwp_rule.specs.declared.View.{View}
-use Rattle.hwp_rule.specs.Lists.{EachMember}
 use Rattle.hwp_step.specs.Calls.{IsOnTurn}
 use Rattle.hwp_step.specs.Hands.{hand_of, empty}
 use Rattle.hwp_known.specs.Known.{HasMadeNone}
@@ -16,28 +12,33 @@ use Rattle.hwp_claim.specs.Claims.{HasMarkedNone}
 use Rattle.hwp_control.specs.Nesteds as nesteds
 use Rattle.hwp_control.specs.Prctls as prctls
 use Rattle.hwp_control.specs.Prctls.{HasSettingLeft}
-use Rattle.hwp_control.specs.ReadStops as read_stops
+use Rattle.hwp_control.specs.Spoils as spoils
 use Rattle.hwp_evict.specs.Evicts as evicts
 use Rattle.hwp_evict.specs.Fsyncs as fsyncs
-use Rattle.hwp_fault.specs.Accesses as accesses
 use Rattle.hwp_fail.specs.Injects as injects
+use Rattle.hwp_instr.specs.Instructions as instructions
+use Rattle.hwp_raise.specs.Logs as logs
+use Rattle.hwp_raise.specs.Raises as raises
 use Rattle.hwp_job.specs.declared.job.Job.{Job}
 use Rattle.hwp_job.specs.declared.job.Job.TheVariants as jobs
 use Rattle.hwp_job.specs.Begins.{Begins}
+use Rattle.hwp_job.specs.Jobs.{banks_before}
 
 -- the task of the same command at its beginning
 abbrev pub anew : Job → Job
-anew (jobs.Access a) = jobs.Access (accesses.begin a.request.who a.request.thread a.request.slot a.request.line a.request.kind a.request.page a.request.process)
+anew (jobs.Instruction i) = jobs.Instruction (instructions.begin i.alloc i.request i.origin i.mode i.before.value)
 anew (jobs.Evict e) = jobs.Evict (evicts.begin e.who e.page e.what)
 anew (jobs.Fsync f) = jobs.Fsync (fsyncs.begin f.who f.file)
 anew (jobs.Prctl p) = jobs.Prctl (prctls.begin p.who p.thread p.process p.arguments)
-anew (jobs.ReadStop r) = jobs.ReadStop (read_stops.begin r.who)
+anew (jobs.Log l) = jobs.Log (logs.begin l.read.who l.event l.before.value)
+anew (jobs.Raise r) = jobs.Raise (raises.begin r.alloc r.who r.raiser r.mcg r.before.value)
+anew (jobs.Spoil s) = jobs.Spoil (spoils.begin s.who s.frame s.line s.damage)
 anew (jobs.Nested n) = jobs.Nested (nesteds.begin n.who)
 anew (jobs.Inject i) = jobs.Inject (injects.begin i.alloc i.who i.frame)
 
--- the task is of the command: begun anew, it is what the command begins as
+-- the task is of the command: begun anew, it is what the command begins as, where the banks hold what they held then
 abbrev pub Runs : Layout → Who → Command → Job → Type 0
-Runs layout who command j = Begins layout who command (anew j)
+Runs layout who command j = Begins layout who command (banks_before j []) (anew j)
 
 -- the processor holds nothing and owes no loss, and may begin the command, which has made no entry and marked no frame yet; each
 -- thread can be set once more
@@ -48,7 +49,3 @@ pub record AtRest (view : View) (who : Who) : Type 0 where
   pub made : HasMadeNone view who
   pub unmarked : HasMarkedNone view who
   pub left : (thread : Thread) → HasSettingLeft thread view
-
--- no step of the processor was shown a bad line
-abbrev pub NoneBad : View → Type 0
-NoneBad view = EachMember (λ (s : Sight). (frame : Frame) → s.place ≡ places.Bad frame → s.word ≡ 0) view.sights

@@ -1,6 +1,7 @@
 -- What stays true from one command of a processor to the next: the stop of the machine, what bars a thread from setting its
 -- policy, and the policies that are set.
 use Rattle.std.specs.Prelude.{◌≡◌, ◌≢◌, ◌⊎◌, ℕ, ◌+◌, ◌≤◌, true, List, [], ◌∷◌, ◌++◌, Option, Some, length}
+use Rattle.hwp_geom.specs.declared.Frame.{Frame}
 use Rattle.hwp_geom.specs.declared.Layout.{Layout}
 use Rattle.hwp_geom.specs.declared.Proc.{Proc}
 use Rattle.hwp_geom.specs.declared.Thread.{Thread}
@@ -10,6 +11,7 @@ use Rattle.hwp_page.specs.History.{BodyValue}
 use Rattle.hwp_words.specs.Stops.{is_stopped}
 use Rattle.hwp_rule.specs.declared.Place.TheVariants as places
 use Rattle.hwp_rule.specs.declared.Sight.{Sight}
+use Rattle.hwp_rule.specs.declared.Spoiled.{Spoiled}
 use Rattle.hwp_rule.specs.declared.Step.{Step}
 use Rattle.hwp_rule.specs.declared.View.{View}
 use Rattle.hwp_rule.specs.Lists.{SomeMember, StartsWith}
@@ -22,12 +24,15 @@ use Rattle.hwp_law.specs.Commands.{process_of_thread}
 use Rattle.hwp_law.specs.Policies.{settings}
 use Rattle.hwp_control.specs.declared.NestedAnswer.TheVariants as nested_answers
 use Rattle.hwp_control.specs.declared.PrctlAnswer.TheVariants as prctl_answers
+use Rattle.hwp_control.specs.declared.SpoilAnswer.TheVariants as spoil_answers
 use Rattle.hwp_control.specs.declared.nested.NestedAt.TheVariants as nested_at
 use Rattle.hwp_control.specs.declared.prctl.PrctlAt.{PrctlAt}
 use Rattle.hwp_control.specs.declared.prctl.PrctlAt.TheVariants as prctl_at
 use Rattle.hwp_control.specs.declared.read_stop.ReadStopAt.TheVariants as read_stop_at
+use Rattle.hwp_control.specs.declared.spoil.SpoilAt.TheVariants as spoil_at
 use Rattle.hwp_evict.specs.declared.evict.EvictAt.TheVariants as evict_at
 use Rattle.hwp_evict.specs.declared.fsync.FsyncAt.TheVariants as fsync_at
+use Rattle.hwp_fault.specs.declared.Access.{Access}
 use Rattle.hwp_fault.specs.declared.access.AccessAt.TheVariants as access_at
 use Rattle.hwp_claim.specs.declared.claim.Claim.{Claim}
 use Rattle.hwp_claim.specs.declared.claim.ClaimAt.TheVariants as claim_at
@@ -35,6 +40,15 @@ use Rattle.hwp_fail.specs.declared.fail.Fail.{Fail}
 use Rattle.hwp_fail.specs.declared.fail.FailAt.TheVariants as fail_at
 use Rattle.hwp_fail.specs.declared.FailAnswer.TheVariants as fail_answers
 use Rattle.hwp_fail.specs.declared.inject.InjectAt.TheVariants as inject_at
+use Rattle.hwp_handler.specs.declared.Handler.{Handler}
+use Rattle.hwp_handler.specs.declared.handler.HandlerAt.TheVariants as handler_at
+use Rattle.hwp_handler.specs.Told.{halts}
+use Rattle.hwp_instr.specs.declared.InstructionAnswer.TheVariants as instruction_answers
+use Rattle.hwp_instr.specs.declared.instruction.InstructionAt.TheVariants as instruction_at
+use Rattle.hwp_instr.specs.Instructions as instructions
+use Rattle.hwp_raise.specs.declared.RaiseAnswer.TheVariants as raise_answers
+use Rattle.hwp_raise.specs.declared.raise.RaiseAt.TheVariants as raise_at
+use Rattle.hwp_raise.specs.Raises as raises
 use Rattle.hwp_job.specs.declared.job.Job.{Job}
 use Rattle.hwp_job.specs.declared.job.Job.TheVariants as jobs
 use Rattle.hwp_job.specs.Jobs.{Fits, Next, answer, bare, plan, put, who}
@@ -57,13 +71,15 @@ pub record Stepped (layout : Layout) (old new : View) (j after : Job) : Type 0 w
 abbrev pub IsHalted : View → Type 0
 IsHalted view = SomeMember (λ (s : Sight). (s.place ≡ places.Stop) × (is_stopped s.word ≡ true)) view.sights ⊎ SomeMember (λ (w : Who). Unit {0}) view.stops
 
--- the command has yet to look whether the machine has stopped
+-- the command has yet to look whether the machine has stopped, and has told nothing
 abbrev pub IsAtStop : Job → Type 0
-IsAtStop (jobs.Access a) = a.at ≡ access_at.LoadStop
+IsAtStop (jobs.Instruction i) = (a : Access) × (i.at ≡ instruction_at.Access a) × (a.at ≡ access_at.LoadStop) × (i.lines.told ≡ [])
 IsAtStop (jobs.Evict e) = e.at ≡ evict_at.LoadStop
 IsAtStop (jobs.Fsync f) = f.at ≡ fsync_at.LoadStop
 IsAtStop (jobs.Prctl p) = p.at ≡ prctl_at.LoadStop
-IsAtStop (jobs.ReadStop r) = r.at ≡ read_stop_at.LoadStop
+IsAtStop (jobs.Log l) = l.read.at ≡ read_stop_at.LoadStop
+IsAtStop (jobs.Raise r) = (r.at ≡ raise_at.LoadStop) × (r.lines.told ≡ [])
+IsAtStop (jobs.Spoil s) = s.at ≡ spoil_at.LoadStop
 IsAtStop (jobs.Nested n) = n.at ≡ nested_at.LoadStop
 IsAtStop (jobs.Inject i) = i.at ≡ inject_at.LoadStop
 
@@ -71,15 +87,19 @@ IsAtStop (jobs.Inject i) = i.at ≡ inject_at.LoadStop
 abbrev pub EndsStopped : Job → Type 0
 EndsStopped j = IsAtStop j ⊎ (answer j ≡ Some answers.Stopped)
 
--- the step of the command is to stop the machine: a machine check inside a machine check, or a failure on a machine that doesn't
--- recover
+-- the step of the command is to stop the machine: for an event of its machine check, as a machine check inside a machine check, or
+-- for a failure on a machine that doesn't recover
 abbrev pub IsStopping : Job → Type 0
+IsStopping (jobs.Instruction i) = (frame : Frame) × (h : Handler) × (i.at ≡ instruction_at.Handle frame h) × (h.at ≡ handler_at.Stop)
+IsStopping (jobs.Raise r) = (h : Handler) × (r.at ≡ raise_at.Handle h) × (h.at ≡ handler_at.Stop)
 IsStopping (jobs.Nested n) = n.at ≡ nested_at.Stop
 IsStopping (jobs.Inject i) = (f : Fail) × (c : Claim) × (i.at ≡ inject_at.Fail f) × (f.at ≡ fail_at.Claim c) × (c.at ≡ claim_at.Stop)
 IsStopping _ = ⊥
 
 -- the command that could stop the machine found it stopped by that step, or stopped it
 abbrev pub HasStopped : Job → Type 0
+HasStopped (jobs.Instruction i) = (instructions.answer i ≡ Some instruction_answers.Stopped) × (halts i.lines.told ≡ true)
+HasStopped (jobs.Raise r) = (raises.answer r ≡ Some raise_answers.Stopped) × (halts r.lines.told ≡ true)
 HasStopped (jobs.Nested n) = n.at ≡ nested_at.Over (Some nested_answers.Shutdown)
 HasStopped (jobs.Inject i) = (f : Fail) × (i.at ≡ inject_at.Fail f) × (f.at ≡ fail_at.Over fail_answers.Stopped)
 HasStopped _ = ⊥
@@ -89,6 +109,13 @@ pub record StopsItself (j after : Job) (old new : View) : Type 0 where
   pub stopping : IsStopping j
   pub has : HasStopped after
   pub stops_are : new.stops ≡ old.stops ++ who j ∷ []
+
+-- ---- damage
+
+-- the command made this damage to a line
+abbrev pub HasSpoiled : Job → Spoiled → Type 0
+HasSpoiled (jobs.Spoil s) spoiled = (s.at ≡ spoil_at.Over spoil_answers.Done) × (s.who ≡ spoiled.stamp.who) × (s.frame ≡ spoiled.frame) × (s.line ≡ spoiled.line) × (s.damage ≡ spoiled.damage)
+HasSpoiled _ spoiled = ⊥
 
 -- ---- threads that can't set their policy
 

@@ -2,55 +2,77 @@ ghost use Rattle.std.specs.Prelude.{◌≡◌, ◌<◌, length, true};
 ghost use Rattle.hwp_geom.specs.Layout.{IsSound};
 ghost use Rattle.hwp_geom.specs.Limits.{line_limit};
 ghost use Rattle.hwp_page.specs.Step.{IsOf};
+ghost use Rattle.hwp_fault.specs.Accesses.{IsDeclared};
 ghost use Rattle.hwp_script.specs.Valid.{IsAccess, IsCommandOf, IsThreadOf};
+ghost use Rattle.hwp_law.specs.Checks.{empty_banks};
+ghost use Rattle.hwp_law.specs.Events.{raw_event};
 ghost use Rattle.hwp_law.specs.Policies.{arguments};
-ghost use Rattle.hwp_job.specs.Begins.{Begins, BeginsAccess, BeginsPrctl, is_supported};
+ghost use Rattle.hwp_job.specs.Begins.{Begins, BeginsPrctl, BeginsRaiseUser, begun_access, is_supported, request_of};
+ghost use Rattle.hwp_job.specs.Jobs.{left_in};
 
 use crate::job::Job;
-use hwp_control::{Nested, Prctl, ReadStop};
+use hwp_banks::{BANKS, Bank, Event, Origin, Status};
+use hwp_control::{Nested, Prctl, Spoil};
 use hwp_evict::{Evict, Fsync};
 use hwp_fail::Inject;
-use hwp_fault::{Access, AccessKind};
+use hwp_fault::{AccessKind, Request};
 use hwp_form::{Command, PrctlArgs};
-use hwp_geom::{Layout, Line, Page, Thread, VSlot, Who};
+use hwp_geom::{Damage, Layout, Line, Mode, Page, Thread, VSlot, Who};
+use hwp_handler::no_events;
+use hwp_instr::Instruction;
+use hwp_raise::{Log, Raise, Raiser};
+use hwp_severity::McgBits;
 use std::alloc::Global;
+use std::mem;
 
-/// Whether processors run the command yet: all do but those of errors of the hardware, `soft` and `unpoison`.
+/// Whether processors run the command yet: all do but `scrub`, `soft` and `unpoison`.
 pub fn is_supported(command: Command) -> bool
     ensures { result ≡ is_supported command }
 {
     !matches!(
         command,
-        Command::Bad { .. }
-            | Command::Weak { .. }
-            | Command::Scrub { .. }
-            | Command::RaiseUser { .. }
-            | Command::RaiseKernel { .. }
-            | Command::Soft { .. }
-            | Command::Unpoison { .. }
+        Command::Scrub { .. } | Command::Soft { .. } | Command::Unpoison { .. }
     )
 }
 
 impl Job {
-    /// The command at its beginning.
-    pub fn new(alloc: Global, layout: &Layout, who: Who, command: Command) -> Job
+    /// The command at its beginning. One that can log or raise an event takes what the banks of its processor hold.
+    pub fn new(
+        alloc: Global,
+        layout: &Layout,
+        who: Who,
+        command: Command,
+        banks: &mut [Bank; BANKS],
+    ) -> Job
         requires sound { IsSound layout.now }
         requires of { IsCommandOf layout.now who.cpu.0 command }
         requires supported { is_supported command ≡ true }
-        ensures { Begins layout.now who command result }
+        ensures begins { Begins layout.now who command banks.old result }
+        ensures banks { banks.new ≡ left_in result banks.old }
     {
         match command {
-            Command::Load { thread, slot, line }
-            | Command::Fetch { thread, slot, line }
-            | Command::KLoad { thread, slot, line } => {
-                access(layout, who, thread, slot, line, AccessKind::Load)
+            Command::Load { thread, slot, line } => {
+                let request = request(layout, who, thread, slot, line, AccessKind::Load);
+                access(alloc, request, Origin::Access, Mode::User, banks)
+            }
+            Command::Fetch { thread, slot, line } => {
+                let request = request(layout, who, thread, slot, line, AccessKind::Load);
+                access(alloc, request, Origin::Fetch, Mode::User, banks)
+            }
+            Command::KLoad { thread, slot, line } => {
+                let request = request(layout, who, thread, slot, line, AccessKind::Load);
+                access(alloc, request, Origin::Access, Mode::Kernel, banks)
             }
             Command::Store {
                 thread,
                 slot,
                 line,
                 word,
-            } => { access(layout, who, thread, slot, line, AccessKind::Store { word }) }
+            } => {
+                let kind = AccessKind::Store { word };
+                let request = request(layout, who, thread, slot, line, kind);
+                access(alloc, request, Origin::Access, Mode::User, banks)
+            }
             Command::Free { slot } => {
                 Job::Evict(Evict::free_slot(who, slot, page_of(layout, slot)))
             }
@@ -59,18 +81,38 @@ impl Job {
             Command::Out { page } => Job::Evict(Evict::out_page(who, page)),
             Command::Fsync { file } => Job::Fsync(Fsync::new(who, file)),
             Command::Prctl { thread, args } => call(layout, who, thread, args),
-            Command::Log { .. } => Job::ReadStop(ReadStop::new(who)),
+            Command::Bad { frame, line } => {
+                Job::Spoil(Spoil::new(who, frame, line, Damage::Bad))
+            }
+            Command::Weak { frame, line } => {
+                Job::Spoil(Spoil::new(who, frame, line, Damage::Weak))
+            }
+            Command::Log { status, addr, misc } => {
+                let event = raw_event(status, addr, misc);
+                Job::Log(Log::new(who, event, taken(banks)))
+            }
+            Command::RaiseUser { thread, ripv, eipv } => {
+                raise_user(alloc, layout, who, thread, McgBits { ripv, eipv }, banks)
+            }
+            Command::RaiseKernel { ripv, eipv } => {
+                let mcg = McgBits { ripv, eipv };
+                Job::Raise(Raise::new(alloc, who, None, mcg, taken(banks)))
+            }
             Command::RaiseNested => Job::Nested(Nested::new(who)),
             Command::Inject { frame } => Job::Inject(Inject::new(alloc, who, frame)),
-            Command::Bad { .. }
-            | Command::Weak { .. }
-            | Command::Scrub { .. }
-            | Command::RaiseUser { .. }
-            | Command::RaiseKernel { .. }
-            | Command::Soft { .. }
-            | Command::Unpoison { .. } => unreachable!(),
+            Command::Scrub { .. } | Command::Soft { .. } | Command::Unpoison { .. } => {
+                unreachable!()
+            }
         }
     }
+}
+
+/// What the banks hold, which leaves them empty.
+fn taken(banks: &mut [Bank; BANKS]) -> [Bank; BANKS]
+    ensures held { result ≡ banks.old }
+    ensures empty { banks.new ≡ empty_banks }
+{
+    mem::replace(banks, no_events())
 }
 
 /// The page that a translation leads to.
@@ -83,22 +125,78 @@ fn page_of(layout: &Layout, slot: VSlot) -> Page
     layout.trans.as_slice()[usize::from(slot.0)].page
 }
 
-/// An access by a thread of the processor, at its beginning.
-fn access(
+/// What an access by a thread of the processor asks for.
+fn request(
     layout: &Layout,
     who: Who,
     thread: Thread,
     slot: VSlot,
     line: Line,
     kind: AccessKind,
-) -> Job
+) -> Request
     requires sound { IsSound layout.now }
     requires of { IsAccess layout.now who.cpu.0 thread slot }
     requires line { line < line_limit }
-    ensures { BeginsAccess layout.now who thread slot line kind result }
+    ensures asked { result ≡ request_of who thread slot line kind result.page result.process }
+    ensures names { IsDeclared layout.now result }
 {
     let decl = layout.trans.as_slice()[usize::from(slot.0)];
-    Job::Access(Access::new(who, thread, slot, line, kind, decl.page, decl.process))
+    Request {
+        who,
+        thread,
+        slot,
+        line,
+        kind,
+        page: decl.page,
+        process: decl.process,
+    }
+}
+
+/// The access at its beginning, which takes what the banks hold.
+fn access(
+    alloc: Global,
+    request: Request,
+    origin: Origin,
+    mode: Mode,
+    banks: &mut [Bank; BANKS],
+) -> Job
+    ensures begins { result ≡ begun_access alloc request origin mode banks.old }
+    ensures banks { banks.new ≡ empty_banks }
+{
+    Job::Instruction(Instruction::new(alloc, request, origin, mode, taken(banks)))
+}
+
+/// A raw event of these registers.
+fn raw_event(status: u64, addr: u64, misc: u64) -> Event
+    ensures { result ≡ raw_event status addr misc }
+{
+    Event {
+        status: Status(status),
+        addr,
+        misc,
+    }
+}
+
+/// A machine check by a thread of the processor, at its beginning, which takes what the banks hold.
+fn raise_user(
+    alloc: Global,
+    layout: &Layout,
+    who: Who,
+    thread: Thread,
+    mcg: McgBits,
+    banks: &mut [Bank; BANKS],
+) -> Job
+    requires sound { IsSound layout.now }
+    requires of { IsThreadOf layout.now who.cpu.0 thread }
+    ensures begins { BeginsRaiseUser layout.now who thread mcg banks.old result }
+    ensures banks { banks.new ≡ empty_banks }
+{
+    let decl = layout.threads.as_slice()[usize::from(thread.0)];
+    let raiser = Raiser {
+        thread,
+        process: decl.process,
+    };
+    Job::Raise(Raise::new(alloc, who, Some(raiser), mcg, taken(banks)))
 }
 
 /// A call of prctl(2) by a thread of the processor, at its beginning.

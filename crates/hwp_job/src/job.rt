@@ -1,29 +1,37 @@
 ghost use Rattle.std.specs.Prelude.{◌≡◌};
 
-use hwp_control::{Nested, NestedAnswer, Prctl, PrctlAnswer, ReadStop, ReadStopAnswer};
+use hwp_banks::{BANKS, Bank};
+use hwp_control::{Nested, NestedAnswer, Prctl, PrctlAnswer, ReadStopAnswer, Spoil, SpoilAnswer};
 use hwp_evict::{Evict, EvictAnswer, Fsync, FsyncAnswer, Refusal};
 use hwp_fail::{FailAnswer, Inject};
-use hwp_fault::{Access, AccessAnswer};
-use hwp_geom::{Frame, Layout, Who};
+use hwp_geom::{Frame, Layout, List, Who};
+use hwp_handler::{Found, Row, Told};
+use hwp_instr::{Instruction, InstructionAnswer};
 use hwp_kill::Reply;
 use hwp_page::{At, Body, Outcome};
-use hwp_report::{Answer, How, MarkLine};
+use hwp_raise::{Log, Raise, RaiseAnswer};
+use hwp_report::Answer;
 use hwp_rule::Step;
 use hwp_step::{Machine, Ranked, Scheduled, Turn};
+use std::alloc::Global;
 
 /// A command of a fault script that runs.
 #[derive(Drop)]
 pub enum Job {
     /// A load, a fetch, a load in kernel mode or a store.
-    Access(Access),
+    Instruction(Instruction),
     /// A command by which a page, or a part of it, leaves its frame.
     Evict(Evict),
     /// The losses of a file are taken.
     Fsync(Fsync),
     /// A call of prctl(2).
     Prctl(Prctl),
-    /// A command that makes no other step than to look whether the machine has stopped.
-    ReadStop(ReadStop),
+    /// A raw event is logged.
+    Log(Log),
+    /// A machine check is raised.
+    Raise(Raise),
+    /// A line of a frame goes bad, or gets weak.
+    Spoil(Spoil),
     /// A machine check inside a machine check.
     Nested(Nested),
     /// A failure of a frame.
@@ -31,54 +39,78 @@ pub enum Job {
 }
 
 impl Job {
-    ghost use Rattle.hwp_job.specs.Jobs.{answer};
-    ghost use Rattle.hwp_job.specs.Done.{note};
+    ghost use Rattle.hwp_job.specs.Jobs.{answer, banks_after, row_of};
 
     /// What the command answers; `None` until it is over, and where it gave up because memory ran out.
     pub fn answer(&self) -> Option<Answer>
         ensures { result ≡ answer self.now }
     {
         match self {
-            Job::Access(access) => access.answer().map(|answer| access_answer(answer)),
+            Job::Instruction(instruction) => {
+                instruction
+                    .answer()
+                    .map(|answer| instruction_answer(answer))
+            }
             Job::Evict(evict) => evict.answer().map(|answer| evict_answer(answer)),
             Job::Fsync(fsync) => fsync.answer().map(|answer| fsync_answer(answer)),
             Job::Prctl(prctl) => prctl.answer().map(|answer| prctl_answer(answer)),
-            Job::ReadStop(read) => read.answer().map(|answer| read_stop_answer(answer)),
+            Job::Log(log) => log.answer().map(|answer| read_stop_answer(answer)),
+            Job::Raise(raise) => {
+                let lines = raise.told().len();
+                raise.answer().map(|answer| raise_answer(lines, answer))
+            }
+            Job::Spoil(spoil) => spoil.answer().map(|answer| spoil_answer(answer)),
             Job::Nested(nested) => nested.answer().map(|answer| nested_answer(answer)),
             Job::Inject(inject) => inject.answer().map(|answer| fail_answer(answer)),
         }
     }
 
-    /// The line that the command adds to the record of a frame, when it is over: only a memory failure does so.
-    pub fn note(&self) -> Option<(Frame, MarkLine)>
-        ensures { result ≡ note self.now }
+    /// The row of a command that is over, with this answer. The banks get back what the command took from them, and has left.
+    pub fn finish(self, alloc: Global, answer: Answer, banks: &mut [Bank; BANKS]) -> Row
+        ensures row { result ≡ row_of self answer }
+        ensures banks { banks.new ≡ banks_after self banks.old }
     {
         match self {
-            Job::Inject(inject) => note_of(inject.who(), inject.frame(), inject.answer()),
-            _ => None,
+            Job::Instruction(instruction) => row(instruction.finish(banks), None, answer),
+            Job::Raise(raise) => row(raise.finish(banks), None, answer),
+            Job::Log(log) => {
+                log.finish(banks);
+                row(List::new(alloc), None, answer)
+            }
+            Job::Inject(inject) => {
+                let own = own_of(inject.frame(), inject.answer());
+                row(List::new(alloc), own, answer)
+            }
+            Job::Evict(_) | Job::Fsync(_) | Job::Prctl(_) | Job::Spoil(_) | Job::Nested(_) => {
+                row(List::new(alloc), None, answer)
+            }
         }
     }
 }
 
-ghost use Rattle.hwp_job.specs.Done.{note_of};
-ghost use Rattle.hwp_job.specs.Answers.{access_answer, evict_answer, fail_answer, fsync_answer, nested_answer, prctl_answer, read_stop_answer, refusal_answer};
+ghost use Rattle.hwp_job.specs.Answers.{evict_answer, fail_answer, fsync_answer, instruction_answer, nested_answer, prctl_answer, raise_answer, read_stop_answer, refusal_answer, spoil_answer};
+ghost use Rattle.hwp_job.specs.Jobs.{own_by, row};
+ghost use Rattle.hwp_handler.specs.Told.{found_by};
 ghost use Rattle.hwp_law.specs.Answers.{reply_answer};
 ghost use Rattle.hwp_law.specs.Records.{outcome_answer};
 
+fn row(told: List<Told>, own: Option<(Frame, Found)>, answer: Answer) -> Row
+    ensures { result ≡ row told own answer }
+{
+    Row { told, own, answer }
+}
+
 /// What a report's line says of an access.
-fn access_answer(answer: AccessAnswer) -> Answer
-    ensures { result ≡ access_answer answer }
+fn instruction_answer(answer: InstructionAnswer) -> Answer
+    ensures { result ≡ instruction_answer answer }
 {
     match answer {
-        AccessAnswer::Value { word, page, place } => Answer::Value {
-            word,
-            at: At { page, entry: place },
-        },
-        AccessAnswer::Stored { page, place } => Answer::Stored(At { page, entry: place }),
-        AccessAnswer::Sigbus { page, place } => Answer::Sigbus(At { page, entry: place }),
-        AccessAnswer::NoFrame => Answer::NoFrame,
-        AccessAnswer::Gone { page } => Answer::Gone(page),
-        AccessAnswer::Stopped => Answer::Stopped,
+        InstructionAnswer::Value { word, at } => Answer::Value { word, at },
+        InstructionAnswer::Stored { at } => Answer::Stored(at),
+        InstructionAnswer::Sigbus { at } => Answer::Sigbus(at),
+        InstructionAnswer::NoFrame => Answer::NoFrame,
+        InstructionAnswer::Gone { page } => Answer::Gone(page),
+        InstructionAnswer::Stopped => Answer::Stopped,
     }
 }
 
@@ -139,7 +171,28 @@ fn prctl_answer(answer: PrctlAnswer) -> Answer
     }
 }
 
-/// What it says of a command that only looked whether the machine had stopped.
+/// What it says of a machine check, which has this many event lines.
+fn raise_answer(lines: usize, answer: RaiseAnswer) -> Answer
+    ensures { result ≡ raise_answer lines answer }
+{
+    match answer {
+        RaiseAnswer::Raised => Answer::Raised(lines as u64),
+        RaiseAnswer::Gone(page) => Answer::Gone(page),
+        RaiseAnswer::Stopped => Answer::Stopped,
+    }
+}
+
+/// What it says of damage to a line.
+fn spoil_answer(answer: SpoilAnswer) -> Answer
+    ensures { result ≡ spoil_answer answer }
+{
+    match answer {
+        SpoilAnswer::Done => Answer::Done,
+        SpoilAnswer::Stopped => Answer::Stopped,
+    }
+}
+
+/// What it says of a command that else only looked whether the machine had stopped.
 fn read_stop_answer(answer: ReadStopAnswer) -> Answer
     ensures { result ≡ read_stop_answer answer }
 {
@@ -180,26 +233,32 @@ fn outcome_answer(outcome: Outcome) -> Answer
     }
 }
 
-/// What the record of a frame says of its failure, where that poisoned it.
-fn note_of(who: Who, frame: Frame, answer: Option<FailAnswer>) -> Option<(Frame, MarkLine)>
-    ensures { result ≡ note_of who frame answer }
+/// What a failure found, where it poisoned its frame.
+fn found_by(answer: FailAnswer) -> Option<Found>
+    ensures { result ≡ found_by answer }
 {
-    let Some(
+    match answer {
+        FailAnswer::Stopped | FailAnswer::Already => None,
         FailAnswer::Done {
             situation,
             cycle,
-            ..
-        },
-    ) = answer
-    else {
-        return None;
-    };
-    let how = How::Failure {
-        hardware: false,
-        situation,
-        outcome: situation.outcome(),
-    };
-    Some((frame, MarkLine::Poisoned { cycle, who, how }))
+            at,
+            signalled,
+        } => Some(Found {
+            situation,
+            cycle,
+            at,
+            signalled,
+        }),
+    }
+}
+
+/// The frame that a command itself made fail, with what its failure found.
+fn own_of(frame: Frame, answer: Option<FailAnswer>) -> Option<(Frame, Found)>
+    ensures { result ≡ own_by frame answer }
+{
+    let found = found_by(answer?)?;
+    Some((frame, found))
 }
 
 impl Machine for Job {
@@ -222,11 +281,13 @@ impl Machine for Job {
 
     fn who(&self) -> Who {
         match self {
-            Job::Access(access) => access.who(),
+            Job::Instruction(instruction) => instruction.who(),
             Job::Evict(evict) => evict.who(),
             Job::Fsync(fsync) => fsync.who(),
             Job::Prctl(prctl) => prctl.who(),
-            Job::ReadStop(read) => read.who(),
+            Job::Log(log) => log.who(),
+            Job::Raise(raise) => raise.who(),
+            Job::Spoil(spoil) => spoil.who(),
             Job::Nested(nested) => nested.who(),
             Job::Inject(inject) => inject.who(),
         }
@@ -234,11 +295,13 @@ impl Machine for Job {
 
     fn plan(&self) -> Option<Step> {
         match self {
-            Job::Access(access) => access.plan(),
+            Job::Instruction(instruction) => instruction.plan(),
             Job::Evict(evict) => evict.plan(),
             Job::Fsync(fsync) => fsync.plan(),
             Job::Prctl(prctl) => prctl.plan(),
-            Job::ReadStop(read) => read.plan(),
+            Job::Log(log) => log.plan(),
+            Job::Raise(raise) => raise.plan(),
+            Job::Spoil(spoil) => spoil.plan(),
             Job::Nested(nested) => nested.plan(),
             Job::Inject(inject) => inject.plan(),
         }
@@ -246,11 +309,13 @@ impl Machine for Job {
 
     fn give(&mut self) -> Option<Body> {
         match self {
-            Job::Access(access) => access.give(),
+            Job::Instruction(instruction) => instruction.give(),
             Job::Evict(evict) => evict.give(),
             Job::Fsync(fsync) => fsync.give(),
             Job::Prctl(prctl) => prctl.give(),
-            Job::ReadStop(read) => read.give(),
+            Job::Log(log) => log.give(),
+            Job::Raise(raise) => raise.give(),
+            Job::Spoil(spoil) => spoil.give(),
             Job::Nested(nested) => nested.give(),
             Job::Inject(inject) => inject.give(),
         }
@@ -258,11 +323,13 @@ impl Machine for Job {
 
     fn settle(&mut self, layout: &Layout, found: u64, body: Option<Body>) -> Turn {
         match self {
-            Job::Access(access) => access.settle(layout, found, body),
+            Job::Instruction(instruction) => instruction.settle(layout, found, body),
             Job::Evict(evict) => evict.settle(layout, found, body),
             Job::Fsync(fsync) => fsync.settle(layout, found, body),
             Job::Prctl(prctl) => prctl.settle(layout, found, body),
-            Job::ReadStop(read) => read.settle(layout, found, body),
+            Job::Log(log) => log.settle(layout, found, body),
+            Job::Raise(raise) => raise.settle(layout, found, body),
+            Job::Spoil(spoil) => spoil.settle(layout, found, body),
             Job::Nested(nested) => nested.settle(layout, found, body),
             Job::Inject(inject) => inject.settle(layout, found, body),
         }
@@ -282,11 +349,13 @@ impl Ranked for Job {
 
     fn class(&self) -> u8 {
         match self {
-            Job::Access(access) => access.class(),
+            Job::Instruction(instruction) => instruction.class(),
             Job::Evict(evict) => evict.class(),
             Job::Fsync(fsync) => fsync.class(),
             Job::Prctl(prctl) => prctl.class(),
-            Job::ReadStop(read) => read.class(),
+            Job::Log(log) => log.class(),
+            Job::Raise(raise) => raise.class(),
+            Job::Spoil(spoil) => spoil.class(),
             Job::Nested(nested) => nested.class(),
             Job::Inject(inject) => inject.class(),
         }
@@ -298,11 +367,13 @@ impl Ranked for Job {
 impl Scheduled for Job {
     fn is_over(&self) -> bool {
         match self {
-            Job::Access(access) => access.is_over(),
+            Job::Instruction(instruction) => instruction.is_over(),
             Job::Evict(evict) => evict.is_over(),
             Job::Fsync(fsync) => fsync.is_over(),
             Job::Prctl(prctl) => prctl.is_over(),
-            Job::ReadStop(read) => read.is_over(),
+            Job::Log(log) => log.is_over(),
+            Job::Raise(raise) => raise.is_over(),
+            Job::Spoil(spoil) => spoil.is_over(),
             Job::Nested(nested) => nested.is_over(),
             Job::Inject(inject) => inject.is_over(),
         }

@@ -1,8 +1,9 @@
 -- The entries that a command made: a step that puts no body lists none, and one that puts a body lists those that the body has
 -- more.
-use Rattle.std.proofs.Common.{◌≡◌, ◌≢◌, ℕ, suc, ◌<◌, ◌≤◌, ◌==◌, ◌&&◌, Bool, true, false, cond, List, [], ◌∷◌, ◌++◌, Option, Some, None, filter, length, slice_get, append-nil, refl, sym, ap, ◌∙◌, subst, arith}
+use Rattle.std.proofs.Common.{◌≡◌, ◌≢◌, ℕ, zero, suc, ◌<◌, ◌≤◌, ◌==◌, ◌&&◌, Bool, true, false, cond, List, [], ◌∷◌, ◌++◌, Option, Some, None, filter, length, slice_get, append-nil, refl, sym, ap, ◌∙◌, subst, arith}
 use Rattle.std.proofs.lemmas.Bool.{both_ways, eqb-true}
 use Rattle.std.proofs.lemmas.List.Elements.{filter-append}
+use Rattle.std.proofs.lemmas.Option.{same_Some}
 use Rattle.std.specs.declared.snapshot.Snapshot.{Snapshot}
 use Rattle.hwp_geom.specs.declared.Cpu.{Cpu}
 use Rattle.hwp_geom.specs.declared.FileNo.{FileNo}
@@ -34,7 +35,7 @@ use Rattle.hwp_rule.proofs.Lists.{same-number}
 use Rattle.hwp_rule.proofs.MoreEntries.{made-each}
 use Rattle.hwp_step.specs.Calls.{CanMake, IsLater, Steps, logs}
 use Rattle.hwp_step.proofs.Stepping.{content_of}
-use Rattle.hwp_known.specs.Known.{IsAt, HasMade, HasMadeNone, HasOnly, deeds, is_by}
+use Rattle.hwp_known.specs.Known.{IsAt, HasMade, HasMadeNone, HasOnly, deeds, is_by, such_deeds}
 
 -- ---- a step that puts no body
 
@@ -211,6 +212,35 @@ none-left test (x ∷ xs) each = ap (λ (b : Bool). cond b (x ∷ filter test xs
     which : (b : Bool) → test x ≡ b → test x ≡ false
     which true is = absurd (each 0 x refl is)
     which false is = is
+
+each-chosen : {A : Type 0} (P : A → Type 0) (b : Bool) (x : A) (l : List A) → P x → EachMember P l → EachMember P (cond b (x ∷ l) l)
+each-chosen {A} P b x l here each = by b
+  where
+    first : EachMember P (x ∷ l)
+    first zero y e = subst P (same_Some x y e) here
+    first (suc i) y e = each i y e
+
+    by : (b : Bool) → EachMember P (cond b (x ∷ l) l)
+    by true = first
+    by false = each
+
+pub each-filter : {A : Type 0} (P : A → Type 0) (test : A → Bool) (l : List A) → EachMember P l → EachMember P (filter test l)
+each-filter P test [] each = each
+each-filter P test (x ∷ xs) each = each-chosen P (test x) x (filter test xs) (each 0 x refl) (each-filter P test xs (λ i y e. each (suc i) y e))
+
+-- where a test finds none of the entries more, it finds of the command's entries what it found before
+pub such-kept : (who : Who) {old new : View} {stamp : Stamp} {body : InHand} {log : Log} (test : What → Bool) → Lists old new stamp body log → EachMember (λ (e : Entry). test e.what ≡ false) (more_of body log)
+    → such_deeds test who new ≡ such_deeds test who old
+such-kept who {old} {new} {stamp} {body} {log} test lists none =
+    ap (filter (λ (m : Made). test m.entry.what)) (listed-more who lists (more_of body log) refl)
+    ∙ filter-append (λ (m : Made). test m.entry.what) (deeds who old) (filter (is_by who) more)
+    ∙ ap (λ (l : List Made). such_deeds test who old ++ l) (none-left (λ (m : Made). test m.entry.what) (filter (is_by who) more)
+    (each-filter (λ (m : Made). test m.entry.what ≡ true → ⊥) (is_by who) more (made-each (λ (m : Made). test m.entry.what ≡ true → ⊥) stamp log.page body.frame (length body.log.entries) (more_of body log)
+    (λ i e at n is. both_ways (test e.what) (none i e at) is))))
+    ∙ append-nil (such_deeds test who old)
+  where
+    more : List Made
+    more = made_from stamp log.page body.frame (length body.log.entries) (more_of body log)
 
 -- entries of one command are none of another's
 others-list : {who : Who} {old new : View} {stamp : Stamp} {body : InHand} {log : Log} (other : Who) → Lists old new stamp body log → EachMember (λ (e : Entry). e.who ≡ who) (more_of body log) → other ≢ who → deeds other new ≡ deeds other old

@@ -1,5 +1,7 @@
--- What a command has seen it has seen after each step too; and what a step shows.
-use Rattle.std.proofs.Common.{◌≡◌, ℕ, ◌<◌, ◌==◌, not, Bool, true, false, cond, [], ◌∷◌, ◌++◌, Option, Some, None, length, option_map, slice_get, refl, sym, ap, ◌∙◌, subst}
+-- What a command has seen it has seen after each step too; what a step shows; and bad lines that were seen stay bad.
+use Rattle.std.proofs.Common.{◌≡◌, ℕ, ◌+◌, ◌<◌, ◌≤◌, ◌==◌, min, not, Bool, true, false, cond, [], ◌∷◌, ◌++◌, Option, Some, None, bit_and, length, option_map, slice_get, refl, sym, ap, ◌∙◌, subst, arith}
+use Rattle.std.specs.Int.{bit_at}
+use Rattle.std.proofs.lemmas.Nat.Bits.{bit_at_and, same_from_bits}
 use Rattle.hwp_geom.specs.declared.FileNo.{FileNo}
 use Rattle.hwp_geom.specs.declared.Frame.{Frame}
 use Rattle.hwp_geom.specs.declared.Layout.{Layout}
@@ -8,6 +10,7 @@ use Rattle.hwp_geom.specs.declared.Who.{Who}
 use Rattle.hwp_page.specs.declared.PageState.{PageState}
 use Rattle.hwp_page.specs.History.{BodyValue}
 use Rattle.hwp_words.specs.Frames.{is_locked}
+use Rattle.hwp_rule.specs.declared.FrameLock.{FrameLock}
 use Rattle.hwp_rule.specs.declared.InHand.{InHand}
 use Rattle.hwp_rule.specs.declared.Length.{Length}
 use Rattle.hwp_rule.specs.declared.Log.{Log}
@@ -15,19 +18,22 @@ use Rattle.hwp_rule.specs.declared.PageLock.{PageLock}
 use Rattle.hwp_rule.specs.declared.Place.{Place}
 use Rattle.hwp_rule.specs.declared.Place.TheVariants as places
 use Rattle.hwp_rule.specs.declared.Sight.{Sight}
+use Rattle.hwp_rule.specs.declared.State.{State}
 use Rattle.hwp_rule.specs.declared.Step.{Step}
 use Rattle.hwp_rule.specs.declared.Step.TheVariants as steps
 use Rattle.hwp_rule.specs.declared.View.{View}
 use Rattle.hwp_rule.specs.Lists.{SomeMember}
 use Rattle.hwp_rule.specs.Logs.{log_of}
+use Rattle.hwp_rule.specs.Rule.{Holds}
 use Rattle.hwp_rule.specs.Slots.{IsIn, frame_slot, shelf_slot, is_out, moved_out}
 use Rattle.hwp_rule.specs.Steps.{goes}
 use Rattle.hwp_rule.specs.Views.{body_of, listed_of, lock_found, lock_of_page, loaded, noted, put_home, stamp_of, taken, view_by}
-use Rattle.hwp_rule.proofs.Lists.{some-push, some-last}
+use Rattle.hwp_rule.specs.Words.{words_of}
+use Rattle.hwp_rule.proofs.Lists.{at_map, some-push, some-last}
 use Rattle.hwp_rule.proofs.Meeting.{free-word, on-shelf}
 use Rattle.hwp_step.specs.Calls.{Steps}
 use Rattle.hwp_step.proofs.Stepping.{brought, content_of, was-home}
-use Rattle.hwp_known.specs.Known.{IsMet, IsShown, Saw, SawLog}
+use Rattle.hwp_known.specs.Known.{IsLook, IsMet, IsShown, Saw, SawBadOf, SawLog}
 use Rattle.hwp_known.specs.Pages.{SawState}
 
 -- every sight and every history that was seen stays
@@ -117,9 +123,12 @@ module _ {layout : Layout} {who : Who} {step : Step} {put : Option Log} {old new
   grows : Grows (noted who old) new
   grows = subst (Grows (noted who old)) (sym made.told.next) (grows-by layout who step found (content_of layout who step put found got) (noted who old))
 
-  -- what a command saw, of a word, of a history and of a page's state
+  -- what a command saw, of a word, of a page's bad lines, of a history and of a page's state
   pub saw-stays : {by : Who} {place : Place} {word : ℕ} → Saw old by place word → Saw new by place word
   saw-stays {by} {place} {word} saw = grows.sights (IsShown by place word) saw
+
+  pub saw-bad-of-stays : {by : Who} (page : Page) {frame : Frame} {mask : ℕ} → SawBadOf old by page frame mask → SawBadOf new by page frame mask
+  saw-bad-of-stays {by} page {frame} {mask} saw = grows.sights (IsLook by page frame mask) saw
 
   pub saw-log-stays : {by : Who} {log : Log} → SawLog old by log → SawLog new by log
   saw-log-stays {by} {log} saw = grows.lengths (IsMet by log) saw
@@ -140,6 +149,15 @@ module _ {layout : Layout} {who : Who} {put : Option Log} {old new : View} {foun
   -- a load shows its word
   pub saw-load : {place : Place} → Steps layout who (steps.Load place) put old new found got → Saw new who place found
   saw-load {place} made = last-shown who place found (noted who old) new (ap (λ (v : View). v.sights) made.told.next ∙ loaded-sights who place found (noted who old))
+
+  -- under the frame's lock, of a frame that the page owns, it shows the page's bad lines
+  pub saw-bad-of-load : {frame : Frame} → Steps layout who (steps.Load (places.Bad frame)) put old new found got → (page : Page) (lock : FrameLock) → slice_get old.locks 0 ≡ Some lock → lock.frame ≡ frame → lock.owner ≡ page.0 + 1 → SawBadOf new who page frame found
+  saw-bad-of-load {frame} made page lock at frame_is owner_is = subst (SomeMember (IsLook who page frame found)) (sym (ap (λ (v : View). v.sights) made.told.next))
+      (some-last (IsLook who page frame found) old.sights (record { stamp = stamp_of who (noted who old); place = places.Bad frame; word = found }) (
+        (refl, refl, refl),
+        ap (option_map (λ (l : FrameLock). l.frame)) at ∙ ap (λ (f : Frame). Some f) frame_is,
+        ap (option_map (λ (l : FrameLock). l.owner)) at ∙ ap (λ (n : ℕ). Some n) owner_is,
+      ))
 
   -- so does an exchange that met another word than the one that it expects, and a bit that was not there
   pub saw-reserve : {seen : ℕ} → Steps layout who (steps.Reserve seen) put old new found got → (found == seen) ≡ false → Saw new who places.Available found
@@ -211,3 +229,16 @@ module _ {layout : Layout} {who : Who} {put : Option Log} {old new : View} {foun
       after = made.told.next
           ∙ ap (λ (c : Option Log). view_by layout who (steps.LockFrame frame) found c (noted who old)) content
           ∙ ap (λ (went : Bool). cond went (taken layout who (Some frame) (Some (log_of b)) locked) (noted who old)) free
+
+-- ---- what was seen and stays so
+
+-- lines that a step showed as bad are bad on each board on which its processor knows of it
+pub bad-lines-stay : (layout : Layout) (s : State) → Holds layout s → (seat : ℕ) {view : View} → slice_get s.views seat ≡ Some view → {who : Who} (frame : Frame) {mask word : ℕ}
+    → Saw view who (places.Bad frame) mask → slice_get (words_of layout s.words).bads frame.0 ≡ Some word → bit_and mask word ≡ mask
+bad-lines-stay layout s h seat {view} me {who} frame {mask} {word} (i, sight, there, (by, place, shown)) standing = same_from_bits (bit_and mask word) mask (λ line. bit_at_and mask word line ∙ least line)
+  where
+    stays : (line : ℕ) → bit_at mask line ≤ bit_at word line
+    stays line = subst (λ (n : ℕ). bit_at n line ≤ bit_at word line) shown (h.rule.failures.damage.bad_stays frame word standing seat view.sights (at_map (λ (v : View). v.sights) s.views seat view me) i sight there place line)
+
+    least : (line : ℕ) → min (bit_at mask line) (bit_at word line) ≡ bit_at mask line
+    least line = let less : bit_at mask line ≤ bit_at word line = stays line in omega (arith, less)

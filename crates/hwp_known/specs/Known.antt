@@ -1,6 +1,7 @@
 -- What a processor knows of one of its commands: the words that its steps showed, the histories that it saw, and the entries
 -- that it made.
-use Rattle.std.specs.Prelude.{◌≡◌, ◌⊎◌, ℕ, ◌==◌, ◌&&◌, Bool, true, List, [], ◌∷◌, ◌++◌, Some, filter}
+use Rattle.std.specs.Prelude.{◌≡◌, ◌⊎◌, ℕ, ◌+◌, ◌==◌, ◌&&◌, Bool, true, false, List, [], ◌∷◌, ◌++◌, Some, filter}
+use Rattle.hwp_geom.specs.declared.Frame.{Frame}
 use Rattle.hwp_geom.specs.declared.Page.{Page}
 use Rattle.hwp_geom.specs.declared.VSlot.{VSlot}
 use Rattle.hwp_geom.specs.declared.Who.{Who}
@@ -23,6 +24,13 @@ IsShown who place word s = (s.stamp.who ≡ who) × (s.place ≡ place) × (s.wo
 abbrev pub Saw : View → Who → Place → ℕ → Type 0
 Saw view who place word = SomeMember (IsShown who place word) view.sights
 
+-- a step of the command, under the lock of a frame that the page owns, showed which of the frame's lines are bad
+abbrev pub IsLook : Who → Page → Frame → ℕ → Sight → Type 0
+IsLook who page frame mask s = IsShown who (places.Bad frame) mask s × (s.stamp.frame ≡ Some frame) × (s.stamp.owner ≡ Some (page.0 + 1))
+
+abbrev pub SawBadOf : View → Who → Page → Frame → ℕ → Type 0
+SawBadOf view who page frame mask = SomeMember (IsLook who page frame mask) view.sights
+
 -- a step of the command showed that a processor had stopped the machine
 pub record SawStop (view : View) (who : Who) : Type 0 where
   pub word : ℕ
@@ -43,6 +51,10 @@ is_by who m = (m.entry.who.cpu.0 == who.cpu.0) && (m.entry.who.seq == who.seq)
 abbrev pub deeds : Who → View → List Made
 deeds who view = filter (is_by who) view.made
 
+-- those of them that the test finds
+abbrev pub such_deeds : (What → Bool) → Who → View → List Made
+such_deeds test who view = filter (λ (m : Made). test m.entry.what) (deeds who view)
+
 -- the command has made no entry
 abbrev pub HasMadeNone : View → Who → Type 0
 HasMadeNone view who = deeds who view ≡ []
@@ -51,9 +63,22 @@ HasMadeNone view who = deeds who view ≡ []
 abbrev pub IsAt : Page → ℕ → What → Made → Type 0
 IsAt page place what m = (m.page ≡ page) × (m.place ≡ place) × (m.entry.what ≡ what)
 
--- the entry was made to bring the page into a frame, or the translation into use
-abbrev pub BringsIn : Page → VSlot → Made → Type 0
-BringsIn page slot m = (m.page ≡ page) × ((m.entry.what ≡ entries.FaultIn) ⊎ (m.entry.what ≡ entries.Map slot))
+-- the entry is the failure of a frame
+abbrev pub is_failure : What → Bool
+is_failure (entries.Fail situation required seen signals) = true
+is_failure _ = false
+
+-- an access makes such an entry on its way: the page came into a frame, or the translation into use, or the line was bad
+abbrev pub IsOnTheWay : VSlot → ℕ → What → Type 0
+IsOnTheWay slot line entries.FaultIn = Unit {0}
+IsOnTheWay slot line (entries.Map other) = other ≡ slot
+IsOnTheWay slot line (entries.Mce other bad mask) = (other ≡ slot) × (bad ≡ line)
+IsOnTheWay slot line _ = ⊥
+
+-- the entry may stand before the one that answers an access: the access made it on its way, in its page; or memory failed, in
+-- whichever page
+abbrev pub Precedes : Page → VSlot → ℕ → Made → Type 0
+Precedes page slot line m = ((m.page ≡ page) × IsOnTheWay slot line m.entry.what) ⊎ (is_failure m.entry.what ≡ true)
 
 -- so far the command has made such entries alone
 abbrev pub HasOnly : (Made → Type 0) → View → Who → Type 0

@@ -1,39 +1,39 @@
 -- A step of the command that runs leaves what the processor keeps.
-use Rattle.std.proofs.Common.{◌≡◌, ◌≢◌, ℕ, ◌⊎◌, inl, inr, List, Some, length, slice_get, sym, ap, ◌∙◌, arith}
+use Rattle.std.proofs.Common.{◌≡◌, ◌≢◌, ℕ, ◌⊎◌, inl, inr, List, Some, length, slice_get, refl, subst, sym, ap, ◌∙◌, arith}
 use Rattle.std.proofs.lemmas.Option.{none-some}
 use Rattle.hwp_geom.specs.declared.Cpu.{Cpu}
 use Rattle.hwp_geom.specs.declared.Layout.{Layout}
 use Rattle.hwp_geom.specs.declared.Who.{Who}
 use Rattle.hwp_form.specs.declared.Command.{Command}
-use Rattle.hwp_report.specs.declared.CpuLine.{CpuLine}
 use Rattle.hwp_rule.specs.declared.Step.{Step}
 use Rattle.hwp_rule.specs.declared.View.{View}
 use Rattle.hwp_rule.specs.Lists.{EachMember}
 use Rattle.hwp_rule.proofs.Lists.{at_push}
 use Rattle.hwp_step.specs.Calls.{CanMake}
+use Rattle.hwp_handler.specs.declared.Row.{Row}
+use Rattle.hwp_law.specs.Checks.{Banks, empty_banks}
 use Rattle.hwp_job.specs.declared.job.Job.{Job}
 use Rattle.hwp_job.specs.Jobs as jobs
+use Rattle.hwp_job.specs.Jobs.{banks_before}
 use Rattle.hwp_job.specs.Runs.{Runs}
 use Rattle.hwp_job.specs.Stays.{Stepped, StopsItself}
 use Rattle.hwp_job.proofs.Jobbing as jobbing
-use Rattle.hwp_job.proofs.Running.{runs-on, runs-who}
+use Rattle.hwp_job.proofs.Running.{before-stays, runs-on, runs-who}
 use Rattle.hwp_job.proofs.Staying.{policies-stay}
-use Rattle.hwp_job.proofs.Stopping.{answered-over, halted-stays, has-stopped, no-own-stop, stops-after}
-use Rattle.hwp_served.specs.Accounts.{Note}
-use Rattle.hwp_served.specs.Served.{IsOwnStop}
-use Rattle.hwp_served.proofs.Accounting.{account-stays}
-use Rattle.hwp_served.proofs.Staying.{caused-stays}
-use Rattle.hwp_caused.proofs.Undamaged.{none-bad}
+use Rattle.hwp_job.proofs.Ending.{answered-over}
+use Rattle.hwp_job.proofs.Stopping.{halted-stays, has-stopped, no-own-stop, stops-after}
+use Rattle.hwp_served.specs.Served.{AreRowsServed, IsOwnStop}
+use Rattle.hwp_served.proofs.Staying.{row-stays}
 use Rattle.hwp_processor.specs.Processors.{at_number}
 use Rattle.hwp_processor.specs.Serving.{HasStoppedIt, IsRunning, Serves}
-use Rattle.hwp_processor.proofs.Lines.{answered-as}
-use Rattle.hwp_processor.proofs.Noting.{account-on, listed-on, noted-on}
+use Rattle.hwp_processor.proofs.Noting.{account-on, listed-on, noted-on, spoils-on}
+use Rattle.hwp_processor.proofs.Rows.{rows-stay}
 
 -- a command that has stopped the machine makes no step
-over : (rows : List CpuLine) (who : Who) (j : Job) (step : Step) → HasStoppedIt rows j who → jobs.plan j ≡ Some step → ⊥
+over : (rows : List Row) (who : Who) (j : Job) (step : Step) → HasStoppedIt rows j who → jobs.plan j ≡ Some step → ⊥
 over rows who j step it is = none-some step (sym (answered-over j (has-stopped j it.has)) ∙ is)
 
-module _ (layout : Layout) (old new : View) (cpu : Cpu) (list : List Command) (rows : List CpuLine) (notes : List Note) (j k : Job) (run : IsRunning layout old cpu list rows notes j) (made : Stepped layout old new j k) where
+module _ (layout : Layout) (old new : View) (cpu : Cpu) (list : List Command) (rows : List Row) (banks : Banks) (j k : Job) (run : IsRunning layout old cpu list rows banks j) (made : Stepped layout old new j k) where
   pub can : CanMake layout (jobs.who j) made.step (jobs.put j) old
   can = jobbing.can layout old j made.step made.fits made.planned
 
@@ -47,26 +47,28 @@ module _ (layout : Layout) (old new : View) (cpu : Cpu) (list : List Command) (r
   pub other : (n : ℕ) → n ≢ length rows → at_number cpu n ≢ jobs.who j
   other n differs same = differs (ap (λ (w : Who). w.seq) (same ∙ own))
 
-  serves : Serves layout new cpu list rows
+  -- what the banks held before the command is as it was
+  before : banks_before k banks ≡ banks_before j banks
+  before = before-stays layout j k made.found made.got made.turn made.follows banks
+
+  serves : Serves layout new cpu list rows (banks_before k banks)
   serves = record {
-    answered = answered-as layout list old new cpu (length rows)
-        (λ n c a less caused. caused-stays can made.made (at_number cpu n) (other n (λ same. absurd (omega arith))) list c a caused)
-        (λ n c a less account. account-stays made.made (at_number cpu n) (other n (λ same. absurd (omega arith))) c a account) 0 list rows (omega arith) run.serves.answered;
+    rows_are = subst (AreRowsServed layout list new cpu 0 empty_banks list rows) (sym before) (rows-stay layout list old new cpu (length rows)
+        (λ n c b row d less served. row-stays can made.made (at_number cpu n) (other n (λ same. absurd (omega arith))) list c b row d served) 0 empty_banks list rows (banks_before j banks) (omega arith) run.serves.rows_are);
     stays = run.serves.stays;
     halted = λ some. (halted-stays made (run.serves.halted some) (run.stopped some)).0;
-    none_bad = none-bad can made.made run.serves.none_bad;
   }
 
   -- a stop of the machine is one from before, or that of this step
   stops : EachMember (λ (who : Who). IsOwnStop layout cpu list rows who ⊎ HasStoppedIt rows k who) new.stops
   stops i who there = which (stops-after made)
     where
-      before : IsOwnStop layout cpu list rows who ⊎ HasStoppedIt rows j who → IsOwnStop layout cpu list rows who ⊎ HasStoppedIt rows k who
-      before (inl first) = inl first
-      before (inr it) = absurd (over rows who j made.step it made.planned)
+      early : IsOwnStop layout cpu list rows who ⊎ HasStoppedIt rows j who → IsOwnStop layout cpu list rows who ⊎ HasStoppedIt rows k who
+      early (inl first) = inl first
+      early (inr it) = absurd (over rows who j made.step it made.planned)
 
       by-it : StopsItself j k old new → (slice_get old.stops i ≡ Some who) ⊎ (jobs.who j ≡ who) → IsOwnStop layout cpu list rows who ⊎ HasStoppedIt rows k who
-      by-it itself (inl early) = before (run.stops i who early)
+      by-it itself (inl was) = early (run.stops i who was)
       by-it itself (inr last) = inr (record {
         has = itself.has;
         who_is = runs-who layout (at_number cpu (length rows)) run.command k runs-still ∙ sym own ∙ last;
@@ -74,10 +76,10 @@ module _ (layout : Layout) (old new : View) (cpu : Cpu) (list : List Command) (r
       })
 
       which : (new.stops ≡ old.stops) ⊎ StopsItself j k old new → IsOwnStop layout cpu list rows who ⊎ HasStoppedIt rows k who
-      which (inl same) = before (run.stops i who (sym (ap (λ (l : List Who). slice_get l i) same) ∙ there))
+      which (inl same) = early (run.stops i who (sym (ap (λ (l : List Who). slice_get l i) same) ∙ there))
       which (inr itself) = by-it itself (at_push old.stops (jobs.who j) who i (sym (ap (λ (l : List Who). slice_get l i) itself.stops_are) ∙ there))
 
-  pub carried : IsRunning layout new cpu list rows notes k
+  pub carried : IsRunning layout new cpu list rows banks k
   carried = record {
     serves = serves;
     command = run.command;
@@ -89,5 +91,6 @@ module _ (layout : Layout) (old new : View) (cpu : Cpu) (list : List Command) (r
     stops = stops;
     listed = listed-on made can own run.listed;
     account = account-on made can own run.account;
-    noted = noted-on made can own notes run.noted;
+    noted = noted-on made can own rows refl run.noted;
+    spoiled = spoils-on made can own list rows run.spoiled;
   }

@@ -9,7 +9,8 @@ use Rattle.hwp_geom.specs.Limits.{command_limit}
 use Rattle.hwp_page.specs.History.{BodyValue}
 use Rattle.hwp_form.specs.declared.Command.{Command}
 use Rattle.hwp_report.specs.declared.Answer.{Answer}
-use Rattle.hwp_report.specs.declared.CpuLine.{CpuLine}
+use Rattle.hwp_handler.specs.declared.Row.{Row}
+use Rattle.hwp_law.specs.Checks.{Banks}
 use Rattle.hwp_rule.specs.declared.State.{State}
 use Rattle.hwp_rule.specs.declared.View.{View}
 use Rattle.hwp_rule.specs.Opening.{below, opening, opening_view}
@@ -20,7 +21,6 @@ use Rattle.hwp_step.specs.declared.Turn.{Turn}
 use Rattle.hwp_step.specs.Boards.{AreSeated, view_of}
 use Rattle.hwp_job.specs.declared.job.Job.{Job}
 use Rattle.hwp_job.specs.Jobs as jobs
-use Rattle.hwp_served.specs.Accounts.{Note}
 use Rattle.hwp_served.specs.Served.{IsServed}
 use Rattle.hwp_processor.specs.declared.processor.Processor.{Processor}
 use Rattle.hwp_processor.specs.Processors.{AtBeginning, Follows, Next, NextOf, bare, who}
@@ -43,16 +43,16 @@ pub opening-fits : (layout : Layout) (cpu : Cpu) (list : List Command) (p : Proc
 opening-fits layout cpu list p at = subst (λ (v : View). Fits layout v p) (sym (opening-view layout cpu.0)) (record {
   ready = at.ready;
   layout_is = at.layout_is;
-  at = subst (λ (c : Cpu). FitsAt layout (opening_view cpu.0) c p.commands p.lines.items p.notes.items p.job) (sym at.cpu_is)
-      (subst (λ (l : List Command). FitsAt layout (opening_view cpu.0) cpu l p.lines.items p.notes.items p.job) (sym at.commands_are)
-      (subst (λ (l : List CpuLine). FitsAt layout (opening_view cpu.0) cpu list l p.notes.items p.job) (sym at.no_line)
-      (subst (λ (l : List Note). FitsAt layout (opening_view cpu.0) cpu list [] l p.job) (sym at.no_note)
+  at = subst (λ (c : Cpu). FitsAt layout (opening_view cpu.0) c p.commands p.rows.items p.banks p.job) (sym at.cpu_is)
+      (subst (λ (l : List Command). FitsAt layout (opening_view cpu.0) cpu l p.rows.items p.banks p.job) (sym at.commands_are)
+      (subst (λ (l : List Row). FitsAt layout (opening_view cpu.0) cpu list l p.banks p.job) (sym at.no_row)
+      (subst (λ (b : Banks). FitsAt layout (opening_view cpu.0) cpu list [] b p.job) (sym at.banks_are)
       (begun layout cpu list (subst (λ (l : List Command). length l ≤ command_limit) at.commands_are at.ready.commands.few) p.job at.begins))));
 })
 
 -- its commands are those of the processor
 fits-own : (layout : Layout) (view : View) (p : Processor) → Fits layout view p → (who p).cpu ≡ p.cpu
-fits-own layout view p fits = own-cpu layout view p.cpu p.commands p.lines.items p.notes.items p.job fits.at
+fits-own layout view p fits = own-cpu layout view p.cpu p.commands p.rows.items p.banks p.job fits.at
 
 pub opening-own : (layout : Layout) (cpu : Cpu) (list : List Command) (p : Processor) → AtBeginning layout cpu list p → (who p).cpu ≡ cpu
 opening-own layout cpu list p at = fits-own layout (view_of (opening layout) cpu.0) p (opening-fits layout cpu list p at) ∙ at.cpu_is
@@ -73,6 +73,6 @@ next-keeps layout p after found got turn next = which (option_map jobs.bare p.jo
 -- ---- the end
 
 pub served-of : (layout : Layout) (last : State) (seat : Cpu → ℕ) → Holds layout last → AreSeated layout last seat → (p : Processor) → p.cpu.0 < layout.cpus
-    → Fits layout (view_of last (seat p.cpu)) p → p.job ≡ None → IsServed layout (view_of last (seat p.cpu)) p.cpu p.commands p.lines.items p.notes.items
+    → Fits layout (view_of last (seat p.cpu)) p → p.job ≡ None → IsServed layout (view_of last (seat p.cpu)) p.cpu p.commands p.rows.items
 served-of layout last seat holds seated p inside fits none =
-    served layout last seat holds seated p.cpu inside p.commands p.lines.items p.notes.items (subst (FitsAt layout (view_of last (seat p.cpu)) p.cpu p.commands p.lines.items p.notes.items) none fits.at)
+    served layout last seat holds seated p.cpu inside p.commands p.rows.items p.banks (subst (FitsAt layout (view_of last (seat p.cpu)) p.cpu p.commands p.rows.items p.banks) none fits.at)

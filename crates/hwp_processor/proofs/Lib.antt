@@ -1,4 +1,5 @@
-pub mod Lines
+pub mod Rows
+pub mod EachKind
 pub mod Noting
 pub mod Carrying
 pub mod Beginning

@@ -1,49 +1,76 @@
 -- What a processor's view lists of its commands beside entries, and its notes: over a step, when a command is answered, and when the
 -- next one begins.
-use Rattle.std.proofs.Common.{◌≡◌, ◌≢◌, inl, inr, ℕ, suc, ◌+◌, ◌<◌, Bool, false, cond, List, [], ◌∷◌, ◌++◌, Option, Some, None, filter, length, slice_get, append_assoc, append-nil, refl, sym, ap, ◌∙◌, subst, arith}
+use Rattle.std.proofs.Common.{◌≡◌, ◌⊎◌, inl, inr, ℕ, suc, ◌+◌, ◌≤◌, Bool, true, false, List, [], ◌∷◌, ◌++◌, Option, Some, None, drop, filter, filter_map, length, map, slice_get, append_assoc, append-nil, refl, sym, ap, ◌∙◌, subst, arith}
 use Rattle.std.specs.List.{cons_option}
+use Rattle.std.specs.Int.{from_bool}
+use Rattle.std.specs.Prelude.{option_map}
 use Rattle.std.proofs.lemmas.Bool.{false_from_ne_true}
 use Rattle.std.proofs.lemmas.List.{length-map, map-append, nil_from_length}
-use Rattle.std.proofs.lemmas.List.Elements.{filter-append}
-use Rattle.std.proofs.lemmas.Option.{none-some}
+use Rattle.std.proofs.lemmas.Option.{none-some, same_Some}
 use Rattle.hwp_geom.specs.declared.Cpu.{Cpu}
 use Rattle.hwp_geom.specs.declared.Frame.{Frame}
 use Rattle.hwp_geom.specs.declared.Layout.{Layout}
+use Rattle.hwp_geom.specs.declared.Page.{Page}
 use Rattle.hwp_geom.specs.declared.Who.{Who}
 use Rattle.hwp_geom.specs.Pairs.{Pairs}
+use Rattle.hwp_page.specs.declared.What.{What}
+use Rattle.hwp_page.specs.declared.What.TheVariants as entries
+use Rattle.hwp_page.specs.Losses.{is_loss}
+use Rattle.hwp_page.specs.Situations.{outcome_of}
+use Rattle.hwp_rule.specs.declared.Made.{Made}
 use Rattle.hwp_rule.specs.declared.Mark.{Mark}
 use Rattle.hwp_rule.specs.declared.Reported.{Reported}
 use Rattle.hwp_rule.specs.declared.Setting.{Setting}
+use Rattle.hwp_rule.specs.declared.Spoiled.{Spoiled}
 use Rattle.hwp_rule.specs.declared.View.{View}
 use Rattle.hwp_rule.specs.Lists.{EachMember}
 use Rattle.hwp_rule.specs.Views.{no_debts}
-use Rattle.hwp_rule.proofs.Lists.{each-push}
+use Rattle.hwp_rule.proofs.Lists.{at_last, at_push, each-push, sum-zero}
 use Rattle.hwp_step.specs.Calls.{CanMake}
-use Rattle.hwp_claim.specs.Claims.{HasMarkedNone, is_own, marks_by}
+use Rattle.hwp_known.specs.Known.{HasMadeNone, deeds}
+use Rattle.hwp_act.specs.declared.Failed.{Failed}
+use Rattle.hwp_act.specs.Abandoned as abandoned
+use Rattle.hwp_claim.specs.Claims.{HasMarkedNone, is_own}
+use Rattle.hwp_claim.specs.Done.{Grows, Marking, counts_owed, marking_of, poisoning}
 use Rattle.hwp_form.specs.declared.Command.{Command}
-use Rattle.hwp_form.specs.declared.Command.TheVariants as commands
-use Rattle.hwp_form.proofs.PairsLaws.{Pairs-push}
 use Rattle.hwp_report.specs.declared.Answer.{Answer}
+use Rattle.hwp_report.specs.declared.Answer.TheVariants as answers
+use Rattle.hwp_report.specs.declared.How.TheVariants as hows
+use Rattle.hwp_report.specs.declared.MarkLine.TheVariants as lines
+use Rattle.hwp_handler.specs.declared.Found.{Found}
+use Rattle.hwp_handler.specs.declared.Row.{Row}
+use Rattle.hwp_handler.specs.declared.Told.{Told}
+use Rattle.hwp_handler.specs.Done.{marked_in}
+use Rattle.hwp_handler.specs.Told.{frame_of}
+use Rattle.hwp_instr.specs.Done.{FailuresGrow}
 use Rattle.hwp_job.specs.declared.Job.{Job}
-use Rattle.hwp_job.specs.Done.{Grows, HasDone, counts_owed, marked_now, note, policies_now, taken_now}
+use Rattle.hwp_job.specs.Done.{HasDone, failed_now, marked_now, policies_now, taken_now}
 use Rattle.hwp_job.specs.Jobs as jobs
 use Rattle.hwp_job.specs.Runs.{Runs}
-use Rattle.hwp_job.specs.Stays.{IsAtStop, Stepped}
-use Rattle.hwp_job.proofs.Doing.{done, grown, none-listed, unmarked-at-start, unowed-at-end, unowed-at-start, unset-policies-at-start, untaken-at-start}
-use Rattle.hwp_served.specs.Accounts.{IsNote, Note, is_same}
-use Rattle.hwp_served.specs.Causes.{IsCaused}
-use Rattle.hwp_served.specs.Owed.{OwesOwn, losses_by}
-use Rattle.hwp_served.specs.Served.{IsOneOf}
-use Rattle.hwp_served.proofs.Accounting.{marks-own, note-stays, reported-own, settings-own}
+use Rattle.hwp_job.specs.Stays.{HasSpoiled, IsAtStop, Stepped}
+use Rattle.hwp_job.proofs.Doing.{done, failures-at-end, grown, none-listed, unfailed-at-start, unmarked-at-start, unowed-at-end, unowed-at-start, unset-policies-at-start, untaken-at-start}
+use Rattle.hwp_job.proofs.Ending.{answered-over, paid-at-end}
+use Rattle.hwp_job.proofs.Running.{can-fail-stays}
+use Rattle.hwp_job.proofs.Stopping.{has-spoiled, spoils-after}
+use Rattle.hwp_served.specs.Accounts.{IsNote, failures, is_same, markings_in, own_marking}
+use Rattle.hwp_served.specs.Owed.{OwesOwn, loss_of, losses_by}
+use Rattle.hwp_served.specs.Rows.{Note, note_of, notes_from, own_note, row_notes, told_note}
+use Rattle.hwp_served.specs.Served.{IsOneOf, IsOwnSpoil, spoiling}
+use Rattle.hwp_served.proofs.Accounting.{marks-own, reported-own, settings-own}
 use Rattle.hwp_served.proofs.Failed.{same-who}
-use Rattle.hwp_served.proofs.losses.Owing.{lossless, owes-own}
+use Rattle.hwp_served.proofs.Picked.{picked-has}
+use Rattle.hwp_served.proofs.losses.Owing.{owes-own}
 use Rattle.hwp_served.proofs.marks.Marked.{same-self}
-use Rattle.hwp_caused.proofs.Injected.{knows-failure}
-use Rattle.hwp_caused.proofs.Noted.{IsTold, told}
 use Rattle.hwp_processor.specs.Processors.{at_number}
 use Rattle.hwp_processor.specs.Serving.{AreNoted, HasAccount, IsListed}
+use Rattle.hwp_processor.proofs.Rows.{notes-more, spoil-more}
+use Rattle.hwp_processor.proofs.EachKind.{spoils-line}
 
 -- ---- over a step
+
+failed-grown : {old new before after : List Failed} → FailuresGrow old new before after → old ≡ before → new ≡ after
+failed-grown (inl (same, alike)) was = same ∙ was ∙ sym alike
+failed-grown (inr (f, more, longer)) was = more ∙ ap (λ (l : List Failed). l ++ f ∷ []) was ∙ sym longer
 
 module _ {layout : Layout} {old new : View} {cpu : Cpu} {n : ℕ} {j k : Job} (s : Stepped layout old new j k) (can : CanMake layout (jobs.who j) s.step (jobs.put j) old) (own : jobs.who j ≡ at_number cpu n) where
   pub listed-on : IsListed old cpu (n + 1) → IsListed new cpu (n + 1)
@@ -61,58 +88,50 @@ module _ {layout : Layout} {old new : View} {cpu : Cpu} {n : ℕ} {j k : Job} (s
 
   pub account-on : HasAccount old (at_number cpu n) j → HasAccount new (at_number cpu n) k
   account-on was = record {
-    marked = grown (λ (m : Mark). m.stamp.who) (λ (m : Mark). m.frame) (is_same (at_number cpu n)) old.marks new.marks (at_number cpu n) (marked_now j) (marked_now k) (same-self (at_number cpu n) (at_number cpu n) refl) did.marked was.marked;
+    marked = grown (λ (m : Mark). m.stamp.who) marking_of (is_same (at_number cpu n)) old.marks new.marks (at_number cpu n) (marked_now j) (marked_now k) (same-self (at_number cpu n) (at_number cpu n) refl) did.marked was.marked;
+    failed = λ fails. failed-grown (did.failed fails) (was.failed (sym (can-fail-stays layout j k s.found s.got s.turn s.follows) ∙ fails));
     taken = grown (λ (r : Reported). r.stamp.who) (λ (r : Reported). (r.file, r.count)) (is_same (at_number cpu n)) old.reported new.reported (at_number cpu n) (taken_now j) (taken_now k) (same-self (at_number cpu n) (at_number cpu n) refl) did.taken was.taken;
     set = grown (λ (x : Setting). x.stamp.who) (λ (x : Setting). (x.thread, x.policy)) (is_same (at_number cpu n)) old.settings new.settings (at_number cpu n) (policies_now j) (policies_now k) (same-self (at_number cpu n) (at_number cpu n) refl) did.set was.set;
     counted = did.counted was.counted;
     losses = subst (λ (w : Who). OwesOwn w new) own (owes-own (jobs.who j) can s.made (subst (λ (w : Who). OwesOwn w old) (sym own) was.losses));
   }
 
-  -- the notes of commands that are answered
-  notes-stay : (notes : List Note) (ms : List Mark) → EachMember (λ (m : Mark). IsOneOf cpu n m.stamp.who) ms → Pairs (IsNote layout old) notes ms → Pairs (IsNote layout new) notes ms
-  notes-stay [] [] before are = tt
-  notes-stay [] (m ∷ ms) before are = absurd are
-  notes-stay (x ∷ xs) [] before are = absurd are
-  notes-stay (x ∷ xs) (m ∷ ms) before are = (note-stays can s.made x m other are.0, notes-stay xs ms (λ i y at. before (suc i) y at) are.1)
+  pub noted-on : (rows : List Row) → length rows ≡ n → AreNoted old cpu rows j → AreNoted new cpu rows k
+  noted-on rows number was = which did.marked
     where
-      other : m.stamp.who ≢ jobs.who j
-      other same =
-          let less : m.stamp.who.seq < n = (before 0 m refl).1 in
-          let is : m.stamp.who.seq ≡ n = ap (λ (w : Who). w.seq) (same ∙ own) in
-          absurd (omega (arith, less, is))
-
-  pub noted-on : (notes : List Note) → AreNoted layout old cpu n notes j → AreNoted layout new cpu n notes k
-  noted-on notes was = which did.marked
-    where
-      which : Grows (λ (m : Mark). m.stamp.who) (λ (m : Mark). m.frame) old.marks new.marks (at_number cpu n) (marked_now j) (marked_now k) → AreNoted layout new cpu n notes k
-      which (inl (same, alike)) = record {
-        earlier = was.earlier;
-        last = was.last;
-        all = same ∙ was.all;
-        noted = notes-stay notes was.earlier was.before was.noted;
-        before = was.before;
-        own = was.own;
-        frames = was.frames ∙ sym alike;
-      }
+      which : Grows (λ (m : Mark). m.stamp.who) marking_of old.marks new.marks (at_number cpu n) (marked_now j) (marked_now k) → AreNoted new cpu rows k
+      which (inl (same, alike)) = record { earlier = was.earlier; last = was.last; all = same ∙ was.all; noted = was.noted; before = was.before; own = was.own; marked = was.marked ∙ sym alike }
       which (inr (x, more, is, longer)) = record {
         earlier = was.earlier;
         last = was.last ++ x ∷ [];
         all = more ∙ ap (λ (l : List Mark). l ++ x ∷ []) was.all ∙ append_assoc was.earlier was.last (x ∷ []);
-        noted = notes-stay notes was.earlier was.before was.noted;
+        noted = was.noted;
         before = was.before;
-        own = each-push (λ (m : Mark). m.stamp.who ≡ at_number cpu n) was.last x is was.own;
-        frames = map-append (λ (m : Mark). m.frame) was.last (x ∷ []) ∙ ap (λ (l : List Frame). l ++ x.frame ∷ []) was.frames ∙ sym longer;
+        own = each-push (λ (m : Mark). m.stamp.who ≡ at_number cpu (length rows)) was.last x (is ∙ ap (at_number cpu) (sym number)) was.own;
+        marked = map-append marking_of was.last (x ∷ []) ∙ ap (λ (l : List Marking). l ++ marking_of x ∷ []) was.marked ∙ sym longer;
       }
+
+  -- a line that a command spoiled is one from before, or that of this step
+  pub spoils-on : (list : List Command) (rows : List Row) → EachMember (λ (x : Spoiled). IsOwnSpoil cpu list rows x ⊎ HasSpoiled j x) old.spoiled → EachMember (λ (x : Spoiled). IsOwnSpoil cpu list rows x ⊎ HasSpoiled k x) new.spoiled
+  spoils-on list rows was i x there = which (spoils-after s)
+    where
+      early : slice_get old.spoiled i ≡ Some x → IsOwnSpoil cpu list rows x ⊎ HasSpoiled k x
+      early at = elim (was i x at) [
+        | inl own ↦ inl own
+        | inr has ↦ absurd (none-some s.step (sym (answered-over j (has-spoiled j x has)) ∙ s.planned))
+      ]
+
+      which : (new.spoiled ≡ old.spoiled) ⊎ ((y : Spoiled) × (new.spoiled ≡ old.spoiled ++ y ∷ []) × HasSpoiled k y) → IsOwnSpoil cpu list rows x ⊎ HasSpoiled k x
+      which (inl same) = early (sym (ap (λ (l : List Spoiled). slice_get l i) same) ∙ there)
+      which (inr (y, more, has)) = elim (at_push old.spoiled y x i (sym (ap (λ (l : List Spoiled). slice_get l i) more) ∙ there)) [
+        | inl at ↦ early at
+        | inr is ↦ inr (subst (HasSpoiled k) is has)
+      ]
 
 -- ---- at the end of a command
 
 later-one : (cpu : Cpu) (n : ℕ) (who : Who) → IsOneOf cpu n who → is_same (at_number cpu n) who ≡ false
 later-one cpu n who (own, less) = false_from_ne_true (is_same (at_number cpu n) who) (λ is. let same : who.seq ≡ n = ap (λ (w : Who). w.seq) (same-who (at_number cpu n) who is) in absurd (omega (arith, less, same)))
-
--- marks of which all are the command's, and of which none is
-all-own : (who : Who) (l : List Mark) → EachMember (λ (m : Mark). m.stamp.who ≡ who) l → filter (is_own who) l ≡ l
-all-own who [] own = refl
-all-own who (m ∷ ms) own = ap (λ (b : Bool). cond b (m ∷ filter (is_own who) ms) (filter (is_own who) ms)) (same-self who m.stamp.who (own 0 m refl)) ∙ ap (λ (l : List Mark). m ∷ l) (all-own who ms (λ i x there. own (suc i) x there))
 
 none-own : (cpu : Cpu) (n : ℕ) (l : List Mark) → EachMember (λ (m : Mark). IsOneOf cpu n m.stamp.who) l → filter (is_own (at_number cpu n)) l ≡ []
 none-own cpu n l before = nil_from_length (filter (is_own (at_number cpu n)) l) (
@@ -124,38 +143,109 @@ none-own cpu n l before = nil_from_length (filter (is_own (at_number cpu n)) l) 
 pub unmarked-starts : (view : View) (cpu : Cpu) (n : ℕ) → IsListed view cpu n → HasMarkedNone view (at_number cpu n)
 unmarked-starts view cpu n listed = none-own cpu n view.marks listed.marked
 
--- all marks are noted
-pub noted-end : (layout : Layout) (view : View) (cpu : Cpu) (n : ℕ) (notes : List Note) (j : Job) {a : Answer} → jobs.Fits layout view j → jobs.answer j ≡ Some a → jobs.who j ≡ at_number cpu n → AreNoted layout view cpu n notes j
-    → Pairs (IsNote layout view) (notes ++ cons_option (note j) []) view.marks
-noted-end layout view cpu n notes j fits has own are = which (told layout view j fits has)
+-- the note of a failure, if there was one, tells the mark that it made; and those behind tell the others
+first-noted : (who : Who) (hardware : Bool) (frame : Frame) (o : Option Found) (more : List Note) (rest : List Marking) (ms : List Mark) → EachMember (λ (m : Mark). m.stamp.who ≡ who) ms
+    → map marking_of ms ≡ cons_option (option_map (λ (f : Found). poisoning frame hardware f.cycle) o) rest → ((l : List Mark) → EachMember (λ (m : Mark). m.stamp.who ≡ who) l → map marking_of l ≡ rest → Pairs IsNote more l)
+    → Pairs IsNote (cons_option (option_map (note_of who hardware frame) o) more) ms
+first-noted who hardware frame None more rest ms own are tell = tell ms own are
+first-noted who hardware frame (Some f) more rest [] own are tell = let none : 0 ≡ suc (length rest) = ap length are in absurd (omega (arith, none))
+first-noted who hardware frame (Some f) more rest (m ∷ ms) own are tell = (
+  record {
+    hardware = hardware;
+    found = f;
+    frame = sym (ap (λ (x : Marking). x.frame) first);
+    kind = ap (λ (x : Marking). x.kind) first;
+    line = ap (λ (c : ℕ). lines.Poisoned c who (hows.Failure hardware f.situation (outcome_of f.situation))) (sym (ap (λ (x : Marking). x.cycle) first))
+        ∙ ap (λ (w : Who). lines.Poisoned m.cycle w (hows.Failure hardware f.situation (outcome_of f.situation))) (sym (own 0 m refl));
+  },
+  tell ms (λ i x there. own (suc i) x there) (ap (λ (l : List Marking). drop 1 l) are),
+)
   where
-    -- the notes and the marks are those before, and the last ones
-    noted-as : (o : Option Note) (last : List Mark) → note j ≡ o → are.last ≡ last → Pairs (IsNote layout view) (notes ++ cons_option o []) (are.earlier ++ last) → Pairs (IsNote layout view) (notes ++ cons_option (note j) []) view.marks
-    noted-as o last is last_is pairs = subst (λ (x : Option Note). Pairs (IsNote layout view) (notes ++ cons_option x []) view.marks) (sym is)
-        (subst (λ (l : List Mark). Pairs (IsNote layout view) (notes ++ cons_option o []) l) (sym (are.all ∙ ap (λ (l : List Mark). are.earlier ++ l) last_is)) pairs)
+    first : marking_of m ≡ poisoning frame hardware f.cycle
+    first = same_Some (marking_of m) (poisoning frame hardware f.cycle) (ap (λ (l : List Marking). slice_get l 0) are)
 
-    which : IsTold layout view j → Pairs (IsNote layout view) (notes ++ cons_option (note j) []) view.marks
-    which (inl (none, unmarked)) = noted-as None [] none (nil_from_length are.last (sym (length-map are.last (λ (m : Mark). m.frame)) ∙ ap length (are.frames ∙ unmarked)))
-        (subst (λ (l : List Mark). Pairs (IsNote layout view) (notes ++ []) l) (sym (append-nil are.earlier)) (subst (λ (l : List Note). Pairs (IsNote layout view) l are.earlier) (sym (append-nil notes)) are.noted))
-    which (inr (line, is, one)) = noted-as (Some line) (one.mark ∷ []) is last_is (Pairs-push (IsNote layout view) notes are.earlier line one.mark are.noted (one.tells (are.own 0 one.mark (ap (λ (l : List Mark). slice_get l 0) last_is) ∙ sym own)))
+none-noted : (ms : List Mark) → map marking_of ms ≡ [] → Pairs IsNote [] ms
+none-noted [] none = tt
+none-noted (m ∷ ms) none = let some : suc (length (map marking_of ms)) ≡ 0 = ap length none in absurd (omega (arith, some))
+
+own-noted : (who : Who) (own : Option (Frame × Found)) (ms : List Mark) → EachMember (λ (m : Mark). m.stamp.who ≡ who) ms → map marking_of ms ≡ cons_option (own_marking own) [] → Pairs IsNote (cons_option (own_note who own) []) ms
+own-noted who None ms by are = none-noted ms are
+own-noted who (Some x) ms by are = first-noted who false x.0 (Some x.1) [] [] ms by are (λ l of none. none-noted l none)
+
+-- the notes of a command tell its marks
+row-noted : (who : Who) (told : List Told) (own : Option (Frame × Found)) (ms : List Mark) → EachMember (λ (m : Mark). m.stamp.who ≡ who) ms → map marking_of ms ≡ filter_map marked_in told ++ cons_option (own_marking own) []
+    → Pairs IsNote (filter_map (told_note who) told ++ cons_option (own_note who own) []) ms
+row-noted who [] own ms by are = own-noted who own ms by are
+row-noted who (t ∷ ts) own ms by are = subst (λ (l : List Note). Pairs IsNote l ms) (sym (onto (told_note who t) (filter_map (told_note who) ts) (cons_option (own_note who own) [])))
+    (first-noted who true (frame_of t.held) t.found (filter_map (told_note who) ts ++ cons_option (own_note who own) []) (filter_map marked_in ts ++ cons_option (own_marking own) []) ms by
+    (are ∙ onto (marked_in t) (filter_map marked_in ts) (cons_option (own_marking own) [])) (row-noted who ts own))
+  where
+    onto : {A : Type 0} (o : Option A) (xs ys : List A) → cons_option o xs ++ ys ≡ cons_option o (xs ++ ys)
+    onto None xs ys = refl
+    onto (Some x) xs ys = refl
+
+-- all marks are noted
+pub noted-end : (view : View) (cpu : Cpu) (rows : List Row) (j : Job) (row : Row) → AreNoted view cpu rows j → marked_now j ≡ markings_in row → Pairs IsNote (notes_from cpu 0 (rows ++ row ∷ [])) view.marks
+noted-end view cpu rows j row are marked =
+    subst (λ (l : List Note). Pairs IsNote l view.marks) (sym (notes-more cpu 0 rows (length rows) row (omega arith)))
+    (subst (λ (l : List Mark). Pairs IsNote (notes_from cpu 0 rows ++ row_notes (at_number cpu (length rows)) row) l) (sym are.all)
+    (joined (notes_from cpu 0 rows) (row_notes (at_number cpu (length rows)) row) are.earlier are.last are.noted (row-noted (at_number cpu (length rows)) row.told row.own are.last are.own (are.marked ∙ marked))))
+  where
+    joined : (xs ys : List Note) (ms ns : List Mark) → Pairs IsNote xs ms → Pairs IsNote ys ns → Pairs IsNote (xs ++ ys) (ms ++ ns)
+    joined [] ys [] ns first second = second
+    joined [] ys (m ∷ ms) ns first second = absurd first
+    joined (x ∷ xs) ys [] ns first second = absurd first
+    joined (x ∷ xs) ys (m ∷ ms) ns first second = (first.0, joined xs ys ms ns first.1 second)
+
+-- a line that the command has spoiled is one of a command that is answered
+pub spoils-end : (layout : Layout) (cpu : Cpu) (list : List Command) (rows : List Row) (command : Command) (j : Job) (a : Answer) (s : Spoiled) → slice_get list (length rows) ≡ Some command → Runs layout (at_number cpu (length rows)) command j
+    → jobs.answer j ≡ Some a → IsOwnSpoil cpu list rows s ⊎ HasSpoiled j s → IsOwnSpoil cpu list (rows ++ jobs.row_of j a ∷ []) s
+spoils-end layout cpu list rows command j a s there runs is (inl own) = spoil-more cpu list rows (jobs.row_of j a) s own
+spoils-end layout cpu list rows command j a s there runs is (inr has) = record {
+  cpu_is = ap (λ (w : Who). w.cpu) by.0;
+  there = ap (slice_get list) number ∙ there ∙ ap (λ (c : Command). Some c) by.1;
+  row = jobs.row_of j a;
+  row_is = ap (slice_get (rows ++ jobs.row_of j a ∷ [])) number ∙ at_last rows (jobs.row_of j a);
+  answered = same_Some a answers.Done (sym is ∙ has-spoiled j s has);
+}
+  where
+    by : (s.stamp.who ≡ at_number cpu (length rows)) × (command ≡ spoiling s.damage s.frame s.line)
+    by = spoils-line layout (at_number cpu (length rows)) command j s runs has
+
+    number : s.stamp.who.seq ≡ length rows
+    number = ap (λ (w : Who). w.seq) by.0
+
+-- entries of which none is a failure cost no content
+unfailed-lossless : (view : View) (who : Who) → failures who view ≡ [] → losses_by who view ≡ 0
+unfailed-lossless view who none = sum-zero loss_of (deeds who view) (λ i m at. by m.page m.place m.entry.what (none-in (deeds who view) i m none at))
+  where
+    none-in : (l : List Made) (i : ℕ) (m : Made) → filter_map abandoned.failed_in l ≡ [] → slice_get l i ≡ Some m → abandoned.failed_in m ≡ None
+    none-in l i m empty at = which (abandoned.failed_in m) refl
       where
-        last_is : are.last ≡ one.mark ∷ []
-        last_is = sym (all-own (at_number cpu n) are.last are.own)
-            ∙ sym (filter-append (is_own (at_number cpu n)) are.earlier are.last ∙ ap (λ (l : List Mark). l ++ filter (is_own (at_number cpu n)) are.last) (none-own cpu n are.earlier are.before))
-            ∙ ap (filter (is_own (at_number cpu n))) (sym are.all) ∙ ap (λ (w : Who). marks_by w view) (sym own) ∙ one.marked
+        which : (o : Option Failed) → abandoned.failed_in m ≡ o → o ≡ None
+        which None is = refl
+        which (Some f) is = let some = picked-has abandoned.failed_in l i m f at is in absurd (none-some f (sym (ap (λ (x : List Failed). slice_get x some.0) empty) ∙ some.1))
 
--- a failure owes no loss when it is answered, and another command makes none
-no-loss : (layout : Layout) (list : List Command) (view : View) (who : Who) (command : Command) (j : Job) (a : Answer) → Runs layout who command j → jobs.Fits layout view j → jobs.answer j ≡ Some a → IsCaused layout list view who command a → OwesOwn who view
-    → length view.owed.losses ≡ 0
-no-loss layout list view who (commands.Inject frame) j a runs fits has caused owes = ap length (knows-failure j runs fits has).ended.paid
-no-loss layout list view who command j a runs fits has caused owes = let none : losses_by who view ≡ 0 = lossless layout list view who command a refl caused in omega (arith, owes, none)
+    by : (page : Page) (place : ℕ) (what : What) → abandoned.failed_of page place what ≡ None → from_bool (is_loss what) ≡ 0
+    by page place (entries.Fail situation required seen signals) is = absurd (none-some _ (sym is))
+    by page place what is = refl
+
+-- when a command is answered its failures are those that it knows of
+pub failed-end : (layout : Layout) (view : View) (who : Who) (j : Job) (a : Answer) → jobs.Fits layout view j → jobs.answer j ≡ Some a → jobs.who j ≡ who → HasAccount view who j → failures who view ≡ failed_now j
+failed-end layout view who j a fits has own account = subst (λ (w : Who). failures w view ≡ failed_now j) own (failures-at-end layout view j fits has (λ fails. subst (λ (w : Who). failures w view ≡ failed_now j) (sym own) (account.failed fails)))
+
+-- a command that is answered owes no loss: one that may make some owes none by then, and the others make none
+no-loss : (layout : Layout) (view : View) (who : Who) (j : Job) (a : Answer) → jobs.Fits layout view j → jobs.answer j ≡ Some a → jobs.who j ≡ who → HasAccount view who j → length view.owed.losses ≡ 0
+no-loss layout view who j a fits has own account = elim (paid-at-end layout view j fits has) [
+  | inl paid ↦ ap length paid
+  | inr none ↦ let made : losses_by who view ≡ 0 = unfailed-lossless view who (failed-end layout view who j a fits has own account ∙ none) in let owes : length view.owed.losses ≤ losses_by who view = account.losses in omega (arith, owes, made)
+]
 
 -- nothing is owed
-pub owes-nothing : (layout : Layout) (list : List Command) (view : View) (who : Who) (command : Command) (j : Job) (a : Answer) → Runs layout who command j → jobs.Fits layout view j → jobs.answer j ≡ Some a → IsCaused layout list view who command a → HasAccount view who j
-    → view.owed ≡ no_debts
-owes-nothing layout list view who command j a runs fits has caused account =
+pub owes-nothing : (layout : Layout) (view : View) (who : Who) (j : Job) (a : Answer) → jobs.Fits layout view j → jobs.answer j ≡ Some a → jobs.who j ≡ who → HasAccount view who j → view.owed ≡ no_debts
+owes-nothing layout view who j a fits has own account =
     let none : counts_owed view ≡ 0 = account.counted ∙ unowed-at-end j has in
-    λ t. record { counts = counts none t; hardware = hardware none t; uncounts = uncounts none t; losses = nil_from_length view.owed.losses (no-loss layout list view who command j a runs fits has caused account.losses) t }
+    λ t. record { counts = counts none t; hardware = hardware none t; uncounts = uncounts none t; losses = nil_from_length view.owed.losses (no-loss layout view who j a fits has own account) t }
   where
     counts : view.owed.counts + view.owed.hardware + view.owed.uncounts ≡ 0 → view.owed.counts ≡ 0
     counts none = omega (arith, none)
@@ -168,22 +258,23 @@ owes-nothing layout list view who command j a runs fits has caused account =
 
 -- ---- when a command begins
 
-pub account-starts : (view : View) (cpu : Cpu) (n : ℕ) (j : Job) → IsListed view cpu n → view.owed ≡ no_debts → IsAtStop j → HasAccount view (at_number cpu n) j
-account-starts view cpu n j listed owed start = record {
-  marked = none-listed (λ (m : Mark). m.stamp.who) (λ (m : Mark). m.frame) (is_same (at_number cpu n)) view.marks (λ i m at. later-one cpu n m.stamp.who (listed.marked i m at)) ∙ sym (unmarked-at-start j start);
+pub account-starts : (view : View) (cpu : Cpu) (n : ℕ) (j : Job) → IsListed view cpu n → HasMadeNone view (at_number cpu n) → view.owed ≡ no_debts → IsAtStop j → HasAccount view (at_number cpu n) j
+account-starts view cpu n j listed made owed start = record {
+  marked = none-listed (λ (m : Mark). m.stamp.who) marking_of (is_same (at_number cpu n)) view.marks (λ i m at. later-one cpu n m.stamp.who (listed.marked i m at)) ∙ sym (unmarked-at-start j start);
+  failed = λ fails. ap (filter_map abandoned.failed_in) made ∙ sym (unfailed-at-start j start);
   taken = none-listed (λ (r : Reported). r.stamp.who) (λ (r : Reported). (r.file, r.count)) (is_same (at_number cpu n)) view.reported (λ i r at. later-one cpu n r.stamp.who (listed.taken i r at)) ∙ sym (untaken-at-start j start);
   set = none-listed (λ (x : Setting). x.stamp.who) (λ (x : Setting). (x.thread, x.policy)) (is_same (at_number cpu n)) view.settings (λ i x at. later-one cpu n x.stamp.who (listed.set i x at)) ∙ sym (unset-policies-at-start j start);
   counted = ap (λ d. d.counts + d.hardware + d.uncounts) owed ∙ sym (unowed-at-start j start);
   losses = let none : length view.owed.losses ≡ 0 = ap (λ d. length d.losses) owed in omega (arith, none);
 }
 
-pub noted-starts : (layout : Layout) (view : View) (cpu : Cpu) (n : ℕ) (notes : List Note) (j : Job) → IsListed view cpu n → IsAtStop j → Pairs (IsNote layout view) notes view.marks → AreNoted layout view cpu n notes j
-noted-starts layout view cpu n notes j listed start noted = record {
+pub noted-starts : (view : View) (cpu : Cpu) (rows : List Row) (j : Job) → IsListed view cpu (length rows) → IsAtStop j → Pairs IsNote (notes_from cpu 0 rows) view.marks → AreNoted view cpu rows j
+noted-starts view cpu rows j listed start noted = record {
   earlier = view.marks;
   last = [];
   all = sym (append-nil view.marks);
   noted = noted;
   before = listed.marked;
   own = λ i m at. absurd (none-some m at);
-  frames = sym (unmarked-at-start j start);
+  marked = sym (unmarked-at-start j start);
 }

@@ -11,15 +11,17 @@ use Rattle.hwp_rule.specs.Opening.{opening_view}
 use Rattle.hwp_step.specs.Calls.{IsOnTurn}
 use Rattle.hwp_job.specs.declared.job.Job.{Job}
 use Rattle.hwp_job.specs.Begins.{Begins}
-use Rattle.hwp_job.specs.Stays.{KnowsPolicies}
-use Rattle.hwp_job.proofs.Running.{begins-fits, begins-runs}
+use Rattle.hwp_job.specs.Jobs.{banks_before, left_in}
+use Rattle.hwp_job.specs.Stays.{IsAtStop, KnowsPolicies}
+use Rattle.hwp_job.proofs.Running.{before-begins, begins-fits, begins-runs}
 use Rattle.hwp_job.proofs.Staying.{left, policies-first}
 use Rattle.hwp_job.proofs.Stopping.{begins-stop}
+use Rattle.hwp_law.specs.Checks.{Banks, empty_banks}
 use Rattle.hwp_law.specs.Policies.{settings}
-use Rattle.hwp_served.specs.Served.{AreAnswered}
-use Rattle.hwp_processor.specs.Processors.{BeginsAt, at_number}
+use Rattle.hwp_served.specs.Served.{AreRowsServed}
+use Rattle.hwp_processor.specs.Processors.{BeginsAt, at_number, left_of}
 use Rattle.hwp_processor.specs.Serving.{FitsAt, IsDone, IsListed, IsRunning, Serves}
-use Rattle.hwp_processor.proofs.Lines.{past-end}
+use Rattle.hwp_processor.proofs.Rows.{past-end}
 use Rattle.hwp_processor.proofs.Noting.{account-starts, noted-starts}
 
 module _ (layout : Layout) (cpu : Cpu) (list : List Command) (few : length list ≤ command_limit) where
@@ -41,39 +43,43 @@ module _ (layout : Layout) (cpu : Cpu) (list : List Command) (few : length list 
   listed : (n : ℕ) → IsListed view cpu n
   listed n = record { marked = λ i m at. absurd (none-some m at); taken = λ i r at. absurd (none-some r at); set = λ i s at. absurd (none-some s at) }
 
-  serves : Serves layout view cpu list []
-  serves = record {
-    answered = by list;
-    stays = λ i j m n answer less first second. absurd (none-some _ first);
+  -- none is answered, so the banks are as at first
+  serves : (banks : Banks) → banks ≡ empty_banks → Serves layout view cpu list [] banks
+  serves banks none = record {
+    rows_are = by list;
+    stays = λ i j row later less first second stopped. absurd (none-some _ first);
     halted = λ some. absurd (none-some _ some.2);
-    none_bad = λ i s at frame is. absurd (none-some s at);
   }
     where
-      by : (l : List Command) → AreAnswered layout list view cpu 0 l []
-      by [] = tt
-      by (c ∷ cs) = tt
+      by : (l : List Command) → AreRowsServed layout list view cpu 0 empty_banks l [] banks
+      by [] = none
+      by (c ∷ cs) = none
 
-  running : (command : Command) (j : Job) → slice_get list 0 ≡ Some command → Begins layout (at_number cpu 0) command j → IsRunning layout view cpu list [] [] j
+  running : (command : Command) (j : Job) → slice_get list 0 ≡ Some command → Begins layout (at_number cpu 0) command empty_banks j → IsRunning layout view cpu list [] (left_in j empty_banks) j
   running command j there begins = record {
-    serves = serves;
+    serves = serves (banks_before j (left_in j empty_banks)) (before-begins layout (at_number cpu 0) command empty_banks j begins);
     command = command;
     there = there;
-    runs = begins-runs layout (at_number cpu 0) command j begins;
-    fits = begins-fits layout view (at_number cpu 0) command j begins (record { on_turn = first-turn; hand_is = refl; paid = refl; made = refl; unmarked = refl; left = left know (begins-stop layout (at_number cpu 0) command j begins) (let within : 0 < length list = slice_get_within list 0 command there in omega (arith, few, within)) });
+    runs = begins-runs layout (at_number cpu 0) command empty_banks j begins;
+    fits = begins-fits layout view (at_number cpu 0) command empty_banks j begins (record { on_turn = first-turn; hand_is = refl; paid = refl; made = refl; unmarked = refl; left = left know start (let within : 0 < length list = slice_get_within list 0 command there in omega (arith, few, within)) });
     policies = know;
-    stopped = λ some. inl (begins-stop layout (at_number cpu 0) command j begins);
+    stopped = λ some. inl start;
     stops = λ i who at. absurd (none-some who at);
     listed = listed 1;
-    account = account-starts view cpu 0 j (listed 0) refl (begins-stop layout (at_number cpu 0) command j begins);
-    noted = noted-starts layout view cpu 0 [] j (listed 0) (begins-stop layout (at_number cpu 0) command j begins) tt;
+    account = account-starts view cpu 0 j (listed 0) refl refl start;
+    noted = noted-starts view cpu [] j (listed 0) start tt;
+    spoiled = λ i s at. absurd (none-some s at);
   }
     where
-      know : KnowsPolicies layout list view (at_number cpu 0) j
-      know = policies-first layout list view (at_number cpu 0) j refl refl (begins-stop layout (at_number cpu 0) command j begins)
+      start : IsAtStop j
+      start = begins-stop layout (at_number cpu 0) command empty_banks j begins
 
-  done : slice_get list 0 ≡ None → IsDone layout view cpu list [] []
+      know : KnowsPolicies layout list view (at_number cpu 0) j
+      know = policies-first layout list view (at_number cpu 0) j refl refl start
+
+  done : slice_get list 0 ≡ None → IsDone layout view cpu list [] empty_banks
   done none = record {
-    serves = serves;
+    serves = serves empty_banks refl;
     all = sym (let most : length list ≤ 0 = past-end list 0 none in omega arith);
     made = λ k past. refl;
     hand_is = refl;
@@ -81,13 +87,14 @@ module _ (layout : Layout) (cpu : Cpu) (list : List Command) (few : length list 
     stops = λ i who at. absurd (none-some who at);
     listed = listed (length list);
     noted = tt;
+    spoiled = λ i s at. absurd (none-some s at);
     policies = λ thread. (settings thread list, refl);
   }
 
-  pub begun : (x : Option Job) → BeginsAt layout (at_number cpu 0) (slice_get list 0) x → FitsAt layout view cpu list [] [] x
+  pub begun : (x : Option Job) → BeginsAt layout (at_number cpu 0) (slice_get list 0) empty_banks x → FitsAt layout view cpu list [] (left_of x empty_banks) x
   begun x begins = which (slice_get list 0) refl x begins
     where
-      which : (o : Option Command) → slice_get list 0 ≡ o → (y : Option Job) → BeginsAt layout (at_number cpu 0) o y → FitsAt layout view cpu list [] [] y
+      which : (o : Option Command) → slice_get list 0 ≡ o → (y : Option Job) → BeginsAt layout (at_number cpu 0) o empty_banks y → FitsAt layout view cpu list [] (left_of y empty_banks) y
       which (Some command) there (Some j) at = running command j there at
       which None there None at = done there
       which (Some command) there None at = absurd at

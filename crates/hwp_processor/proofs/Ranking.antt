@@ -1,41 +1,29 @@
 -- A processor comes to an end: each turn that doesn't wait lowers what is left.
-use Rattle.std.proofs.Common.{◌≡◌, ◌≢◌, ℕ, ◌+◌, ◌-◌, ◌*◌, ◌<◌, ◌≤◌, ◌⊎◌, inl, inr, true, false, List, [], ◌∷◌, Option, Some, None, length, option_map, refl, sym, ap, ◌∙◌, subst, arith}
+use Rattle.std.proofs.Common.{◌≡◌, ◌≢◌, ℕ, ◌+◌, ◌-◌, ◌*◌, ◌<◌, ◌≤◌, ◌⊎◌, inl, inr, true, false, List, [], ◌∷◌, Option, Some, None, length, option_map, slice_get, refl, sym, ap, ◌∙◌, subst, arith}
 use Rattle.std.proofs.lemmas.Bool.{both_ways}
 use Rattle.std.proofs.lemmas.List.{length-append}
 use Rattle.std.proofs.lemmas.Option.{none-some, slice_get_within}
-use Rattle.std.specs.Arc.{arc_value}
 use Rattle.hwp_geom.specs.declared.Frame.{Frame}
 use Rattle.hwp_geom.specs.declared.Layout.{Layout}
 use Rattle.hwp_geom.specs.declared.Who.{Who}
 use Rattle.hwp_geom.specs.Limits.{command_limit}
 use Rattle.hwp_form.specs.declared.Command.{Command}
-use Rattle.hwp_form.specs.declared.Command.TheVariants as commands
 use Rattle.hwp_report.specs.declared.Answer.{Answer}
-use Rattle.hwp_report.specs.declared.CpuLine.{CpuLine}
-use Rattle.hwp_report.specs.declared.CpuLine.TheVariants as lines
 use Rattle.hwp_rule.specs.declared.State.{State}
 use Rattle.hwp_rule.specs.Moves.{Move}
 use Rattle.hwp_rule.specs.Rule.{Holds}
-use Rattle.hwp_rule.specs.Words.{Words, free_words}
-use Rattle.hwp_rule.proofs.Moving.{shaped}
 use Rattle.hwp_step.specs.declared.Turn.{Turn}
 use Rattle.hwp_step.specs.Boards.{view_of}
 use Rattle.hwp_step.specs.Calls.{logs, rec_of}
 use Rattle.hwp_step.specs.Ranks.{Member, member, Made, CostFalls, HasFailed, IsRanked, OtherHand, Pending, Quiet, failure_weight, failures_left, is_refused, is_waits, top, words_at}
-use Rattle.hwp_control.proofs.Calling as calling
-use Rattle.hwp_control.proofs.Nesting as nesting
-use Rattle.hwp_control.proofs.Reading as reading
-use Rattle.hwp_evict.proofs.EvictCosts.{evict-below}
-use Rattle.hwp_evict.proofs.Fsyncing.{fsync-below}
-use Rattle.hwp_fail.proofs.InjectRank.{inject-below}
-use Rattle.hwp_fault.proofs.AccessCosts.{access-below}
+use Rattle.hwp_handler.specs.declared.Row.{Row}
+use Rattle.hwp_law.specs.Checks.{Banks}
 use Rattle.hwp_job.specs.declared.job.Job.{Job}
-use Rattle.hwp_job.specs.declared.job.Job.TheVariants as kinds
-use Rattle.hwp_job.specs.Begins.{Begins}
-use Rattle.hwp_job.specs.Done.{note}
 use Rattle.hwp_job.specs.Jobs as jobs
+use Rattle.hwp_job.specs.Jobs.{banks_after}
+use Rattle.hwp_job.proofs.Below.{begins-below, job-below}
 use Rattle.hwp_job.proofs.Jobbing as jobbing
-use Rattle.hwp_served.specs.Accounts.{Note}
+use Rattle.hwp_job.proofs.Running.{has-begun}
 use Rattle.hwp_processor.specs.declared.processor.Processor.{Processor}
 use Rattle.hwp_processor.specs.Processors.{BeginsAt, Follows, IsAnswered, Next, NextOf, aborts, aborts_of, at_number, bare, claims, claims_of, class, class_of, cost, cost_of, plan, plan_of, put, put_of, who, who_of}
 use Rattle.hwp_processor.specs.Serving.{Fits, FitsAt, IsRunning}
@@ -45,73 +33,38 @@ the-member = member who plan put bare Next Fits class cost aborts claims
 
 -- ---- one command
 
-few-frees : (layout : Layout) (a : State) → Holds layout a → length (words_at layout a).frees ≤ 4
-few-frees layout a rule =
-    let all : length (words_at layout a).frees ≡ free_words layout = (shaped layout a rule).frees in
-    let few : layout.frames ≤ 256 = rule.sound.frames in
-    omega (arith, all, few)
-
--- the turns of a command are few
-job-below : (w : Words) (j : Job) → length w.frees ≤ 4 → jobs.cost j w < 32768
-job-below w (kinds.Access a) few = access-below w a few
-job-below w (kinds.Evict e) few = evict-below w e
-job-below w (kinds.Fsync f) few = let most = fsync-below f w in omega (arith, most)
-job-below w (kinds.Prctl p) few = let most = calling.small p in omega (arith, most)
-job-below w (kinds.ReadStop r) few = let most = reading.small r in omega (arith, most)
-job-below w (kinds.Nested n) few = let most = nesting.small n in omega (arith, most)
-job-below w (kinds.Inject i) few = let most = inject-below i w in omega (arith, most)
-
-left-below : (layout : Layout) (a : State) → Holds layout a → (x : Option Job) → cost_of x (words_at layout a) < 32768
-left-below layout a rule (Some j) = job-below (words_at layout a) j (few-frees layout a rule)
-left-below layout a rule None = omega arith
-
--- a command that begins holds nothing and claims nothing
-begins-idle : (layout : Layout) (by : Who) (command : Command) (j : Job) → Begins layout by command j → (jobs.class j ≡ 4) × (jobs.claims j ≡ None)
-begins-idle layout by (commands.Load thread slot line) j begun = (ap jobs.class begun.job_is, ap jobs.claims begun.job_is)
-begins-idle layout by (commands.Fetch thread slot line) j begun = (ap jobs.class begun.job_is, ap jobs.claims begun.job_is)
-begins-idle layout by (commands.KLoad thread slot line) j begun = (ap jobs.class begun.job_is, ap jobs.claims begun.job_is)
-begins-idle layout by (commands.Store thread slot line word) j begun = (ap jobs.class begun.job_is, ap jobs.claims begun.job_is)
-begins-idle layout by (commands.Free slot) j begun = (ap jobs.class begun.1.job_is, ap jobs.claims begun.1.job_is)
-begins-idle layout by (commands.Drop page) j begun = (ap jobs.class begun.job_is, ap jobs.claims begun.job_is)
-begins-idle layout by (commands.Sync page) j begun = (ap jobs.class begun.job_is, ap jobs.claims begun.job_is)
-begins-idle layout by (commands.Out page) j begun = (ap jobs.class begun.job_is, ap jobs.claims begun.job_is)
-begins-idle layout by (commands.Fsync file) j begun = (ap jobs.class begun.1, ap jobs.claims begun.1)
-begins-idle layout by (commands.Prctl thread args) j begun = (ap jobs.class begun.job_is, ap jobs.claims begun.job_is)
-begins-idle layout by (commands.Log status addr misc) j begun = (ap jobs.class begun, ap jobs.claims begun)
-begins-idle layout by commands.RaiseNested j begun = (ap jobs.class begun, ap jobs.claims begun)
-begins-idle layout by (commands.Inject frame) j begun = (ap jobs.class begun.job_is, ap jobs.claims begun.job_is)
-begins-idle layout by command j begun = absurd begun
+-- one that begins has few turns, holds nothing and claims nothing
+begun-idle : (layout : Layout) (a : State) → Holds layout a → (by : Who) (c : Option Command) (banks : Banks) (x : Option Job) → BeginsAt layout by c banks x → (cost_of x (words_at layout a) < 32768) × (class_of x ≡ 4) × (claims_of x ≡ None)
+begun-idle layout a rule by (Some command) banks (Some j) begins = let idle = (has-begun layout by command banks j begins).idle in (begins-below layout a by command banks j rule begins, idle.0, idle.1)
+begun-idle layout a rule by None banks None begins = (omega arith, refl, refl)
+begun-idle layout a rule by (Some command) banks None begins = absurd begins
+begun-idle layout a rule by None banks (Some j) begins = absurd begins
 
 -- ---- a turn
 
 module _ {layout : Layout} {seat : ℕ} {a b : State} {p q : Processor} {turn : Turn} (made : Made the-member layout seat a b p q turn) where
-  abbrev rows : List CpuLine
-  rows = p.lines.items
+  abbrev rows : List Row
+  rows = p.rows.items
 
   -- the cost falls below this one, or exceeds it by less than a failure weighs, of which one fewer is left
   abbrev Lowers : ℕ → Type 0
   Lowers before = (cost q (words_at layout b) < before) ⊎ ((failures_left (words_at layout b) < failures_left (words_at layout a)) × (cost q (words_at layout b) < before + failure_weight))
 
-  -- what is left where the command that ran was answered
-  answered-falls : (j : Job) (answer : Answer) (o : Option Note) → IsRunning layout (view_of a seat) p.cpu p.commands rows p.notes.items j → IsAnswered (bare p) answer o q → cost q (words_at layout b) < 32768 * (length p.commands - length rows)
-  answered-falls j answer o at answered =
+  -- where the command that ran was answered, the next one is at its beginning, or all are over
+  answered-idle : (k : Job) (answer : Answer) → IsAnswered (bare p) k answer q → (cost_of q.job (words_at layout b) < 32768) × (class q ≡ 4) × (claims q ≡ None)
+  answered-idle k answer answered = begun-idle layout b made.kept (at_number p.cpu (length rows + 1)) (slice_get p.commands (length rows + 1)) (banks_after k p.banks) q.job
+      (subst (λ (l : Layout). BeginsAt l (at_number p.cpu (length rows + 1)) (slice_get p.commands (length rows + 1)) (banks_after k p.banks) q.job) made.fits.layout_is answered.begins)
+
+  -- and this is left
+  answered-falls : (j k : Job) (answer : Answer) → IsRunning layout (view_of a seat) p.cpu p.commands rows p.banks j → IsAnswered (bare p) k answer q → cost q (words_at layout b) < 32768 * (length p.commands - length rows)
+  answered-falls j k answer at answered =
       let within : length rows < length p.commands = slice_get_within p.commands (length rows) at.command at.there in
       let count : length q.commands ≡ length p.commands = ap length answered.commands_are in
-      let one : length q.lines.items ≡ length rows + 1 = ap length answered.lines_are ∙ length-append rows (lines.Answer (length rows) answer ∷ []) in
-      let few : cost_of q.job (words_at layout b) < 32768 = left-below layout b made.kept q.job in
+      let one : length q.rows.items ≡ length rows + 1 = ap length answered.rows_are ∙ length-append rows (jobs.row_of k answer ∷ []) in
+      let few : cost_of q.job (words_at layout b) < 32768 = (answered-idle k answer answered).0 in
       omega (arith, within, count, one, few)
 
-  -- and the next command is at its beginning, or all are over
-  answered-idle : (answer : Answer) (o : Option Note) → IsAnswered (bare p) answer o q → (class q ≡ 4) × (claims q ≡ None)
-  answered-idle answer o answered = which _ q.job answered.begins
-    where
-      which : (c : Option Command) (x : Option Job) → BeginsAt (arc_value p.layout) (at_number p.cpu (length rows + 1)) c x → (class_of x ≡ 4) × (claims_of x ≡ None)
-      which (Some command) (Some j) begins = begins-idle (arc_value p.layout) (at_number p.cpu (length rows + 1)) command j begins
-      which None None begins = (refl, refl)
-      which (Some command) None begins = absurd begins
-      which None (Some j) begins = absurd begins
-
-  module _ (j : Job) (at : IsRunning layout (view_of a seat) p.cpu p.commands rows p.notes.items j) (planned : jobs.plan j ≡ Some made.step)
+  module _ (j : Job) (at : IsRunning layout (view_of a seat) p.cpu p.commands rows p.banks j) (planned : jobs.plan j ≡ Some made.step)
       (move : Move layout seat (rec_of layout (jobs.who j) made.step (logs (jobs.put j)) made.found made.got) a b) where
     -- the turn of the command that runs
     of-job : (k : Job) (t : Turn) → jobs.Next layout (jobs.bare j) made.found made.got k t → Made jobbing.job-member layout seat a b j k t
@@ -123,7 +76,7 @@ module _ {layout : Layout} {seat : ℕ} {a b : State} {p q : Processor} {turn : 
       | inl less ↦ inl (subst (λ (x : Processor). cost x (words_at layout b) < 32768 * (length p.commands - length rows) + jobs.cost j (words_at layout a)) (sym after_is) (omega (arith, less)))
       | inr fails ↦ inr (fails.fewer, subst (λ (x : Processor). cost x (words_at layout b) < 32768 * (length p.commands - length rows) + jobs.cost j (words_at layout a) + failure_weight) (sym after_is) (omega (arith, fails.bounded)))
     ]
-    falls-on k t next (Some answer) (answered, turn_is) goes = inl (let less : cost q (words_at layout b) < 32768 * (length p.commands - length rows) = answered-falls j answer (note k) at answered in omega (arith, less))
+    falls-on k t next (Some answer) (answered, turn_is) goes = inl (let less : cost q (words_at layout b) < 32768 * (length p.commands - length rows) = answered-falls j k answer at answered in omega (arith, less))
 
     waits-on : (k : Job) (t : Turn) → jobs.Next layout (jobs.bare j) made.found made.got k t → (o : Option Answer) → Follows (bare p) k o t q turn → is_waits turn ≡ true → Quiet (jobs.class j) layout a seat
         → (cost q (words_at layout b) < 32768 * (length p.commands - length rows) + jobs.cost j (words_at layout a)) ⊎ ((aborts q ≡ true) × OtherHand a seat)
@@ -135,7 +88,7 @@ module _ {layout : Layout} {seat : ℕ} {a b : State} {p q : Processor} {turn : 
 
     leaves-on : (k : Job) (t : Turn) → jobs.Next layout (jobs.bare j) made.found made.got k t → (o : Option Answer) → Follows (bare p) k o t q turn → jobs.aborts j ≡ true → (plan q ≡ None) ⊎ (1 < class q)
     leaves-on k t next None (after_is, turn_is) gives = subst (λ (x : Processor). (plan x ≡ None) ⊎ (1 < class x)) (sym after_is) (jobbing.ranked.leaves layout seat a b j k t (of-job k t next) gives)
-    leaves-on k t next (Some answer) (answered, turn_is) gives = inr (let four : class q ≡ 4 = (answered-idle answer (note k) answered).0 in omega (arith, four))
+    leaves-on k t next (Some answer) (answered, turn_is) gives = inr (let four : class q ≡ 4 = (answered-idle k answer answered).1 in omega (arith, four))
 
     owns-on : (k : Job) (t : Turn) → jobs.Next layout (jobs.bare j) made.found made.got k t → (o : Option Answer) → jobs.answer k ≡ o → Follows (bare p) k o t q turn → is_refused turn ≡ false → (frame : Frame) (cycle : ℕ) → Pending (words_at layout b) frame cycle
         → (claims q ≡ Some (frame, cycle)) ⊎ (Pending (words_at layout a) frame cycle × (jobs.claims j ≢ Some (frame, cycle)))
@@ -151,18 +104,18 @@ falls layout seat a b p q turn made goes = elim (which p.job made.fits.at made.p
   | inr fails ↦ inr (record { fewer = fails.0; bounded = fails.1 })
 ]
   where
-    which : (x : Option Job) → FitsAt layout (view_of a seat) p.cpu p.commands p.lines.items p.notes.items x → plan_of x ≡ Some made.step
+    which : (x : Option Job) → FitsAt layout (view_of a seat) p.cpu p.commands p.rows.items p.banks x → plan_of x ≡ Some made.step
         → Move layout seat (rec_of layout (who_of p.cpu x) made.step (logs (put_of x)) made.found made.got) a b → NextOf layout (bare p) (option_map jobs.bare x) made.found made.got q turn
-        → Lowers made (32768 * (length p.commands - length p.lines.items) + cost_of x (words_at layout a))
+        → Lowers made (32768 * (length p.commands - length p.rows.items) + cost_of x (words_at layout a))
     which (Some j) at planned move next = falls-on made j at planned move next.0 next.1 next.2 (jobs.answer next.0) next.3 goes
     which None at planned move next = absurd (none-some made.step planned)
 
 waits : (layout : Layout) (seat : ℕ) (a b : State) (p q : Processor) (turn : Turn) → Made the-member layout seat a b p q turn → is_waits turn ≡ true → Quiet (class p) layout a seat → CostFalls the-member layout a b p q ⊎ ((aborts q ≡ true) × OtherHand a seat)
 waits layout seat a b p q turn made is quiet = which p.job made.fits.at made.planned made.move made.follows quiet
   where
-    which : (x : Option Job) → FitsAt layout (view_of a seat) p.cpu p.commands p.lines.items p.notes.items x → plan_of x ≡ Some made.step
+    which : (x : Option Job) → FitsAt layout (view_of a seat) p.cpu p.commands p.rows.items p.banks x → plan_of x ≡ Some made.step
         → Move layout seat (rec_of layout (who_of p.cpu x) made.step (logs (put_of x)) made.found made.got) a b → NextOf layout (bare p) (option_map jobs.bare x) made.found made.got q turn
-        → Quiet (class_of x) layout a seat → (cost q (words_at layout b) < 32768 * (length p.commands - length p.lines.items) + cost_of x (words_at layout a)) ⊎ ((aborts q ≡ true) × OtherHand a seat)
+        → Quiet (class_of x) layout a seat → (cost q (words_at layout b) < 32768 * (length p.commands - length p.rows.items) + cost_of x (words_at layout a)) ⊎ ((aborts q ≡ true) × OtherHand a seat)
     which (Some j) at planned move next others = waits-on made j at planned move next.0 next.1 next.2 (jobs.answer next.0) next.3 is others
     which None at planned move next others = absurd (none-some made.step planned)
 
@@ -176,13 +129,17 @@ classes p = which p.job
 small : (layout : Layout) (a : State) (seat : ℕ) (p : Processor) → Holds layout a → Fits layout (view_of a seat) p → cost p (words_at layout a) < top
 small layout a seat p rule fits =
     let few : length p.commands ≤ command_limit = fits.ready.commands.few in
-    let below : cost_of p.job (words_at layout a) < 32768 = left-below layout a rule p.job in
+    let below : cost_of p.job (words_at layout a) < 32768 = which p.job fits.at in
     omega (arith, few, below)
+  where
+    which : (x : Option Job) → FitsAt layout (view_of a seat) p.cpu p.commands p.rows.items p.banks x → cost_of x (words_at layout a) < 32768
+    which (Some j) at = job-below layout a (view_of a seat) j rule at.fits
+    which None at = omega arith
 
 leaves : (layout : Layout) (seat : ℕ) (a b : State) (p q : Processor) (turn : Turn) → Made the-member layout seat a b p q turn → aborts p ≡ true → (plan q ≡ None) ⊎ (1 < class q)
 leaves layout seat a b p q turn made gives = which p.job made.fits.at made.planned made.move made.follows gives
   where
-    which : (x : Option Job) → FitsAt layout (view_of a seat) p.cpu p.commands p.lines.items p.notes.items x → plan_of x ≡ Some made.step
+    which : (x : Option Job) → FitsAt layout (view_of a seat) p.cpu p.commands p.rows.items p.banks x → plan_of x ≡ Some made.step
         → Move layout seat (rec_of layout (who_of p.cpu x) made.step (logs (put_of x)) made.found made.got) a b → NextOf layout (bare p) (option_map jobs.bare x) made.found made.got q turn
         → aborts_of x ≡ true → (plan q ≡ None) ⊎ (1 < class q)
     which (Some j) at planned move next gives_up = leaves-on made j at planned move next.0 next.1 next.2 (jobs.answer next.0) next.3 gives_up
@@ -192,7 +149,7 @@ owns : (layout : Layout) (seat : ℕ) (a b : State) (p q : Processor) (turn : Tu
     → (claims q ≡ Some (frame, cycle)) ⊎ (Pending (words_at layout a) frame cycle × (claims p ≢ Some (frame, cycle)))
 owns layout seat a b p q turn frame cycle made going pending = which p.job made.fits.at made.planned made.move made.follows
   where
-    which : (x : Option Job) → FitsAt layout (view_of a seat) p.cpu p.commands p.lines.items p.notes.items x → plan_of x ≡ Some made.step
+    which : (x : Option Job) → FitsAt layout (view_of a seat) p.cpu p.commands p.rows.items p.banks x → plan_of x ≡ Some made.step
         → Move layout seat (rec_of layout (who_of p.cpu x) made.step (logs (put_of x)) made.found made.got) a b → NextOf layout (bare p) (option_map jobs.bare x) made.found made.got q turn
         → (claims q ≡ Some (frame, cycle)) ⊎ (Pending (words_at layout a) frame cycle × (claims_of x ≢ Some (frame, cycle)))
     which (Some j) at planned move next = owns-on made j at planned move next.0 next.1 next.2 (jobs.answer next.0) refl next.3 going frame cycle pending

@@ -5,7 +5,8 @@ use Rattle.std.proofs.lemmas.Option.{none-some}
 use Rattle.hwp_geom.specs.declared.Cpu.{Cpu}
 use Rattle.hwp_geom.specs.declared.Layout.{Layout}
 use Rattle.hwp_form.specs.declared.Command.{Command}
-use Rattle.hwp_report.specs.declared.CpuLine.{CpuLine}
+use Rattle.hwp_handler.specs.declared.Row.{Row}
+use Rattle.hwp_law.specs.Checks.{Banks}
 use Rattle.hwp_rule.specs.declared.Made.{Made}
 use Rattle.hwp_rule.specs.declared.Part.{Part}
 use Rattle.hwp_rule.specs.declared.State.{State}
@@ -17,7 +18,6 @@ use Rattle.hwp_rule.proofs.NotLater.{one-view}
 use Rattle.hwp_step.specs.Boards.{AreSeated, view_of}
 use Rattle.hwp_step.specs.Hands.{Hand}
 use Rattle.hwp_known.specs.Known.{HasMadeNone}
-use Rattle.hwp_served.specs.Accounts.{Note}
 use Rattle.hwp_served.specs.Served.{IsBegun, IsServed}
 use Rattle.hwp_served.proofs.Ending.{of-deeds}
 use Rattle.hwp_processor.specs.Processors.{at_number}
@@ -54,10 +54,11 @@ module _ (layout : Layout) (last : State) (seat : Cpu → ℕ) (holds : Holds la
       which (inl less) = less
       which (inr past) = absurd (of-deeds (λ (x : Made). ⊥) view (at_number cpu m.entry.who.seq) i m (subst (EachMember (λ (x : Made). ⊥)) (sym (none m.entry.who.seq past)) (λ j x e. none-some x e)) at by)
 
-  pub served : (list : List Command) (rows : List CpuLine) (notes : List Note) → IsDone layout view cpu list rows notes → IsServed layout view cpu list rows notes
-  served list rows notes done = record {
+  pub served : (list : List Command) (rows : List Row) (banks : Banks) → IsDone layout view cpu list rows banks → IsServed layout view cpu list rows
+  served list rows banks done = record {
     count = done.all;
-    answered = done.serves.answered;
+    banks = banks;
+    rows_are = done.serves.rows_are;
     made = begun (length list) done.made;
     marked = done.listed.marked;
     taken = done.listed.taken;
@@ -65,6 +66,7 @@ module _ (layout : Layout) (last : State) (seat : Cpu → ℕ) (holds : Holds la
     policies = done.policies;
     stops = done.stops;
     noted = done.noted;
+    spoiled = done.spoiled;
     stays = done.serves.stays;
     nothing = record {
       refs = ap (λ (h : Hand). h.refs) done.hand_is;

@@ -2,7 +2,6 @@
 -- answered; then the next one begins.
 use Rattle.std.specs.Prelude.{◌≡◌, ℕ, ◌+◌, ◌-◌, ◌*◌, ◌<◌, ◌≤◌, Bool, true, false, List, [], ◌∷◌, ◌++◌, Option, Some, None, All, length, option_map, slice_get, vec_capacity}
 use Rattle.std.specs.Arc.{arc_value}
-use Rattle.std.specs.List.{cons_option}
 use Rattle.hwp_geom.specs.declared.Cpu.{Cpu}
 use Rattle.hwp_geom.specs.declared.Frame.{Frame}
 use Rattle.hwp_geom.specs.declared.Layout.{Layout}
@@ -13,16 +12,15 @@ use Rattle.hwp_page.specs.History.{BodyValue}
 use Rattle.hwp_form.specs.declared.Command.{Command}
 use Rattle.hwp_script.specs.Valid.{IsCommandOf}
 use Rattle.hwp_report.specs.declared.Answer.{Answer}
-use Rattle.hwp_report.specs.declared.CpuLine.TheVariants as lines
-use Rattle.hwp_report.specs.declared.MarkLine.{MarkLine}
 use Rattle.hwp_rule.specs.declared.Step.{Step}
 use Rattle.hwp_rule.specs.Words.{Words}
 use Rattle.hwp_step.specs.declared.Turn.{Turn}
 use Rattle.hwp_step.specs.declared.Turn.TheVariants as turns
 use Rattle.hwp_job.specs.declared.Job.{Job}
 use Rattle.hwp_job.specs.Begins.{Begins, is_supported}
-use Rattle.hwp_job.specs.Done.{note}
 use Rattle.hwp_job.specs.Jobs as jobs
+use Rattle.hwp_job.specs.Jobs.{banks_after, left_in, row_of}
+use Rattle.hwp_law.specs.Checks.{Banks, empty_banks}
 use Rattle.hwp_processor.specs.declared.processor.Processor.{Processor}
 
 -- the command of this number of the processor
@@ -35,29 +33,32 @@ pub record AreCommands (layout : Layout) (cpu : Cpu) (list : List Command) : Typ
   pub supported : All (λ (c : Command). is_supported c ≡ true) list
   pub few : length list ≤ command_limit
 
--- the processor can run its commands, and has memory for a line and a note of each
+-- the processor can run its commands, and has memory for a row of each
 pub record IsReady (p : Processor) : Type 0 where
   pub sound : IsSound (arc_value p.layout)
   pub commands : AreCommands (arc_value p.layout) p.cpu p.commands
-  pub room : length p.commands ≤ vec_capacity p.lines
-  pub noting : length p.commands ≤ vec_capacity p.notes
-  pub noted : length p.notes.items ≤ length p.lines.items
+  pub room : length p.commands ≤ vec_capacity p.rows
 
--- the command is at its beginning; past the last command none runs
-abbrev pub BeginsAt : Layout → Who → Option Command → Option Job → Type 0
-BeginsAt layout who (Some command) (Some j) = Begins layout who command j
-BeginsAt layout who None None = Unit {0}
-BeginsAt layout who _ _ = ⊥
+-- the command is at its beginning, where the banks of the processor hold this; past the last command none runs
+abbrev pub BeginsAt : Layout → Who → Option Command → Banks → Option Job → Type 0
+BeginsAt layout who (Some command) banks (Some j) = Begins layout who command banks j
+BeginsAt layout who None banks None = Unit {0}
+BeginsAt layout who _ banks _ = ⊥
 
--- the processor is at the beginning of its first command, and has answered none
+-- what the banks hold when it has begun: some commands take that
+abbrev pub left_of : Option Job → Banks → Banks
+left_of (Some j) banks = left_in j banks
+left_of None banks = banks
+
+-- the processor is at the beginning of its first command, and has answered none; its banks held nothing
 pub record AtBeginning (layout : Layout) (cpu : Cpu) (list : List Command) (p : Processor) : Type 0 where
   pub layout_is : arc_value p.layout ≡ layout
   pub cpu_is : p.cpu ≡ cpu
   pub commands_are : p.commands ≡ list
   pub ready : IsReady p
-  pub no_line : p.lines.items ≡ []
-  pub no_note : p.notes.items ≡ []
-  pub begins : BeginsAt layout (at_number cpu 0) (slice_get list 0) p.job
+  pub no_row : p.rows.items ≡ []
+  pub begins : BeginsAt layout (at_number cpu 0) (slice_get list 0) empty_banks p.job
+  pub banks_are : p.banks ≡ left_of p.job empty_banks
 
 -- ---- the command that runs
 
@@ -113,33 +114,32 @@ aborts p = aborts_of p.job
 
 -- each command that isn't answered costs more than all turns of one, and the one that runs its turns beside
 abbrev pub cost : Processor → Words → ℕ
-cost p words = 32768 * (length p.commands - length p.lines.items) + cost_of p.job words
+cost p words = 32768 * (length p.commands - length p.rows.items) + cost_of p.job words
 
 -- ---- what a turn comes to
 
 -- what the command shows, where there is a command that can be answered
 abbrev pub ShowsOf : Processor → Option Job → ℕ → Option BodyValue → Type 0
-ShowsOf p (Some j) found got = jobs.Shows j found got × IsReady p × (length p.lines.items < length p.commands)
+ShowsOf p (Some j) found got = jobs.Shows j found got × IsReady p × (length p.rows.items < length p.commands)
 ShowsOf p None found got = Unit {0}
 
 abbrev pub Shows : Processor → ℕ → Option BodyValue → Type 0
 Shows p found got = ShowsOf p p.job found got
 
--- the command that ran is answered so by a line, which is the last one, as is its note, and the next command begins
-pub record IsAnswered (p : Processor) (answer : Answer) (note : Option (Frame × MarkLine)) (after : Processor) : Type 0 where
+-- the command that ran is answered so, its row is the last one, and the next command begins with what it left in the banks
+pub record IsAnswered (p : Processor) (j : Job) (answer : Answer) (after : Processor) : Type 0 where
   pub layout_is : arc_value after.layout ≡ arc_value p.layout
   pub cpu_is : after.cpu ≡ p.cpu
   pub commands_are : after.commands ≡ p.commands
-  pub lines_are : after.lines.items ≡ p.lines.items ++ lines.Answer (length p.lines.items) answer ∷ []
-  pub notes_are : after.notes.items ≡ p.notes.items ++ cons_option note []
-  pub room : vec_capacity after.lines ≡ vec_capacity p.lines
-  pub noting : vec_capacity after.notes ≡ vec_capacity p.notes
-  pub begins : BeginsAt (arc_value p.layout) (at_number p.cpu (length p.lines.items + 1)) (slice_get p.commands (length p.lines.items + 1)) after.job
+  pub rows_are : after.rows.items ≡ p.rows.items ++ row_of j answer ∷ []
+  pub room : vec_capacity after.rows ≡ vec_capacity p.rows
+  pub begins : BeginsAt (arc_value p.layout) (at_number p.cpu (length p.rows.items + 1)) (slice_get p.commands (length p.rows.items + 1)) (banks_after j p.banks) after.job
+  pub banks_are : after.banks ≡ left_of after.job (banks_after j p.banks)
 
 -- the turn is that of the command, until the command has its answer
 abbrev pub Follows : Processor → Job → Option Answer → Turn → Processor → Turn → Type 0
 Follows p j None t after turn = (after ≡ record p { job = Some j }) × (turn ≡ t)
-Follows p j (Some answer) t after turn = IsAnswered p answer (note j) after × (turn ≡ turns.Answered)
+Follows p j (Some answer) t after turn = IsAnswered p j answer after × (turn ≡ turns.Answered)
 
 abbrev pub NextOf : Layout → Processor → Option Job → ℕ → Option BodyValue → Processor → Turn → Type 0
 NextOf layout p (Some j) found got after turn = (k : Job) × (t : Turn) × jobs.Next layout j found got k t × Follows p k (jobs.answer k) t after turn

@@ -1,4 +1,4 @@
-//! The commands of one processor as one task: they run one after the other, and each is answered by a line.
+//! The commands of one processor as one task: they run one after the other, and each comes to a row.
 #![tactic(auto)]
 
 mod processor;

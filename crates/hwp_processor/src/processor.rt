@@ -1,36 +1,37 @@
-ghost use Rattle.std.specs.Prelude.{◌≡◌, ◌+◌, ◌<◌, ◌≤◌, ◌++◌, [], length, slice_get, vec_capacity, None, IsSome, IfOk, OnErr};
-ghost use Rattle.std.specs.List.{cons_option};
+ghost use Rattle.std.specs.Prelude.{◌≡◌, ◌+◌, ◌<◌, ◌≤◌, length, slice_get, None, IsSome, IfOk, OnErr, IsSomeAnd};
 ghost use Rattle.std.specs.Arc.{arc_value};
 ghost use Rattle.hwp_geom.specs.Layout.{IsSound};
-ghost use Rattle.hwp_processor.specs.Processors.{AreCommands, AtBeginning, BeginsAt, IsAnswered, IsReady, at_number};
+ghost use Rattle.hwp_processor.specs.Processors.{AreCommands, AtBeginning, BeginsAt, IsAnswered, IsReady, at_number, left_of};
 
+use hwp_banks::{BANKS, Bank};
 use hwp_form::Command;
-use hwp_geom::{Cpu, Frame, Layout, List, OutOfMemory, Who};
+use hwp_geom::{Cpu, Layout, List, OutOfMemory, Who};
+use hwp_handler::{Row, no_events};
 use hwp_job::Job;
 use hwp_page::Body;
-use hwp_report::{Answer, CpuLine, MarkLine};
+use hwp_report::Answer;
 use hwp_rule::Step;
 use hwp_step::{Machine, Ranked, Scheduled, Turn};
 use std::alloc::{AllocError, Global};
 use std::sync::Arc;
 
-/// The commands of one processor, which run one after the other. Each is answered by a line.
+/// The commands of one processor, which run one after the other. Each comes to a row.
 #[derive(Drop)]
 pub struct Processor {
     alloc: Global,
     layout: Arc<Layout, Global>,
     cpu: Cpu,
     commands: List<Command>,
-    /// The lines of the commands that are answered. There is memory for all that come.
-    lines: Vec<CpuLine>,
-    /// The lines that the answered commands add to the records of frames, each with its frame. There is memory for all that come.
-    notes: Vec<(Frame, MarkLine)>,
-    /// The command that runs, whose number is that of the lines; none where all are answered.
+    /// What the commands that are answered came to. There is memory for all that come.
+    rows: Vec<Row>,
+    /// What the banks hold, but for those of a command that runs and has taken what they held.
+    banks: [Bank; BANKS],
+    /// The command that runs, whose number is that of the rows; none where all are answered.
     job: Option<Job>,
 }
 
 impl Processor {
-    /// The processor at the beginning of its first command.
+    /// The processor at the beginning of its first command; its banks hold nothing.
     pub fn new(
         alloc: Global,
         layout: &Arc<Layout, Global>,
@@ -41,89 +42,86 @@ impl Processor {
         requires commands { AreCommands (arc_value layout.now) cpu commands.now }
         ensures { IfOk result (λ p. AtBeginning (arc_value layout.now) cpu commands.now p) }
     {
+        let layout = layout.clone()?;
+        let list = List::from_vec(Vec::from_slice(alloc, commands)?);
+        let rows = Vec::with_capacity(alloc, commands.len())?;
+        let mut banks = no_events();
+        let job = begin(alloc, &layout, cpu, commands, 0, &mut banks);
         Ok(Processor {
             alloc,
-            layout: layout.clone()?,
+            layout,
             cpu,
-            commands: List::from_vec(Vec::from_slice(alloc, commands)?),
-            lines: Vec::with_capacity(alloc, commands.len())?,
-            notes: Vec::with_capacity(alloc, commands.len())?,
-            job: begin(alloc, layout, cpu, commands, 0),
+            commands: list,
+            rows,
+            banks,
+            job,
         })
     }
 
-    /// The lines so far: the answers of the first commands, in order.
-    pub fn lines(&self) -> &[CpuLine]
-        ensures { result.now ≡ self.now.lines.items }
+    /// The rows so far: of the first commands, in order.
+    pub fn rows(&self) -> &[Row]
+        ensures { result.now ≡ self.now.rows.items }
     {
-        self.lines.as_slice()
+        self.rows.as_slice()
     }
 
-    /// The answers of all commands, in order, and what they add to the records of frames.
+    /// The rows of all commands, in order.
     ///
     /// # Errors
     /// `OutOfMemory` where a command is not answered: of a processor that is over, one that gave up because memory ran out.
-    pub fn finish(self) -> Result<(List<CpuLine>, List<(Frame, MarkLine)>), OutOfMemory>
-        ensures all { IfOk result (λ all. (all.0 ≡ self.lines.items) × (all.1 ≡ self.notes.items) × (self.job ≡ None)) }
+    pub fn finish(self) -> Result<List<Row>, OutOfMemory>
+        ensures all { IfOk result (λ rows. (rows ≡ self.rows.items) × (self.job ≡ None)) }
         ensures gave_up { OnErr result (IsSome self.job) }
     {
-        let Processor {
-            lines,
-            notes,
-            job,
-            ..
-        } = self;
+        let Processor { rows, job, .. } = self;
         let gave_up = job.is_some();
         // here, and not part by part at each exit
         drop(job);
         if gave_up {
             return Err(AllocError);
         }
-        Ok((List::from_vec(lines), List::from_vec(notes)))
+        Ok(List::from_vec(rows))
     }
 
-    /// The running command is answered so, with what it adds to the record of a frame, and the next one begins.
-    fn answer(&mut self, answer: Answer, note: Option<(Frame, MarkLine)>)
+    /// The command that runs is answered so: its row is kept, and the next one begins with what it left in the banks.
+    fn answer(&mut self, answer: Answer)
         requires ready { IsReady self.old }
-        requires running { length self.old.lines.items < length self.old.commands }
-        ensures { IsAnswered self.old answer note self.new }
+        requires running { IsSome self.old.job }
+        requires room { length self.old.rows.items < length self.old.commands }
+        ensures { IsSomeAnd self.old.job (λ j. IsAnswered self.old j answer self.new) }
     {
-        let number = self.lines.len();
-        add(&mut self.notes, note);
-        let line = CpuLine::Answer {
-            seq: number as u32,
-            answer,
+        let Some(job) = self.job.take() else {
+            return;
         };
-        self.lines.push_reserved(line);
+        let row = job.finish(self.alloc, answer, &mut self.banks);
+        let number = self.rows.len();
+        self.rows.push_reserved(row);
         let commands = self.commands.as_slice();
-        self.job = begin(self.alloc, &self.layout, self.cpu, commands, number + 1);
+        self.job = begin(
+            self.alloc,
+            &self.layout,
+            self.cpu,
+            commands,
+            number + 1,
+            &mut self.banks,
+        );
     }
 }
 
-/// A note more, where there is one.
-fn add(notes: &mut Vec<(Frame, MarkLine)>, note: Option<(Frame, MarkLine)>)
-    requires room { length notes.old.items < vec_capacity notes.old }
-    ensures items { notes.new.items ≡ notes.old.items ++ cons_option note [] }
-    ensures room { vec_capacity notes.new ≡ vec_capacity notes.old }
-{
-    let Some(note) = note else {
-        return;
-    };
-    notes.push_reserved(note);
-}
-
-/// The command of this number at its beginning; `None` past the last.
+/// The command of this number at its beginning; `None` past the last. It takes what the banks hold, if it can add to that.
 fn begin(
     alloc: Global,
     layout: &Layout,
     cpu: Cpu,
     commands: &[Command],
     number: usize,
+    banks: &mut [Bank; BANKS],
 ) -> Option<Job>
     requires sound { IsSound layout.now }
     requires commands { AreCommands layout.now cpu commands.now }
     requires inside { number ≤ length commands.now }
-    ensures { BeginsAt layout.now (at_number cpu number) (slice_get commands.now number) result }
+    ensures begins { BeginsAt layout.now (at_number cpu number) (slice_get commands.now number) banks.old result }
+    ensures banks { banks.new ≡ left_of result banks.old }
 {
     let Some(command) = commands.get(number) else {
         return None;
@@ -132,7 +130,7 @@ fn begin(
         cpu,
         seq: number as u32,
     };
-    Some(Job::new(alloc, layout, who, *command))
+    Some(Job::new(alloc, layout, who, *command, banks))
 }
 
 impl Machine for Processor {
@@ -185,8 +183,7 @@ impl Machine for Processor {
         let Some(answer) = job.answer() else {
             return turn;
         };
-        let note = job.note();
-        self.answer(answer, note);
+        self.answer(answer);
         Turn::Answered
     }
 }

@@ -27,7 +27,7 @@ pub mod ListingHeld
 pub mod GoingHome
 pub mod steps
 pub mod kinds
-pub mod Undamaged
+pub mod Unrevived
 pub mod Moving
 pub mod AdoptedFrames
 pub mod OpeningWords

@@ -2,7 +2,6 @@
 use Rattle.std.proofs.Common.{◌≡◌, ℕ, zero, suc, ◌+◌, ◌||◌, Bool, true, false, true≢false, List, [], ◌∷◌, ◌++◌, Option, Some, None, drop, length, slice_get, refl, sym, ap, ◌∙◌, subst, arith}
 use Rattle.std.proofs.lemmas.List.Sums.{sum_by-cons}
 use Rattle.std.proofs.lemmas.Option.{none-some, same_Some}
-use Rattle.std.specs.Int.{from_bool}
 use Rattle.std.specs.List.{sum_by}
 use Rattle.std.specs.Ordering.{nat_cmp}
 use Rattle.hwp_geom.specs.declared.Frame.{Frame}
@@ -23,11 +22,9 @@ use Rattle.hwp_rule.specs.Steps.{policy_at}
 use Rattle.hwp_rule.specs.Views.{made_from}
 use Rattle.hwp_rule.specs.parts.Entries.{weigh_from, HasMask, HasPolicy, HasSeen, Shows, AreInOrder}
 use Rattle.hwp_rule.specs.parts.Fits.{Fits, FitsWords}
-use Rattle.hwp_rule.specs.Undamaged.{is_failure}
 use Rattle.hwp_rule.proofs.Lists.{each-weaken}
 use Rattle.std.specs.FinSet as sets
 use Rattle.hwp_page.specs.declared.What.TheVariants as entries
-use Rattle.hwp_page.specs.Losses.{is_loss, losses_in}
 use Rattle.hwp_page.specs.Orders.{IsNotLater}
 use Rattle.hwp_rule.specs.declared.place.Place.TheVariants as places
 use Rattle.hwp_kill.specs.declared.Seen.{Seen}
@@ -102,29 +99,6 @@ pub made-each : (P : Made → Type 0) (stamp : Stamp) (page : Page) (frame : Opt
 made-each P stamp page frame place [] each i x e = absurd (none-some x e)
 made-each P stamp page frame place (y ∷ ys) each zero x e = subst P (same_Some (record { stamp = stamp; page = page; place = place; entry = y; frame = frame }) x e) (each 0 y refl place)
 made-each P stamp page frame place (y ∷ ys) each (suc i) x e = made-each P stamp page frame (suc place) ys (λ j z b. each (suc j) z b) i x e
-
--- ---- no failure, so no loss
-
-pub sound-loss : (what : What) → is_failure what ≡ false → is_loss what ≡ false
-sound-loss (entries.Load slot line met) sound = refl
-sound-loss (entries.Store slot line met) sound = refl
-sound-loss entries.FaultIn sound = refl
-sound-loss (entries.Map slot) sound = refl
-sound-loss (entries.Free slot) sound = refl
-sound-loss entries.Drop sound = refl
-sound-loss entries.Sync sound = refl
-sound-loss entries.Out sound = refl
-sound-loss (entries.Mce slot line mask) sound = refl
-sound-loss (entries.Fail situation required seen signals) sound = absurd (true≢false sound)
-sound-loss entries.Soft sound = refl
-
-pub losses-in-none : (es : List Entry) → EachMember (λ (e : Entry). is_failure e.what ≡ false) es → losses_in es ≡ 0
-losses-in-none [] sound = refl
-losses-in-none (e ∷ es) sound =
-    let here : from_bool (is_loss e.what) ≡ 0 = ap from_bool (sound-loss e.what (sound 0 e refl)) in
-    let rest : losses_in es ≡ 0 = losses-in-none es (λ j z b. sound (suc j) z b) in
-    let all : losses_in (e ∷ es) ≡ from_bool (is_loss e.what) + losses_in es = sum_by-cons (λ (e : Entry). from_bool (is_loss e.what)) e es in
-    omega arith
 
 pub or-left : (a b : Bool) → a ≡ true → (a || b) ≡ true
 or-left true b e = refl

@@ -5,7 +5,7 @@ pub mod Logs
 pub mod Slots
 pub mod Views
 pub mod parts
-pub mod Undamaged
+pub mod Unrevived
 pub mod Rule
 pub mod Asks
 pub mod Moves

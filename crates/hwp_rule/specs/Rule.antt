@@ -24,7 +24,7 @@ use Rattle.hwp_rule.specs.parts.Policies.{PoliciesListed}
 use Rattle.hwp_rule.specs.parts.Exhaustion.{ExhaustionExplained}
 use Rattle.hwp_rule.specs.parts.Stops.{EndingsAndStopsStay}
 use Rattle.hwp_rule.specs.parts.Fits.{PageFits}
-use Rattle.hwp_rule.specs.Undamaged.{HasDamagedNothing}
+use Rattle.hwp_rule.specs.Unrevived.{HasRevivedNone}
 
 -- what the parts read of a view
 abbrev pub count_debts_of : View → CountDebts
@@ -85,11 +85,11 @@ pub record FrameRule (layout : Layout) (w : Words) (homes : Homes) (views : List
   pub processors : ProcessorParts layout w.processes w.policies w.stop views
 
 -- a board of a sound layout, with all its words and slots, that keeps the frame rule, where processors alone hold
--- something, and, until machine checks are served, where no line is damaged
+-- something, and, until unpoisoning is served, where no poison was taken back
 pub record Holds (layout : Layout) (s : State) : Type 0 where
   pub sound : IsSound layout
   pub words : length s.words ≡ size layout
   pub slots : length s.homes ≡ layout.frames + length layout.pages
   pub rule : FrameRule layout (words_of layout s.words) s.homes s.views
   pub held : HeldByProcessors s.views
-  pub undamaged : EachMember HasDamagedNothing s.views
+  pub unrevived : EachMember HasRevivedNone s.views

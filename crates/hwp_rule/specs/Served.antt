@@ -1,15 +1,11 @@
 -- The steps that a board can make so far.
-use Rattle.std.specs.Prelude.{◌≡◌, false}
 use Rattle.hwp_rule.specs.declared.step.Step.{Step}
 use Rattle.hwp_rule.specs.declared.step.Step.TheVariants as steps
 
--- all kinds but those by which hardware fails, and poison is taken back
+-- all kinds but those by which poison is taken back
 abbrev pub IsServed : Step → Type 0
-IsServed (steps.Poison frame hardware) = hardware ≡ false
-IsServed (steps.CountPoison hardware) = hardware ≡ false
 IsServed steps.Uncount = ⊥
 IsServed (steps.Revive frame seen) = ⊥
-IsServed (steps.Spoil frame line damage) = ⊥
 IsServed step = Unit {0}
 
 -- a step that neither poisons a frame nor takes its poison back

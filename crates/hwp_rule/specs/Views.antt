@@ -95,12 +95,13 @@ page_locks_on q locks = sum_by (λ (l : PageLock). from_bool (l.page.0 == q)) lo
 abbrev pub no_debts : Debts
 no_debts = record { counts = 0; hardware = 0; uncounts = 0; losses = [] }
 
--- a stamp of now: the command, and the locks held
+-- a stamp of now: the command, the locks held, and the owner of the first frame
 abbrev pub stamp_of : Who → View → Stamp
 stamp_of who v = record {
   who = who;
   page = option_map (λ (l : PageLock). l.page) (slice_get v.pages 0);
   frame = option_map (λ (l : FrameLock). l.frame) (slice_get v.locks 0);
+  owner = option_map (λ (l : FrameLock). l.owner) (slice_get v.locks 0);
   second = option_map (λ (l : FrameLock). l.frame) (slice_get v.locks 1);
 }
 

@@ -66,12 +66,14 @@ pub struct Debts {
     pub losses: List<FileNo>,
 }
 
-/// When something was seen or done: by which command, and under which locks.
+/// When something was seen or done: by which command, and under which locks; and the owner of the first frame locked, by the
+/// page's number plus 1.
 #[derive(Clone, Copy, Debug, PartialEq, Eq)]
 pub struct Stamp {
     pub who: Who,
     pub page: Option<Page>,
     pub frame: Option<Frame>,
+    pub owner: Option<u64>,
     pub second: Option<Frame>,
 }
 

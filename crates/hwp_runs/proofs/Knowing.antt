@@ -1,5 +1,5 @@
 -- What one step adds to what its seat knows.
-use Rattle.std.proofs.Common.{◌≡◌, ℕ, ◌==◌, Bool, true, false, cond, List, [], ◌∷◌, ◌++◌, Option, Some, None, option_map, slice_get, refl}
+use Rattle.std.proofs.Common.{◌≡◌, ℕ, ◌==◌, Bool, true, false, cond, List, [], ◌∷◌, ◌++◌, Option, Some, None, option_map, slice_get, refl, sym, ap, ◌∙◌, true≢false}
 use Rattle.std.proofs.lemmas.Option.{same_Some, none-some}
 use Rattle.hwp_geom.specs.declared.Cpu.{Cpu}
 use Rattle.hwp_geom.specs.declared.Frame.{Frame}
@@ -7,6 +7,7 @@ use Rattle.hwp_geom.specs.declared.Layout.{Layout}
 use Rattle.hwp_geom.specs.declared.Page.{Page}
 use Rattle.hwp_geom.specs.declared.Who.{Who}
 use Rattle.hwp_words.specs.Frames.{cycle_of}
+use Rattle.hwp_rule.specs.declared.FrameLock.{FrameLock}
 use Rattle.hwp_rule.specs.declared.InHand.{InHand}
 use Rattle.hwp_rule.specs.declared.Length.{Length}
 use Rattle.hwp_rule.specs.declared.Log.{Log}
@@ -55,13 +56,30 @@ Marks step found m = ⊥
 abbrev pub Spoils : Step → Spoiled → Type 0
 Spoils step s = step ≡ steps.Spoil s.frame s.line s.damage
 
+-- a look at a frame's bad lines under its lock: the seat still has that lock of it, by the owner that the stamp names
+pub record IsUnder (s : Sight) (view : View) : Type 0 where
+  pub locked : (frame : Frame) (owner : ℕ) → s.place ≡ places.Bad frame → s.stamp.frame ≡ Some frame → s.stamp.owner ≡ Some owner → SomeMember (λ (l : FrameLock). (l.frame ≡ frame) × (l.owner ≡ owner)) view.locks
+
 -- what is said of what a step of the command adds
 pub record SaidOfStep (P : Sayings) (who : Who) (step : Step) (found : ℕ) (after : View) : Type 0 where
-  pub sight : (s : Sight) → s.stamp.who ≡ who → s.place ≡ place_of step → s.word ≡ found → P.sight s
+  pub sight : (s : Sight) → s.stamp.who ≡ who → s.place ≡ place_of step → s.word ≡ found → IsUnder s after → P.sight s
   pub length : (l : Length) → l.stamp.who ≡ who → (l.stamp.page ≡ Some l.log.page → SeesPage l.log.page (λ (log : Log). log ≡ l.log) after) → P.length l
   pub mark : (m : Mark) → m.stamp.who ≡ who → Marks step found m → P.mark m
   pub stop : (cpu : Cpu) → step ≡ steps.Stop cpu → (found == 0) ≡ true → P.stop who
   pub spoil : (s : Spoiled) → s.stamp.who ≡ who → Spoils step s → P.spoil s
+
+abbrev is_look : Place → Bool
+is_look (places.Bad frame) = true
+is_look _ = false
+
+not-look : {s : Sight} {view : View} → is_look s.place ≡ false → IsUnder s view
+not-look other = record { locked = λ frame owner is held owned. absurd (true≢false (sym (ap is_look is) ∙ other)) }
+
+-- the first frame lock of a view
+first-frame : (locks : List FrameLock) (frame : Frame) (owner : ℕ) → option_map (λ (l : FrameLock). l.frame) (slice_get locks 0) ≡ Some frame → option_map (λ (l : FrameLock). l.owner) (slice_get locks 0) ≡ Some owner
+    → SomeMember (λ (l : FrameLock). (l.frame ≡ frame) × (l.owner ≡ owner)) locks
+first-frame [] frame owner held owned = absurd (none-some frame held)
+first-frame (l ∷ ls) frame owner held owned = (0, l, refl, (same_Some l.frame frame held, same_Some l.owner owner owned))
 
 module _ (P : Sayings) where
   -- one sight more, one mark more, one stop more
@@ -75,20 +93,20 @@ module _ (P : Sayings) where
   either true x y then otherwise = then refl
   either false x y then otherwise = otherwise refl
 
-  loads : (who : Who) (place : Place) (found : ℕ) (v : View) → ((s : Sight) → s.stamp.who ≡ who → s.place ≡ place → s.word ≡ found → P.sight s) → Said P v → Said P (loaded who place found v)
-  loads who (places.Frame frame) found v sight said = with-sight _ (sight _ refl refl refl) said
-  loads who (places.Trans slot) found v sight said = with-sight _ (sight _ refl refl refl) said
-  loads who (places.Cache page) found v sight said = with-sight _ (sight _ refl refl refl) said
-  loads who (places.Page page) found v sight said = with-sight _ (sight _ refl refl refl) said
-  loads who (places.Free number) found v sight said = with-sight _ (sight _ refl refl refl) said
-  loads who places.Available found v sight said = with-sight _ (sight _ refl refl refl) said
-  loads who (places.Bad frame) found v sight said = with-sight _ (sight _ refl refl refl) said
-  loads who (places.Weak frame) found v sight said = with-sight _ (sight _ refl refl refl) said
-  loads who places.Counter found v sight said = with-sight _ (sight _ refl refl refl) said
-  loads who (places.Process process) found v sight said = with-sight _ (sight _ refl refl refl) said
-  loads who (places.Policy thread) found v sight said = with-sight _ (sight _ refl refl refl) said
-  loads who (places.Loss file) found v sight said = with-sight _ (sight _ refl refl refl) said
-  loads who places.Stop found v sight said = with-sight _ (sight _ refl refl refl) said
+  loads : (who : Who) (place : Place) (found : ℕ) (v : View) → ((s : Sight) → s.stamp.who ≡ who → s.place ≡ place → s.word ≡ found → IsUnder s (loaded who place found v) → P.sight s) → Said P v → Said P (loaded who place found v)
+  loads who (places.Frame frame) found v sight said = with-sight _ (sight _ refl refl refl (not-look refl)) said
+  loads who (places.Trans slot) found v sight said = with-sight _ (sight _ refl refl refl (not-look refl)) said
+  loads who (places.Cache page) found v sight said = with-sight _ (sight _ refl refl refl (not-look refl)) said
+  loads who (places.Page page) found v sight said = with-sight _ (sight _ refl refl refl (not-look refl)) said
+  loads who (places.Free number) found v sight said = with-sight _ (sight _ refl refl refl (not-look refl)) said
+  loads who places.Available found v sight said = with-sight _ (sight _ refl refl refl (not-look refl)) said
+  loads who (places.Bad frame) found v sight said = with-sight _ (sight _ refl refl refl (record { locked = λ other owner is held owned. first-frame v.locks other owner held owned })) said
+  loads who (places.Weak frame) found v sight said = with-sight _ (sight _ refl refl refl (not-look refl)) said
+  loads who places.Counter found v sight said = with-sight _ (sight _ refl refl refl (not-look refl)) said
+  loads who (places.Process process) found v sight said = with-sight _ (sight _ refl refl refl (not-look refl)) said
+  loads who (places.Policy thread) found v sight said = with-sight _ (sight _ refl refl refl (not-look refl)) said
+  loads who (places.Loss file) found v sight said = with-sight _ (sight _ refl refl refl (not-look refl)) said
+  loads who places.Stop found v sight said = with-sight _ (sight _ refl refl refl (not-look refl)) said
 
   lists : (layout : Layout) (who : Who) (log : Log) (body : Option InHand) (v : View) → Said P v → Said P (listed_of layout who log body v)
   lists layout who log None v said = said
@@ -131,18 +149,18 @@ locks P layout who frame content v w false here there said = said
 -- with what is said of what a step adds, all that is said of its seat's lists
 pub said-by : (P : Sayings) (layout : Layout) (who : Who) (step : Step) (found : ℕ) (content : Option Log) (v : View) → SaidOfStep P who step found (view_by layout who step found content v) → Said P v → Said P (view_by layout who step found content v)
 said-by P layout who (steps.Load place) found content v new said = loads P who place found v new.sight said
-said-by P layout who (steps.Reserve seen) found content v new said = either P (found == seen) _ _ (λ is. said) (λ is. with-sight P _ (new.sight _ refl refl refl) said)
-said-by P layout who (steps.TakeBit frame) found content v new said = either P (goes (steps.TakeBit frame) found) _ _ (λ is. said) (λ is. with-sight P _ (new.sight _ refl refl refl) said)
+said-by P layout who (steps.Reserve seen) found content v new said = either P (found == seen) _ _ (λ is. said) (λ is. with-sight P _ (new.sight _ refl refl refl (not-look refl)) said)
+said-by P layout who (steps.TakeBit frame) found content v new said = either P (goes (steps.TakeBit frame) found) _ _ (λ is. said) (λ is. with-sight P _ (new.sight _ refl refl refl (not-look refl)) said)
 said-by P layout who (steps.GiveBit frame) found content v new said = said
 said-by P layout who steps.Unreserve found content v new said = said
-said-by P layout who (steps.Adopt frame) found content v new said = with-sight P _ (new.sight _ refl refl refl) said
-said-by P layout who (steps.GetRef frame seen count) found content v new said = either P (found == seen) _ _ (λ is. said) (λ is. with-sight P _ (new.sight _ refl refl refl) said)
+said-by P layout who (steps.Adopt frame) found content v new said = with-sight P _ (new.sight _ refl refl refl (not-look refl)) said
+said-by P layout who (steps.GetRef frame seen count) found content v new said = either P (found == seen) _ _ (λ is. said) (λ is. with-sight P _ (new.sight _ refl refl refl (not-look refl)) said)
 said-by P layout who (steps.PutRef frame count) found content v new said = said
 said-by P layout who (steps.LockFrame frame) found content v new said =
     locks P layout who (Some frame) content v (record v { locks = v.locks ++ lock_found frame found ∷ [] }) (goes (steps.LockFrame frame) found) new.length said said
 said-by P layout who (steps.UnlockFrame frame) found content v new said = puts P layout who content v said
 said-by P layout who (steps.Retire frame) found content v new said = said
-said-by P layout who (steps.Revive frame seen) found content v new said = either P (found == seen) _ _ (λ is. with-mark P _ (new.mark _ refl (refl, refl, refl, is)) said) (λ is. with-sight P _ (new.sight _ refl refl refl) said)
+said-by P layout who (steps.Revive frame seen) found content v new said = either P (found == seen) _ _ (λ is. with-mark P _ (new.mark _ refl (refl, refl, refl, is)) said) (λ is. with-sight P _ (new.sight _ refl refl refl (not-look refl)) said)
 said-by P layout who (steps.SetOwner frame page owned) found content v new said = said
 said-by P layout who (steps.LockPage page) found content v new said =
     locks P layout who None content v (record v { pages = v.pages ++ lock_of_page layout page content (body_of page v) ∷ [] }) (goes (steps.LockPage page) found) new.length said said
@@ -150,7 +168,7 @@ said-by P layout who (steps.UnlockPage page) found content v new said = puts P l
 said-by P layout who (steps.SetPte slot pte) found content v new said = said
 said-by P layout who (steps.SetCache page frame) found content v new said = said
 said-by P layout who (steps.Poison frame hardware) found content v new said =
-    either P (goes (steps.Poison frame hardware) found) _ _ (λ is. with-mark P _ (new.mark _ refl (refl, refl, refl, is)) said) (λ is. with-sight P _ (new.sight _ refl refl refl) said)
+    either P (goes (steps.Poison frame hardware) found) _ _ (λ is. with-mark P _ (new.mark _ refl (refl, refl, refl, is)) said) (λ is. with-sight P _ (new.sight _ refl refl refl (not-look refl)) said)
 said-by P layout who (steps.CountPoison hardware) found content v new said = said
 said-by P layout who steps.Uncount found content v new said = said
 said-by P layout who (steps.Spoil frame line damage) found content v new said = record {
@@ -162,11 +180,11 @@ said-by P layout who (steps.Spoil frame line damage) found content v new said = 
 }
 said-by P layout who (steps.Stop cpu) found content v new said = either P (found == 0) _ _
     (λ is. record { sights = said.sights; lengths = said.lengths; marks = said.marks; stops = each-push P.stop v.stops who (new.stop cpu refl is) said.stops; spoiled = said.spoiled })
-    (λ is. with-sight P _ (new.sight _ refl refl refl) said)
+    (λ is. with-sight P _ (new.sight _ refl refl refl (not-look refl)) said)
 said-by P layout who steps.GiveUp found content v new said = said
 said-by P layout who (steps.Kill process page body) found content v new said =
     let listed = lists P layout who (log_of body.value) (body_of body.value.page v) v said in
-    either P (found == 0) _ _ (λ is. listed) (λ is. with-sight P _ (new.sight _ refl refl refl) listed)
+    either P (found == 0) _ _ (λ is. listed) (λ is. with-sight P _ (new.sight _ refl refl refl (not-look refl)) listed)
 said-by P layout who (steps.SetPolicy thread policy settings) found content v new said = said
 said-by P layout who (steps.Lose file body) found content v new said = lists P layout who (log_of body.value) (body_of body.value.page v) v said
-said-by P layout who (steps.ReportLost file) found content v new said = with-sight P _ (new.sight _ refl refl refl) said
+said-by P layout who (steps.ReportLost file) found content v new said = with-sight P _ (new.sight _ refl refl refl (not-look refl)) said

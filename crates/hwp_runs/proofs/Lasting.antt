@@ -1,7 +1,6 @@
 -- What each turn keeps of a task, a whole run keeps of all tasks; and the layout and the seats stay.
 use Rattle.std.proofs.Common.{◌≡◌, ◌≢◌, ℕ, ◌⊎◌, inl, inr, List, [], ◌∷◌, set, refl, sym, ap, ◌∙◌, subst}
 use Rattle.std.proofs.lemmas.Bool.{cases_eq}
-use Rattle.hwp_geom.specs.declared.Cpu.{Cpu}
 use Rattle.hwp_geom.specs.declared.Layout.{Layout}
 use Rattle.hwp_rule.specs.declared.State.{State}
 use Rattle.hwp_script.specs.declared.Go.{Go}

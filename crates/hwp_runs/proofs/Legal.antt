@@ -8,7 +8,7 @@ use Rattle.hwp_geom.specs.declared.Proc.{Proc}
 use Rattle.hwp_geom.specs.declared.Who.{Who}
 use Rattle.hwp_page.specs.declared.Entry.{Entry}
 use Rattle.hwp_page.specs.declared.PageState.{PageState}
-use Rattle.hwp_page.specs.History.{Leads, state_after}
+use Rattle.hwp_page.specs.History.{Leads}
 use Rattle.hwp_page.specs.Step.{after}
 use Rattle.hwp_rule.specs.declared.InHand.{InHand}
 use Rattle.hwp_rule.specs.declared.Log.{Log}
@@ -25,11 +25,10 @@ use Rattle.hwp_rule.specs.Asks.{AsksOf, CanPut, Extends}
 use Rattle.hwp_rule.specs.Lists.{EachMember, Homes}
 use Rattle.hwp_rule.specs.Logs.{log_of, opening_at, state_of}
 use Rattle.hwp_rule.specs.Moves.{Move}
-use Rattle.hwp_rule.specs.Opening.{below, opening, opening_homes, opening_log, opening_view}
-use Rattle.hwp_rule.specs.Rule.{Holds}
+use Rattle.hwp_rule.specs.Opening.{below, opening, opening_log, opening_view}
 use Rattle.hwp_rule.specs.Slots.{MeetsSlot, frame_slot, homes_after, homes_moved, moved_out, shelf_slot, slot_move}
 use Rattle.hwp_rule.specs.Steps.{goes}
-use Rattle.hwp_rule.specs.Views.{body_of, is_body_of, killed_by, listed_of, loaded, lock_found, lock_of_page, more_of, noted, put_home, sighted, taken, view_after, view_by}
+use Rattle.hwp_rule.specs.Views.{body_of, is_body_of, killed_by, listed_of, loaded, lock_found, lock_of_page, more_of, noted, put_home, taken, view_after, view_by}
 use Rattle.hwp_rule.proofs.AsksNoted.{asks-noted}
 use Rattle.hwp_rule.proofs.Lists.{each-changed, each-map, each-push, each-set}
 use Rattle.hwp_rule.proofs.MoreEntries.{each-append}

@@ -1,15 +1,13 @@
 -- Where no frame is locked, a page is cached exactly where one line of a frame says so.
-use Rattle.std.proofs.Common.{◌≡◌, ◌≢◌, ℕ, zero, suc, ◌+◌, ◌-◌, ◌%◌, ◌^◌, ◌<◌, ◌≤◌, ◌==◌, ◌⊎◌, Bool, true, false, not, cond, List, [], ◌∷◌, Option, Some, None, length, map, slice_get, refl, sym, ap, ◌∙◌, subst, arith, inl, inr, true≢false}
+use Rattle.std.proofs.Common.{◌≡◌, ◌≢◌, ℕ, zero, suc, ◌+◌, ◌-◌, ◌%◌, ◌^◌, ◌<◌, ◌≤◌, ◌==◌, Bool, true, false, not, cond, List, [], ◌∷◌, Some, None, length, slice_get, refl, sym, ap, ◌∙◌, subst, arith, inl, inr, true≢false}
 use Rattle.std.specs.List.{count_by, sum_by}
 use Rattle.std.proofs.lemmas.Bool.{eq-eqb, eqb-true, ne_eqb}
 use Rattle.std.proofs.lemmas.List.Sums.{sum_by-cons}
 use Rattle.std.proofs.lemmas.Option.{none-some, same_Some, slice_get_within}
-use Rattle.hwp_geom.specs.declared.Frame.{Frame}
 use Rattle.hwp_geom.specs.declared.Layout.{Layout}
 use Rattle.hwp_geom.specs.declared.Page.{Page}
-use Rattle.hwp_words.specs.Frames.{handled_of, is_handled, is_kernel, lock_of, owner_of}
+use Rattle.hwp_words.specs.Frames.{handled_of, is_handled, is_kernel, owner_of}
 use Rattle.hwp_words.specs.Names.{page_named}
-use Rattle.hwp_rule.specs.declared.FrameLock.{FrameLock}
 use Rattle.hwp_rule.specs.declared.Log.{Log}
 use Rattle.hwp_rule.specs.declared.State.{State}
 use Rattle.hwp_rule.specs.declared.View.{View}
@@ -20,10 +18,9 @@ use Rattle.hwp_rule.specs.Views.{locks_on}
 use Rattle.hwp_rule.specs.Words.{words_of}
 use Rattle.hwp_rule.specs.parts.Owners.{HoldsBoth, NamesOwn}
 use Rattle.hwp_rule.proofs.Keeps.{IsShaped}
-use Rattle.hwp_rule.proofs.Lists.{map-was, same-or, sum-zero}
+use Rattle.hwp_rule.proofs.Lists.{map-was, sum-zero}
 use Rattle.hwp_rule.proofs.Moving.{shaped}
 use Rattle.hwp_report.specs.declared.FrameLine.{FrameLine}
-use Rattle.hwp_report.specs.declared.Place.{Place}
 use Rattle.hwp_report.specs.declared.Place.TheVariants as places
 use Rattle.hwp_law.specs.Report.{is_of}
 use Rattle.hwp_runs.specs.Ends.{place_in, place_owned}

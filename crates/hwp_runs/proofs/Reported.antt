@@ -1,10 +1,8 @@
 -- What a report says of histories, where it is that of the last board of a run and nothing is held there.
-use Rattle.std.proofs.Common.{◌≡◌, ℕ, ◌+◌, ◌<◌, ◌≤◌, List, [], ◌∷◌, ◌++◌, Option, Some, None, length, map, take, slice_get, option_and_then, refl, sym, ap, ◌∙◌, subst, arith}
-use Rattle.std.specs.List.{count_by}
+use Rattle.std.proofs.Common.{◌≡◌, ℕ, ◌+◌, ◌<◌, ◌≤◌, List, [], Option, Some, None, length, map, take, slice_get, option_and_then, refl, sym, ap, ◌∙◌, subst, arith}
 use Rattle.std.proofs.Math.Seq.{take-append_seam}
 use Rattle.std.proofs.lemmas.List.{length-append}
-use Rattle.std.proofs.lemmas.Option.{none-some, same_Some, slice_get_within}
-use Rattle.hwp_geom.specs.declared.Frame.{Frame}
+use Rattle.std.proofs.lemmas.Option.{none-some, same_Some}
 use Rattle.hwp_geom.specs.declared.Layout.{Layout}
 use Rattle.hwp_geom.specs.declared.Page.{Page}
 use Rattle.hwp_geom.specs.declared.PageKind.{PageKind}
@@ -12,12 +10,11 @@ use Rattle.hwp_geom.specs.declared.Who.{Who}
 use Rattle.hwp_page.specs.declared.At.{At}
 use Rattle.hwp_page.specs.declared.Entry.{Entry}
 use Rattle.hwp_page.specs.declared.PageState.{PageState}
-use Rattle.hwp_page.specs.History.{IsReplay, Leads, state_after}
+use Rattle.hwp_page.specs.History.{Leads, state_after}
 use Rattle.hwp_page.specs.Step.{opening_of}
 use Rattle.hwp_rule.specs.declared.Length.{Length}
 use Rattle.hwp_rule.specs.declared.Log.{Log}
 use Rattle.hwp_rule.specs.declared.Made.{Made}
-use Rattle.hwp_rule.specs.declared.Part.{Part}
 use Rattle.hwp_rule.specs.declared.State.{State}
 use Rattle.hwp_rule.specs.declared.View.{View}
 use Rattle.hwp_rule.specs.Lists.{EachMember, SomeMember}
@@ -31,12 +28,12 @@ use Rattle.hwp_report.specs.declared.FrameLine.{FrameLine}
 use Rattle.hwp_report.specs.declared.Report.{Report}
 use Rattle.hwp_law.specs.History.{AreOrdered}
 use Rattle.hwp_law.specs.Places.{entry_at}
-use Rattle.hwp_law.specs.Report.{IsHistory, is_of}
+use Rattle.hwp_law.specs.Report.{IsHistory}
 use Rattle.hwp_law.specs.States.{HadState}
 use Rattle.hwp_runs.specs.Ends.{EndsWith, place_in}
 use Rattle.hwp_runs.proofs.Histories.{IsThat, entry-made, made-stands, one-body}
 use Rattle.hwp_runs.proofs.Homes.{home-within, there-is}
-use Rattle.hwp_runs.proofs.Legal.{AreLegal, IsLegal}
+use Rattle.hwp_runs.proofs.Legal.{AreLegal}
 use Rattle.hwp_runs.proofs.Placed.{cached-once}
 use Rattle.hwp_runs.proofs.Rising.{Rising}
 

@@ -17,17 +17,18 @@ use Rattle.hwp_rule.specs.Lists.{EachMember}
 use Rattle.hwp_rule.specs.Moves.{Move}
 use Rattle.hwp_rule.specs.Opening.{below, opening, opening_view}
 use Rattle.hwp_rule.specs.Rule.{Holds}
+use Rattle.hwp_rule.specs.Steps.{place_of}
 use Rattle.hwp_rule.specs.Views.{noted, view_after}
 use Rattle.hwp_rule.proofs.Lists.{each-map, each-set, each-weaken, set_here}
 use Rattle.hwp_step.specs.Boards.{Played}
-use Rattle.hwp_runs.specs.Turns.{Finds, Leads, SawPage, TurnBy}
-use Rattle.hwp_runs.proofs.Knowing.{Marks, Said, SaidOfStep, Sayings, Spoils, said-by}
+use Rattle.hwp_runs.specs.Turns.{Leads, SawPage, TurnBy}
+use Rattle.hwp_runs.proofs.Knowing.{IsUnder, Marks, Said, SaidOfStep, Sayings, Spoils, said-by}
 use Rattle.hwp_runs.proofs.Leading.{leads-on}
 
 -- the turns told the view's lists
 abbrev pub told : Layout → List Played → Sayings
 told layout turns = record {
-  sight = λ s. Finds layout turns s.stamp.who s.place (λ (word : ℕ). word ≡ s.word);
+  sight = λ s. TurnBy layout turns s.stamp.who (λ (made : Rec) (view : View). (place_of made.step ≡ s.place) × (made.found ≡ s.word) × IsUnder s view);
   length = λ l. l.stamp.page ≡ Some l.log.page → SawPage layout turns l.stamp.who l.log.page (λ (log : Log). log ≡ l.log);
   mark = λ m. TurnBy layout turns m.stamp.who (λ (made : Rec) (view : View). Marks made.step made.found m);
   stop = λ who. TurnBy layout turns who (λ (made : Rec) (view : View). (made.step ≡ steps.Stop who.cpu) × (made.found ≡ 0));
@@ -83,7 +84,7 @@ module _ (layout : Layout) where
 
     new : SaidOfStep (told layout (before ++ p ∷ [])) p.made.who p.made.step p.made.found after
     new = record {
-      sight = λ s own place word. now s.stamp.who (sym own) (sym place, sym word);
+      sight = λ s own place word under. now s.stamp.who (sym own) (sym place, sym word, under);
       length = λ l own seen page. now l.stamp.who (sym own) (seen page);
       mark = λ k own made. now k.stamp.who (sym own) made;
       stop = λ cpu is zero. now p.made.who refl (stops-own p.made.step cpu m.asks.kind is, eqb-true p.made.found 0 zero);

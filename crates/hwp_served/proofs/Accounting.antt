@@ -1,5 +1,5 @@
--- What a command poisoned, took and set, by its answer, stays so over each step of another command.
-use Rattle.std.proofs.Common.{◌≡◌, ◌≢◌, inl, inr, ℕ, Bool, false, cond, List, [], ◌∷◌, ◌++◌, Option, filter, map, sym, ap, ◌∙◌, subst}
+-- What a command poisoned, took and set, by its row, stays so over each step of another command.
+use Rattle.std.proofs.Common.{◌≡◌, ◌≢◌, ℕ, inl, inr, Bool, false, cond, List, [], ◌∷◌, ◌++◌, Option, filter, filter_map, map, sym, ap, ◌∙◌, subst}
 use Rattle.hwp_geom.specs.declared.Layout.{Layout}
 use Rattle.hwp_geom.specs.declared.Who.{Who}
 use Rattle.hwp_page.specs.History.{BodyValue}
@@ -12,14 +12,16 @@ use Rattle.hwp_rule.specs.declared.View.{View}
 use Rattle.hwp_rule.specs.Lists.{EachMember}
 use Rattle.hwp_rule.specs.Views.{noted, view_by}
 use Rattle.hwp_rule.proofs.Lists.{each-push}
-use Rattle.hwp_step.specs.Calls.{CanMake, Steps, logs}
+use Rattle.hwp_step.specs.Calls.{Steps}
 use Rattle.hwp_step.proofs.Stepping.{content_of}
+use Rattle.hwp_known.specs.Known.{deeds}
+use Rattle.hwp_act.specs.Abandoned.{failed_in}
+use Rattle.hwp_claim.specs.Done.{marking_of}
 use Rattle.hwp_script.specs.declared.Command.{Command}
-use Rattle.hwp_report.specs.declared.Answer.{Answer}
-use Rattle.hwp_served.specs.Accounts.{IsAccounted, IsNote, Note, is_same}
+use Rattle.hwp_handler.specs.declared.Row.{Row}
+use Rattle.hwp_served.specs.Accounts.{IsAccounted, is_same}
 use Rattle.hwp_served.proofs.Adding.{Adds, OneMore, adds-by}
 use Rattle.hwp_served.proofs.Failed.{same-who}
-use Rattle.hwp_served.proofs.Staying.{failed-stays}
 use Rattle.std.proofs.lemmas.Bool.{false_from_ne_true}
 
 -- a member more that fails the test is passed over
@@ -65,15 +67,15 @@ module _ {layout : Layout} {by : Who} {step : Step} {put : Option Log} {old new 
   pub settings-own : (P : Who → Type 0) → P by → EachMember (λ (s : Setting). P s.stamp.who) old.settings → EachMember (λ (s : Setting). P s.stamp.who) new.settings
   settings-own P now each = more-so (λ (s : Setting). P s.stamp.who) _ (λ s own. subst P (sym own.0) now) old.settings new.settings more-settings each
 
-  -- what another command did stays
-  pub account-stays : (who : Who) → who ≢ by → (command : Command) (answer : Answer) → IsAccounted old who command answer → IsAccounted new who command answer
-  account-stays who other command answer was = record {
-    marked = ap (map (λ (m : Mark). m.frame)) (kept (λ (m : Mark). m.stamp.who) _ who by other (λ m own. own) old.marks new.marks more-marks) ∙ was.marked;
+  -- what another command did stays, its entries with it
+  pub marks-stay : (who : Who) → who ≢ by → filter (λ (m : Mark). is_same who m.stamp.who) new.marks ≡ filter (λ (m : Mark). is_same who m.stamp.who) old.marks
+  marks-stay who other = kept (λ (m : Mark). m.stamp.who) _ who by other (λ m own. own) old.marks new.marks more-marks
+
+  pub account-stays : (who : Who) → who ≢ by → deeds who new ≡ deeds who old → (command : Command) (row : Row) → IsAccounted old who command row → IsAccounted new who command row
+  account-stays who other same command row was = record {
+    marked = ap (map marking_of) (marks-stay who other) ∙ was.marked;
+    failed = ap (filter_map failed_in) same ∙ was.failed;
     taken = ap (map (λ (r : Reported). (r.file, r.count))) (kept (λ (r : Reported). r.stamp.who) _ who by other (λ r own. own) old.reported new.reported more-reported) ∙ was.taken;
     set = ap (map (λ (s : Setting). (s.thread, s.policy))) (kept (λ (s : Setting). s.stamp.who) _ who by other (λ s own. own.0) old.settings new.settings more-settings) ∙ was.set;
+    own = was.own;
   }
-
--- the note of another command's mark stays
-pub note-stays : {layout : Layout} {by : Who} {step : Step} {body : Option BodyValue} {old new : View} {found : ℕ} {got : Option BodyValue} → CanMake layout by step body old → Steps layout by step (logs body) old new found got
-    → (note : Note) (m : Mark) → m.stamp.who ≢ by → IsNote layout old note m → IsNote layout new note m
-note-stays can made note m other is = record { situation = is.situation; frame = is.frame; line = is.line; failed = failed-stays can made m.stamp.who other m.frame is.situation is.failed }

@@ -1,6 +1,6 @@
 -- What a step adds to the sights, the marks, the settings and the losses told that its view lists: one more at most, of the
 -- step's command.
-use Rattle.std.proofs.Common.{◌≡◌, ◌⊎◌, inl, inr, ℕ, ◌==◌, Bool, true, false, cond, List, [], ◌∷◌, ◌++◌, Option, Some, None, refl}
+use Rattle.std.proofs.Common.{◌≡◌, ◌⊎◌, inl, inr, ℕ, ◌==◌, Bool, true, false, cond, List, [], ◌∷◌, ◌++◌, Option, Some, None, refl, sym, subst}
 use Rattle.hwp_geom.specs.declared.Frame.{Frame}
 use Rattle.hwp_geom.specs.declared.Layout.{Layout}
 use Rattle.hwp_geom.specs.declared.Page.{Page}
@@ -17,13 +17,20 @@ use Rattle.hwp_rule.specs.declared.Sight.{Sight}
 use Rattle.hwp_rule.specs.declared.Step.{Step}
 use Rattle.hwp_rule.specs.declared.Step.TheVariants as steps
 use Rattle.hwp_rule.specs.declared.View.{View}
+use Rattle.hwp_rule.specs.Lists.{SomeMember}
 use Rattle.hwp_rule.specs.Logs.{log_of}
 use Rattle.hwp_rule.specs.Steps.{goes, place_of}
 use Rattle.hwp_rule.specs.Views.{body_of, killed_by, listed_of, loaded, put_home, sighted, taken, view_by}
+use Rattle.hwp_rule.proofs.Lists.{some-push}
 
 -- a list is as it was, or has one member more, which is such
 abbrev pub OneMore : {A : Type 0} → (A → Type 0) → List A → List A → Type 0
 OneMore {A} Such old new = (new ≡ old) ⊎ ((x : A) × (new ≡ old ++ x ∷ []) × Such x)
+
+-- what is listed stays
+pub some-more : {A : Type 0} (P : A → Type 0) {Such : A → Type 0} (old new : List A) → OneMore Such old new → SomeMember P old → SomeMember P new
+some-more P old new (inl same) some = subst (SomeMember P) (sym same) some
+some-more P old new (inr (x, more, such)) some = subst (SomeMember P) (sym more) (some-push P old x some)
 
 pub record Adds (who : Who) (step : Step) (found : ℕ) (v x : View) : Type 0 where
   pub sights : OneMore (λ (s : Sight). (s.stamp.who ≡ who) × (s.place ≡ place_of step) × (s.word ≡ found)) v.sights x.sights

@@ -1,9 +1,8 @@
 -- Where no frame was available, the script isn't ample: the frames that have marks are among those that it names.
-use Rattle.std.proofs.Common.{◌≡◌, ℕ, zero, suc, ◌+◌, ◌*◌, ◌<◌, ◌≤◌, ◌==◌, ◌||◌, min, not, Bool, true, false, cond, List, [], ◌∷◌, Option, None, Some, length, map, slice_get, slice_index_or, refl, sym, ap, ◌∙◌, subst, arith, true≢false}
-use Rattle.std.specs.List.{cons_option, filter_map, flat_map, list_any, sum_by}
+use Rattle.std.proofs.Common.{◌≡◌, ℕ, zero, suc, ◌+◌, ◌*◌, ◌<◌, ◌≤◌, ◌==◌, ◌||◌, min, not, Bool, true, false, cond, List, [], ◌∷◌, Option, None, Some, length, map, option_map, slice_get, slice_index_or, refl, sym, ap, ◌∙◌, subst, arith, true≢false}
+use Rattle.std.specs.List.{cons_option, filter_map, list_any, sum_by}
 use Rattle.std.specs.Int.{from_bool}
-use Rattle.std.proofs.lemmas.Bool.{eq-eqb, eqb-true, ltb-true}
-use Rattle.std.proofs.lemmas.List.Folds.{list_any-append}
+use Rattle.std.proofs.lemmas.Bool.{eqb-true, ltb-true}
 use Rattle.std.proofs.lemmas.Option.{get_or_from_slice_get, none-some, same_Some}
 use Rattle.hwp_geom.specs.declared.Cpu.{Cpu}
 use Rattle.hwp_geom.specs.declared.Frame.{Frame}
@@ -12,7 +11,7 @@ use Rattle.hwp_rule.specs.declared.Mark.{Mark}
 use Rattle.hwp_rule.specs.declared.Place.TheVariants as places
 use Rattle.hwp_rule.specs.declared.State.{State}
 use Rattle.hwp_rule.specs.declared.View.{View}
-use Rattle.hwp_rule.specs.Lists.{sum_all}
+use Rattle.hwp_rule.specs.Lists.{EachMember, sum_all}
 use Rattle.hwp_rule.specs.Words.{sum_below}
 use Rattle.hwp_rule.specs.parts.Exhaustion.{is_marked, usable}
 use Rattle.hwp_rule.proofs.Counting.{some-term}
@@ -22,52 +21,24 @@ use Rattle.hwp_known.specs.Known.{Saw}
 use Rattle.hwp_script.specs.declared.Command.{Command}
 use Rattle.hwp_script.specs.declared.Command.TheVariants as commands
 use Rattle.hwp_script.specs.declared.Script.{Script}
-use Rattle.hwp_report.specs.declared.Answer.{Answer}
-use Rattle.hwp_report.specs.declared.Answer.TheVariants as answers
 use Rattle.hwp_report.specs.declared.Report.{Report}
-use Rattle.hwp_law.specs.Answers.{frame_named, is_ample, named_frames, usable_from}
+use Rattle.hwp_law.specs.Answers.{is_ample, named_frames, usable_from}
 use Rattle.hwp_runs.proofs.Homes.{there-is}
-use Rattle.hwp_served.specs.Accounts.{frames_marked, is_same, marked_by}
-use Rattle.hwp_served.proofs.Ending.{IsEnd, IsOf, command-of, filter-has, list-of, own-view, rows-of, served-of}
+use Rattle.hwp_rule.proofs.MoreEntries.{each-append}
+use Rattle.hwp_claim.specs.Done.{Marking, marking_of, poisoning}
+use Rattle.hwp_law.specs.Places.{command_at}
+use Rattle.hwp_handler.specs.declared.Found.{Found}
+use Rattle.hwp_handler.specs.declared.Row.{Row}
+use Rattle.hwp_handler.specs.declared.Told.{Told}
+use Rattle.hwp_handler.specs.Done.{marked_in}
+use Rattle.hwp_handler.specs.Told.{frame_of}
+use Rattle.hwp_served.specs.Accounts.{IsOwn, is_same, markings, markings_in, own_marking}
+use Rattle.hwp_served.proofs.Ending.{IsEnd, command-of, filter-has, list-of, own-view, rows-of, served-of}
+use Rattle.hwp_served.proofs.lines.NamedEvents.{AreSuch, IsNamed, events-named, named-at}
+use Rattle.hwp_served.proofs.Picked.{picked-is}
+use Rattle.hwp_served.proofs.deeds.Made.{command-is}
+use Rattle.hwp_served.proofs.marks.RowNotes.{each-cons}
 use Rattle.hwp_served.proofs.marks.Marked.{same-self}
-
--- ---- named frames
-
-or-true : (b : Bool) → (b || true) ≡ true
-or-true true = refl
-or-true false = refl
-
--- a command of a list names its frame, and so does the script
-named-in : (f : ℕ) (list : List Command) (j : ℕ) (c : Command) → slice_get list j ≡ Some c → frame_named c ≡ Some f → list_any (λ n. n == f) (filter_map frame_named list) ≡ true
-named-in f [] j c there is = absurd (none-some c there)
-named-in f (d ∷ ds) zero c there is =
-    let own : frame_named d ≡ Some f = ap frame_named (same_Some d c there) ∙ is in
-    ap (λ (o : Option ℕ). list_any (λ n. n == f) (cons_option o (filter_map frame_named ds))) own ∙ ap (λ (b : Bool). b || list_any (λ n. n == f) (filter_map frame_named ds)) (eq-eqb f f refl)
-named-in f (d ∷ ds) (suc j) c there is = by (frame_named d) (named-in f ds j c there is)
-  where
-    by : (o : Option ℕ) → list_any (λ n. n == f) (filter_map frame_named ds) ≡ true → list_any (λ n. n == f) (cons_option o (filter_map frame_named ds)) ≡ true
-    by None rest = rest
-    by (Some n) rest = ap (λ (b : Bool). (n == f) || b) rest ∙ or-true (n == f)
-
-named-of : (f : ℕ) (lists : List (List Command)) (i j : ℕ) (list : List Command) (c : Command) → slice_get lists i ≡ Some list → slice_get list j ≡ Some c → frame_named c ≡ Some f → list_any (λ n. n == f) (flat_map (filter_map frame_named) lists) ≡ true
-named-of f [] i j list c at there is = absurd (none-some list at)
-named-of f (l ∷ ls) zero j list c at there is =
-    list_any-append (λ n. n == f) (filter_map frame_named l) (flat_map (filter_map frame_named) ls)
-    ∙ ap (λ (b : Bool). b || list_any (λ n. n == f) (flat_map (filter_map frame_named) ls)) (named-in f l j c (ap (λ (x : List Command). slice_get x j) (same_Some l list at) ∙ there) is)
-named-of f (l ∷ ls) (suc i) j list c at there is =
-    list_any-append (λ n. n == f) (filter_map frame_named l) (flat_map (filter_map frame_named) ls)
-    ∙ ap (λ (b : Bool). list_any (λ n. n == f) (filter_map frame_named l) || b) (named-of f ls i j list c at there is) ∙ or-true (list_any (λ n. n == f) (filter_map frame_named l))
-
-only : (f frame : Frame) (k : ℕ) → slice_get (f ∷ []) k ≡ Some frame → Some f.0 ≡ Some frame.0
-only f frame zero there = ap (λ (x : Frame). Some x.0) (same_Some f frame there)
-only f frame (suc k) there = absurd (none-some frame there)
-
--- what a command poisoned is what it names
-marked-named : (command : Command) (answer : Answer) (k : ℕ) (frame : Frame) → slice_get (marked_by command answer) k ≡ Some frame → frame_named command ≡ Some frame.0
-marked-named (commands.Inject f) answers.Recovered k frame there = only f frame k there
-marked-named (commands.Inject f) answers.Delayed k frame there = only f frame k there
-marked-named (commands.Inject f) answers.Ignored k frame there = only f frame k there
-marked-named command answer k frame there = absurd (none-some frame there)
 
 -- ---- sums
 
@@ -100,23 +71,44 @@ module _ (script : Script) (seat : Cpu → ℕ) (last : State) (report : Report)
   abbrev all_marks : List (List Mark)
   all_marks = map (λ (v : View). v.marks) last.views
 
+  abbrev Such : Marking → Type 0
+  Such k = list_any (λ n. n == k.frame.0) (named_frames script) ≡ true
+
+  -- the frame of a failure by an event is named, and that of a command's own
+  picked-named : (row : Row) → AreSuch (IsNamed script seat last report end) row.told → (command : Command) (who : Who) → command_at script who ≡ Some command → IsOwn command row.answer row.own
+      → EachMember Such (markings_in row)
+  picked-named row told command who at own = each-append Such (filter_map marked_in row.told) (cons_option (own_marking row.own) []) by-told (by-own row.own command at own)
+    where
+      by-told : EachMember Such (filter_map marked_in row.told)
+      by-told k x there = (
+          let of = picked-is marked_in row.told k x there in
+          which of.1 of.1.found of.3 (told of.0 of.1 of.2))
+        where
+          which : (t : Told) (o : Option Found) → option_map (λ (found : Found). poisoning (frame_of t.held) true found.cycle) o ≡ Some x → IsNamed script seat last report end t.held.event.addr → Such x
+          which t None is named = absurd (none-some x is)
+          which t (Some found) is named = subst Such (same_Some (poisoning (frame_of t.held) true found.cycle) x is) named
+
+      by-own : (o : Option (Frame × Found)) (c : Command) → command_at script who ≡ Some c → IsOwn c row.answer o → EachMember Such (cons_option (own_marking o) [])
+      by-own None c at own = λ i x there. absurd (none-some x there)
+      by-own (Some x) (commands.Inject f) at own = each-cons Such (poisoning x.0 false x.1.cycle) [] (named-at script who (commands.Inject f) x.0.0 at (ap (λ (y : Frame). Some y.0) (sym own.0))) (λ i y there. absurd (none-some y there))
+      by-own (Some x) c at own = absurd own
+
   -- a marked frame is named
   mark-named : (i j : ℕ) (v : View) (m : Mark) → slice_get last.views i ≡ Some v → slice_get v.marks j ≡ Some m → list_any (λ n. n == m.frame.0) (named_frames script) ≡ true
   mark-named i j v m view there =
       let who : Who = m.stamp.who in
       let past = (end.board.holds.rule.processors.commands.own i v view).marks j m there in
-      let own = own-view script seat last report end i v m.stamp.who view past in
-      let mine : slice_get (view_of last (seat m.stamp.who.cpu)).marks j ≡ Some m = sym (ap (λ (x : View). slice_get x.marks j) own.1) ∙ there in
-      let list = list-of script seat last report end m.stamp.who.cpu own.0 in
-      let rows = rows-of script seat last report end m.stamp.who.cpu own.0 in
-      let served = (served-of script seat last report end m.stamp.who.cpu list.0 rows.0 list.1 rows.1).1 in
-      let begun = served.marked j m mine in
-      let command = there-is list.0 m.stamp.who.seq begun.1 in
-      let of : IsOf script report (view_of last (seat m.stamp.who.cpu)) m.stamp.who = command-of script seat last report end m.stamp.who list.0 rows.0 command.0 list.1 rows.1 command.1 in
-      let found = filter-has (λ (k : Mark). is_same m.stamp.who k.stamp.who) (view_of last (seat m.stamp.who.cpu)).marks j m mine (same-self m.stamp.who m.stamp.who refl) in
-      let among : slice_get (frames_marked m.stamp.who (view_of last (seat m.stamp.who.cpu))) found.0 ≡ Some m.frame = at_map (λ (k : Mark). k.frame) _ found.0 m found.1 in
-      named-of m.frame.0 script.lists m.stamp.who.cpu.0 m.stamp.who.seq of.list of.command of.list_is of.command_is
-      (marked-named of.command of.answer found.0 m.frame (sym (ap (λ (l : List Frame). slice_get l found.0) of.accounted.marked) ∙ among))
+      let own = own-view script seat last report end i v who view past in
+      let mine : slice_get (view_of last (seat who.cpu)).marks j ≡ Some m = sym (ap (λ (x : View). slice_get x.marks j) own.1) ∙ there in
+      let list = list-of script seat last report end who.cpu own.0 in
+      let rows = rows-of script seat last report end who.cpu own.0 in
+      let begun = (served-of script seat last report end who.cpu list.0 rows.0 list.1 rows.1).0.marked j m mine in
+      let command = there-is list.0 who.seq begun.1 in
+      let of = command-of script seat last report end who list.0 command.0 list.1 command.1 in
+      let told = events-named script seat last report end who.cpu of.list of.own own.0 of.list_is of.own_is who.seq of.row of.row_is in
+      let found = filter-has (λ (k : Mark). is_same who k.stamp.who) (view_of last (seat who.cpu)).marks j m mine (same-self who who refl) in
+      let among : slice_get (markings who (view_of last (seat who.cpu))) found.0 ≡ Some (marking_of m) = at_map marking_of _ found.0 m found.1 in
+      picked-named of.row told of.command who (command-is script who of.list of.command of.list_is of.command_is) of.served.accounted.own found.0 (marking_of m) (sym (ap (λ (l : List Marking). slice_get l found.0) of.served.accounted.marked) ∙ among)
 
   -- a frame without a name has no mark
   unmarked : (f : ℕ) → list_any (λ n. n == f) (named_frames script) ≡ false → sum_all (λ (m : Mark). from_bool (m.frame.0 == f)) all_marks ≡ 0

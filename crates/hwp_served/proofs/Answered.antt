@@ -1,13 +1,16 @@
 -- Each command has its answer, in order, and the report shows its cause.
-use Rattle.std.proofs.Common.{◌≡◌, ℕ, ◌<◌, List, [], Option, Some, length, slice_get, take, unwrap_or, refl, sym, ap, ◌∙◌, subst}
+use Rattle.std.proofs.Common.{◌≡◌, ◌⊎◌, inl, inr, ℕ, ◌<◌, true, bit_and, List, [], Option, Some, length, slice_get, option_and_then, option_map, take, unwrap_or, refl, sym, ap, ◌∙◌, subst}
+use Rattle.std.proofs.lemmas.List.{length-map}
 use Rattle.hwp_geom.specs.declared.Cpu.{Cpu}
 use Rattle.hwp_geom.specs.declared.Frame.{Frame}
+use Rattle.hwp_geom.specs.declared.Mask.{Mask}
 use Rattle.hwp_geom.specs.declared.Page.{Page}
 use Rattle.hwp_geom.specs.declared.Thread.{Thread}
 use Rattle.hwp_geom.specs.declared.Who.{Who}
 use Rattle.hwp_kill.specs.Prctl.{reply}
 use Rattle.hwp_page.specs.declared.At.{At}
 use Rattle.hwp_page.specs.declared.Entry.{Entry}
+use Rattle.hwp_page.specs.declared.Outcome.{Outcome}
 use Rattle.hwp_page.specs.declared.PageState.{PageState}
 use Rattle.hwp_page.specs.declared.What.{What}
 use Rattle.hwp_page.specs.declared.Met.TheVariants.{Sigbus}
@@ -15,36 +18,47 @@ use Rattle.hwp_page.specs.declared.What.TheVariants as entries
 use Rattle.hwp_rule.specs.declared.Length.{Length}
 use Rattle.hwp_rule.specs.declared.Log.{Log}
 use Rattle.hwp_rule.specs.declared.Made.{Made}
+use Rattle.hwp_rule.specs.declared.Place.TheVariants as places
 use Rattle.hwp_rule.specs.declared.State.{State}
 use Rattle.hwp_rule.specs.declared.View.{View}
 use Rattle.hwp_rule.specs.Lists.{EachMember}
 use Rattle.hwp_rule.specs.Logs.{state_of}
 use Rattle.hwp_step.specs.Boards.{view_of}
-use Rattle.hwp_known.specs.Known.{HasMade}
+use Rattle.hwp_known.specs.Known.{HasMade, Saw, SawBadOf}
 use Rattle.hwp_known.specs.Pages.{SawState}
+use Rattle.hwp_known.proofs.Seeing.{bad-lines-stay}
+use Rattle.hwp_script.specs.declared.PrctlArgs.{PrctlArgs}
 use Rattle.hwp_script.specs.declared.Command.{Command}
 use Rattle.hwp_script.specs.declared.Command.TheVariants as commands
 use Rattle.hwp_script.specs.declared.Script.{Script}
 use Rattle.hwp_report.specs.declared.Answer.{Answer}
 use Rattle.hwp_report.specs.declared.Answer.TheVariants as answers
+use Rattle.hwp_report.specs.declared.FrameLine.{FrameLine}
 use Rattle.hwp_report.specs.declared.Report.{Report}
 use Rattle.hwp_law.specs.Answers.{StandsAt, reply_answer}
-use Rattle.hwp_law.specs.Causes.{IsFailureAnswer, IsSigbus, SendsSigbus, IsCaused as IsLawCaused}
+use Rattle.hwp_law.specs.Causes.{ComesTo, HadBadLines, HasMark, IsFailureAnswer, IsSigbus, SendsSigbus, IsCaused as IsLawCaused}
 use Rattle.hwp_law.specs.Commands.{current_thread}
+use Rattle.hwp_law.specs.Lines.{EventLine, events_of}
 use Rattle.hwp_law.specs.Places.{command_at, entry_at}
-use Rattle.hwp_law.specs.Policies.{arguments, last_policy, settings}
+use Rattle.hwp_law.specs.Policies.{arguments, last_policy, policy_before, settings}
 use Rattle.hwp_law.specs.States.{HadState}
+use Rattle.hwp_runs.proofs.Homes.{there-is}
 use Rattle.hwp_runs.proofs.Reported.{listed-entry, seen-had}
-use Rattle.hwp_served.specs.Accounts.{IsAccounted}
-use Rattle.hwp_served.specs.Causes.{IsCaused, IsInjectCaused}
+use Rattle.hwp_handler.specs.declared.Found.{Found}
+use Rattle.hwp_handler.specs.declared.Row.{Row}
+use Rattle.hwp_handler.specs.declared.Told.{Told}
+use Rattle.hwp_handler.specs.Told.{first_signal}
+use Rattle.hwp_served.specs.Causes.{FoundState, HasCome, IsAnswerCaused, IsInjectCaused, SawBadLines}
 use Rattle.hwp_served.proofs.Ample.{not-ample}
-use Rattle.hwp_served.proofs.Ending.{IsEnd}
+use Rattle.hwp_served.proofs.Ending.{IsEnd, IsOf}
 use Rattle.hwp_served.proofs.endings.Gone.{is-gone}
-use Rattle.hwp_served.proofs.deeds.Made.{some-so}
-use Rattle.hwp_served.proofs.marks.Marked.{has-mark}
+use Rattle.hwp_served.proofs.deeds.Made.{command-is, some-so}
+use Rattle.hwp_served.proofs.lines.Records.{own-mark}
 use Rattle.hwp_served.proofs.marks.Poisoned.{was-poisoned}
 use Rattle.hwp_served.proofs.marks.PoisonSeen.{AreMarkedBy}
-use Rattle.hwp_served.proofs.Seen.{MadeWhat, made-what}
+use Rattle.hwp_served.proofs.RowLines.{event_at, events-told}
+use Rattle.hwp_served.proofs.Seen.{HasSignalled, MadeWhat, has-signalled, made-what}
+use Rattle.hwp_served.proofs.Signalled.{signalled-sends}
 use Rattle.hwp_served.proofs.Stops.{stop-there}
 
 module _ (script : Script) (seat : Cpu → ℕ) (last : State) (report : Report) (end : IsEnd script seat last report) (seen_marks : EachMember (AreMarkedBy last) last.views) (cpu : Cpu) (inside : cpu.0 < script.layout.cpus) where
@@ -81,48 +95,111 @@ module _ (script : Script) (seat : Cpu → ℕ) (last : State) (report : Report)
     sends = some-so (λ (t : Thread). SendsSigbus t what) (current_thread command) thread current sends;
   }
 
-  -- a failure came to its answer
-  failure : (who : Who) (frame : Frame) (answer : Answer) → IsInjectCaused script.layout view who frame answer → IsAccounted view who (commands.Inject frame) answer → IsFailureAnswer report who frame answer
-  failure who frame answers.Recovered come account = has-mark script seat last report end cpu inside who frame _ account.marked come
-  failure who frame answers.Delayed come account = has-mark script seat last report end cpu inside who frame _ account.marked come
-  failure who frame answers.Ignored come account = has-mark script seat last report end cpu inside who frame _ account.marked come
-  failure who frame answers.Already found account = was-poisoned script seat last report end seen_marks cpu inside who frame found
-  failure who frame _ caused account = absurd caused
+  -- a look at the page's frame showed its bad lines
+  looked : {who : Who} (page : Page) {frame : Frame} {mask : ℕ} → SawBadOf view who page frame mask → Saw view who (places.Bad frame) mask
+  looked page saw = (saw.0, saw.1, saw.2, saw.3.0)
 
-  -- the report shows the cause of an answer
-  pub is-caused : (who : Who) (list : List Command) → slice_get script.lists who.cpu.0 ≡ Some list → (command : Command) → command_at script who ≡ Some command → (answer : Answer) → IsCaused script.layout list view who command answer → IsAccounted view who command answer
-      → IsLawCaused script report who command answer
-  is-caused who list list_is command at answers.Stopped caused account = stop-there script seat last report end cpu who inside caused
-  is-caused who list list_is (commands.Load thread slot line) at (answers.Value word bt) caused account = (caused.0, stands caused.1.made)
-  is-caused who list list_is (commands.Load thread slot line) at (answers.Sigbus bt) caused account = sigbus who (commands.Load thread slot line) thread bt (entries.Load slot line (Sigbus thread)) refl refl (stands caused.made)
-  is-caused who list list_is (commands.Load thread slot line) at answers.NoFrame caused account = not-ample script seat last report end cpu inside who caused.available
-  is-caused who list list_is (commands.Load thread slot line) at (answers.Gone page) caused account = is-gone script seat last report end cpu inside who (commands.Load thread slot line) thread page at refl caused
-  is-caused who list list_is (commands.Fetch thread slot line) at (answers.Value word bt) caused account = (caused.0, stands caused.1.made)
-  is-caused who list list_is (commands.Fetch thread slot line) at (answers.Sigbus bt) caused account = sigbus who (commands.Fetch thread slot line) thread bt (entries.Load slot line (Sigbus thread)) refl refl (stands caused.made)
-  is-caused who list list_is (commands.Fetch thread slot line) at answers.NoFrame caused account = not-ample script seat last report end cpu inside who caused.available
-  is-caused who list list_is (commands.Fetch thread slot line) at (answers.Gone page) caused account = is-gone script seat last report end cpu inside who (commands.Fetch thread slot line) thread page at refl caused
-  is-caused who list list_is (commands.KLoad thread slot line) at (answers.Value word bt) caused account = (caused.0, stands caused.1.made)
-  is-caused who list list_is (commands.KLoad thread slot line) at (answers.Sigbus bt) caused account = sigbus who (commands.KLoad thread slot line) thread bt (entries.Load slot line (Sigbus thread)) refl refl (stands caused.made)
-  is-caused who list list_is (commands.KLoad thread slot line) at answers.NoFrame caused account = not-ample script seat last report end cpu inside who caused.available
-  is-caused who list list_is (commands.KLoad thread slot line) at (answers.Gone page) caused account = is-gone script seat last report end cpu inside who (commands.KLoad thread slot line) thread page at refl caused
-  is-caused who list list_is (commands.Store thread slot line word) at (answers.Stored bt) caused account = (caused.0, stands caused.1.made)
-  is-caused who list list_is (commands.Store thread slot line word) at (answers.Sigbus bt) caused account = sigbus who (commands.Store thread slot line word) thread bt (entries.Store slot line (Sigbus thread)) refl refl (stands caused.made)
-  is-caused who list list_is (commands.Store thread slot line word) at answers.NoFrame caused account = not-ample script seat last report end cpu inside who caused.available
-  is-caused who list list_is (commands.Store thread slot line word) at (answers.Gone page) caused account = is-gone script seat last report end cpu inside who (commands.Store thread slot line word) thread page at refl caused
-  is-caused who list list_is (commands.Free slot) at (answers.DoneAt bt) caused account = stands caused.1.made
-  is-caused who list list_is (commands.Free slot) at (answers.NotMapped bt) caused account = (caused.0, had caused.1.saw)
-  is-caused who list list_is (commands.Drop page) at (answers.DoneAt bt) caused account = (caused.0, stands caused.1.made)
-  is-caused who list list_is (commands.Drop page) at (answers.NotResident bt) caused account = (caused.0, had caused.1.saw)
-  is-caused who list list_is (commands.Drop page) at (answers.Dirty bt) caused account = (caused.0, had caused.1.saw)
-  is-caused who list list_is (commands.Drop page) at (answers.Mapped bt) caused account = (caused.0, had caused.1.saw)
-  is-caused who list list_is (commands.Sync page) at (answers.DoneAt bt) caused account = (caused.0, stands caused.1.made)
-  is-caused who list list_is (commands.Sync page) at (answers.NotResident bt) caused account = (caused.0, had caused.1.saw)
-  is-caused who list list_is (commands.Out page) at (answers.DoneAt bt) caused account = (caused.0, stands caused.1.made)
-  is-caused who list list_is (commands.Out page) at (answers.NotResident bt) caused account = (caused.0, had caused.1.saw)
-  is-caused who list list_is (commands.Fsync file) at answers.Done caused account = tt
-  is-caused who list list_is (commands.Fsync file) at (answers.Eio lost) caused account = caused.1
-  is-caused who list list_is (commands.Prctl thread args) at (answers.Gone page) caused account = is-gone script seat last report end cpu inside who (commands.Prctl thread args) thread page at refl caused
-  is-caused who list list_is (commands.Prctl thread args) at answer caused account = caused.replied ∙ ap (λ (l : List Command). reply_answer (reply (last_policy (settings thread (take who.seq l))) (arguments args))) (sym (ap (λ (o : Option (List Command)). unwrap_or o []) list_is))
-  is-caused who list list_is (commands.Log status addr misc) at answers.Done caused account = tt
-  is-caused who list list_is (commands.Inject frame) at answer caused account = (caused.0, failure who frame answer caused.1 account)
-  is-caused who list list_is command at answer caused account = absurd caused
+  -- the lines that a step of the command showed as bad are so at the end
+  bad-lines : (who : Who) (page : Page) (mask : Mask) (at : At) → FoundState script.layout view who at (λ (s : PageState). s.cached ≡ true) → SawBadLines script.layout view who page mask → HadBadLines script report mask at
+  bad-lines who page mask at found lines =
+      let frame : Frame = lines.frame in
+      let line = there-is report.frames frame.0 (subst (λ (n : ℕ). frame.0 < n) (sym end.board.frames_fit) lines.inside) in
+      let bads = (end.board.ends.frames frame line.0 line.1).bad in
+      record {
+        cached = had found.saw;
+        frame = frame.0;
+        bad = record {
+          some = lines.some;
+          within = subst (λ (bad : ℕ). bit_and mask.0 bad ≡ mask.0) (sym (ap (λ (o : Option FrameLine). unwrap_or (option_map (λ (l : FrameLine). l.bad.0) o) 0) line.1))
+              (bad-lines-stay script.layout last end.board.holds (seat cpu) there frame (looked page lines.saw) bads);
+        };
+      }
+
+  -- a failure came to its answer
+  failure : (who : Who) (frame : Frame) (own : Option (Frame × Found)) (answer : Answer) → ((frame : Frame) (outcome : Outcome) → HasCome script.layout view who frame own outcome → HasMark report who frame (ComesTo outcome))
+      → IsInjectCaused script.layout view who frame own answer → IsFailureAnswer report who frame answer
+  failure who frame own answers.Recovered marked come = marked frame _ come
+  failure who frame own answers.Delayed marked come = marked frame _ come
+  failure who frame own answers.Ignored marked come = marked frame _ come
+  failure who frame own answers.Already marked found = was-poisoned script seat last report end seen_marks cpu inside who frame found.0.word found.0.poisoned found.0.saw
+  failure who frame own _ marked caused = absurd caused
+
+  -- the entry of a failure that signalled the thread
+  by-failure : (who : Who) (command : Command) (at : At) → HasSignalled view who command at → IsSigbus report who command at
+  by-failure who command at has = signalled-sends script seat last report end cpu inside who command at has
+
+  -- the policy that prctl(2) met is the one of the report
+  replied : (who : Who) (list : List Command) → slice_get script.lists who.cpu.0 ≡ Some list → (thread : Thread) (args : PrctlArgs) → reply_answer (reply (last_policy (settings thread (take who.seq list))) (arguments args)) ≡ reply_answer (reply (policy_before script who thread) (arguments args))
+  replied who list list_is thread args = ap (λ (l : List Command). reply_answer (reply (last_policy (settings thread (take who.seq l))) (arguments args))) (sym (ap (λ (o : Option (List Command)). unwrap_or o []) list_is))
+
+  neither : ⊥ ⊎ ⊥ → ⊥
+  neither (inl never) = never
+  neither (inr never) = never
+
+  -- what the row of a command says of its entries, its event lines and its mark
+  pub record HasFacts (who : Who) (command : Command) (told : List Told) (own : Option (Frame × Found)) : Type 0 where
+    pub signalled : (at : At) → first_signal told ≡ Some at → HasSignalled view who command at
+    pub count : length (events_of report who) ≡ length told
+    pub marked : (frame : Frame) (outcome : Outcome) → HasCome script.layout view who frame own outcome → HasMark report who frame (ComesTo outcome)
+
+  pub law-caused : (who : Who) (list : List Command) → slice_get script.lists who.cpu.0 ≡ Some list → (command : Command) (told : List Told) (own : Option (Frame × Found)) (answer : Answer) → command_at script who ≡ Some command → HasFacts who command told own
+      → IsAnswerCaused script.layout list view who command told own answer → IsLawCaused script report who command answer
+  law-caused who list list_is command told own answers.Stopped at facts caused = stop-there script seat last report end cpu who command inside caused
+  law-caused who list list_is (commands.Load thread slot line) told own (answers.Value word bt) at facts caused = (caused.0, stands caused.1.made)
+  law-caused who list list_is (commands.Load thread slot line) told own (answers.Sigbus bt) at facts (inl caused) = sigbus who (commands.Load thread slot line) thread bt (entries.Load slot line (Sigbus thread)) refl refl (stands caused.made)
+  law-caused who list list_is (commands.Load thread slot line) told own (answers.Sigbus bt) at facts (inr was) = by-failure who (commands.Load thread slot line) bt (facts.signalled bt was.first)
+  law-caused who list list_is (commands.Load thread slot line) told own answers.NoFrame at facts caused = not-ample script seat last report end cpu inside who caused.available
+  law-caused who list list_is (commands.Load thread slot line) told own (answers.Gone page) at facts caused = is-gone script seat last report end cpu inside who (commands.Load thread slot line) thread page at refl caused.0
+  law-caused who list list_is (commands.Fetch thread slot line) told own (answers.Value word bt) at facts caused = (caused.0, stands caused.1.made)
+  law-caused who list list_is (commands.Fetch thread slot line) told own (answers.Sigbus bt) at facts (inl caused) = sigbus who (commands.Fetch thread slot line) thread bt (entries.Load slot line (Sigbus thread)) refl refl (stands caused.made)
+  law-caused who list list_is (commands.Fetch thread slot line) told own (answers.Sigbus bt) at facts (inr was) = by-failure who (commands.Fetch thread slot line) bt (facts.signalled bt was.first)
+  law-caused who list list_is (commands.Fetch thread slot line) told own answers.NoFrame at facts caused = not-ample script seat last report end cpu inside who caused.available
+  law-caused who list list_is (commands.Fetch thread slot line) told own (answers.Gone page) at facts caused = is-gone script seat last report end cpu inside who (commands.Fetch thread slot line) thread page at refl caused.0
+  law-caused who list list_is (commands.KLoad thread slot line) told own (answers.Value word bt) at facts caused = (caused.0, stands caused.1.made)
+  law-caused who list list_is (commands.KLoad thread slot line) told own (answers.Sigbus bt) at facts (inl caused) = sigbus who (commands.KLoad thread slot line) thread bt (entries.Load slot line (Sigbus thread)) refl refl (stands caused.made)
+  law-caused who list list_is (commands.KLoad thread slot line) told own (answers.Sigbus bt) at facts (inr was) = by-failure who (commands.KLoad thread slot line) bt (facts.signalled bt was.first)
+  law-caused who list list_is (commands.KLoad thread slot line) told own answers.NoFrame at facts caused = not-ample script seat last report end cpu inside who caused.available
+  law-caused who list list_is (commands.KLoad thread slot line) told own (answers.Gone page) at facts caused = is-gone script seat last report end cpu inside who (commands.KLoad thread slot line) thread page at refl caused.0
+  law-caused who list list_is (commands.Store thread slot line word) told own (answers.Stored bt) at facts caused = (caused.0, stands caused.1.made)
+  law-caused who list list_is (commands.Store thread slot line word) told own (answers.Sigbus bt) at facts (inl caused) = sigbus who (commands.Store thread slot line word) thread bt (entries.Store slot line (Sigbus thread)) refl refl (stands caused.made)
+  law-caused who list list_is (commands.Store thread slot line word) told own (answers.Sigbus bt) at facts (inr was) = by-failure who (commands.Store thread slot line word) bt (facts.signalled bt was.first)
+  law-caused who list list_is (commands.Store thread slot line word) told own answers.NoFrame at facts caused = not-ample script seat last report end cpu inside who caused.available
+  law-caused who list list_is (commands.Store thread slot line word) told own (answers.Gone page) at facts caused = is-gone script seat last report end cpu inside who (commands.Store thread slot line word) thread page at refl caused.0
+  law-caused who list list_is (commands.Free slot) told own (answers.DoneAt bt) at facts caused = stands caused.1.made
+  law-caused who list list_is (commands.Free slot) told own (answers.NotMapped bt) at facts caused = (caused.0, had caused.1.saw)
+  law-caused who list list_is (commands.Drop page) told own (answers.DoneAt bt) at facts caused = (caused.0, stands caused.1.made)
+  law-caused who list list_is (commands.Drop page) told own (answers.NotResident bt) at facts caused = (caused.0, had caused.1.saw)
+  law-caused who list list_is (commands.Drop page) told own (answers.Dirty bt) at facts caused = (caused.0, had caused.1.saw)
+  law-caused who list list_is (commands.Drop page) told own (answers.Mapped bt) at facts caused = (caused.0, had caused.1.saw)
+  law-caused who list list_is (commands.Sync page) told own (answers.DoneAt bt) at facts caused = (caused.0, stands caused.1.made)
+  law-caused who list list_is (commands.Sync page) told own (answers.NotResident bt) at facts caused = (caused.0, had caused.1.saw)
+  law-caused who list list_is (commands.Sync page) told own (answers.BadLines mask bt) at facts caused = (caused.0, bad-lines who page mask bt caused.1 caused.2)
+  law-caused who list list_is (commands.Out page) told own (answers.DoneAt bt) at facts caused = (caused.0, stands caused.1.made)
+  law-caused who list list_is (commands.Out page) told own (answers.NotResident bt) at facts caused = (caused.0, had caused.1.saw)
+  law-caused who list list_is (commands.Out page) told own (answers.BadLines mask bt) at facts caused = (caused.0, bad-lines who page mask bt caused.1 caused.2)
+  law-caused who list list_is (commands.Fsync file) told own answers.Done at facts caused = tt
+  law-caused who list list_is (commands.Fsync file) told own (answers.Eio lost) at facts caused = caused.1
+  law-caused who list list_is (commands.Prctl thread args) told own (answers.Gone page) at facts caused = is-gone script seat last report end cpu inside who (commands.Prctl thread args) thread page at refl caused.0
+  law-caused who list list_is (commands.Prctl thread args) told own (answers.Sigbus bt) at facts (inl caused) = caused.replied ∙ replied who list list_is thread args
+  law-caused who list list_is (commands.Prctl thread args) told own (answers.Sigbus bt) at facts (inr was) = absurd was
+  law-caused who list list_is (commands.Prctl thread args) told own answer at facts caused = caused.replied ∙ replied who list list_is thread args
+  law-caused who list list_is (commands.Log status addr misc) told own answers.Done at facts caused = tt
+  law-caused who list list_is (commands.Bad frame line) told own answers.Done at facts caused = tt
+  law-caused who list list_is (commands.Weak frame line) told own answers.Done at facts caused = tt
+  law-caused who list list_is (commands.RaiseUser thread ripv eipv) told own (answers.Raised n) at facts caused = caused.1.count ∙ sym facts.count
+  law-caused who list list_is (commands.RaiseUser thread ripv eipv) told own (answers.Gone page) at facts caused = is-gone script seat last report end cpu inside who (commands.RaiseUser thread ripv eipv) thread page at refl caused.0
+  law-caused who list list_is (commands.RaiseKernel ripv eipv) told own (answers.Raised n) at facts caused = caused.count ∙ sym facts.count
+  law-caused who list list_is (commands.Inject frame) told own answer at facts caused = (caused.0, failure who frame own answer facts.marked caused.1)
+  law-caused who list list_is command told own (answers.Sigbus bt) at facts caused = absurd (neither caused)
+  law-caused who list list_is command told own answer at facts caused = absurd caused
+
+-- the report shows the cause of an answer
+pub is-caused : (script : Script) (seat : Cpu → ℕ) (last : State) (report : Report) (end : IsEnd script seat last report) → EachMember (AreMarkedBy last) last.views → (who : Who) (of : IsOf script end.rows (view_of last (seat who.cpu)) who) → IsLawCaused script report who of.command of.row.answer
+is-caused script seat last report end seen_marks who of =
+    law-caused script seat last report end seen_marks who.cpu of.inside who of.list of.list_is of.command of.row.told of.row.own of.row.answer (command-is script who of.list of.command of.list_is of.command_is)
+    (record {
+      signalled = λ at is. has-signalled (view_of last (seat who.cpu)) who of.command of.row at of.served.accounted is;
+      count = ap (λ (l : List EventLine). length l) (events-told script seat last report end (view_of last (seat who.cpu)) who of) ∙ length-map of.row.told (event_at who.seq);
+      marked = λ frame outcome come. subst (λ (o : Outcome). HasMark report who frame (ComesTo o)) come.outcome_is
+          (own-mark script seat last report end who of.row (ap (λ (o : Option (List Row)). option_and_then (λ (own : List Row). slice_get own who.seq) o) of.own_is ∙ of.row_is) frame come.found come.own_is);
+    }) of.served.caused

@@ -11,6 +11,7 @@ use Rattle.hwp_rule.specs.declared.State.{State}
 use Rattle.hwp_rule.specs.declared.View.{View}
 use Rattle.hwp_rule.specs.Lists.{EachMember}
 use Rattle.hwp_rule.specs.Rule.{Holds}
+use Rattle.hwp_rule.specs.Words.{words_of}
 use Rattle.hwp_rule.specs.parts.Holdings.{HoldsNothing, IsPast}
 use Rattle.hwp_rule.proofs.Lists.{at_map}
 use Rattle.hwp_rule.proofs.NotLater.{one-view}
@@ -18,16 +19,17 @@ use Rattle.hwp_step.specs.Boards.{AreSeated, view_of}
 use Rattle.hwp_known.specs.Known.{deeds, is_by}
 use Rattle.hwp_script.specs.declared.Command.{Command}
 use Rattle.hwp_script.specs.declared.Script.{Script}
-use Rattle.hwp_report.specs.declared.Answer.{Answer}
 use Rattle.hwp_report.specs.declared.CpuLine.{CpuLine}
-use Rattle.hwp_report.specs.declared.CpuLine.TheVariants as lines
 use Rattle.hwp_report.specs.declared.Report.{Report}
+use Rattle.hwp_law.specs.Checks.{Banks, empty_banks}
 use Rattle.hwp_runs.proofs.Homes.{there-is}
 use Rattle.hwp_runs.proofs.Reported.{IsLast}
-use Rattle.hwp_served.specs.Accounts.{IsAccounted, Note}
-use Rattle.hwp_served.specs.Causes.{IsCaused}
-use Rattle.hwp_served.specs.Runs.{AreRecords, AreServed}
-use Rattle.hwp_served.specs.Served.{AreAnswered, IsServed}
+use Rattle.hwp_handler.specs.declared.Row.{Row}
+use Rattle.hwp_served.specs.Rows.{lines_from}
+use Rattle.hwp_served.specs.Runs.{AreRecords, AreServed, notes_of}
+use Rattle.hwp_served.specs.Served.{AreRowsServed, IsRowServed, IsServed}
+use Rattle.hwp_served.proofs.lines.LowWords.{AreOfLines}
+use Rattle.hwp_served.proofs.Spoils.{AreOfParts}
 
 -- the report is that of the last board of a run, where each processor has served its commands
 pub record IsEnd (script : Script) (seat : Cpu → ℕ) (last : State) (report : Report) : Type 0 where
@@ -35,33 +37,36 @@ pub record IsEnd (script : Script) (seat : Cpu → ℕ) (last : State) (report :
   pub seated : AreSeated script.layout last seat
   pub lists_fit : length script.lists ≡ script.layout.cpus
   pub cpus_fit : length report.cpus ≡ script.layout.cpus
-  pub notes : List (List Note)
-  pub notes_fit : length notes ≡ script.layout.cpus
-  pub served : AreServed script seat last report.cpus notes
-  pub records : AreRecords notes report
+  pub rows : List (List Row)
+  pub rows_fit : length rows ≡ script.layout.cpus
+  pub served : AreServed script seat last rows report.cpus
+  pub records : AreRecords (notes_of 0 rows) report
+  pub low : AreOfLines (words_of script.layout last.words)
+  pub spoilers : EachMember (AreOfParts last) last.views
 
--- the answer of a command, and its cause
-pub record HasAnswer (layout : Layout) (all : List Command) (view : View) (cpu : Cpu) (seq : ℕ) (command : Command) (row : Option CpuLine) : Type 0 where
-  pub answer : Answer
-  pub row_is : row ≡ Some (lines.Answer seq answer)
-  pub caused : IsCaused layout all view (record { cpu = cpu; seq = seq }) command answer
-  pub accounted : IsAccounted view (record { cpu = cpu; seq = seq }) command answer
+-- the row of a command, and what its processor's banks held before it and after it
+pub record HasRow (layout : Layout) (all : List Command) (view : View) (who : Who) (command : Command) (there : Option Row) : Type 0 where
+  pub row : Row
+  pub row_is : there ≡ Some row
+  pub before : Banks
+  pub after : Banks
+  pub served : IsRowServed layout all view who command before row after
 
-pub answer-at : (layout : Layout) (all : List Command) (view : View) (cpu : Cpu) (n : ℕ) (list : List Command) (rows : List CpuLine) (k m : ℕ) (command : Command) → AreAnswered layout all view cpu n list rows → length rows ≡ length list → slice_get list k ≡ Some command → m ≡ n + k
-    → HasAnswer layout all view cpu m command (slice_get rows k)
-answer-at layout all view cpu n [] rows k m command are fit there at = absurd (none-some command there)
-answer-at layout all view cpu n (c ∷ cs) [] k m command are fit there at = absurd (let none : 0 ≡ suc (length cs) = fit in omega arith)
-answer-at layout all view cpu n (c ∷ cs) (lines.Answer seq answer ∷ rows) zero m command (seq_is, caused, accounted, rest) fit there at =
-    let same : m ≡ n = omega arith in
+pub row-at : (layout : Layout) (all : List Command) (view : View) (cpu : Cpu) (n : ℕ) (before : Banks) (list : List Command) (rows : List Row) (after : Banks) (k m : ℕ) (command : Command) → AreRowsServed layout all view cpu n before list rows after → length rows ≡ length list → slice_get list k ≡ Some command
+    → m ≡ n + k → HasRow layout all view (record { cpu = cpu; seq = m }) command (slice_get rows k)
+row-at layout all view cpu n before [] rows after k m command are fit there at = absurd (none-some command there)
+row-at layout all view cpu n before (c ∷ cs) [] after k m command are fit there at = absurd (let none : 0 ≡ suc (length cs) = fit in omega arith)
+row-at layout all view cpu n before (c ∷ cs) (row ∷ rows) after zero m command (between, served, rest) fit there at =
+    let same : n ≡ m = omega arith in
     record {
-      answer = answer;
-      row_is = ap (λ (i : ℕ). Some (lines.Answer i answer)) (seq_is ∙ sym same);
-      caused = subst (λ (x : Command). IsCaused layout all view (record { cpu = cpu; seq = m }) x answer) (same_Some c command there) (subst (λ (i : ℕ). IsCaused layout all view (record { cpu = cpu; seq = i }) c answer) (sym same) caused);
-      accounted = subst (λ (x : Command). IsAccounted view (record { cpu = cpu; seq = m }) x answer) (same_Some c command there) (subst (λ (i : ℕ). IsAccounted view (record { cpu = cpu; seq = i }) c answer) (sym same) accounted);
+      row = row;
+      row_is = refl;
+      before = before;
+      after = between;
+      served = subst (λ (x : Command). IsRowServed layout all view (record { cpu = cpu; seq = m }) x before row between) (same_Some c command there) (subst (λ (i : ℕ). IsRowServed layout all view (record { cpu = cpu; seq = i }) c before row between) same served);
     }
-answer-at layout all view cpu n (c ∷ cs) (lines.Answer seq answer ∷ rows) (suc k) m command (seq_is, caused, accounted, rest) fit there at =
-    answer-at layout all view cpu (n + 1) cs rows k m command rest (let one : suc (length rows) ≡ suc (length cs) = fit in let same : length rows ≡ length cs = omega arith in same) there (omega arith)
-answer-at layout all view cpu n (c ∷ cs) (lines.Event a b s x y z w ∷ rows) k m command are fit there at = absurd are
+row-at layout all view cpu n before (c ∷ cs) (row ∷ rows) after (suc k) m command (between, served, rest) fit there at =
+    row-at layout all view cpu (n + 1) between cs rows after k m command rest (let one : suc (length rows) ≡ suc (length cs) = fit in let same : length rows ≡ length cs = omega arith in same) there (omega arith)
 
 -- a member that passes the test is one of those that do
 pub filter-has : {A : Type 0} (test : A → Bool) (l : List A) (j : ℕ) (x : A) → slice_get l j ≡ Some x → test x ≡ true → (k : ℕ) × (slice_get (filter test l) k ≡ Some x)
@@ -80,18 +85,24 @@ of-deeds P view who j m each there own =
     let found = filter-has (is_by who) view.made j m there by in
     each found.0 m found.1
 
--- the command of an entry that a view lists: with its answer, and its cause in that view
-pub record IsOf (script : Script) (report : Report) (view : View) (who : Who) : Type 0 where
+-- a command, with its row and what its view knows of it
+pub record IsOf (script : Script) (rows : List (List Row)) (view : View) (who : Who) : Type 0 where
+  pub inside : who.cpu.0 < script.layout.cpus
   pub list : List Command
-  pub rows : List CpuLine
   pub list_is : slice_get script.lists who.cpu.0 ≡ Some list
-  pub rows_is : slice_get report.cpus who.cpu.0 ≡ Some rows
+  pub own : List Row
+  pub own_is : slice_get rows who.cpu.0 ≡ Some own
   pub command : Command
   pub command_is : slice_get list who.seq ≡ Some command
-  pub answer : Answer
-  pub answer_is : slice_get rows who.seq ≡ Some (lines.Answer who.seq answer)
-  pub caused : IsCaused script.layout list view who command answer
-  pub accounted : IsAccounted view who command answer
+  pub row : Row
+  pub row_is : slice_get own who.seq ≡ Some row
+  pub before : Banks
+  pub after : Banks
+  pub served : IsRowServed script.layout list view who command before row after
+
+-- its row is the one that stands at its number
+pub same-row : {script : Script} {rows : List (List Row)} {view : View} {who : Who} (of : IsOf script rows view who) (own : List Row) (row : Row) → slice_get rows who.cpu.0 ≡ Some own → slice_get own who.seq ≡ Some row → of.row ≡ row
+same-row {who = who} of own row own_is row_is = same_Some of.row row (sym of.row_is ∙ ap (λ (l : List Row). slice_get l who.seq) (same_Some of.own own (sym of.own_is ∙ own_is)) ∙ row_is)
 
 -- a view that has a processor is the one of the processor's seat
 pub seat-view : (layout : Layout) (seat : Cpu → ℕ) (last : State) → Holds layout last → AreSeated layout last seat → (i k : ℕ) (v : View) (p : Part) → slice_get last.views i ≡ Some v → slice_get v.parts k ≡ Some p
@@ -120,39 +131,74 @@ module _ (script : Script) (seat : Cpu → ℕ) (last : State) (report : Report)
   pub own-view : (i : ℕ) (v : View) (who : Who) → slice_get last.views i ≡ Some v → IsPast v.parts who → (who.cpu.0 < script.layout.cpus) × (v ≡ view_of last (seat who.cpu))
   own-view i v who view past = subst (λ (c : Cpu). (c.0 < script.layout.cpus) × (v ≡ view_of last (seat c))) past.3.0 (seat-view script.layout seat last end.board.holds end.seated i past.0 v past.1 view past.2)
 
-  -- a processor of the layout has a list, and lines
+  -- a processor of the layout has a list, and rows
   pub list-of : (cpu : Cpu) → cpu.0 < script.layout.cpus → (list : List Command) × (slice_get script.lists cpu.0 ≡ Some list)
   list-of cpu inside = there-is script.lists cpu.0 (subst (λ (n : ℕ). cpu.0 < n) (sym end.lists_fit) inside)
 
-  pub rows-of : (cpu : Cpu) → cpu.0 < script.layout.cpus → (rows : List CpuLine) × (slice_get report.cpus cpu.0 ≡ Some rows)
-  rows-of cpu inside = there-is report.cpus cpu.0 (subst (λ (n : ℕ). cpu.0 < n) (sym end.cpus_fit) inside)
+  pub rows-of : (cpu : Cpu) → cpu.0 < script.layout.cpus → (own : List Row) × (slice_get end.rows cpu.0 ≡ Some own)
+  rows-of cpu inside = there-is end.rows cpu.0 (subst (λ (n : ℕ). cpu.0 < n) (sym end.rows_fit) inside)
 
-  pub notes-of : (cpu : Cpu) → cpu.0 < script.layout.cpus → (own : List Note) × (slice_get end.notes cpu.0 ≡ Some own)
-  notes-of cpu inside = there-is end.notes cpu.0 (subst (λ (n : ℕ). cpu.0 < n) (sym end.notes_fit) inside)
+  -- the processor has served its commands, and its lines in the report are those of its rows
+  pub served-of : (cpu : Cpu) (list : List Command) (own : List Row) → slice_get script.lists cpu.0 ≡ Some list → slice_get end.rows cpu.0 ≡ Some own
+      → IsServed script.layout (view_of last (seat cpu)) cpu list own × (slice_get report.cpus cpu.0 ≡ Some (lines_from 0 own))
+  served-of cpu list own list_is own_is = end.served cpu list own list_is own_is
 
-  -- the processor has served its commands
-  pub served-of : (cpu : Cpu) (list : List Command) (rows : List CpuLine) → slice_get script.lists cpu.0 ≡ Some list → slice_get report.cpus cpu.0 ≡ Some rows
-      → (own : List Note) × IsServed script.layout (view_of last (seat cpu)) cpu list rows own
-  served-of cpu list rows list_is rows_is =
-      let own = notes-of cpu (subst (λ (n : ℕ). cpu.0 < n) end.lists_fit (slice_get_within script.lists cpu.0 list list_is)) in
-      (own.0, end.served cpu list rows own.0 list_is rows_is own.1)
+  -- the rows that the lines of a processor in the report are of
+  pub record HasRows (cpu : Cpu) (lines : List CpuLine) : Type 0 where
+    pub inside : cpu.0 < script.layout.cpus
+    pub list : List Command
+    pub list_is : slice_get script.lists cpu.0 ≡ Some list
+    pub own : List Row
+    pub own_is : slice_get end.rows cpu.0 ≡ Some own
+    pub served : IsServed script.layout (view_of last (seat cpu)) cpu list own
+    pub lines_are : lines ≡ lines_from 0 own
+
+  pub rows-of-lines : (cpu : Cpu) (lines : List CpuLine) → slice_get report.cpus cpu.0 ≡ Some lines → HasRows cpu lines
+  rows-of-lines cpu lines lines_is =
+      let inside : cpu.0 < script.layout.cpus = subst (λ (n : ℕ). cpu.0 < n) end.cpus_fit (slice_get_within report.cpus cpu.0 lines lines_is) in
+      let list = list-of cpu inside in
+      let own = rows-of cpu inside in
+      let served = served-of cpu list.0 own.0 list.1 own.1 in
+      record {
+        inside = inside;
+        list = list.0;
+        list_is = list.1;
+        own = own.0;
+        own_is = own.1;
+        served = served.0;
+        lines_are = same_Some lines (lines_from 0 own.0) (sym lines_is ∙ served.1);
+      }
 
   -- a command of a processor, by its number
-  pub command-of : (who : Who) (list : List Command) (rows : List CpuLine) (command : Command) → slice_get script.lists who.cpu.0 ≡ Some list → slice_get report.cpus who.cpu.0 ≡ Some rows → slice_get list who.seq ≡ Some command
-      → IsOf script report (view_of last (seat who.cpu)) who
-  command-of who list rows command list_is rows_is command_is =
-      let served = (served-of who.cpu list rows list_is rows_is).1 in
-      let a = answer-at script.layout list (view_of last (seat who.cpu)) who.cpu 0 list rows who.seq who.seq command served.answered served.count command_is (omega arith) in
-      record { list = list; rows = rows; list_is = list_is; rows_is = rows_is; command = command; command_is = command_is; answer = a.answer; answer_is = a.row_is; caused = a.caused; accounted = a.accounted }
+  pub command-of : (who : Who) (list : List Command) (command : Command) → slice_get script.lists who.cpu.0 ≡ Some list → slice_get list who.seq ≡ Some command → IsOf script end.rows (view_of last (seat who.cpu)) who
+  command-of who list command list_is command_is =
+      let inside : who.cpu.0 < script.layout.cpus = subst (λ (n : ℕ). who.cpu.0 < n) end.lists_fit (slice_get_within script.lists who.cpu.0 list list_is) in
+      let own = rows-of who.cpu inside in
+      let served = (served-of who.cpu list own.0 list_is own.1).0 in
+      let has = row-at script.layout list (view_of last (seat who.cpu)) who.cpu 0 empty_banks list own.0 served.banks who.seq who.seq command served.rows_are served.count command_is (omega arith) in
+      record {
+        inside = inside;
+        list = list;
+        list_is = list_is;
+        own = own.0;
+        own_is = own.1;
+        command = command;
+        command_is = command_is;
+        row = has.row;
+        row_is = has.row_is;
+        before = has.before;
+        after = has.after;
+        served = has.served;
+      }
 
   -- the command of an entry that a view lists
-  pub of-made : (i j : ℕ) (v : View) (m : Made) → slice_get last.views i ≡ Some v → slice_get v.made j ≡ Some m → IsOf script report v m.entry.who
+  pub of-made : (i j : ℕ) (v : View) (m : Made) → slice_get last.views i ≡ Some v → slice_get v.made j ≡ Some m → IsOf script end.rows v m.entry.who
   of-made i j v m view made =
       let past = (end.board.holds.rule.processors.commands.own i v view).made j m made in
       let own = own-view i v m.entry.who view past in
       let list = list-of m.entry.who.cpu own.0 in
       let rows = rows-of m.entry.who.cpu own.0 in
-      let served = (served-of m.entry.who.cpu list.0 rows.0 list.1 rows.1).1 in
+      let served = (served-of m.entry.who.cpu list.0 rows.0 list.1 rows.1).0 in
       let begun = served.made j m (sym (ap (λ (x : View). slice_get x.made j) own.1) ∙ made) in
       let command = there-is list.0 m.entry.who.seq begun.1 in
-      subst (λ (x : View). IsOf script report x m.entry.who) (sym own.1) (command-of m.entry.who list.0 rows.0 command.0 list.1 rows.1 command.1)
+      subst (λ (x : View). IsOf script end.rows x m.entry.who) (sym own.1) (command-of m.entry.who list.0 command.0 list.1 command.1)

@@ -1,61 +1,55 @@
 -- Each answer of a run rests on what its own command was shown.
-use Rattle.std.proofs.Common.{◌≡◌, ◌≢◌, ℕ, zero, suc, ◌+◌, ◌<◌, ◌==◌, Bool, cond, List, [], ◌∷◌, Option, Some, None, filter, filter_map, slice_get, option_and_then, option_map, unwrap_or, refl, sym, ap, ◌∙◌, subst, arith}
-use Rattle.std.specs.List.{find}
-use Rattle.std.proofs.lemmas.Bool.{eq-eqb, ne_eqb}
-use Rattle.std.proofs.lemmas.Option.{none-some, same_Some, slice_get_within}
+use Rattle.std.proofs.Common.{◌≡◌, ℕ, ◌<◌, Bool, true, false, cond, nat_le, List, Option, Some, None, map, slice_get, option_and_then, sym, ap, ◌∙◌, subst, refl, true≢false}
+use Rattle.std.proofs.lemmas.Option.{none-some, same_Some}
 use Rattle.hwp_geom.specs.declared.Cpu.{Cpu}
+use Rattle.hwp_geom.specs.declared.Frame.{Frame}
 use Rattle.hwp_geom.specs.declared.Layout.{Layout}
 use Rattle.hwp_geom.specs.declared.Proc.{Proc}
+use Rattle.hwp_geom.specs.declared.Thread.{Thread}
 use Rattle.hwp_geom.specs.declared.Who.{Who}
+use Rattle.hwp_banks.specs.Addresses.{frame_at}
+use Rattle.hwp_page.specs.declared.Outcome.{Outcome}
+use Rattle.hwp_page.specs.declared.Outcome.TheVariants as outcomes
+use Rattle.hwp_page.specs.Situations.{outcome_of}
+use Rattle.hwp_severity.specs.declared.Severity.{Severity}
+use Rattle.hwp_severity.specs.declared.Severity.TheVariants as severities
 use Rattle.hwp_rule.specs.declared.State.{State}
 use Rattle.hwp_rule.specs.declared.View.{View}
 use Rattle.hwp_rule.specs.Lists.{EachMember}
+use Rattle.hwp_rule.proofs.Lists.{each-map, each-weaken}
 use Rattle.hwp_step.specs.Boards.{Played, view_of}
+use Rattle.hwp_claim.specs.Claims.{SawPoison}
 use Rattle.hwp_script.specs.declared.Command.{Command}
 use Rattle.hwp_script.specs.declared.Command.TheVariants as commands
 use Rattle.hwp_script.specs.declared.Script.{Script}
+use Rattle.hwp_report.specs.declared.Acted.{Acted}
+use Rattle.hwp_report.specs.declared.Acted.TheVariants as acts
 use Rattle.hwp_report.specs.declared.Answer.{Answer}
 use Rattle.hwp_report.specs.declared.Answer.TheVariants as answers
-use Rattle.hwp_report.specs.declared.CpuLine.{CpuLine}
-use Rattle.hwp_report.specs.declared.CpuLine.TheVariants as lines
 use Rattle.hwp_report.specs.declared.Report.{Report}
-use Rattle.hwp_law.specs.Commands.{process_at, process_of_thread, thread_of}
-use Rattle.hwp_law.specs.Lines.{AnswerLine, EventLine, answer_among, answer_in, answer_of, event_in, events_of}
+use Rattle.hwp_law.specs.Checks.{Banks}
+use Rattle.hwp_law.specs.Commands.{current_thread, process_at, process_of_thread, thread_of}
+use Rattle.hwp_law.specs.Lines.{EventLine, answer_of, events_of}
 use Rattle.hwp_law.specs.Places.{command_at}
+use Rattle.hwp_law.specs.Records.{outcome_act}
+use Rattle.hwp_handler.specs.declared.Found.{Found}
+use Rattle.hwp_handler.specs.declared.Row.{Row}
+use Rattle.hwp_handler.specs.declared.Told.{Told}
+use Rattle.hwp_handler.specs.Fits.{IsDone, IsFailed}
+use Rattle.hwp_handler.specs.Told.{at_once, frame_of, is_already, required_by, severity_at_once}
 use Rattle.hwp_runs.specs.Scrubs.{ScrubsShown}
 use Rattle.hwp_runs.specs.Shown.{AlreadyShown, IsShown}
 use Rattle.hwp_runs.proofs.Knowing.{Said}
 use Rattle.hwp_runs.proofs.Telling.{all-told, told}
-use Rattle.hwp_served.specs.Accounts.{IsAccounted}
-use Rattle.hwp_served.specs.Causes.{IsCaused}
-use Rattle.hwp_served.specs.Runs.{IsRunOf}
-use Rattle.hwp_served.specs.Served.{AreAnswered}
-use Rattle.hwp_served.proofs.Ending.{command-of, list-of, rows-of, served-of}
+use Rattle.hwp_served.specs.Causes.{IsAnswerCaused}
+use Rattle.hwp_served.specs.Runs.{IsRunOf, row_at}
+use Rattle.hwp_served.specs.Served.{IsRowServed}
+use Rattle.hwp_served.proofs.Ending.{command-of}
 use Rattle.hwp_served.proofs.Holding.{ended}
-use Rattle.hwp_served.proofs.Shown.{answer-shown, goes-shown}
-
--- a processor that answered has no event lines
-no-events : (layout : Layout) (all : List Command) (view : View) (cpu : Cpu) (n : ℕ) (list : List Command) (rows : List CpuLine) → AreAnswered layout all view cpu n list rows → filter_map event_in rows ≡ []
-no-events layout all view cpu n list [] are = refl
-no-events layout all view cpu n [] (row ∷ rows) are = absurd are
-no-events layout all view cpu n (c ∷ cs) (lines.Event a b s x y z w ∷ rows) are = absurd are
-no-events layout all view cpu n (c ∷ cs) (lines.Answer seq answer ∷ rows) (seq_is, caused, accounted, rest) = no-events layout all view cpu (n + 1) cs rows rest
-
--- the answer of a command among its processor's lines
-answer-found : (layout : Layout) (all : List Command) (view : View) (cpu : Cpu) (n : ℕ) (list : List Command) (rows : List CpuLine) (k m : ℕ) (answer : Answer) → AreAnswered layout all view cpu n list rows → slice_get rows k ≡ Some (lines.Answer m answer) → m ≡ n + k
-    → find (λ (l : AnswerLine). m == l.seq) (filter_map answer_in rows) ≡ Some (record { seq = m; answer = answer })
-answer-found layout all view cpu n list [] k m answer are there at = absurd (none-some (lines.Answer m answer) there)
-answer-found layout all view cpu n [] (row ∷ rows) k m answer are there at = absurd are
-answer-found layout all view cpu n (c ∷ cs) (lines.Event a b s x y z w ∷ rows) k m answer are there at = absurd are
-answer-found layout all view cpu n (c ∷ cs) (lines.Answer seq a ∷ rows) zero m answer (seq_is, caused, accounted, rest) there at =
-    let is : m ≡ seq = (let same : m ≡ n + 0 = at in let seq_at : seq ≡ n = seq_is in omega arith) in
-    ap (λ (b : Bool). cond b (Some (record { seq = seq; answer = a })) (find (λ (l : AnswerLine). m == l.seq) (filter_map answer_in rows))) (eq-eqb m seq is)
-    ∙ ap answer_in (same_Some (lines.Answer seq a) (lines.Answer m answer) there)
-answer-found layout all view cpu n (c ∷ cs) (lines.Answer seq a ∷ rows) (suc k) m answer (seq_is, caused, accounted, rest) there at =
-    let seq_at : seq ≡ n = seq_is in
-    let other : m ≢ seq = λ same. (let no : m ≡ seq = same in omega arith) in
-    ap (λ (b : Bool). cond b (Some (record { seq = seq; answer = a })) (find (λ (l : AnswerLine). m == l.seq) (filter_map answer_in rows))) (ne_eqb m seq other)
-    ∙ answer-found layout all view cpu (n + 1) cs rows k m answer rest there (omega arith)
+use Rattle.hwp_served.proofs.RowLines.{answer-told, event_at, events-by-row, events-told, told_at}
+use Rattle.hwp_served.proofs.lines.OfRows.{row-of}
+use Rattle.hwp_served.proofs.RowTold.{IsToldRight, told-so}
+use Rattle.hwp_served.proofs.Shown.{already-shown, answer-shown, goes-shown}
 
 -- the list of a processor that has such a command
 record HasCommand (script : Script) (who : Who) (command : Command) : Type 0 where
@@ -78,72 +72,129 @@ process-command script who process is = which (command_at script who) refl is
     which None none there = absurd (none-some process there)
     which (Some command) some there = (command, some)
 
+-- ---- of an event whose frame was poisoned already
+
+-- what is done without a step isn't that
+abbrev is_told_already : Option Acted → Bool
+is_told_already None = false
+is_told_already (Some acted) = is_already acted
+
+failure-not-already : (x y z : Bool) → is_told_already (cond x (Some acts.Held) (cond y (Some acts.Outside) (cond z None (Some acts.Panic)))) ≡ false
+failure-not-already true y z = refl
+failure-not-already false true z = refl
+failure-not-already false false true = refl
+failure-not-already false false false = refl
+
+once-not-already : (layout : Layout) (held_back : Bool) (frame : ℕ) (severity : Severity) → is_told_already (severity_at_once layout held_back frame severity) ≡ false
+once-not-already layout held_back frame severities.Stop = refl
+once-not-already layout held_back frame severities.None = refl
+once-not-already layout held_back frame severities.Keep = refl
+once-not-already layout held_back frame severities.Deferred = refl
+once-not-already layout held_back frame severities.Logged = refl
+once-not-already layout held_back frame severities.Optional = failure-not-already held_back (nat_le layout.frames frame) layout.recovery
+once-not-already layout held_back frame severities.Required = failure-not-already held_back (nat_le layout.frames frame) layout.recovery
+
+result-not-already : (o : Outcome) → is_already (outcome_act o) ≡ false
+result-not-already outcomes.Recovered = refl
+result-not-already outcomes.Delayed = refl
+result-not-already outcomes.Ignored = refl
+
+-- so its failure took place, and the command saw the poison
+saw-already : (layout : Layout) (view : View) (who : Who) (thread : Option Thread) (t : Told) → IsToldRight layout view who thread t → t.acted ≡ acts.Already → SawPoison view who (frame_of t.held)
+saw-already layout view who thread t (b, right) already = which (at_once layout b t.held) refl right
+  where
+    failed : (found : Option Found) → IsFailed layout view who (frame_of t.held) (required_by thread t.held.grade.severity) t.acted found → SawPoison view who (frame_of t.held)
+    failed None is = is.1
+    failed (Some found) is = absurd (true≢false (sym (ap is_already (sym is.0 ∙ already)) ∙ result-not-already (outcome_of found.situation)))
+
+    which : (o : Option Acted) → at_once layout b t.held ≡ o → IsDone layout view who (required_by thread t.held.grade.severity) t o → SawPoison view who (frame_of t.held)
+    which None none done = failed t.found done
+    which (Some acted) some done = absurd (true≢false (sym (ap is_already (sym done.0 ∙ already)) ∙ sym (ap is_told_already some) ∙ once-not-already layout b (frame_at t.held.event.addr) t.held.grade.severity))
+
 module _ (script : Script) (seat : Cpu → ℕ) (turns : List Played) (last : State) (report : Report) (run : IsRunOf script seat turns last report) where
-  -- no command has an event line
-  pub eventless : (who : Who) → events_of report who ≡ []
-  eventless who = ap (λ (l : List EventLine). filter (λ (e : EventLine). who.seq == e.seq) l) (which (slice_get report.cpus who.cpu.0) refl)
-    where
-      which : (o : Option (List CpuLine)) → slice_get report.cpus who.cpu.0 ≡ o → filter_map event_in (unwrap_or o []) ≡ []
-      which None none = refl
-      which (Some rows) some =
-          let inside : who.cpu.0 < script.layout.cpus = subst (λ (n : ℕ). who.cpu.0 < n) run.lengths.cpus (slice_get_within report.cpus who.cpu.0 rows some) in
-          let list = list-of script seat last report (ended script seat turns last report run) who.cpu inside in
-          no-events script.layout list.0 (view_of last (seat who.cpu)) who.cpu 0 list.0 rows (served-of script seat last report (ended script seat turns last report run) who.cpu list.0 rows list.1 some).1.answered
-
-  -- the answer that a command's line says is the command's in the report
-  pub answer-told : (who : Who) (list : List Command) (rows : List CpuLine) (answer : Answer) → slice_get script.lists who.cpu.0 ≡ Some list → slice_get report.cpus who.cpu.0 ≡ Some rows → slice_get rows who.seq ≡ Some (lines.Answer who.seq answer) → answer_of report who ≡ Some answer
-  answer-told who list rows answer list_is rows_is line =
-      let served = (served-of script seat last report (ended script seat turns last report run) who.cpu list rows list_is rows_is).1 in
-      let found = answer-found script.layout list (view_of last (seat who.cpu)) who.cpu 0 list rows who.seq who.seq answer served.answered line (omega arith) in
-      ap (λ (o : Option (List CpuLine)). answer_among (unwrap_or o []) who.seq) rows_is ∙ ap (λ (o : Option AnswerLine). option_map (λ (l : AnswerLine). l.answer) o) found
-
-  -- the answer of a command, and its cause by what its seat knows
-  pub record Answers (who : Who) (command : Command) (answer : Answer) : Type 0 where
+  -- a command of the script, with its row and what its seat knows of it
+  pub record Serves (who : Who) (command : Command) : Type 0 where
     pub list : List Command
     pub inside : who.cpu.0 < script.layout.cpus
-    pub caused : IsCaused script.layout list (view_of last (seat who.cpu)) who command answer
-    pub accounted : IsAccounted (view_of last (seat who.cpu)) who command answer
+    pub row : Row
+    pub before : Banks
+    pub after : Banks
+    pub served : IsRowServed script.layout list (view_of last (seat who.cpu)) who command before row after
+    pub answered : answer_of report who ≡ Some row.answer
+    pub events : events_of report who ≡ map (event_at who.seq) row.told
 
-  pub answers-of : (who : Who) (command : Command) (answer : Answer) → command_at script who ≡ Some command → answer_of report who ≡ Some answer → Answers who command answer
-  answers-of who command answer at is =
+  pub serves : (who : Who) (command : Command) → command_at script who ≡ Some command → Serves who command
+  serves who command at =
       let end = ended script seat turns last report run in
       let has = has-command script who command at in
-      let inside : who.cpu.0 < script.layout.cpus = subst (λ (n : ℕ). who.cpu.0 < n) run.lengths.lists (slice_get_within script.lists who.cpu.0 has.list has.list_is) in
-      let rows = rows-of script seat last report end who.cpu inside in
-      let of = command-of script seat last report end who has.list rows.0 command has.list_is rows.1 has.command_is in
-      let told : answer_of report who ≡ Some of.answer = answer-told who of.list of.rows of.answer of.list_is of.rows_is of.answer_is in
-      let same : of.answer ≡ answer = same_Some of.answer answer (sym told ∙ is) in
+      let of = command-of script seat last report end who has.list command has.list_is has.command_is in
       let same_command : of.command ≡ command = same_Some of.command command (sym of.command_is ∙ ap (λ (l : List Command). slice_get l who.seq) (same_Some of.list has.list (sym of.list_is ∙ has.list_is)) ∙ has.command_is) in
       record {
         list = of.list;
-        inside = inside;
-        caused = subst (λ (c : Command). IsCaused script.layout of.list (view_of last (seat who.cpu)) who c answer) same_command (subst (IsCaused script.layout of.list (view_of last (seat who.cpu)) who of.command) same of.caused);
-        accounted = subst (λ (c : Command). IsAccounted (view_of last (seat who.cpu)) who c answer) same_command (subst (IsAccounted (view_of last (seat who.cpu)) who of.command) same of.accounted);
+        inside = of.inside;
+        row = of.row;
+        before = of.before;
+        after = of.after;
+        served = subst (λ (c : Command). IsRowServed script.layout of.list (view_of last (seat who.cpu)) who c of.before of.row of.after) same_command of.served;
+        answered = answer-told script seat last report end (view_of last (seat who.cpu)) who of;
+        events = events-told script seat last report end (view_of last (seat who.cpu)) who of;
       }
+
+  -- and with this answer
+  pub record Answers (who : Who) (command : Command) (answer : Answer) : Type 0 where
+    pub list : List Command
+    pub inside : who.cpu.0 < script.layout.cpus
+    pub row : Row
+    pub answer_is : row.answer ≡ answer
+    pub before : Banks
+    pub after : Banks
+    pub served : IsRowServed script.layout list (view_of last (seat who.cpu)) who command before row after
+
+  pub answers-of : (who : Who) (command : Command) (answer : Answer) → command_at script who ≡ Some command → answer_of report who ≡ Some answer → Answers who command answer
+  answers-of who command answer at is =
+      let a = serves who command at in
+      record { list = a.list; inside = a.inside; row = a.row; answer_is = same_Some a.row.answer answer (sym a.answered ∙ is); before = a.before; after = a.after; served = a.served }
+
+  -- its answer has its cause
+  pub caused-so : {who : Who} {command : Command} {answer : Answer} (a : Answers who command answer) → IsAnswerCaused script.layout a.list (view_of last (seat who.cpu)) who command a.row.told a.row.own answer
+  caused-so {who} {command} a = subst (IsAnswerCaused script.layout a.list (view_of last (seat who.cpu)) who command a.row.told a.row.own) a.answer_is a.served.caused
 
   said : (cpu : Cpu) → cpu.0 < script.layout.cpus → Said (told script.layout turns) (view_of last (seat cpu))
   said cpu inside = all-told script.layout turns last run.moves (seat cpu) (view_of last (seat cpu)) (run.seated.there cpu inside)
 
-  -- each answer rests on what its command was shown
+  events-shown : (who : Who) (o : Option Row) → row_at (ended script seat turns last report run).rows who ≡ o → EachMember (AlreadyShown script.layout turns who) (map (event_at who.seq) (told_at o))
+  events-shown who None none = λ i e there. absurd (none-some e there)
+  events-shown who (Some row) some =
+      let r = row-of script seat last report (ended script seat turns last report run) who row some in
+      let view : View = view_of last (seat who.cpu) in
+      let right : EachMember (IsToldRight script.layout view who (current_thread r.of.command)) row.told = subst (λ (x : Row). EachMember (IsToldRight script.layout view who (current_thread r.of.command)) x.told) r.same
+      (told-so script.layout view who r.of.command r.of.row.answer r.of.before r.of.row.told r.of.after r.of.served.told) in
+      each-map (event_at who.seq) (AlreadyShown script.layout turns who) row.told
+      (each-weaken (IsToldRight script.layout view who (current_thread r.of.command)) (λ (t : Told). AlreadyShown script.layout turns who (event_at who.seq t)) row.told
+      (λ t is. already-shown script turns view (said who.cpu r.of.inside) who r.of.list t who.seq (saw-already script.layout view who (current_thread r.of.command) t is)) right)
+
+  -- each answer, and each event line, rests on what its command was shown
   pub report-shown : IsShown script report turns
   report-shown = record {
     answers = λ who command answer at is.
         let a = answers-of who command answer at is in
-        answer-shown script turns (view_of last (seat who.cpu)) (said who.cpu a.inside) who a.list command answer at a.caused;
+        answer-shown script turns (view_of last (seat who.cpu)) (said who.cpu a.inside) who a.list command a.row.told a.row.own answer at (caused-so a);
     going = λ who process answer at is.
         let has = process-command script who process at in
         let a = answers-of who has.0 answer has.1 is in
-        goes-shown script turns (view_of last (seat who.cpu)) (said who.cpu a.inside) who a.list process has.0 answer has.1 at a.caused;
-    events = λ who. subst (EachMember (AlreadyShown script.layout turns who)) (sym (eventless who)) (λ i e there. absurd (none-some e there));
+        goes-shown script turns (view_of last (seat who.cpu)) (said who.cpu a.inside) who a.list process has.0 a.row.told a.row.own answer has.1 at (caused-so a);
+    events = λ who. subst (EachMember (AlreadyShown script.layout turns who)) (sym (events-by-row script seat last report (ended script seat turns last report run) who)) (events-shown who (row_at (ended script seat turns last report run).rows who) refl);
   }
 
   -- no scrub is answered but by `stopped`, and no line tells one
   pub scrubs-shown : ScrubsShown script report turns
   scrubs-shown = record {
-    bad = λ who first last_frame at frame n found. absurd (untold who found.0 found.1 found.2);
-    weak = λ who first last_frame at frame n found. absurd (untold who found.0 found.1 found.2);
-    whole = λ who first last_frame n at is. absurd (answers-of who (commands.Scrub first last_frame) (answers.Scrubbed n) at is).caused;
+    bad = λ who first last_frame at frame n found. absurd (untold who first last_frame at found.0 found.1 found.2);
+    weak = λ who first last_frame at frame n found. absurd (untold who first last_frame at found.0 found.1 found.2);
+    whole = λ who first last_frame n at is. absurd (caused-so (answers-of who (commands.Scrub first last_frame) (answers.Scrubbed n) at is));
   }
     where
-      untold : (who : Who) (i : ℕ) (e : EventLine) → slice_get (events_of report who) i ≡ Some e → ⊥
-      untold who i e there = none-some e (sym (ap (λ (l : List EventLine). slice_get l i) (eventless who)) ∙ there)
+      untold : (who : Who) (first last_frame : Frame) → command_at script who ≡ Some (commands.Scrub first last_frame) → (i : ℕ) (e : EventLine) → slice_get (events_of report who) i ≡ Some e → ⊥
+      untold who first last_frame at i e there =
+          let a = serves who (commands.Scrub first last_frame) at in
+          none-some e (sym (ap (λ (l : List EventLine). slice_get l i) (a.events ∙ ap (map (event_at who.seq)) a.served.told.0)) ∙ there)

@@ -3,7 +3,9 @@ use Rattle.std.proofs.Common.{◌≡◌, ◌≢◌, ◌⊎◌, ℕ, ◌+◌, not
 use Rattle.std.specs.Prelude.{IsSomeAnd}
 use Rattle.std.proofs.lemmas.Bool.{eq-eqb}
 use Rattle.std.proofs.lemmas.Option.{none-some, same_Some}
+use Rattle.hwp_geom.specs.declared.Frame.{Frame}
 use Rattle.hwp_geom.specs.declared.Layout.{Layout}
+use Rattle.hwp_geom.specs.declared.Mask.{Mask}
 use Rattle.hwp_geom.specs.declared.Page.{Page}
 use Rattle.hwp_geom.specs.declared.Proc.{Proc}
 use Rattle.hwp_geom.specs.declared.Thread.{Thread}
@@ -31,7 +33,8 @@ use Rattle.hwp_rule.specs.Lists.{SomeMember}
 use Rattle.hwp_rule.specs.Logs.{state_of}
 use Rattle.hwp_rule.specs.Steps.{place_of}
 use Rattle.hwp_step.specs.Boards.{Played}
-use Rattle.hwp_known.specs.Known.{Saw, SawLog, SawStop}
+use Rattle.hwp_known.specs.Known.{Saw, SawBadOf, SawLog, SawStop}
+use Rattle.hwp_claim.specs.Claims.{SawPoison}
 use Rattle.hwp_known.specs.Pages.{SawState}
 use Rattle.hwp_script.specs.declared.Command.{Command}
 use Rattle.hwp_script.specs.declared.Command.TheVariants as commands
@@ -40,15 +43,20 @@ use Rattle.hwp_script.specs.declared.Script.{Script}
 use Rattle.hwp_report.specs.declared.Answer.{Answer}
 use Rattle.hwp_report.specs.declared.Answer.TheVariants as answers
 use Rattle.hwp_law.specs.Answers.{reply_answer}
-use Rattle.hwp_law.specs.Commands.{process_at, process_of_thread, thread_of}
+use Rattle.hwp_report.specs.declared.Acted.TheVariants as acts
+use Rattle.hwp_law.specs.Commands.{Access, access_of, process_at, process_of_thread, thread_of}
 use Rattle.hwp_law.specs.Places.{command_at}
 use Rattle.hwp_law.specs.Policies.{arguments, last_policy, settings}
 use Rattle.hwp_law.specs.Runs.{slot_of}
-use Rattle.hwp_runs.specs.Shown.{AnswerShown, GoesOn, GoneShown, LengthShown, NoFrameShown, ProcessShown, StopShown}
-use Rattle.hwp_runs.specs.Turns.{Finds, SawPage, SeesPage, TurnBy}
-use Rattle.hwp_runs.proofs.Knowing.{Said}
+use Rattle.hwp_handler.specs.declared.Found.{Found}
+use Rattle.hwp_handler.specs.declared.Told.{Told}
+use Rattle.hwp_handler.specs.Told.{frame_of}
+use Rattle.hwp_runs.specs.Shown.{AlreadyShown, AnswerShown, GoesOn, GoneShown, LengthShown, NoFrameShown, ProcessShown, StopShown}
+use Rattle.hwp_runs.specs.Turns.{Finds, FindsBad, HasFrameOf, SawPage, SeesPage, TurnBy}
+use Rattle.hwp_runs.proofs.Knowing.{IsUnder, Said}
 use Rattle.hwp_runs.proofs.Telling.{told}
-use Rattle.hwp_served.specs.Causes.{FoundGone, FoundNoFrame, FoundStopped, IsCaused, SawProcess}
+use Rattle.hwp_served.specs.Causes.{FoundGone, FoundNoFrame, FoundState, FoundStopped, IsAnswerCaused, IsTableCaused, SawBadLines, SawProcess, WasSignalled}
+use Rattle.hwp_served.proofs.RowLines.{event_at}
 use Rattle.hwp_served.proofs.deeds.Made.{some-so}
 
 -- a translation is of one page
@@ -82,8 +90,15 @@ module _ (layout : Layout) (turns : List Played) (view : View) (said : Said (tol
   pub word-shown : (P : ℕ → Type 0) (place : Place) (word : ℕ) → P word → Saw view who place word → Finds layout turns who place P
   word-shown P place word such saw =
       let s : Sight = saw.1 in
-      turn-so (λ (made : Rec) (v : View). (place_of made.step ≡ s.place) × (made.found ≡ s.word)) (λ (made : Rec) (v : View). (place_of made.step ≡ place) × P made.found) s.stamp.who saw.3.0
+      turn-so (λ (made : Rec) (v : View). (place_of made.step ≡ s.place) × (made.found ≡ s.word) × IsUnder s v) (λ (made : Rec) (v : View). (place_of made.step ≡ place) × P made.found) s.stamp.who saw.3.0
       (λ made v is. (is.0 ∙ saw.3.1, subst P (sym (is.1 ∙ saw.3.2)) such)) (said.sights saw.0 s saw.2)
+
+  -- bad lines of a frame that the command saw under the frame's lock
+  look-shown : (page : Page) (frame : Frame) (mask : ℕ) → SawBadOf view who page frame mask → FindsBad layout turns who page frame mask
+  look-shown page frame mask saw =
+      let s : Sight = saw.1 in
+      turn-so (λ (made : Rec) (v : View). (place_of made.step ≡ s.place) × (made.found ≡ s.word) × IsUnder s v) (λ (made : Rec) (v : View). (place_of made.step ≡ places.Bad frame) × (made.found ≡ mask) × HasFrameOf page frame v) s.stamp.who saw.3.0.0
+      (λ made v is. (is.0 ∙ saw.3.0.1, is.1 ∙ saw.3.0.2, is.2.locked frame (page.0 + 1) saw.3.0.1 saw.3.1 saw.3.2)) (said.sights saw.0 s saw.2)
 
   -- a history that the command saw
   pub log-shown : (P : Log → Type 0) (log : Log) → P log → SawLog view who log → SawPage layout turns who log.page P
@@ -115,8 +130,8 @@ module _ (layout : Layout) (turns : List Played) (view : View) (said : Said (tol
   length-shown {at = at} {Such = Such} saw = page-shown (λ (log : Log). length log.entries ≡ at.entry) at.page at.entry Such saw saw.place_is
 
   -- the machine had stopped, or the command stopped it
-  pub stop-shown : FoundStopped view who → StopShown layout turns who
-  stop-shown found = which found.stopped
+  pub stop-shown : (command : Command) → FoundStopped layout view who command → StopShown layout turns who
+  stop-shown command found = which found.stopped
     where
       which : SawStop view who ⊎ SomeMember (λ (w : Who). w ≡ who) view.stops → StopShown layout turns who
       which (inl saw) = inl (word-shown (λ (word : ℕ). stopper_of word ≢ 0) places.Stop saw.word (λ none. true≢false (sym saw.stopped ∙ ap not (eq-eqb (stopper_of saw.word) 0 none))) saw.saw)
@@ -136,8 +151,8 @@ module _ (script : Script) (turns : List Played) (view : View) (said : Said (tol
       some-so (λ (p : Proc). ProcessShown script.layout turns who p (page.0 + 1)) (process_at script who) process is (process-shown script.layout turns view said who process gone.ended.process_is gone.ended)
 
   -- no frame was available, and the page was in none
-  no-frame-shown : (command : Command) (thread : Thread) (slot : VSlot) → slot_of command ≡ Some slot → FoundNoFrame script.layout view who thread slot → NoFrameShown script turns who command
-  no-frame-shown command thread slot its found = record {
+  no-frame-shown : (command : Command) (thread : Thread) (slot : VSlot) (line : ℕ) → slot_of command ≡ Some slot → FoundNoFrame script.layout view who thread slot line → NoFrameShown script turns who command
+  no-frame-shown command thread slot line its found = record {
     available = word-shown script.layout turns view said who (λ (word : ℕ). word ≡ 0) places.Available 0 refl found.available;
     out = λ other page other_is of.
         let same : other ≡ slot = same_Some other slot (sym other_is ∙ its) in
@@ -146,86 +161,140 @@ module _ (script : Script) (turns : List Played) (view : View) (said : Said (tol
         (page-shown script.layout turns view said who (λ (log : Log). (state_of script.layout log).cached ≡ false) found.page found.place IsAway found.away found.away.such);
   }
 
-  abbrev Shows : Command → Answer → Type 0
-  Shows command answer = command_at script who ≡ Some command → IsCaused script.layout list view who command answer → AnswerShown script turns who command answer
-
   replied-shown : (thread : Thread) (args : PrctlArgs) (r : Reply) → AnswerShown script turns who (commands.Prctl thread args) (reply_answer r)
   replied-shown thread args (replies.Set policy) = tt
   replied-shown thread args (replies.Is policy) = tt
   replied-shown thread args replies.Einval = tt
 
-  -- what the answer rests on
-  pub answer-shown : (command : Command) (answer : Answer) → Shows command answer
-  answer-shown command answers.Stopped at caused = stop-shown script.layout turns view said who caused
-  answer-shown (commands.Load thread slot line) (answers.Value word entry) at caused = tt
-  answer-shown (commands.Load thread slot line) (answers.Sigbus entry) at caused = tt
-  answer-shown (commands.Load thread slot line) answers.NoFrame at caused = no-frame-shown (commands.Load thread slot line) thread slot refl caused
-  answer-shown (commands.Load thread slot line) (answers.Gone page) at caused = gone-shown (commands.Load thread slot line) thread page at refl caused
-  answer-shown (commands.Fetch thread slot line) (answers.Value word entry) at caused = tt
-  answer-shown (commands.Fetch thread slot line) (answers.Sigbus entry) at caused = tt
-  answer-shown (commands.Fetch thread slot line) answers.NoFrame at caused = no-frame-shown (commands.Fetch thread slot line) thread slot refl caused
-  answer-shown (commands.Fetch thread slot line) (answers.Gone page) at caused = gone-shown (commands.Fetch thread slot line) thread page at refl caused
-  answer-shown (commands.KLoad thread slot line) (answers.Value word entry) at caused = tt
-  answer-shown (commands.KLoad thread slot line) (answers.Sigbus entry) at caused = tt
-  answer-shown (commands.KLoad thread slot line) answers.NoFrame at caused = no-frame-shown (commands.KLoad thread slot line) thread slot refl caused
-  answer-shown (commands.KLoad thread slot line) (answers.Gone page) at caused = gone-shown (commands.KLoad thread slot line) thread page at refl caused
-  answer-shown (commands.Store thread slot line word) (answers.Stored entry) at caused = tt
-  answer-shown (commands.Store thread slot line word) (answers.Sigbus entry) at caused = tt
-  answer-shown (commands.Store thread slot line word) answers.NoFrame at caused = no-frame-shown (commands.Store thread slot line word) thread slot refl caused
-  answer-shown (commands.Store thread slot line word) (answers.Gone page) at caused = gone-shown (commands.Store thread slot line word) thread page at refl caused
-  answer-shown (commands.Free slot) (answers.DoneAt entry) at caused = tt
-  answer-shown (commands.Free slot) (answers.NotMapped place) at caused = length-shown script.layout turns view said who caused.1.saw
-  answer-shown (commands.Drop page) (answers.DoneAt entry) at caused = tt
-  answer-shown (commands.Drop page) (answers.NotResident place) at caused = length-shown script.layout turns view said who caused.1.saw
-  answer-shown (commands.Drop page) (answers.Dirty place) at caused = length-shown script.layout turns view said who caused.1.saw
-  answer-shown (commands.Drop page) (answers.Mapped place) at caused = length-shown script.layout turns view said who caused.1.saw
-  answer-shown (commands.Sync page) (answers.DoneAt entry) at caused = tt
-  answer-shown (commands.Sync page) (answers.NotResident place) at caused = length-shown script.layout turns view said who caused.1.saw
-  answer-shown (commands.Out page) (answers.DoneAt entry) at caused = tt
-  answer-shown (commands.Out page) (answers.NotResident place) at caused = length-shown script.layout turns view said who caused.1.saw
-  answer-shown (commands.Fsync file) answers.Done at caused = word-shown script.layout turns view said who (λ (word : ℕ). word ≡ 0) (places.Loss file) 0 refl caused.1
-  answer-shown (commands.Fsync file) (answers.Eio lost) at caused = word-shown script.layout turns view said who (λ (word : ℕ). word ≡ lost) (places.Loss file) lost refl caused.2
-  answer-shown (commands.Prctl thread args) (answers.Gone page) at caused = gone-shown (commands.Prctl thread args) thread page at refl caused
-  answer-shown (commands.Prctl thread args) answer at caused =
+  -- lines of a page that a copy found bad
+  bad-shown : (place : At) (page : Page) (mask : Mask) → place.page ≡ page → FoundState script.layout view who place (λ (s : PageState). s.cached ≡ true) → SawBadLines script.layout view who page mask
+      → LengthShown script.layout turns who place × ((frame : Frame) × FindsBad script.layout turns who place.page frame mask.0)
+  bad-shown place page mask same found lines = (
+    length-shown script.layout turns view said who found.saw,
+    (lines.frame, subst (λ (p : Page). FindsBad script.layout turns who p lines.frame mask.0) (sym same) (look-shown script.layout turns view said who page lines.frame mask.0 lines.saw)),
+  )
+
+  -- what the answer rests on, where the command brought no failure about
+  table-shown : (command : Command) (answer : Answer) → command_at script who ≡ Some command → IsTableCaused script.layout list view who command answer → AnswerShown script turns who command answer
+  table-shown (commands.Load thread slot line) (answers.Value word entry) at caused = tt
+  table-shown (commands.Load thread slot line) (answers.Sigbus entry) at caused = tt
+  table-shown (commands.Load thread slot line) answers.NoFrame at caused = no-frame-shown (commands.Load thread slot line) thread slot line refl caused
+  table-shown (commands.Load thread slot line) (answers.Gone page) at caused = gone-shown (commands.Load thread slot line) thread page at refl caused.0
+  table-shown (commands.Fetch thread slot line) (answers.Value word entry) at caused = tt
+  table-shown (commands.Fetch thread slot line) (answers.Sigbus entry) at caused = tt
+  table-shown (commands.Fetch thread slot line) answers.NoFrame at caused = no-frame-shown (commands.Fetch thread slot line) thread slot line refl caused
+  table-shown (commands.Fetch thread slot line) (answers.Gone page) at caused = gone-shown (commands.Fetch thread slot line) thread page at refl caused.0
+  table-shown (commands.KLoad thread slot line) (answers.Value word entry) at caused = tt
+  table-shown (commands.KLoad thread slot line) (answers.Sigbus entry) at caused = tt
+  table-shown (commands.KLoad thread slot line) answers.NoFrame at caused = no-frame-shown (commands.KLoad thread slot line) thread slot line refl caused
+  table-shown (commands.KLoad thread slot line) (answers.Gone page) at caused = gone-shown (commands.KLoad thread slot line) thread page at refl caused.0
+  table-shown (commands.Store thread slot line word) (answers.Stored entry) at caused = tt
+  table-shown (commands.Store thread slot line word) (answers.Sigbus entry) at caused = tt
+  table-shown (commands.Store thread slot line word) answers.NoFrame at caused = no-frame-shown (commands.Store thread slot line word) thread slot line refl caused
+  table-shown (commands.Store thread slot line word) (answers.Gone page) at caused = gone-shown (commands.Store thread slot line word) thread page at refl caused.0
+  table-shown (commands.Free slot) (answers.DoneAt entry) at caused = tt
+  table-shown (commands.Free slot) (answers.NotMapped place) at caused = length-shown script.layout turns view said who caused.1.saw
+  table-shown (commands.Drop page) (answers.DoneAt entry) at caused = tt
+  table-shown (commands.Drop page) (answers.NotResident place) at caused = length-shown script.layout turns view said who caused.1.saw
+  table-shown (commands.Drop page) (answers.Dirty place) at caused = length-shown script.layout turns view said who caused.1.saw
+  table-shown (commands.Drop page) (answers.Mapped place) at caused = length-shown script.layout turns view said who caused.1.saw
+  table-shown (commands.Sync page) (answers.DoneAt entry) at caused = tt
+  table-shown (commands.Sync page) (answers.NotResident place) at caused = length-shown script.layout turns view said who caused.1.saw
+  table-shown (commands.Sync page) (answers.BadLines mask place) at caused = bad-shown place page mask caused.0 caused.1 caused.2
+  table-shown (commands.Out page) (answers.DoneAt entry) at caused = tt
+  table-shown (commands.Out page) (answers.NotResident place) at caused = length-shown script.layout turns view said who caused.1.saw
+  table-shown (commands.Out page) (answers.BadLines mask place) at caused = bad-shown place page mask caused.0 caused.1 caused.2
+  table-shown (commands.Fsync file) answers.Done at caused = word-shown script.layout turns view said who (λ (word : ℕ). word ≡ 0) (places.Loss file) 0 refl caused.1
+  table-shown (commands.Fsync file) (answers.Eio lost) at caused = word-shown script.layout turns view said who (λ (word : ℕ). word ≡ lost) (places.Loss file) lost refl caused.2
+  table-shown (commands.Prctl thread args) (answers.Gone page) at caused = gone-shown (commands.Prctl thread args) thread page at refl caused.0
+  table-shown (commands.Prctl thread args) answer at caused =
       subst (AnswerShown script turns who (commands.Prctl thread args)) (sym caused.replied) (replied-shown thread args (reply (last_policy (settings thread (take who.seq list))) (arguments args)))
-  answer-shown (commands.Log status addr misc) answers.Done at caused = tt
-  answer-shown (commands.Inject frame) answers.Recovered at caused = tt
-  answer-shown (commands.Inject frame) answers.Delayed at caused = tt
-  answer-shown (commands.Inject frame) answers.Ignored at caused = tt
-  answer-shown (commands.Inject frame) answers.Already at caused =
-      word-shown script.layout turns view said who (λ (word : ℕ). is_poisoned word ≡ true) (places.Frame frame) caused.1.word caused.1.poisoned caused.1.saw
-  answer-shown (commands.Inject frame) answer at caused = absurd caused.1
-  answer-shown command answer at caused = absurd caused
+  table-shown (commands.Log status addr misc) answers.Done at caused = tt
+  table-shown (commands.Bad frame line) answers.Done at caused = tt
+  table-shown (commands.Weak frame line) answers.Done at caused = tt
+  table-shown command answer at caused = absurd caused
+
+  -- SIGBUS itself rests on no word
+  sigbus-shown : (command : Command) (at : At) → AnswerShown script turns who command (answers.Sigbus at)
+  sigbus-shown (commands.Inject frame) at = tt
+  sigbus-shown (commands.Soft frame) at = tt
+  sigbus-shown (commands.Unpoison frame) at = tt
+  sigbus-shown (commands.Fsync file) at = tt
+  sigbus-shown command at = tt
+
+  pub answer-shown : (command : Command) (told : List Told) (own : Option (Frame × Found)) (answer : Answer) → command_at script who ≡ Some command → IsAnswerCaused script.layout list view who command told own answer → AnswerShown script turns who command answer
+  answer-shown command told own answers.Stopped at caused = stop-shown script.layout turns view said who command caused
+  answer-shown (commands.RaiseUser thread ripv eipv) told own (answers.Raised n) at caused = tt
+  answer-shown (commands.RaiseUser thread ripv eipv) told own (answers.Gone page) at caused = gone-shown (commands.RaiseUser thread ripv eipv) thread page at refl caused.0
+  answer-shown (commands.RaiseKernel ripv eipv) told own (answers.Raised n) at caused = tt
+  answer-shown (commands.Inject frame) told own answers.Recovered at caused = tt
+  answer-shown (commands.Inject frame) told own answers.Delayed at caused = tt
+  answer-shown (commands.Inject frame) told own answers.Ignored at caused = tt
+  answer-shown (commands.Inject frame) told own answers.Already at caused =
+      word-shown script.layout turns view said who (λ (word : ℕ). is_poisoned word ≡ true) (places.Frame frame) caused.1.0.word caused.1.0.poisoned caused.1.0.saw
+  answer-shown (commands.Inject frame) told own answer at caused = absurd caused.1
+  answer-shown command told own (answers.Sigbus entry) at caused = sigbus-shown command entry
+  answer-shown command told own answer at caused = table-shown command answer at caused
+
+  -- an event's frame that was poisoned already
+  pub already-shown : (t : Told) (seq : ℕ) → (t.acted ≡ acts.Already → SawPoison view who (frame_of t.held)) → AlreadyShown script.layout turns who (event_at seq t)
+  already-shown t seq so is = let saw = so is in word-shown script.layout turns view said who (λ (word : ℕ). is_poisoned word ≡ true) (places.Frame (frame_of t.held)) saw.word saw.poisoned saw.saw
 
   module _ (process : Proc) where
     -- the thread of the command found its process going on
     runs-on : (command : Command) (thread : Thread) → thread_of command ≡ Some thread → option_and_then (process_of_thread script.layout) (thread_of command) ≡ Some process → SawProcess script.layout view who thread 0 → ProcessShown script.layout turns who process 0
     runs-on command thread of is saw = process-shown script.layout turns view said who process (sym (ap (λ (o : Option Thread). option_and_then (process_of_thread script.layout) o) of) ∙ is) saw
 
-    goes : (command : Command) (answer : Answer) → option_and_then (process_of_thread script.layout) (thread_of command) ≡ Some process → IsCaused script.layout list view who command answer → GoesOn script.layout turns who process answer
-    goes command answers.Stopped is caused = tt
-    goes command (answers.Gone page) is caused = tt
-    goes (commands.Load thread slot line) (answers.Value word entry) is caused = runs-on (commands.Load thread slot line) thread refl is caused.1.going
-    goes (commands.Load thread slot line) (answers.Sigbus entry) is caused = runs-on (commands.Load thread slot line) thread refl is caused.going
-    goes (commands.Load thread slot line) answers.NoFrame is caused = runs-on (commands.Load thread slot line) thread refl is caused.going
-    goes (commands.Fetch thread slot line) (answers.Value word entry) is caused = runs-on (commands.Fetch thread slot line) thread refl is caused.1.going
-    goes (commands.Fetch thread slot line) (answers.Sigbus entry) is caused = runs-on (commands.Fetch thread slot line) thread refl is caused.going
-    goes (commands.Fetch thread slot line) answers.NoFrame is caused = runs-on (commands.Fetch thread slot line) thread refl is caused.going
-    goes (commands.KLoad thread slot line) (answers.Value word entry) is caused = runs-on (commands.KLoad thread slot line) thread refl is caused.1.going
-    goes (commands.KLoad thread slot line) (answers.Sigbus entry) is caused = runs-on (commands.KLoad thread slot line) thread refl is caused.going
-    goes (commands.KLoad thread slot line) answers.NoFrame is caused = runs-on (commands.KLoad thread slot line) thread refl is caused.going
-    goes (commands.Store thread slot line word) (answers.Stored entry) is caused = runs-on (commands.Store thread slot line word) thread refl is caused.1.going
-    goes (commands.Store thread slot line word) (answers.Sigbus entry) is caused = runs-on (commands.Store thread slot line word) thread refl is caused.going
-    goes (commands.Store thread slot line word) answers.NoFrame is caused = runs-on (commands.Store thread slot line word) thread refl is caused.going
-    goes (commands.Prctl thread args) answer is caused = runs-on (commands.Prctl thread args) thread refl is caused.going
-    goes (commands.Free slot) answer is caused = absurd (none-some process is)
-    goes (commands.Drop page) answer is caused = absurd (none-some process is)
-    goes (commands.Sync page) answer is caused = absurd (none-some process is)
-    goes (commands.Out page) answer is caused = absurd (none-some process is)
-    goes (commands.Fsync file) answer is caused = absurd (none-some process is)
-    goes (commands.Log status addr misc) answer is caused = absurd (none-some process is)
-    goes (commands.Inject frame) answer is caused = absurd (none-some process is)
-    goes command answer is caused = absurd caused
+    goes-table : (command : Command) (answer : Answer) → option_and_then (process_of_thread script.layout) (thread_of command) ≡ Some process → IsTableCaused script.layout list view who command answer → GoesOn script.layout turns who process answer
+    goes-table command answers.Stopped is caused = tt
+    goes-table command (answers.Gone page) is caused = tt
+    goes-table (commands.Load thread slot line) (answers.Value word entry) is caused = runs-on (commands.Load thread slot line) thread refl is caused.1.going
+    goes-table (commands.Load thread slot line) (answers.Sigbus entry) is caused = runs-on (commands.Load thread slot line) thread refl is caused.going
+    goes-table (commands.Load thread slot line) answers.NoFrame is caused = runs-on (commands.Load thread slot line) thread refl is caused.going
+    goes-table (commands.Fetch thread slot line) (answers.Value word entry) is caused = runs-on (commands.Fetch thread slot line) thread refl is caused.1.going
+    goes-table (commands.Fetch thread slot line) (answers.Sigbus entry) is caused = runs-on (commands.Fetch thread slot line) thread refl is caused.going
+    goes-table (commands.Fetch thread slot line) answers.NoFrame is caused = runs-on (commands.Fetch thread slot line) thread refl is caused.going
+    goes-table (commands.KLoad thread slot line) (answers.Value word entry) is caused = runs-on (commands.KLoad thread slot line) thread refl is caused.1.going
+    goes-table (commands.KLoad thread slot line) (answers.Sigbus entry) is caused = runs-on (commands.KLoad thread slot line) thread refl is caused.going
+    goes-table (commands.KLoad thread slot line) answers.NoFrame is caused = runs-on (commands.KLoad thread slot line) thread refl is caused.going
+    goes-table (commands.Store thread slot line word) (answers.Stored entry) is caused = runs-on (commands.Store thread slot line word) thread refl is caused.1.going
+    goes-table (commands.Store thread slot line word) (answers.Sigbus entry) is caused = runs-on (commands.Store thread slot line word) thread refl is caused.going
+    goes-table (commands.Store thread slot line word) answers.NoFrame is caused = runs-on (commands.Store thread slot line word) thread refl is caused.going
+    goes-table (commands.Prctl thread args) answer is caused = runs-on (commands.Prctl thread args) thread refl is caused.going
+    goes-table (commands.Free slot) answer is caused = absurd (none-some process is)
+    goes-table (commands.Drop page) answer is caused = absurd (none-some process is)
+    goes-table (commands.Sync page) answer is caused = absurd (none-some process is)
+    goes-table (commands.Out page) answer is caused = absurd (none-some process is)
+    goes-table (commands.Fsync file) answer is caused = absurd (none-some process is)
+    goes-table (commands.Log status addr misc) answer is caused = absurd (none-some process is)
+    goes-table (commands.Bad frame line) answer is caused = absurd (none-some process is)
+    goes-table (commands.Weak frame line) answer is caused = absurd (none-some process is)
+    goes-table command answer is caused = absurd caused
 
-    pub goes-shown : (command : Command) (answer : Answer) → command_at script who ≡ Some command → process_at script who ≡ Some process → IsCaused script.layout list view who command answer → GoesOn script.layout turns who process answer
-    goes-shown command answer at is caused = goes command answer (sym (process-is script who command at) ∙ is) caused
+    -- an access whose thread was signalled for a failure
+    goes-signalled : (command : Command) (told : List Told) (at : At) → option_and_then (process_of_thread script.layout) (thread_of command) ≡ Some process → IsSomeAnd (access_of command) (λ (a : Access). WasSignalled script.layout view who command a.thread told at)
+        → ProcessShown script.layout turns who process 0
+    goes-signalled (commands.Load thread slot line) told at is was = runs-on (commands.Load thread slot line) thread refl is was.going
+    goes-signalled (commands.Fetch thread slot line) told at is was = runs-on (commands.Fetch thread slot line) thread refl is was.going
+    goes-signalled (commands.KLoad thread slot line) told at is was = runs-on (commands.KLoad thread slot line) thread refl is was.going
+    goes-signalled (commands.Store thread slot line word) told at is was = runs-on (commands.Store thread slot line word) thread refl is was.going
+    goes-signalled command told at is was = absurd was
+
+    goes-sigbus : (command : Command) (told : List Told) (at : At) → option_and_then (process_of_thread script.layout) (thread_of command) ≡ Some process
+        → IsTableCaused script.layout list view who command (answers.Sigbus at) ⊎ IsSomeAnd (access_of command) (λ (a : Access). WasSignalled script.layout view who command a.thread told at) → ProcessShown script.layout turns who process 0
+    goes-sigbus command told at is (inl caused) = goes-table command (answers.Sigbus at) is caused
+    goes-sigbus command told at is (inr was) = goes-signalled command told at is was
+
+    goes : (command : Command) (told : List Told) (own : Option (Frame × Found)) (answer : Answer) → option_and_then (process_of_thread script.layout) (thread_of command) ≡ Some process → IsAnswerCaused script.layout list view who command told own answer
+        → GoesOn script.layout turns who process answer
+    goes command told own answers.Stopped is caused = tt
+    goes command told own (answers.Gone page) is caused = tt
+    goes (commands.RaiseUser thread ripv eipv) told own (answers.Raised n) is caused = runs-on (commands.RaiseUser thread ripv eipv) thread refl is caused.0
+    goes (commands.RaiseKernel ripv eipv) told own answer is caused = absurd (none-some process is)
+    goes (commands.Inject frame) told own answer is caused = absurd (none-some process is)
+    goes command told own (answers.Sigbus at) is caused = goes-sigbus command told at is caused
+    goes command told own answer is caused = goes-table command answer is caused
+
+    pub goes-shown : (command : Command) (told : List Told) (own : Option (Frame × Found)) (answer : Answer) → command_at script who ≡ Some command → process_at script who ≡ Some process → IsAnswerCaused script.layout list view who command told own answer
+        → GoesOn script.layout turns who process answer
+    goes-shown command told own answer at is caused = goes command told own answer (sym (process-is script who command at) ∙ is) caused

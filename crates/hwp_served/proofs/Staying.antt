@@ -1,7 +1,9 @@
 -- What a processor knows of an earlier command stays true over each step of a later one.
-use Rattle.std.proofs.Common.{◌≡◌, ◌≢◌, ◌⊎◌, inl, inr, ℕ, ◌==◌, Bool, true, false, cond, List, Option, Some, None, refl, sym, ◌∙◌, subst}
+use Rattle.std.proofs.Common.{◌≡◌, ◌≢◌, ◌⊎◌, inl, inr, ℕ, ◌==◌, Bool, true, false, cond, List, Option, Some, None, IsSomeAnd, refl, sym, ◌∙◌, subst}
+use Rattle.hwp_geom.specs.declared.Damage.{Damage}
 use Rattle.hwp_geom.specs.declared.Frame.{Frame}
 use Rattle.hwp_geom.specs.declared.Layout.{Layout}
+use Rattle.hwp_geom.specs.declared.Mask.{Mask}
 use Rattle.hwp_geom.specs.declared.Page.{Page}
 use Rattle.hwp_geom.specs.declared.Thread.{Thread}
 use Rattle.hwp_geom.specs.declared.VSlot.{VSlot}
@@ -9,7 +11,6 @@ use Rattle.hwp_geom.specs.declared.Who.{Who}
 use Rattle.hwp_page.specs.declared.At.{At}
 use Rattle.hwp_page.specs.declared.Outcome.{Outcome}
 use Rattle.hwp_page.specs.declared.PageState.{PageState}
-use Rattle.hwp_page.specs.declared.Situation.{Situation}
 use Rattle.hwp_page.specs.declared.What.{What}
 use Rattle.hwp_page.specs.declared.What.TheVariants as entries
 use Rattle.hwp_page.specs.History.{BodyValue}
@@ -17,6 +18,7 @@ use Rattle.hwp_rule.specs.declared.InHand.{InHand}
 use Rattle.hwp_rule.specs.declared.Log.{Log}
 use Rattle.hwp_rule.specs.declared.Place.{Place}
 use Rattle.hwp_rule.specs.declared.Place.TheVariants as places
+use Rattle.hwp_rule.specs.declared.Spoiled.{Spoiled}
 use Rattle.hwp_rule.specs.declared.Step.{Step}
 use Rattle.hwp_rule.specs.declared.Step.TheVariants as steps
 use Rattle.hwp_rule.specs.declared.View.{View}
@@ -28,14 +30,23 @@ use Rattle.hwp_rule.proofs.Lists.{some-push}
 use Rattle.hwp_step.specs.Calls.{CanMake, Steps, logs}
 use Rattle.hwp_step.proofs.Stepping.{content_of}
 use Rattle.hwp_known.specs.Known.{HasMadeNone, SawStop, deeds}
-use Rattle.hwp_known.proofs.Listing.{deeds-other, has-made-stays, has-only-stays}
-use Rattle.hwp_known.proofs.Seeing.{saw-state-stays, saw-stays}
+use Rattle.hwp_known.proofs.Listing.{has-made-stays, has-only-stays}
+use Rattle.hwp_known.proofs.Seeing.{saw-bad-of-stays, saw-state-stays, saw-stays}
 use Rattle.hwp_script.specs.declared.Command.{Command}
 use Rattle.hwp_script.specs.declared.Command.TheVariants as commands
 use Rattle.hwp_report.specs.declared.Answer.{Answer}
 use Rattle.hwp_report.specs.declared.Answer.TheVariants as answers
-use Rattle.hwp_law.specs.Pairings.{has_page}
-use Rattle.hwp_served.specs.Causes.{FoundGone, FoundNoFrame, FoundState, FoundStopped, HasCome, HasFailed, IsBarred, IsCaused, IsEntered, IsInjectCaused, IsLoadCaused, IsPageCaused, IsReplied, IsStoreCaused, MadeOne, Reached, SawProcess}
+use Rattle.hwp_law.specs.Checks.{Banks}
+use Rattle.hwp_law.specs.Commands.{Access, access_of}
+use Rattle.hwp_handler.specs.declared.Found.{Found}
+use Rattle.hwp_handler.specs.declared.Row.{Row}
+use Rattle.hwp_handler.specs.declared.Told.{Told}
+use Rattle.hwp_served.specs.Causes.{FoundGone, FoundNoFrame, FoundPoisoned, FoundState, FoundStopped, HasCome, HasFailed, HasOnlyBegun, HasOnlyMet, HasSpoiledLine, IsAnswerCaused, IsCaused, IsCopyCaused, IsInjectCaused, IsLoadCaused, IsPageCaused, IsReplied, IsStoreCaused, IsTableCaused, MadeOne, Reached, SawBadLines, SawProcess, WasRaised, WasSignalled}
+use Rattle.hwp_served.specs.Served.{IsRowServed}
+use Rattle.hwp_served.proofs.Accounting.{account-stays}
+use Rattle.hwp_served.proofs.Adding.{some-more}
+use Rattle.hwp_served.proofs.Spoils.{spoils-by}
+use Rattle.hwp_served.proofs.Telling.{deeds-stay, entered-stays, row-told-stays}
 
 -- ---- stops
 
@@ -88,65 +99,73 @@ stops-by layout who _ found content v = same v _ refl
 
 module _ {layout : Layout} {by : Who} {step : Step} {body : Option BodyValue} {old new : View} {found : ℕ} {got : Option BodyValue} (can : CanMake layout by step body old) (made : Steps layout by step (logs body) old new found got)
     (who : Who) (other : who ≢ by) where
-  deeds-stay : deeds who new ≡ deeds who old
-  deeds-stay = deeds-other who other can made
+  same-deeds : deeds who new ≡ deeds who old
+  same-deeds = deeds-stay can made who other
 
   pub made-none-later : HasMadeNone old who → HasMadeNone new who
-  made-none-later none = deeds-stay ∙ none
+  made-none-later none = same-deeds ∙ none
+
+  -- what the step did not list was listed before
+  abbrev after : View
+  after = view_by layout by step found (content_of layout by step (logs body) found got) (noted by old)
 
   stops-stay : (P : Who → Type 0) → SomeMember P old.stops → SomeMember P new.stops
   stops-stay P some = subst (λ (v : View). SomeMember P v.stops) (sym made.told.next) ((stops-by layout by step found (content_of layout by step (logs body) found got) (noted by old)).stops P some)
 
+  spoiled-stay : (P : Spoiled → Type 0) → SomeMember P old.spoiled → SomeMember P new.spoiled
+  spoiled-stay P some = subst (λ (v : View). SomeMember P v.spoiled) (sym made.told.next) (some-more P old.spoiled after.spoiled (spoils-by layout by step found (content_of layout by step (logs body) found got) (noted by old)) some)
+
   saw-process-stays : (thread : Thread) (word : ℕ) → SawProcess layout old who thread word → SawProcess layout new who thread word
   saw-process-stays thread word saw = record { process = saw.process; process_is = saw.process_is; saw = saw-stays made saw.saw }
 
-  stopped-stays : FoundStopped old who → FoundStopped new who
-  stopped-stays found_ = record { stopped = which found_.stopped; made = made-none-later found_.made }
+  met-stays : (command : Command) → HasOnlyMet layout old who command → HasOnlyMet layout new who command
+  met-stays command only = has-only-stays who old new same-deeds only
+
+  stopped-stays : (command : Command) → FoundStopped layout old who command → FoundStopped layout new who command
+  stopped-stays command found_ = record { stopped = which found_.stopped; only = met-stays command found_.only }
     where
       which : SawStop old who ⊎ SomeMember (λ (w : Who). w ≡ who) old.stops → SawStop new who ⊎ SomeMember (λ (w : Who). w ≡ who) new.stops
       which (inl saw) = inl (record { word = saw.word; stopped = saw.stopped; saw = saw-stays made saw.saw })
       which (inr own) = inr (stops-stay (λ (w : Who). w ≡ who) own)
 
   gone-stays : (thread : Thread) (page : Page) → FoundGone layout old who thread page → FoundGone layout new who thread page
-  gone-stays thread page gone = record { ended = saw-process-stays thread _ gone.ended; made = made-none-later gone.made }
+  gone-stays thread page gone = record { ended = saw-process-stays thread _ gone.ended }
 
-  reached-stays : (thread : Thread) (slot : VSlot) (at : At) (what : What) → Reached layout old who thread slot at what → Reached layout new who thread slot at what
-  reached-stays thread slot at what reached = record { going = saw-process-stays thread 0 reached.going; page = reached.page; made = has-made-stays who old new deeds-stay reached.made }
+  begun-stays : (slot : VSlot) (line : ℕ) → HasOnlyBegun layout old who slot line → HasOnlyBegun layout new who slot line
+  begun-stays slot line begun = record { page = begun.page; page_is = begun.page_is; only = has-only-stays who old new same-deeds begun.only }
 
-  no-frame-stays : (thread : Thread) (slot : VSlot) → FoundNoFrame layout old who thread slot → FoundNoFrame layout new who thread slot
-  no-frame-stays thread slot none = record {
+  reached-stays : (thread : Thread) (slot : VSlot) (line : ℕ) (at : At) (what : What) → Reached layout old who thread slot line at what → Reached layout new who thread slot line at what
+  reached-stays thread slot line at what reached = record { going = saw-process-stays thread 0 reached.going; page = reached.page; made = has-made-stays who old new same-deeds reached.made }
+
+  no-frame-stays : (thread : Thread) (slot : VSlot) (line : ℕ) → FoundNoFrame layout old who thread slot line → FoundNoFrame layout new who thread slot line
+  no-frame-stays thread slot line none = record {
     going = saw-process-stays thread 0 none.going;
     available = saw-stays made none.available;
     page = none.page;
     page_is = none.page_is;
     place = none.place;
     away = saw-state-stays made none.away;
-    only = has-only-stays who old new deeds-stay none.only;
+    only = has-only-stays who old new same-deeds none.only;
   }
 
   one-stays : (at : At) (what : What) → MadeOne old who at what → MadeOne new who at what
-  one-stays at what one = record { made = has-made-stays who old new deeds-stay one.made }
+  one-stays at what one = record { made = has-made-stays who old new same-deeds one.made }
 
   state-stays : (at : At) (Such : PageState → Type 0) → FoundState layout old who at Such → FoundState layout new who at Such
   state-stays at Such found_ = record { made = made-none-later found_.made; saw = saw-state-stays made found_.saw }
 
-  barred-stays : (thread : Thread) (slot : VSlot) (answer : Answer) → IsBarred layout old who thread slot answer → IsBarred layout new who thread slot answer
-  barred-stays thread slot answers.NoFrame caused = no-frame-stays thread slot caused
-  barred-stays thread slot (answers.Gone page) caused = gone-stays thread page caused
-  barred-stays thread slot _ caused = absurd caused
-
   load-stays : (thread : Thread) (slot : VSlot) (line : ℕ) (answer : Answer) → IsLoadCaused layout old who thread slot line answer → IsLoadCaused layout new who thread slot line answer
-  load-stays thread slot line (answers.Value word at) caused = (caused.0, reached-stays thread slot at _ caused.1)
-  load-stays thread slot line (answers.Sigbus at) caused = reached-stays thread slot at _ caused
-  load-stays thread slot line answers.NoFrame caused = no-frame-stays thread slot caused
-  load-stays thread slot line (answers.Gone page) caused = gone-stays thread page caused
+  load-stays thread slot line (answers.Value word at) caused = (caused.0, reached-stays thread slot line at _ caused.1)
+  load-stays thread slot line (answers.Sigbus at) caused = reached-stays thread slot line at _ caused
+  load-stays thread slot line answers.NoFrame caused = no-frame-stays thread slot line caused
+  load-stays thread slot line (answers.Gone page) caused = (gone-stays thread page caused.0, begun-stays slot line caused.1)
   load-stays thread slot line _ caused = absurd caused
 
   store-stays : (thread : Thread) (slot : VSlot) (line word : ℕ) (answer : Answer) → IsStoreCaused layout old who thread slot line word answer → IsStoreCaused layout new who thread slot line word answer
-  store-stays thread slot line word (answers.Stored at) caused = (caused.0, reached-stays thread slot at _ caused.1)
-  store-stays thread slot line word (answers.Sigbus at) caused = reached-stays thread slot at _ caused
-  store-stays thread slot line word answers.NoFrame caused = no-frame-stays thread slot caused
-  store-stays thread slot line word (answers.Gone page) caused = gone-stays thread page caused
+  store-stays thread slot line word (answers.Stored at) caused = (caused.0, reached-stays thread slot line at _ caused.1)
+  store-stays thread slot line word (answers.Sigbus at) caused = reached-stays thread slot line at _ caused
+  store-stays thread slot line word answers.NoFrame caused = no-frame-stays thread slot line caused
+  store-stays thread slot line word (answers.Gone page) caused = (gone-stays thread page caused.0, begun-stays slot line caused.1)
   store-stays thread slot line word _ caused = absurd caused
 
   page-stays : (page : Page) (what : What) (answer : Answer) → IsPageCaused layout old who page what answer → IsPageCaused layout new who page what answer
@@ -154,46 +173,100 @@ module _ {layout : Layout} {by : Who} {step : Step} {body : Option BodyValue} {o
   page-stays page what (answers.NotResident at) caused = (caused.0, state-stays at _ caused.1)
   page-stays page what _ caused = absurd caused
 
+  lines-stay : (page : Page) (mask : Mask) → SawBadLines layout old who page mask → SawBadLines layout new who page mask
+  lines-stay page mask lines = record { some = lines.some; frame = lines.frame; inside = lines.inside; saw = saw-bad-of-stays made page lines.saw }
+
+  copy-stays : (page : Page) (what : What) (answer : Answer) → IsCopyCaused layout old who page what answer → IsCopyCaused layout new who page what answer
+  copy-stays page what (answers.BadLines mask at) caused = (caused.0, state-stays at _ caused.1, lines-stay page mask caused.2)
+  copy-stays page what answer caused = page-stays page what answer caused
+
+  spoiled-stays : (frame : Frame) (line : ℕ) (damage : Damage) → HasSpoiledLine old who frame line damage → HasSpoiledLine new who frame line damage
+  spoiled-stays frame line damage has = record {
+    within = has.within;
+    spoiled = spoiled-stay (λ (s : Spoiled). (s.stamp.who ≡ who) × (s.frame ≡ frame) × (s.line ≡ line) × (s.damage ≡ damage)) has.spoiled;
+    made = made-none-later has.made;
+  }
+
   replied-stays : (list : List Command) (thread : Thread) (given : List ℕ) (answer : Answer) → IsReplied layout list old who thread given answer → IsReplied layout list new who thread given answer
   replied-stays list thread given answer replied = record { going = saw-process-stays thread 0 replied.going; made = made-none-later replied.made; replied = replied.replied }
 
   -- ---- failures
 
-  entered-stays : (situation : Situation) (page : Bool) → IsEntered old who situation page → IsEntered new who situation page
-  entered-stays situation true made = record { at = made.at; seen = made.seen; signals = made.signals; made = one-stays made.at _ made.made }
-  entered-stays situation false none = made-none-later none
+  failed-stays : (frame : Frame) (f : Found) → HasFailed layout old who frame f → HasFailed layout new who frame f
+  failed-stays frame f failed = record { entered = entered-stays can made who other frame None f f.at failed.entered; only = has-only-stays who old new same-deeds failed.only }
 
-  pub failed-stays : (frame : Frame) (situation : Situation) → HasFailed layout old who frame situation → HasFailed layout new who frame situation
-  failed-stays frame situation failed = record { kernel = failed.kernel; entered = entered-stays situation (has_page situation) failed.entered }
+  come-stays : (frame : Frame) (own : Option (Frame × Found)) (outcome : Outcome) → HasCome layout old who frame own outcome → HasCome layout new who frame own outcome
+  come-stays frame own outcome come = record { found = come.found; own_is = come.own_is; outcome_is = come.outcome_is; failed = failed-stays frame come.found come.failed }
 
-  come-stays : (frame : Frame) (outcome : Outcome) → HasCome layout old who frame outcome → HasCome layout new who frame outcome
-  come-stays frame outcome (situation, is, failed) = (situation, is, failed-stays frame situation failed)
+  poisoned-stays : (frame : Frame) → FoundPoisoned old who frame → FoundPoisoned new who frame
+  poisoned-stays frame found_ = record { word = found_.word; poisoned = found_.poisoned; saw = saw-stays made found_.saw; made = made-none-later found_.made }
 
-  inject-stays : (frame : Frame) (answer : Answer) → IsInjectCaused layout old who frame answer → IsInjectCaused layout new who frame answer
-  inject-stays frame answers.Recovered come = come-stays frame _ come
-  inject-stays frame answers.Delayed come = come-stays frame _ come
-  inject-stays frame answers.Ignored come = come-stays frame _ come
-  inject-stays frame answers.Already found_ = record { word = found_.word; poisoned = found_.poisoned; saw = saw-stays made found_.saw; made = made-none-later found_.made }
-  inject-stays frame _ caused = absurd caused
+  inject-stays : (frame : Frame) (own : Option (Frame × Found)) (answer : Answer) → IsInjectCaused layout old who frame own answer → IsInjectCaused layout new who frame own answer
+  inject-stays frame own answers.Recovered come = come-stays frame own _ come
+  inject-stays frame own answers.Delayed come = come-stays frame own _ come
+  inject-stays frame own answers.Ignored come = come-stays frame own _ come
+  inject-stays frame own answers.Already caused = (poisoned-stays frame caused.0, caused.1)
+  inject-stays frame own _ caused = absurd caused
 
-  -- the cause of another command's answer stays
-  pub caused-stays : (list : List Command) (command : Command) (answer : Answer) → IsCaused layout list old who command answer → IsCaused layout list new who command answer
-  caused-stays list command answers.Stopped caused = stopped-stays caused
-  caused-stays list (commands.Load thread slot line) answer caused = load-stays thread slot line answer caused
-  caused-stays list (commands.Fetch thread slot line) answer caused = load-stays thread slot line answer caused
-  caused-stays list (commands.KLoad thread slot line) answer caused = load-stays thread slot line answer caused
-  caused-stays list (commands.Store thread slot line word) answer caused = store-stays thread slot line word answer caused
-  caused-stays list (commands.Free slot) (answers.DoneAt at) caused = (caused.0, one-stays at _ caused.1)
-  caused-stays list (commands.Free slot) (answers.NotMapped at) caused = (caused.0, state-stays at _ caused.1)
-  caused-stays list (commands.Drop page) (answers.Dirty at) caused = (caused.0, state-stays at _ caused.1)
-  caused-stays list (commands.Drop page) (answers.Mapped at) caused = (caused.0, state-stays at _ caused.1)
-  caused-stays list (commands.Drop page) answer caused = page-stays page entries.Drop answer caused
-  caused-stays list (commands.Sync page) answer caused = page-stays page entries.Sync answer caused
-  caused-stays list (commands.Out page) answer caused = page-stays page entries.Out answer caused
-  caused-stays list (commands.Fsync file) answers.Done caused = (made-none-later caused.0, saw-stays made caused.1)
-  caused-stays list (commands.Fsync file) (answers.Eio lost) caused = (made-none-later caused.0, caused.1, saw-stays made caused.2)
-  caused-stays list (commands.Prctl thread args) (answers.Gone page) caused = gone-stays thread page caused
-  caused-stays list (commands.Prctl thread args) answer caused = replied-stays list thread _ answer caused
-  caused-stays list (commands.Log status addr misc) answers.Done caused = made-none-later caused
-  caused-stays list (commands.Inject frame) answer caused = (caused.0, inject-stays frame answer caused.1)
-  caused-stays list command answer caused = absurd caused
+  -- ---- the cause of another command's answer
+
+  table-stays : (list : List Command) (command : Command) (answer : Answer) → IsTableCaused layout list old who command answer → IsTableCaused layout list new who command answer
+  table-stays list (commands.Load thread slot line) answer caused = load-stays thread slot line answer caused
+  table-stays list (commands.Fetch thread slot line) answer caused = load-stays thread slot line answer caused
+  table-stays list (commands.KLoad thread slot line) answer caused = load-stays thread slot line answer caused
+  table-stays list (commands.Store thread slot line word) answer caused = store-stays thread slot line word answer caused
+  table-stays list (commands.Free slot) (answers.DoneAt at) caused = (caused.0, one-stays at _ caused.1)
+  table-stays list (commands.Free slot) (answers.NotMapped at) caused = (caused.0, state-stays at _ caused.1)
+  table-stays list (commands.Drop page) (answers.Dirty at) caused = (caused.0, state-stays at _ caused.1)
+  table-stays list (commands.Drop page) (answers.Mapped at) caused = (caused.0, state-stays at _ caused.1)
+  table-stays list (commands.Drop page) answer caused = page-stays page entries.Drop answer caused
+  table-stays list (commands.Sync page) answer caused = copy-stays page entries.Sync answer caused
+  table-stays list (commands.Out page) answer caused = copy-stays page entries.Out answer caused
+  table-stays list (commands.Fsync file) answers.Done caused = (made-none-later caused.0, saw-stays made caused.1)
+  table-stays list (commands.Fsync file) (answers.Eio lost) caused = (made-none-later caused.0, caused.1, saw-stays made caused.2)
+  table-stays list (commands.Prctl thread args) (answers.Gone page) caused = (gone-stays thread page caused.0, made-none-later caused.1)
+  table-stays list (commands.Prctl thread args) answer caused = replied-stays list thread _ answer caused
+  table-stays list (commands.Log status addr misc) answers.Done caused = made-none-later caused
+  table-stays list (commands.Bad frame line) answers.Done caused = spoiled-stays frame line _ caused
+  table-stays list (commands.Weak frame line) answers.Done caused = spoiled-stays frame line _ caused
+  table-stays list command answer caused = absurd caused
+
+  signalled-stays : (command : Command) (thread : Thread) (told : List Told) (at : At) → WasSignalled layout old who command thread told at → WasSignalled layout new who command thread told at
+  signalled-stays command thread told at was = record { going = saw-process-stays thread 0 was.going; first = was.first; only = met-stays command was.only }
+
+  raised-stays : (command : Command) (told : List Told) (n : ℕ) → WasRaised layout old who command told n → WasRaised layout new who command told n
+  raised-stays command told n was = record { count = was.count; only = met-stays command was.only }
+
+  -- by an access, or a failure of its machine checks
+  sigbus-stays : (command : Command) (told : List Told) (at : At) (access : Option Access) → IsSomeAnd access (λ (a : Access). WasSignalled layout old who command a.thread told at)
+      → IsSomeAnd access (λ (a : Access). WasSignalled layout new who command a.thread told at)
+  sigbus-stays command told at (Some a) was = signalled-stays command a.thread told at was
+  sigbus-stays command told at None was = absurd was
+
+  either-stays : (list : List Command) (command : Command) (told : List Told) (at : At)
+      → IsTableCaused layout list old who command (answers.Sigbus at) ⊎ IsSomeAnd (access_of command) (λ (a : Access). WasSignalled layout old who command a.thread told at)
+      → IsTableCaused layout list new who command (answers.Sigbus at) ⊎ IsSomeAnd (access_of command) (λ (a : Access). WasSignalled layout new who command a.thread told at)
+  either-stays list command told at (inl caused) = inl (table-stays list command (answers.Sigbus at) caused)
+  either-stays list command told at (inr was) = inr (sigbus-stays command told at (access_of command) was)
+
+  answer-stays : (list : List Command) (command : Command) (told : List Told) (own : Option (Frame × Found)) (answer : Answer) → IsAnswerCaused layout list old who command told own answer
+      → IsAnswerCaused layout list new who command told own answer
+  answer-stays list command told own answers.Stopped caused = stopped-stays command caused
+  answer-stays list (commands.RaiseUser thread ripv eipv) told own (answers.Raised n) caused = (saw-process-stays thread 0 caused.0, raised-stays _ told n caused.1)
+  answer-stays list (commands.RaiseUser thread ripv eipv) told own (answers.Gone page) caused = (gone-stays thread page caused.0, made-none-later caused.1)
+  answer-stays list (commands.RaiseKernel ripv eipv) told own (answers.Raised n) caused = raised-stays _ told n caused
+  answer-stays list (commands.Inject frame) told own answer caused = (caused.0, inject-stays frame own answer caused.1)
+  answer-stays list command told own (answers.Sigbus at) caused = either-stays list command told at caused
+  answer-stays list command told own answer caused = table-stays list command answer caused
+
+  pub caused-stays : (list : List Command) (command : Command) (row : Row) → IsCaused layout list old who command row → IsCaused layout list new who command row
+  caused-stays list command row caused = answer-stays list command row.told row.own row.answer caused
+
+  -- what another command that is answered has done and told stays
+  pub row-stays : (list : List Command) (command : Command) (before : Banks) (row : Row) (left : Banks) → IsRowServed layout list old who command before row left → IsRowServed layout list new who command before row left
+  row-stays list command before row left served = record {
+    caused = caused-stays list command row served.caused;
+    accounted = account-stays made who other same-deeds command row served.accounted;
+    told = row-told-stays can made who other command before row left served.told;
+    heeded = served.heeded;
+  }

@@ -14,9 +14,9 @@ use Rattle.hwp_step.specs.Boards.{view_of}
 use Rattle.hwp_known.specs.Known.{SawStop}
 use Rattle.hwp_script.specs.declared.Command.{Command}
 use Rattle.hwp_script.specs.declared.Script.{Script}
-use Rattle.hwp_report.specs.declared.CpuLine.{CpuLine}
 use Rattle.hwp_report.specs.declared.Report.{Report}
 use Rattle.hwp_report.specs.declared.Stop.{Stop}
+use Rattle.hwp_handler.specs.declared.Row.{Row}
 use Rattle.hwp_runs.specs.Ends.{IsStopOn}
 use Rattle.hwp_served.specs.Causes.{FoundStopped}
 use Rattle.hwp_served.specs.Served.{IsOwnStop}
@@ -26,9 +26,9 @@ module _ (script : Script) (seat : Cpu → ℕ) (last : State) (report : Report)
   -- the command that a stop record names
   pub record StopBy (who : Who) : Type 0 where
     pub list : List Command
-    pub rows : List CpuLine
+    pub rows : List Row
     pub list_is : slice_get script.lists who.cpu.0 ≡ Some list
-    pub rows_is : slice_get report.cpus who.cpu.0 ≡ Some rows
+    pub rows_is : slice_get end.rows who.cpu.0 ≡ Some rows
     pub own : IsOwnStop script.layout who.cpu list rows who
 
   pub stopper : (stop : Stop) → report.stop ≡ Some stop → StopBy stop.who
@@ -42,7 +42,7 @@ module _ (script : Script) (seat : Cpu → ℕ) (last : State) (report : Report)
       let same : listed.3.1 ≡ stop.who = listed.3.3 in
       let list = list-of script seat last report end listed.3.1.cpu own.0 in
       let rows = rows-of script seat last report end listed.3.1.cpu own.0 in
-      let served = (served-of script seat last report end listed.3.1.cpu list.0 rows.0 list.1 rows.1).1 in
+      let served = (served-of script seat last report end listed.3.1.cpu list.0 rows.0 list.1 rows.1).0 in
       let stopped : IsOwnStop script.layout listed.3.1.cpu list.0 rows.0 listed.3.1 = served.stops listed.3.0 listed.3.1 (sym (ap (λ (x : View). slice_get x.stops listed.3.0) own.1) ∙ in_view) in
       subst StopBy same (record { list = list.0; rows = rows.0; list_is = list.1; rows_is = rows.1; own = stopped })
 
@@ -52,8 +52,8 @@ module _ (script : Script) (seat : Cpu → ℕ) (last : State) (report : Report)
   recorded (Some stop) on named = refl
 
   -- a command that found the machine stopped, or stopped it: the report has the record
-  pub stop-there : (cpu : Cpu) (who : Who) → cpu.0 < script.layout.cpus → FoundStopped (view_of last (seat cpu)) who → IsSome report.stop
-  stop-there cpu who inside found = recorded report.stop end.board.ends.stop (named found.stopped)
+  pub stop-there : (cpu : Cpu) (who : Who) (command : Command) → cpu.0 < script.layout.cpus → FoundStopped script.layout (view_of last (seat cpu)) who command → IsSome report.stop
+  stop-there cpu who command inside found = recorded report.stop end.board.ends.stop (named found.stopped)
     where
       there : slice_get last.views (seat cpu) ≡ Some (view_of last (seat cpu))
       there = end.seated.there cpu inside

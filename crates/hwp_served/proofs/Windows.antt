@@ -1,6 +1,6 @@
 -- Each answer that says what state a page was in names a number of entries in its command's window.
-use Rattle.std.proofs.Common.{◌≡◌, ◌⊎◌, ℕ, ◌<◌, ◌≤◌, List, Some, length, slice_get, sym, ap, ◌∙◌, subst, arith, inl, inr}
-use Rattle.std.proofs.lemmas.Option.{same_Some, slice_get_within}
+use Rattle.std.proofs.Common.{◌≡◌, ◌⊎◌, ℕ, ◌+◌, ◌<◌, ◌≤◌, List, Some, length, slice_get, sym, ap, ◌∙◌, subst, arith, inl, inr}
+use Rattle.std.proofs.lemmas.Option.{slice_get_within}
 use Rattle.hwp_geom.specs.declared.Cpu.{Cpu}
 use Rattle.hwp_geom.specs.declared.Who.{Who}
 use Rattle.hwp_page.specs.declared.At.{At}
@@ -8,48 +8,49 @@ use Rattle.hwp_rule.specs.declared.Length.{Length}
 use Rattle.hwp_rule.specs.declared.Log.{Log}
 use Rattle.hwp_rule.specs.declared.State.{State}
 use Rattle.hwp_step.specs.Boards.{view_of}
-use Rattle.hwp_script.specs.declared.Command.{Command}
 use Rattle.hwp_script.specs.declared.Script.{Script}
 use Rattle.hwp_report.specs.declared.Answer.{Answer}
 use Rattle.hwp_report.specs.declared.CpuLine.{CpuLine}
 use Rattle.hwp_report.specs.declared.CpuLine.TheVariants as lines
 use Rattle.hwp_report.specs.declared.Report.{Report}
 use Rattle.hwp_law.specs.Answers.{AreInWindows}
+use Rattle.hwp_law.specs.States.{place_named, state_named}
 use Rattle.hwp_law.specs.Places.{command_at}
 use Rattle.hwp_law.specs.States.{IsInWindow}
-use Rattle.hwp_law.proofs.Rows.{same_answer}
+use Rattle.hwp_handler.specs.declared.Row.{Row}
 use Rattle.hwp_runs.proofs.Homes.{there-is}
 use Rattle.hwp_runs.proofs.Reported.{before-later, listed-entry, not-below-seen, past-earlier}
-use Rattle.hwp_served.specs.Causes.{IsCaused}
-use Rattle.hwp_served.proofs.Ending.{IsEnd, command-of, list-of, served-of}
+use Rattle.hwp_served.specs.Rows.{lines_from}
+use Rattle.hwp_served.proofs.Ending.{IsEnd, IsOf, command-of, rows-of-lines, same-row}
+use Rattle.hwp_served.proofs.RowLines.{row-of-line}
 use Rattle.hwp_served.proofs.deeds.Made.{command-is}
 use Rattle.hwp_served.proofs.Seen.{MadeAt, SawAt, names-place, names-state}
 
 module _ (script : Script) (seat : Cpu → ℕ) (last : State) (report : Report) (end : IsEnd script seat last report) where
-  -- the command that a line of a processor answers, with the answer
-  pub record Answers (cpu : Cpu) (rows : List CpuLine) (seq : ℕ) (answer : Answer) : Type 0 where
-    pub inside : cpu.0 < script.layout.cpus
-    pub list : List Command
-    pub command : Command
-    pub command_is : command_at script (record { cpu = cpu; seq = seq }) ≡ Some command
-    pub caused : IsCaused script.layout list (view_of last (seat cpu)) (record { cpu = cpu; seq = seq }) command answer
+  -- the command that a line of a processor answers, with its row
+  pub record Answers (cpu : Cpu) (seq : ℕ) (answer : Answer) : Type 0 where
+    pub of : IsOf script end.rows (view_of last (seat cpu)) (record { cpu = cpu; seq = seq })
+    pub command_is : command_at script (record { cpu = cpu; seq = seq }) ≡ Some of.command
+    pub answer_is : of.row.answer ≡ answer
 
-  pub line-answers : (cpu : Cpu) (rows : List CpuLine) (i seq : ℕ) (answer : Answer) → slice_get report.cpus cpu.0 ≡ Some rows → slice_get rows i ≡ Some (lines.Answer seq answer) → Answers cpu rows seq answer
+  answers-by : (cpu : Cpu) (seq : ℕ) (answer : Answer) (of : IsOf script end.rows (view_of last (seat cpu)) (record { cpu = cpu; seq = seq })) (own : List Row) (row : Row) → slice_get end.rows cpu.0 ≡ Some own → slice_get own seq ≡ Some row → row.answer ≡ answer → Answers cpu seq answer
+  answers-by cpu seq answer of own row own_is row_is is = record {
+    of = of;
+    command_is = command-is script (record { cpu = cpu; seq = seq }) of.list of.command of.list_is of.command_is;
+    answer_is = ap (λ (r : Row). r.answer) (same-row of own row own_is row_is) ∙ is;
+  }
+
+  pub line-answers : (cpu : Cpu) (rows : List CpuLine) (i seq : ℕ) (answer : Answer) → slice_get report.cpus cpu.0 ≡ Some rows → slice_get rows i ≡ Some (lines.Answer seq answer) → Answers cpu seq answer
   line-answers cpu rows i seq answer rows_is line =
-      let inside : cpu.0 < script.layout.cpus = subst (λ (n : ℕ). cpu.0 < n) end.cpus_fit (slice_get_within report.cpus cpu.0 rows rows_is) in
-      let list = list-of script seat last report end cpu inside in
-      let served = (served-of script seat last report end cpu list.0 rows list.1 rows_is).1 in
-      let command = there-is list.0 i (subst (λ (n : ℕ). i < n) served.count (slice_get_within rows i (lines.Answer seq answer) line)) in
-      let of = command-of script seat last report end (record { cpu = cpu; seq = i }) list.0 rows command.0 list.1 rows_is command.1 in
-      let same_rows : of.rows ≡ rows = same_Some of.rows rows (sym of.rows_is ∙ rows_is) in
-      let told = same_answer i seq of.answer answer (same_Some (lines.Answer i of.answer) (lines.Answer seq answer) (sym of.answer_is ∙ ap (λ (l : List CpuLine). slice_get l i) same_rows ∙ line)) in
-      record {
-        inside = inside;
-        list = of.list;
-        command = of.command;
-        command_is = subst (λ (n : ℕ). command_at script (record { cpu = cpu; seq = n }) ≡ Some of.command) told.0 (command-is script (record { cpu = cpu; seq = i }) of.list of.command of.list_is of.command_is);
-        caused = subst (λ (n : ℕ). IsCaused script.layout of.list (view_of last (seat cpu)) (record { cpu = cpu; seq = n }) of.command answer) told.0 (subst (IsCaused script.layout of.list (view_of last (seat cpu)) (record { cpu = cpu; seq = i }) of.command) told.1 of.caused);
-      }
+      let who : Who = record { cpu = cpu; seq = seq } in
+      let has = rows-of-lines script seat last report end cpu rows rows_is in
+      let line_is : slice_get (lines_from 0 has.own) i ≡ Some (lines.Answer seq answer) = subst (λ (l : List CpuLine). slice_get l i ≡ Some (lines.Answer seq answer)) has.lines_are line in
+      let at = row-of-line 0 has.own i seq answer line_is in
+      let number : at.k ≡ seq = (let is : seq ≡ 0 + at.k = at.number in omega arith) in
+      let row_is : slice_get has.own seq ≡ Some at.row = subst (λ (n : ℕ). slice_get has.own n ≡ Some at.row) number at.row_is in
+      let command = there-is has.list seq (subst (λ (n : ℕ). seq < n) has.served.count (slice_get_within has.own seq at.row row_is)) in
+      let of = command-of script seat last report end who has.list command.0 has.list_is command.1 in
+      answers-by cpu seq answer of has.own at.row has.own_is row_is at.answer_is
 
   -- where the command saw the page is in its window
   pub in-window : (cpu : Cpu) (rows : List CpuLine) → slice_get report.cpus cpu.0 ≡ Some rows → (seq : ℕ) (at : At) → slice_get last.views (seat cpu) ≡ Some (view_of last (seat cpu)) → SawAt (view_of last (seat cpu)) (record { cpu = cpu; seq = seq }) at
@@ -72,7 +73,8 @@ module _ (script : Script) (seat : Cpu → ℕ) (last : State) (report : Report)
             omega arith;
         not_below = λ k n answer bt line earlier named same_page.
             let b = line-answers cpu rows k n answer rows_is line in
-            not-below cpu seq at x saw.saw.0 there seen page long cpu_is seq_is n bt earlier same_page (names-place script.layout b.list (view_of last (seat cpu)) (record { cpu = cpu; seq = n }) b.command answer b.caused bt named);
+            not-below cpu seq at x saw.saw.0 there seen page long cpu_is seq_is n bt earlier same_page
+            (names-place script.layout b.of.list (view_of last (seat cpu)) (record { cpu = cpu; seq = n }) b.of.command b.of.row b.of.served.caused b.of.served.accounted bt (ap place_named b.answer_is ∙ named));
       }
     where
       not-below : (cpu : Cpu) (seq : ℕ) (at : At) (x : Length) (j : ℕ) → slice_get last.views (seat cpu) ≡ Some (view_of last (seat cpu)) → slice_get (view_of last (seat cpu)).lengths j ≡ Some x → x.log.page ≡ at.page → length x.log.entries ≡ at.entry
@@ -95,6 +97,6 @@ module _ (script : Script) (seat : Cpu → ℕ) (last : State) (report : Report)
   pub states-in-windows : AreInWindows report.pages report.cpus
   states-in-windows cpu rows i seq answer at rows_is line state =
       let a = line-answers cpu rows i seq answer rows_is line in
-      let there = end.seated.there cpu a.inside in
-      let saw = names-state script.layout a.list (view_of last (seat cpu)) (record { cpu = cpu; seq = seq }) a.command answer a.caused at state in
+      let there = end.seated.there cpu a.of.inside in
+      let saw = names-state script.layout a.of.list (view_of last (seat cpu)) (record { cpu = cpu; seq = seq }) a.of.command a.of.row a.of.served.caused at (ap state_named a.answer_is ∙ state) in
       in-window cpu rows rows_is seq at there saw

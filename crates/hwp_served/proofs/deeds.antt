@@ -1,5 +1,5 @@
 pub mod Deeds
 pub mod Made
 pub mod Sound
-pub mod SoundDeeds
 pub mod CountedEntries
+pub mod Needed

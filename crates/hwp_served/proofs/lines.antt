@@ -1,4 +1,9 @@
-pub mod Clean
+pub mod LowWords
+pub mod NamedEvents
+pub mod OfRows
+pub mod RowEvents
+pub mod ToldRight
+pub mod SpoiledLines
 pub mod Gathering
 pub mod RecordLines
 pub mod Records

@@ -1,3 +1,4 @@
+pub mod RowNotes
 pub mod MarkWords
 pub mod Marked
 pub mod CountedMarks

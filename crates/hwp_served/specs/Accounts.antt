@@ -1,34 +1,47 @@
--- What a command did beside its entries: the frames that it poisoned, the losses that it took, and the policy that it set.
-use Rattle.std.specs.Prelude.{◌≡◌, ℕ, ◌==◌, ◌&&◌, Bool, false, List, [], ◌∷◌, Option, None, Some, filter, flat_map, map}
+-- What a command did beside what its answer tells: the frames that it poisoned, the failures that its entries tell, the losses that it
+-- took, and the policy that it set.
+use Rattle.std.specs.Prelude.{◌≡◌, ℕ, ◌==◌, ◌&&◌, Bool, false, List, [], ◌∷◌, ◌++◌, Option, None, Some, option_map, filter, filter_map, map}
+use Rattle.std.specs.List.{cons_option}
 use Rattle.hwp_geom.specs.declared.FileNo.{FileNo}
 use Rattle.hwp_geom.specs.declared.Frame.{Frame}
-use Rattle.hwp_geom.specs.declared.Layout.{Layout}
 use Rattle.hwp_geom.specs.declared.Thread.{Thread}
 use Rattle.hwp_geom.specs.declared.Who.{Who}
 use Rattle.hwp_kill.specs.declared.Policy.{Policy}
 use Rattle.hwp_kill.specs.Prctl.{policy_set}
-use Rattle.hwp_page.specs.declared.Situation.{Situation}
 use Rattle.hwp_page.specs.Situations.{outcome_of}
 use Rattle.hwp_rule.specs.declared.Mark.{Mark}
+use Rattle.hwp_rule.specs.declared.MarkKind.TheVariants as mark_kinds
 use Rattle.hwp_rule.specs.declared.Reported.{Reported}
 use Rattle.hwp_rule.specs.declared.Setting.{Setting}
 use Rattle.hwp_rule.specs.declared.View.{View}
+use Rattle.hwp_known.specs.Known.{deeds}
+use Rattle.hwp_act.specs.declared.Failed.{Failed}
+use Rattle.hwp_act.specs.Abandoned as abandoned
+use Rattle.hwp_claim.specs.Done.{Marking, marking_of, poisoning}
 use Rattle.hwp_script.specs.declared.Command.{Command}
 use Rattle.hwp_script.specs.declared.Command.TheVariants as commands
 use Rattle.hwp_report.specs.declared.Answer.{Answer}
 use Rattle.hwp_report.specs.declared.Answer.TheVariants as answers
 use Rattle.hwp_report.specs.declared.How.TheVariants as hows
-use Rattle.hwp_report.specs.declared.MarkLine.{MarkLine}
 use Rattle.hwp_report.specs.declared.MarkLine.TheVariants as marks
+use Rattle.hwp_law.specs.Commands.{current_thread}
 use Rattle.hwp_law.specs.Policies.{arguments}
-use Rattle.hwp_served.specs.Causes.{HasFailed}
+use Rattle.hwp_law.specs.Records.{outcome_answer}
+use Rattle.hwp_handler.specs.declared.Found.{Found}
+use Rattle.hwp_handler.specs.declared.Row.{Row}
+use Rattle.hwp_handler.specs.Done.{failed_by, failed_in, marked_in}
+use Rattle.hwp_served.specs.Rows.{Note}
 
 abbrev pub is_same : Who → Who → Bool
 is_same who other = (other.cpu.0 == who.cpu.0) && (other.seq == who.seq)
 
--- the frames that a view lists as poisoned by the command
-abbrev pub frames_marked : Who → View → List Frame
-frames_marked who view = map (λ (m : Mark). m.frame) (filter (λ (m : Mark). is_same who m.stamp.who) view.marks)
+-- the poisonings that a view lists as made by the command
+abbrev pub markings : Who → View → List Marking
+markings who view = map marking_of (filter (λ (m : Mark). is_same who m.stamp.who) view.marks)
+
+-- the failures that the command's entries tell
+abbrev pub failures : Who → View → List Failed
+failures who view = filter_map abandoned.failed_in (deeds who view)
 
 -- the losses that it lists as taken by the command, each with its file
 abbrev pub losses_taken : Who → View → List (FileNo × ℕ)
@@ -38,12 +51,21 @@ losses_taken who view = map (λ (r : Reported). (r.file, r.count)) (filter (λ (
 abbrev pub policies_set : Who → View → List (Thread × Policy)
 policies_set who view = map (λ (s : Setting). (s.thread, s.policy)) (filter (λ (s : Setting). is_same who s.stamp.who) view.settings)
 
--- the frame that a command poisoned, by its answer
-abbrev pub marked_by : Command → Answer → List Frame
-marked_by (commands.Inject frame) answers.Recovered = frame ∷ []
-marked_by (commands.Inject frame) answers.Delayed = frame ∷ []
-marked_by (commands.Inject frame) answers.Ignored = frame ∷ []
-marked_by _ _ = []
+-- ---- by the command's row
+
+-- the poisonings: those that its events told, and its own
+abbrev pub own_marking : Option (Frame × Found) → Option Marking
+own_marking own = option_map (λ (x : Frame × Found). poisoning x.0 false x.1.cycle) own
+
+abbrev pub markings_in : Row → List Marking
+markings_in row = filter_map marked_in row.told ++ cons_option (own_marking row.own) []
+
+-- the failures, where a page was in the frame
+abbrev pub own_failure : Option (Frame × Found) → Option Failed
+own_failure own = failed_by None (option_map (λ (x : Frame × Found). x.1) own)
+
+abbrev pub failures_in : Command → Row → List Failed
+failures_in command row = filter_map (failed_in (current_thread command)) row.told ++ cons_option (own_failure row.own) []
 
 -- the losses that a command took, by its answer
 abbrev pub taken_by : Command → Answer → List (FileNo × ℕ)
@@ -60,26 +82,24 @@ abbrev pub set_by : Command → Answer → List (Thread × Policy)
 set_by (commands.Prctl thread args) answers.Done = set_for thread (policy_set (arguments args))
 set_by _ _ = []
 
--- the command poisoned the frames, took the losses, and set the policy, that its answer says
-pub record IsAccounted (view : View) (who : Who) (command : Command) (answer : Answer) : Type 0 where
-  pub marked : frames_marked who view ≡ marked_by command answer
-  pub taken : losses_taken who view ≡ taken_by command answer
-  pub set : policies_set who view ≡ set_by command answer
+-- only a command that makes a frame fail has a failure of its own: of that frame, and its answer is what came of it
+abbrev pub IsOwn : Command → Answer → Option (Frame × Found) → Type 0
+IsOwn command answer None = Unit {0}
+IsOwn (commands.Inject frame) answer (Some own) = (own.0 ≡ frame) × (answer ≡ outcome_answer (outcome_of own.1.situation))
+IsOwn command answer (Some own) = ⊥
 
--- a line of a frame's record, with the frame
-abbrev pub Note : Type 0
-Note = Frame × MarkLine
+-- the command did what its row says
+pub record IsAccounted (view : View) (who : Who) (command : Command) (row : Row) : Type 0 where
+  pub marked : markings who view ≡ markings_in row
+  pub failed : failures who view ≡ failures_in command row
+  pub taken : losses_taken who view ≡ taken_by command row.answer
+  pub set : policies_set who view ≡ set_by command row.answer
+  pub own : IsOwn command row.answer row.own
 
--- the lines that a processor noted of a frame, and those that all did
-abbrev pub lines_of : Frame → List Note → List MarkLine
-lines_of frame own = map (λ (n : Note). n.1) (filter (λ (n : Note). n.0.0 == frame.0) own)
-
-abbrev pub record_of : Frame → List (List Note) → List MarkLine
-record_of frame notes = flat_map (lines_of frame) notes
-
--- the note tells the mark, and what its command's failure found
-pub record IsNote (layout : Layout) (view : View) (note : Note) (m : Mark) : Type 0 where
-  pub situation : Situation
+-- the note tells the mark
+pub record IsNote (note : Note) (m : Mark) : Type 0 where
+  pub hardware : Bool
+  pub found : Found
   pub frame : note.0 ≡ m.frame
-  pub line : note.1 ≡ marks.Poisoned m.cycle m.stamp.who (hows.Failure false situation (outcome_of situation))
-  pub failed : HasFailed layout view m.stamp.who m.frame situation
+  pub kind : m.kind ≡ mark_kinds.Poisoned hardware
+  pub line : note.1 ≡ marks.Poisoned m.cycle m.stamp.who (hows.Failure hardware found.situation (outcome_of found.situation))

@@ -1,6 +1,8 @@
 -- Why a command was answered so: by what a processor knows of it, of the words that its steps showed, of the histories that it
 -- saw and of the entries that it made.
-use Rattle.std.specs.Prelude.{◌≡◌, ◌⊎◌, ℕ, ◌+◌, ◌<◌, Bool, true, false, List, None, Some, take}
+use Rattle.std.specs.Prelude.{◌≡◌, ◌≢◌, ◌⊎◌, ℕ, ◌+◌, ◌<◌, true, List, Option, None, Some, length, take, IsSomeAnd}
+use Rattle.hwp_geom.specs.declared.Damage.{Damage}
+use Rattle.hwp_geom.specs.declared.Damage.TheVariants as damages
 use Rattle.hwp_geom.specs.declared.Frame.{Frame}
 use Rattle.hwp_geom.specs.declared.Layout.{Layout}
 use Rattle.hwp_geom.specs.declared.Mask.{Mask}
@@ -9,35 +11,38 @@ use Rattle.hwp_geom.specs.declared.Proc.{Proc}
 use Rattle.hwp_geom.specs.declared.Thread.{Thread}
 use Rattle.hwp_geom.specs.declared.VSlot.{VSlot}
 use Rattle.hwp_geom.specs.declared.Who.{Who}
-use Rattle.hwp_kill.specs.declared.Seen.{Seen}
-use Rattle.hwp_kill.specs.declared.Signal.{Signal}
+use Rattle.hwp_geom.specs.Limits.{line_limit}
 use Rattle.hwp_kill.specs.Prctl.{reply}
 use Rattle.hwp_page.specs.declared.At.{At}
 use Rattle.hwp_page.specs.declared.Met.TheVariants.{Word, Sigbus}
 use Rattle.hwp_page.specs.declared.Outcome.{Outcome}
 use Rattle.hwp_page.specs.declared.Outcome.TheVariants as outcomes
 use Rattle.hwp_page.specs.declared.PageState.{PageState}
-use Rattle.hwp_page.specs.declared.Situation.{Situation}
 use Rattle.hwp_page.specs.declared.What.{What}
 use Rattle.hwp_page.specs.declared.What.TheVariants as entries
 use Rattle.hwp_page.specs.Situations.{outcome_of}
 use Rattle.hwp_page.specs.Refusals.{IsAway, IsDirty, IsMapped, IsUnused}
 use Rattle.hwp_page.specs.Step.{IsOf}
+use Rattle.hwp_rule.specs.declared.Made.{Made}
 use Rattle.hwp_rule.specs.declared.Place.TheVariants as places
+use Rattle.hwp_rule.specs.declared.Spoiled.{Spoiled}
 use Rattle.hwp_rule.specs.declared.View.{View}
 use Rattle.hwp_words.specs.Frames.{is_poisoned}
 use Rattle.hwp_rule.specs.Lists.{SomeMember}
-use Rattle.hwp_known.specs.Known.{BringsIn, HasMade, HasMadeNone, HasOnly, Saw, SawStop}
+use Rattle.hwp_known.specs.Known.{HasMade, HasMadeNone, HasOnly, IsOnTheWay, Precedes, Saw, SawBadOf, SawStop, is_failure}
 use Rattle.hwp_known.specs.Pages.{SawState}
 use Rattle.hwp_script.specs.declared.Command.{Command}
 use Rattle.hwp_script.specs.declared.Command.TheVariants as commands
 use Rattle.hwp_report.specs.declared.Answer.{Answer}
 use Rattle.hwp_report.specs.declared.Answer.TheVariants as answers
 use Rattle.hwp_law.specs.Answers.{reply_answer}
-use Rattle.hwp_law.specs.Commands.{is_kernels, process_of_thread}
+use Rattle.hwp_law.specs.Commands.{Access, access_of, can_fail, process_of_thread}
 use Rattle.hwp_law.specs.Policies.{arguments, last_policy, settings}
-use Rattle.hwp_law.specs.Records.{is_kernel_found}
-use Rattle.hwp_law.specs.Pairings.{has_page}
+use Rattle.hwp_handler.specs.declared.Found.{Found}
+use Rattle.hwp_handler.specs.declared.Row.{Row}
+use Rattle.hwp_handler.specs.declared.Told.{Told}
+use Rattle.hwp_handler.specs.Fits.{IsEntered}
+use Rattle.hwp_handler.specs.Told.{first_signal}
 
 -- a step of the command showed this word of its thread's process
 pub record SawProcess (layout : Layout) (view : View) (who : Who) (thread : Thread) (word : ℕ) : Type 0 where
@@ -45,52 +50,65 @@ pub record SawProcess (layout : Layout) (view : View) (who : Who) (thread : Thre
   pub process_is : process_of_thread layout thread ≡ Some process
   pub saw : Saw view who (places.Process process) word
 
--- the thread's process had ended, by a signal in the history of this page, and the command made no entry
+-- the thread's process had ended, by a signal in the history of this page
 pub record FoundGone (layout : Layout) (view : View) (who : Who) (thread : Thread) (page : Page) : Type 0 where
   pub ended : SawProcess layout view who thread (page.0 + 1)
-  pub made : HasMadeNone view who
 
--- the machine had stopped, or the command stopped it itself, and the command made no entry
-pub record FoundStopped (view : View) (who : Who) : Type 0 where
+-- an entry that answers no command: an access made it on its way, or memory failed for a command that can have that
+abbrev pub IsMet : Layout → Command → Made → Type 0
+IsMet layout command m =
+    IsSomeAnd (access_of command) (λ (a : Access). IsOf layout m.page a.slot × IsOnTheWay a.slot a.line m.entry.what) ⊎ ((can_fail command ≡ true) × (is_failure m.entry.what ≡ true))
+
+abbrev pub HasOnlyMet : Layout → View → Who → Command → Type 0
+HasOnlyMet layout view who command = HasOnly (IsMet layout command) view who
+
+-- the machine had stopped, or the command stopped it itself, and it made no entry that answers it
+pub record FoundStopped (layout : Layout) (view : View) (who : Who) (command : Command) : Type 0 where
   pub stopped : SawStop view who ⊎ SomeMember (λ (w : Who). w ≡ who) view.stops
-  pub made : HasMadeNone view who
+  pub only : HasOnlyMet layout view who command
 
--- the access brought the page in where it had to, and then made its entry, at this place of the translation's page
-pub record Reached (layout : Layout) (view : View) (who : Who) (thread : Thread) (slot : VSlot) (at : At) (what : What) : Type 0 where
+-- the access made its entry last, at this place of the translation's page, and before it only such as may stand there
+pub record Reached (layout : Layout) (view : View) (who : Who) (thread : Thread) (slot : VSlot) (line : ℕ) (at : At) (what : What) : Type 0 where
   pub going : SawProcess layout view who thread 0
   pub page : IsOf layout at.page slot
-  pub made : HasMade (BringsIn at.page slot) view who at.page at.entry what
+  pub made : HasMade (Precedes at.page slot line) view who at.page at.entry what
 
--- no frame was available, and the access found the translation's page in none; it made no entry but those by which pages are
--- brought in
-pub record FoundNoFrame (layout : Layout) (view : View) (who : Who) (thread : Thread) (slot : VSlot) : Type 0 where
+-- the access made no entry but such as may stand before one that answers it
+pub record HasOnlyBegun (layout : Layout) (view : View) (who : Who) (slot : VSlot) (line : ℕ) : Type 0 where
+  pub page : Page
+  pub page_is : IsOf layout page slot
+  pub only : HasOnly (Precedes page slot line) view who
+
+-- no frame was available, and the access found the translation's page in none; it made no entry but such as may stand before
+-- an answer
+pub record FoundNoFrame (layout : Layout) (view : View) (who : Who) (thread : Thread) (slot : VSlot) (line : ℕ) : Type 0 where
   pub going : SawProcess layout view who thread 0
   pub available : Saw view who places.Available 0
   pub page : Page
   pub page_is : IsOf layout page slot
   pub place : ℕ
   pub away : SawState layout view who page place IsAway
-  pub only : HasOnly (BringsIn page slot) view who
+  pub only : HasOnly (Precedes page slot line) view who
 
 -- the access was answered by SIGBUS, for a translation with a poison entry or a lost page: it made such an entry last
-abbrev pub IsSigbus : Layout → View → Who → Thread → VSlot → At → What → Type 0
-IsSigbus layout view who thread slot at what = Reached layout view who thread slot at what
+abbrev pub IsSigbus : Layout → View → Who → Thread → VSlot → ℕ → At → What → Type 0
+IsSigbus layout view who thread slot line at what = Reached layout view who thread slot line at what
 
 -- what each access may answer beside its own
-abbrev pub IsBarred : Layout → View → Who → Thread → VSlot → Answer → Type 0
-IsBarred layout view who thread slot answers.NoFrame = FoundNoFrame layout view who thread slot
-IsBarred layout view who thread slot (answers.Gone page) = FoundGone layout view who thread page
-IsBarred layout view who thread slot _ = ⊥
+abbrev pub IsBarred : Layout → View → Who → Thread → VSlot → ℕ → Answer → Type 0
+IsBarred layout view who thread slot line answers.NoFrame = FoundNoFrame layout view who thread slot line
+IsBarred layout view who thread slot line (answers.Gone page) = FoundGone layout view who thread page × HasOnlyBegun layout view who slot line
+IsBarred layout view who thread slot line _ = ⊥
 
 abbrev pub IsLoadCaused : Layout → View → Who → Thread → VSlot → ℕ → Answer → Type 0
-IsLoadCaused layout view who thread slot line (answers.Value word at) = (mask : Mask) × Reached layout view who thread slot at (entries.Load slot line (Word mask word))
-IsLoadCaused layout view who thread slot line (answers.Sigbus at) = IsSigbus layout view who thread slot at (entries.Load slot line (Sigbus thread))
-IsLoadCaused layout view who thread slot line answer = IsBarred layout view who thread slot answer
+IsLoadCaused layout view who thread slot line (answers.Value word at) = (mask : Mask) × Reached layout view who thread slot line at (entries.Load slot line (Word mask word))
+IsLoadCaused layout view who thread slot line (answers.Sigbus at) = IsSigbus layout view who thread slot line at (entries.Load slot line (Sigbus thread))
+IsLoadCaused layout view who thread slot line answer = IsBarred layout view who thread slot line answer
 
 abbrev pub IsStoreCaused : Layout → View → Who → Thread → VSlot → ℕ → ℕ → Answer → Type 0
-IsStoreCaused layout view who thread slot line word (answers.Stored at) = (mask : Mask) × Reached layout view who thread slot at (entries.Store slot line (Word mask word))
-IsStoreCaused layout view who thread slot line word (answers.Sigbus at) = IsSigbus layout view who thread slot at (entries.Store slot line (Sigbus thread))
-IsStoreCaused layout view who thread slot line word answer = IsBarred layout view who thread slot answer
+IsStoreCaused layout view who thread slot line word (answers.Stored at) = (mask : Mask) × Reached layout view who thread slot line at (entries.Store slot line (Word mask word))
+IsStoreCaused layout view who thread slot line word (answers.Sigbus at) = IsSigbus layout view who thread slot line at (entries.Store slot line (Sigbus thread))
+IsStoreCaused layout view who thread slot line word answer = IsBarred layout view who thread slot line answer
 
 -- the command made this entry of the page alone
 pub record MadeOne (view : View) (who : Who) (at : At) (what : What) : Type 0 where
@@ -107,6 +125,25 @@ IsPageCaused layout view who page what (answers.DoneAt at) = (at.page ≡ page) 
 IsPageCaused layout view who page what (answers.NotResident at) = (at.page ≡ page) × FoundState layout view who at IsAway
 IsPageCaused layout view who page what _ = ⊥
 
+-- a step of the command, under the lock of the page's frame, showed that these lines of it were bad
+pub record SawBadLines (layout : Layout) (view : View) (who : Who) (page : Page) (mask : Mask) : Type 0 where
+  pub some : mask.0 ≢ 0
+  pub frame : Frame
+  pub inside : frame.0 < layout.frames
+  pub saw : SawBadOf view who page frame mask.0
+
+-- of a command that copies a page's content: the page was in a frame with bad lines
+abbrev pub IsCopyCaused : Layout → View → Who → Page → What → Answer → Type 0
+IsCopyCaused layout view who page what (answers.BadLines mask at) =
+    (at.page ≡ page) × FoundState layout view who at (λ (s : PageState). s.cached ≡ true) × SawBadLines layout view who page mask
+IsCopyCaused layout view who page what answer = IsPageCaused layout view who page what answer
+
+-- the command spoiled this line of the frame, and made no entry
+pub record HasSpoiledLine (view : View) (who : Who) (frame : Frame) (line : ℕ) (damage : Damage) : Type 0 where
+  pub within : line < line_limit
+  pub spoiled : SomeMember (λ (s : Spoiled). (s.stamp.who ≡ who) × (s.frame ≡ frame) × (s.line ≡ line) × (s.damage ≡ damage)) view.spoiled
+  pub made : HasMadeNone view who
+
 -- the reply of prctl(2) to the policy that the processor's commands before this one left the thread
 pub record IsReplied (layout : Layout) (list : List Command) (view : View) (who : Who) (thread : Thread) (given : List ℕ) (answer : Answer) : Type 0 where
   pub going : SawProcess layout view who thread 0
@@ -115,25 +152,17 @@ pub record IsReplied (layout : Layout) (list : List Command) (view : View) (who 
 
 -- ---- failures
 
--- a failure of the command in this situation made its one entry, where a page was in the frame, and else none
-pub record HasEntered (view : View) (who : Who) (situation : Situation) : Type 0 where
-  pub at : At
-  pub seen : List Seen
-  pub signals : List Signal
-  pub made : MadeOne view who at (entries.Fail situation None seen signals)
+-- the command itself made the frame fail, by no report of the hardware, and found this
+pub record HasFailed (layout : Layout) (view : View) (who : Who) (frame : Frame) (found : Found) : Type 0 where
+  pub entered : IsEntered layout view who frame None found found.at
+  pub only : HasOnly (λ (m : Made). is_failure m.entry.what ≡ true) view who
 
-abbrev pub IsEntered : View → Who → Situation → Bool → Type 0
-IsEntered view who situation true = HasEntered view who situation
-IsEntered view who situation false = HasMadeNone view who
-
--- the failure of a frame by the command was in this situation: the kernel's in a frame of the kernel alone
-pub record HasFailed (layout : Layout) (view : View) (who : Who) (frame : Frame) (situation : Situation) : Type 0 where
-  pub kernel : is_kernel_found situation ≡ is_kernels layout frame
-  pub entered : IsEntered view who situation (has_page situation)
-
--- the failure of a frame came to this
-abbrev pub HasCome : Layout → View → Who → Frame → Outcome → Type 0
-HasCome layout view who frame outcome = (situation : Situation) × (outcome_of situation ≡ outcome) × HasFailed layout view who frame situation
+-- the failure came to this
+pub record HasCome (layout : Layout) (view : View) (who : Who) (frame : Frame) (own : Option (Frame × Found)) (outcome : Outcome) : Type 0 where
+  pub found : Found
+  pub own_is : own ≡ Some (frame, found)
+  pub outcome_is : outcome_of found.situation ≡ outcome
+  pub failed : HasFailed layout view who frame found
 
 -- the frame was poisoned already, as the command was shown, and it made no entry
 pub record FoundPoisoned (view : View) (who : Who) (frame : Frame) : Type 0 where
@@ -142,31 +171,59 @@ pub record FoundPoisoned (view : View) (who : Who) (frame : Frame) : Type 0 wher
   pub saw : Saw view who (places.Frame frame) word
   pub made : HasMadeNone view who
 
-abbrev pub IsInjectCaused : Layout → View → Who → Frame → Answer → Type 0
-IsInjectCaused layout view who frame answers.Recovered = HasCome layout view who frame outcomes.Recovered
-IsInjectCaused layout view who frame answers.Delayed = HasCome layout view who frame outcomes.Delayed
-IsInjectCaused layout view who frame answers.Ignored = HasCome layout view who frame outcomes.Ignored
-IsInjectCaused layout view who frame answers.Already = FoundPoisoned view who frame
-IsInjectCaused layout view who frame _ = ⊥
+abbrev pub IsInjectCaused : Layout → View → Who → Frame → Option (Frame × Found) → Answer → Type 0
+IsInjectCaused layout view who frame own answers.Recovered = HasCome layout view who frame own outcomes.Recovered
+IsInjectCaused layout view who frame own answers.Delayed = HasCome layout view who frame own outcomes.Delayed
+IsInjectCaused layout view who frame own answers.Ignored = HasCome layout view who frame own outcomes.Ignored
+IsInjectCaused layout view who frame own answers.Already = FoundPoisoned view who frame × (own ≡ None)
+IsInjectCaused layout view who frame own _ = ⊥
 
--- the answer of a command among all of its processor's has its cause in what the processor knows of the command
-abbrev pub IsCaused : Layout → List Command → View → Who → Command → Answer → Type 0
-IsCaused layout list view who command answers.Stopped = FoundStopped view who
-IsCaused layout list view who (commands.Load thread slot line) answer = IsLoadCaused layout view who thread slot line answer
-IsCaused layout list view who (commands.Fetch thread slot line) answer = IsLoadCaused layout view who thread slot line answer
-IsCaused layout list view who (commands.KLoad thread slot line) answer = IsLoadCaused layout view who thread slot line answer
-IsCaused layout list view who (commands.Store thread slot line word) answer = IsStoreCaused layout view who thread slot line word answer
-IsCaused layout list view who (commands.Free slot) (answers.DoneAt at) = IsOf layout at.page slot × MadeOne view who at (entries.Free slot)
-IsCaused layout list view who (commands.Free slot) (answers.NotMapped at) = IsOf layout at.page slot × FoundState layout view who at (IsUnused slot)
-IsCaused layout list view who (commands.Drop page) (answers.Dirty at) = (at.page ≡ page) × FoundState layout view who at IsDirty
-IsCaused layout list view who (commands.Drop page) (answers.Mapped at) = (at.page ≡ page) × FoundState layout view who at IsMapped
-IsCaused layout list view who (commands.Drop page) answer = IsPageCaused layout view who page entries.Drop answer
-IsCaused layout list view who (commands.Sync page) answer = IsPageCaused layout view who page entries.Sync answer
-IsCaused layout list view who (commands.Out page) answer = IsPageCaused layout view who page entries.Out answer
-IsCaused layout list view who (commands.Fsync file) answers.Done = HasMadeNone view who × Saw view who (places.Loss file) 0
-IsCaused layout list view who (commands.Fsync file) (answers.Eio lost) = HasMadeNone view who × (0 < lost) × Saw view who (places.Loss file) lost
-IsCaused layout list view who (commands.Prctl thread args) (answers.Gone page) = FoundGone layout view who thread page
-IsCaused layout list view who (commands.Prctl thread args) answer = IsReplied layout list view who thread (arguments args) answer
-IsCaused layout list view who (commands.Log status addr misc) answers.Done = HasMadeNone view who
-IsCaused layout list view who (commands.Inject frame) answer = (layout.recovery ≡ true) × IsInjectCaused layout view who frame answer
-IsCaused layout list view who _ _ = ⊥
+-- ---- machine checks
+
+-- a failure of the command's machine checks signalled its thread: the entry of the first that did is the one that the answer names
+pub record WasSignalled (layout : Layout) (view : View) (who : Who) (command : Command) (thread : Thread) (told : List Told) (at : At) : Type 0 where
+  pub going : SawProcess layout view who thread 0
+  pub first : first_signal told ≡ Some at
+  pub only : HasOnlyMet layout view who command
+
+-- a command that raised a machine check tells how many lines there are
+pub record WasRaised (layout : Layout) (view : View) (who : Who) (command : Command) (told : List Told) (n : ℕ) : Type 0 where
+  pub count : n ≡ length told
+  pub only : HasOnlyMet layout view who command
+
+-- an answer of a command that brings no failure about
+abbrev pub IsTableCaused : Layout → List Command → View → Who → Command → Answer → Type 0
+IsTableCaused layout list view who (commands.Load thread slot line) answer = IsLoadCaused layout view who thread slot line answer
+IsTableCaused layout list view who (commands.Fetch thread slot line) answer = IsLoadCaused layout view who thread slot line answer
+IsTableCaused layout list view who (commands.KLoad thread slot line) answer = IsLoadCaused layout view who thread slot line answer
+IsTableCaused layout list view who (commands.Store thread slot line word) answer = IsStoreCaused layout view who thread slot line word answer
+IsTableCaused layout list view who (commands.Free slot) (answers.DoneAt at) = IsOf layout at.page slot × MadeOne view who at (entries.Free slot)
+IsTableCaused layout list view who (commands.Free slot) (answers.NotMapped at) = IsOf layout at.page slot × FoundState layout view who at (IsUnused slot)
+IsTableCaused layout list view who (commands.Drop page) (answers.Dirty at) = (at.page ≡ page) × FoundState layout view who at IsDirty
+IsTableCaused layout list view who (commands.Drop page) (answers.Mapped at) = (at.page ≡ page) × FoundState layout view who at IsMapped
+IsTableCaused layout list view who (commands.Drop page) answer = IsPageCaused layout view who page entries.Drop answer
+IsTableCaused layout list view who (commands.Sync page) answer = IsCopyCaused layout view who page entries.Sync answer
+IsTableCaused layout list view who (commands.Out page) answer = IsCopyCaused layout view who page entries.Out answer
+IsTableCaused layout list view who (commands.Fsync file) answers.Done = HasMadeNone view who × Saw view who (places.Loss file) 0
+IsTableCaused layout list view who (commands.Fsync file) (answers.Eio lost) = HasMadeNone view who × (0 < lost) × Saw view who (places.Loss file) lost
+IsTableCaused layout list view who (commands.Prctl thread args) (answers.Gone page) = FoundGone layout view who thread page × HasMadeNone view who
+IsTableCaused layout list view who (commands.Prctl thread args) answer = IsReplied layout list view who thread (arguments args) answer
+IsTableCaused layout list view who (commands.Log status addr misc) answers.Done = HasMadeNone view who
+IsTableCaused layout list view who (commands.Bad frame line) answers.Done = HasSpoiledLine view who frame line damages.Bad
+IsTableCaused layout list view who (commands.Weak frame line) answers.Done = HasSpoiledLine view who frame line damages.Weak
+IsTableCaused layout list view who _ _ = ⊥
+
+-- the answer of a command among all of its processor's has its cause in what the processor knows of the command: by what the
+-- command told of its machine checks, by the failure that it brought about itself, and by its answer
+abbrev pub IsAnswerCaused : Layout → List Command → View → Who → Command → List Told → Option (Frame × Found) → Answer → Type 0
+IsAnswerCaused layout list view who command told own answers.Stopped = FoundStopped layout view who command
+IsAnswerCaused layout list view who (commands.RaiseUser thread ripv eipv) told own (answers.Raised n) = SawProcess layout view who thread 0 × WasRaised layout view who (commands.RaiseUser thread ripv eipv) told n
+IsAnswerCaused layout list view who (commands.RaiseUser thread ripv eipv) told own (answers.Gone page) = FoundGone layout view who thread page × HasMadeNone view who
+IsAnswerCaused layout list view who (commands.RaiseKernel ripv eipv) told own (answers.Raised n) = WasRaised layout view who (commands.RaiseKernel ripv eipv) told n
+IsAnswerCaused layout list view who (commands.Inject frame) told own answer = (layout.recovery ≡ true) × IsInjectCaused layout view who frame own answer
+IsAnswerCaused layout list view who command told own (answers.Sigbus at) =
+    IsTableCaused layout list view who command (answers.Sigbus at) ⊎ IsSomeAnd (access_of command) (λ (a : Access). WasSignalled layout view who command a.thread told at)
+IsAnswerCaused layout list view who command told own answer = IsTableCaused layout list view who command answer
+
+abbrev pub IsCaused : Layout → List Command → View → Who → Command → Row → Type 0
+IsCaused layout list view who command row = IsAnswerCaused layout list view who command row.told row.own row.answer

@@ -1,5 +1,7 @@
 pub mod Causes
 pub mod Accounts
+pub mod Told
+pub mod Rows
 pub mod Served
 pub mod Runs
 pub mod Owed

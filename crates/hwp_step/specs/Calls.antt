@@ -46,8 +46,8 @@ GoesHome (steps.UnlockFrame frame) put = Unit {0}
 GoesHome (steps.UnlockPage page) put = Unit {0}
 GoesHome step put = put ≡ None
 
--- the processor can make the step of its command, with this body for the slot whose lock it frees; until machine checks are
--- served, no step of one
+-- the processor can make the step of its command, with this body for the slot whose lock it frees; until unpoisoning is
+-- served, no step of it
 pub record CanMake (layout : Layout) (who : Who) (step : Step) (put : Option BodyValue) (view : View) : Type 0 where
   pub served : IsServed step
   pub later : IsLater view who who.seq

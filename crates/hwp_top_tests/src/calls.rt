@@ -225,15 +225,7 @@ fn a_refused_script_leaves_nothing_on_out(rt: HostRuntime) {
 }
 
 /// Commands that aren't supported.
-const UNSUPPORTED: &[&str] = &[
-    "bad 0 1",
-    "weak 0 1",
-    "scrub 0 1",
-    "raise user 0 1 1",
-    "raise kernel 1 1",
-    "soft 0",
-    "unpoison 0",
-];
+const UNSUPPORTED: &[&str] = &["scrub 0 1", "soft 0", "unpoison 0"];
 
 /// The script of the command, behind others that are supported, is refused.
 fn is_not_built(rt: &impl Abort, alloc: Global, command: &str) {

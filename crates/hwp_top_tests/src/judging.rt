@@ -153,3 +153,33 @@ schedule 0. 1.",
 fn every_order_of_twelve_turns_of_two_failures_of_one_frame_gives_a_legal_report(rt: HostRuntime) {
     all_legal(&rt, rt.alloc(), BOTH_FAILING, 12, 4096);
 }
+
+/// A bad line under two processors that both need its page.
+const BAD_LINES: &[Race] = &[
+    // both meet it, in a page of which the other process is signalled early
+    Race {
+        front: "hwp 1\ncpus 2\nframes 2\nearly 1\nproc 0\nproc 1\nthread 0 0 0 handler\nthread 1 1 1 handler\npage 0 anon\n\
+trans 0 0 0\ntrans 1 1 0\ncpu 0\nstore 0 0 0 7\nbad 0 0\nload 0 0 0\ncpu 1\nload 1 1 1\nload 1 1 0\nload 1 1 1\n\
+schedule 0. 1. 0.",
+        head: POISONED,
+    },
+    // one meets it in a dirty page of a file, which the other one makes fail
+    Race {
+        front: "hwp 1\ncpus 2\nframes 2\nfile 0\nproc 0\nproc 1\nthread 0 0 0 handler\nthread 1 1 1 nohandler\n\
+page 0 file 0 fill 9\ntrans 0 0 0\ntrans 1 1 0\ncpu 0\nstore 0 0 0 7\nbad 0 0\nstore 0 0 0 8\nfsync 0\ncpu 1\nload 1 1 1\n\
+inject 0\nload 1 1 0\nschedule 0. 0. 1.",
+        head: POISONED,
+    },
+    // one meets it on a machine that doesn't recover, while the other one raises an event of its own
+    Race {
+        front: "hwp 1\ncpus 2\nframes 2\nrecovery 0\nproc 0\nproc 1\nthread 0 0 0 handler\nthread 1 1 1 handler\npage 0 anon\n\
+trans 0 0 0\ntrans 1 1 0\ncpu 0\nbad 0 0\nload 0 0 0\ncpu 1\nlog 0xbd000000000000c0 0x1000 0x86\nraise user 1 1 1\nload 1 1 0\n\
+schedule 0. 1.",
+        head: "hwp-report 1\nstop ",
+    },
+];
+
+#[test]
+fn every_order_of_twelve_turns_over_a_bad_line_gives_a_legal_report(rt: HostRuntime) {
+    all_legal(&rt, rt.alloc(), BAD_LINES, 12, 4096);
+}

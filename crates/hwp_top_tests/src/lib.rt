@@ -1,5 +1,5 @@
-//! Tests of the top call: worked scripts and their reports, on one processor and on several, memory failures, races,
-//! refusals, faults of the source and the sink, reports that are judged, and scripts made from a seed.
+//! Tests of the top call: worked scripts and their reports, on one processor and on several, memory failures, machine checks,
+//! races, refusals, faults of the source and the sink, reports that are judged, and scripts made from a seed.
 #![tactic(auto)]
 
 #[cfg(test)]
@@ -14,6 +14,8 @@ mod failures;
 mod helpers;
 #[cfg(test)]
 mod judging;
+#[cfg(test)]
+mod machine_checks;
 #[cfg(test)]
 mod many;
 #[cfg(test)]

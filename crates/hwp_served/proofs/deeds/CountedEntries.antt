@@ -21,7 +21,7 @@ use Rattle.hwp_law.specs.Lines.{is_same_command}
 use Rattle.hwp_law.specs.Pairings.{entries_of}
 use Rattle.hwp_runs.proofs.Histories.{balanced}
 use Rattle.hwp_served.specs.Accounts.{is_same}
-use Rattle.hwp_served.proofs.marks.CountedMarks.{turned}
+use Rattle.hwp_served.proofs.marks.Marked.{turned}
 use Rattle.hwp_served.proofs.Ending.{IsEnd}
 use Rattle.hwp_served.proofs.Failed.{same-who}
 use Rattle.hwp_served.proofs.HomePages.{home-pages}

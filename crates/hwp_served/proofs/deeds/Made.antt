@@ -1,5 +1,5 @@
 -- Each entry of the report is one that its command makes, and the one that answers it is named.
-use Rattle.std.proofs.Common.{◌≡◌, ℕ, true, List, Option, Some, IsTrue, slice_get, option_and_then, sym, ap, ◌∙◌, subst}
+use Rattle.std.proofs.Common.{◌≡◌, ℕ, false, List, Option, Some, IsTrue, slice_get, option_and_then, sym, ap, ◌∙◌, subst, arith}
 use Rattle.std.specs.Prelude.{IsSomeAnd}
 use Rattle.hwp_geom.specs.declared.Cpu.{Cpu}
 use Rattle.hwp_geom.specs.declared.Page.{Page}
@@ -15,11 +15,15 @@ use Rattle.hwp_report.specs.declared.CpuLine.TheVariants as lines
 use Rattle.hwp_report.specs.declared.Report.{Report}
 use Rattle.hwp_law.specs.Answers.{AreNamed, is_answering}
 use Rattle.hwp_law.specs.Entries.{AreMadeBy, CanStandIn, Makes}
+use Rattle.hwp_law.specs.Pairings.{is_soft}
 use Rattle.hwp_law.specs.Places.{command_at, entry_at}
 use Rattle.hwp_law.specs.States.{entry_named}
 use Rattle.hwp_runs.proofs.Reported.{entry-listed}
-use Rattle.hwp_served.proofs.deeds.Deeds.{IsDeed, are-deeds, is_mild}
-use Rattle.hwp_served.proofs.Ending.{IsEnd, IsOf, of-deeds, of-made}
+use Rattle.hwp_handler.specs.declared.Row.{Row}
+use Rattle.hwp_served.specs.Rows.{lines_from}
+use Rattle.hwp_served.proofs.deeds.Deeds.{IsDeed, are-deeds}
+use Rattle.hwp_served.proofs.Ending.{IsEnd, IsOf, of-deeds, of-made, served-of}
+use Rattle.hwp_served.proofs.RowLines.{answer-line}
 
 -- what there is has the property
 pub some-so : {A : Type 0} (P : A → Type 0) (o : Option A) (x : A) → o ≡ Some x → P x → IsSomeAnd o P
@@ -29,28 +33,28 @@ pub command-is : (script : Script) (who : Who) (list : List Command) (command : 
 command-is script who list command list_is there = ap (λ (o : Option (List Command)). option_and_then (λ (l : List Command). slice_get l who.seq) o) list_is ∙ there
 
 -- an entry of the report, its command and what it is of it
-pub record Does (script : Script) (report : Report) (at : At) (e : Entry) : Type 0 where
+pub record Does (script : Script) (rows : List (List Row)) (at : At) (e : Entry) : Type 0 where
   pub view : View
-  pub of : IsOf script report view e.who
+  pub of : IsOf script rows view e.who
   pub makes : Makes of.command e.what
   pub stands : CanStandIn script.layout of.command at.page e.what
-  pub mild : is_mild e.what ≡ true
-  pub named : IsTrue (is_answering e.what) → entry_named of.answer ≡ Some at
+  pub mild : is_soft e.what ≡ false
+  pub named : IsTrue (is_answering e.what) → entry_named of.row.answer ≡ Some at
 
 module _ (script : Script) (seat : Cpu → ℕ) (last : State) (report : Report) (end : IsEnd script seat last report) where
-  pub does : (at : At) (e : Entry) → entry_at report.pages at ≡ Some e → Does script report at e
+  pub does : (at : At) (e : Entry) → entry_at report.pages at ≡ Some e → Does script end.rows at e
   does at e is =
       let listed = entry-listed script.layout last report end.board at e is in
       let made = listed.3 in
       let that = made.3 in
-      let of : IsOf script report listed.1 e.who = subst (λ (x : Entry). IsOf script report listed.1 x.who) that.entry_is (of-made script seat last report end listed.0 made.0 listed.1 made.1 listed.2 made.2) in
-      let deed = of-deeds (IsDeed script.layout of.command of.answer) listed.1 e.who made.0 made.1 (are-deeds script.layout of.list listed.1 e.who of.command of.answer of.caused) made.2 (ap (λ (x : Entry). x.who) that.entry_is) in
+      let of : IsOf script end.rows listed.1 e.who = subst (λ (x : Entry). IsOf script end.rows listed.1 x.who) that.entry_is (of-made script seat last report end listed.0 made.0 listed.1 made.1 listed.2 made.2) in
+      let deed = of-deeds (IsDeed script.layout of.command of.row.answer) listed.1 e.who made.0 made.1 (are-deeds script.layout of.list listed.1 e.who of.command of.row of.served.caused of.served.accounted) made.2 (ap (λ (x : Entry). x.who) that.entry_is) in
       record {
         view = listed.1;
         of = of;
         makes = subst (λ (x : Entry). Makes of.command x.what) that.entry_is deed.makes;
         stands = subst (λ (x : Entry). CanStandIn script.layout of.command at.page x.what) that.entry_is (subst (λ (p : Page). CanStandIn script.layout of.command p made.1.entry.what) that.page_is deed.stands);
-        mild = subst (λ (x : Entry). is_mild x.what ≡ true) that.entry_is deed.mild;
+        mild = subst (λ (x : Entry). is_soft x.what ≡ false) that.entry_is deed.mild;
         named = λ answers. deed.named (subst (λ (x : Entry). IsTrue (is_answering x.what)) (sym that.entry_is) answers)
             ∙ ap (λ (p : Page). Some (record { page = p; entry = made.1.place })) that.page_is ∙ ap (λ (n : ℕ). Some (record { page = at.page; entry = n })) that.place_is;
       }
@@ -62,9 +66,11 @@ module _ (script : Script) (seat : Cpu → ℕ) (last : State) (report : Report)
 
   pub entries-named : AreNamed report.pages report.cpus
   entries-named at e is answers =
-      let d = does at e is in (
-        d.of.answer,
-        e.who.seq,
-        some-so (λ (rows : List CpuLine). slice_get rows e.who.seq ≡ Some (lines.Answer e.who.seq d.of.answer)) (slice_get report.cpus e.who.cpu.0) d.of.rows d.of.rows_is d.of.answer_is,
+      let d = does at e is in
+      let line = answer-line 0 d.of.own e.who.seq e.who.seq d.of.row d.of.row_is (omega arith) in (
+        d.of.row.answer,
+        line.0,
+        some-so (λ (rows : List CpuLine). slice_get rows line.0 ≡ Some (lines.Answer e.who.seq d.of.row.answer)) (slice_get report.cpus e.who.cpu.0) (lines_from 0 d.of.own)
+            (served-of script seat last report end e.who.cpu d.of.list d.of.own d.of.list_is d.of.own_is).1 line.1,
         d.named answers,
       )

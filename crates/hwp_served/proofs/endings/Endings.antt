@@ -1,13 +1,15 @@
 -- After a command that ended a process, or was answered that it had ended, the processor's later commands of its threads are
 -- answered so too.
-use Rattle.std.proofs.Common.{◌≡◌, ◌≢◌, ◌⊎◌, inl, inr, ℕ, ◌+◌, ◌<◌, true, List, Some, slice_get, option_and_then, sym, ap, ◌∙◌, subst, arith}
+use Rattle.std.proofs.Common.{◌≡◌, ◌≢◌, ◌⊎◌, ℕ, inl, inr, ◌+◌, ◌<◌, true, List, Option, Some, None, IsSomeAnd, slice_get, option_and_then, option_map, refl, sym, ap, ◌∙◌, subst, arith}
 use Rattle.std.proofs.lemmas.Option.{none-some, same_Some}
 use Rattle.hwp_geom.specs.declared.Cpu.{Cpu}
+use Rattle.hwp_geom.specs.declared.Frame.{Frame}
 use Rattle.hwp_geom.specs.declared.Layout.{Layout}
 use Rattle.hwp_geom.specs.declared.Page.{Page}
 use Rattle.hwp_geom.specs.declared.Proc.{Proc}
 use Rattle.hwp_geom.specs.declared.Thread.{Thread}
 use Rattle.hwp_geom.specs.declared.Who.{Who}
+use Rattle.hwp_page.specs.declared.At.{At}
 use Rattle.hwp_page.specs.declared.Entry.{Entry}
 use Rattle.hwp_page.specs.Endings.{is_ending}
 use Rattle.hwp_page.specs.Orders.{IsEarlier}
@@ -23,10 +25,12 @@ use Rattle.hwp_script.specs.declared.Script.{Script}
 use Rattle.hwp_report.specs.declared.Answer.{Answer}
 use Rattle.hwp_report.specs.declared.Answer.TheVariants as answers
 use Rattle.hwp_report.specs.declared.Report.{Report}
-use Rattle.hwp_law.specs.Commands.{process_of_thread, thread_of}
+use Rattle.hwp_law.specs.Commands.{Access, access_of, process_of_thread, thread_of}
 use Rattle.hwp_law.specs.Endings.{EndingsStay, HasEnded, IsOver, WasGone}
 use Rattle.hwp_runs.proofs.Reported.{entry-listed}
-use Rattle.hwp_served.specs.Causes.{IsCaused, SawProcess}
+use Rattle.hwp_handler.specs.declared.Found.{Found}
+use Rattle.hwp_handler.specs.declared.Told.{Told}
+use Rattle.hwp_served.specs.Causes.{IsAnswerCaused, IsTableCaused, SawProcess, WasSignalled}
 use Rattle.hwp_served.specs.Runs.{IsRunOf}
 use Rattle.hwp_served.proofs.Along.{run-keeps}
 use Rattle.hwp_served.proofs.Ending.{IsEnd, own-view}
@@ -45,40 +49,70 @@ module _ (layout : Layout) (list : List Command) (view : View) (who : Who) (proc
   IsProcess command = option_and_then (process_of_thread layout) (thread_of command) ≡ Some process
 
   -- a command of the process's threads is answered that it is over, or saw it going on
-  going : (command : Command) (answer : Answer) → IsProcess command → IsCaused layout list view who command answer → IsOver answer ⊎ Saw view who (places.Process process) 0
-  going command answers.Stopped is caused = inl tt
-  going command (answers.Gone page) is caused = inl tt
-  going (commands.Load thread slot line) (answers.Value word bt) is caused = inr (saw-process thread 0 is caused.1.going)
-  going (commands.Load thread slot line) (answers.Sigbus bt) is caused = inr (saw-process thread 0 is caused.going)
-  going (commands.Load thread slot line) answers.NoFrame is caused = inr (saw-process thread 0 is caused.going)
-  going (commands.Fetch thread slot line) (answers.Value word bt) is caused = inr (saw-process thread 0 is caused.1.going)
-  going (commands.Fetch thread slot line) (answers.Sigbus bt) is caused = inr (saw-process thread 0 is caused.going)
-  going (commands.Fetch thread slot line) answers.NoFrame is caused = inr (saw-process thread 0 is caused.going)
-  going (commands.KLoad thread slot line) (answers.Value word bt) is caused = inr (saw-process thread 0 is caused.1.going)
-  going (commands.KLoad thread slot line) (answers.Sigbus bt) is caused = inr (saw-process thread 0 is caused.going)
-  going (commands.KLoad thread slot line) answers.NoFrame is caused = inr (saw-process thread 0 is caused.going)
-  going (commands.Store thread slot line word) (answers.Stored bt) is caused = inr (saw-process thread 0 is caused.1.going)
-  going (commands.Store thread slot line word) (answers.Sigbus bt) is caused = inr (saw-process thread 0 is caused.going)
-  going (commands.Store thread slot line word) answers.NoFrame is caused = inr (saw-process thread 0 is caused.going)
-  going (commands.Prctl thread args) answer is caused = inr (saw-process thread 0 is caused.going)
-  going (commands.Free slot) answer is caused = absurd (none-some process is)
-  going (commands.Drop page) answer is caused = absurd (none-some process is)
-  going (commands.Sync page) answer is caused = absurd (none-some process is)
-  going (commands.Out page) answer is caused = absurd (none-some process is)
-  going (commands.Fsync file) answer is caused = absurd (none-some process is)
-  going (commands.Log status addr misc) answer is caused = absurd (none-some process is)
-  going (commands.Inject frame) answer is caused = absurd (none-some process is)
-  going command answer is caused = absurd caused
+  table-going : (command : Command) (answer : Answer) → IsProcess command → IsTableCaused layout list view who command answer → IsOver answer ⊎ Saw view who (places.Process process) 0
+  table-going command (answers.Gone page) is caused = inl tt
+  table-going (commands.Load thread slot line) (answers.Value word bt) is caused = inr (saw-process thread 0 is caused.1.going)
+  table-going (commands.Load thread slot line) (answers.Sigbus bt) is caused = inr (saw-process thread 0 is caused.going)
+  table-going (commands.Load thread slot line) answers.NoFrame is caused = inr (saw-process thread 0 is caused.going)
+  table-going (commands.Fetch thread slot line) (answers.Value word bt) is caused = inr (saw-process thread 0 is caused.1.going)
+  table-going (commands.Fetch thread slot line) (answers.Sigbus bt) is caused = inr (saw-process thread 0 is caused.going)
+  table-going (commands.Fetch thread slot line) answers.NoFrame is caused = inr (saw-process thread 0 is caused.going)
+  table-going (commands.KLoad thread slot line) (answers.Value word bt) is caused = inr (saw-process thread 0 is caused.1.going)
+  table-going (commands.KLoad thread slot line) (answers.Sigbus bt) is caused = inr (saw-process thread 0 is caused.going)
+  table-going (commands.KLoad thread slot line) answers.NoFrame is caused = inr (saw-process thread 0 is caused.going)
+  table-going (commands.Store thread slot line word) (answers.Stored bt) is caused = inr (saw-process thread 0 is caused.1.going)
+  table-going (commands.Store thread slot line word) (answers.Sigbus bt) is caused = inr (saw-process thread 0 is caused.going)
+  table-going (commands.Store thread slot line word) answers.NoFrame is caused = inr (saw-process thread 0 is caused.going)
+  table-going (commands.Prctl thread args) answer is caused = inr (saw-process thread 0 is caused.going)
+  table-going (commands.Free slot) answer is caused = absurd (none-some process is)
+  table-going (commands.Drop page) answer is caused = absurd (none-some process is)
+  table-going (commands.Sync page) answer is caused = absurd (none-some process is)
+  table-going (commands.Out page) answer is caused = absurd (none-some process is)
+  table-going (commands.Fsync file) answer is caused = absurd (none-some process is)
+  table-going (commands.Log status addr misc) answer is caused = absurd (none-some process is)
+  table-going (commands.Bad frame line) answer is caused = absurd (none-some process is)
+  table-going (commands.Weak frame line) answer is caused = absurd (none-some process is)
+  table-going command answer is caused = absurd caused
+
+  -- an access has its thread
+  access-thread : (command : Command) (a : Access) → access_of command ≡ Some a → thread_of command ≡ Some a.thread
+  access-thread (commands.Load thread slot line) a is = ap (option_map (λ (b : Access). b.thread)) is
+  access-thread (commands.Fetch thread slot line) a is = ap (option_map (λ (b : Access). b.thread)) is
+  access-thread (commands.KLoad thread slot line) a is = ap (option_map (λ (b : Access). b.thread)) is
+  access-thread (commands.Store thread slot line word) a is = ap (option_map (λ (b : Access). b.thread)) is
+  access-thread command a is = absurd (none-some a is)
+
+  signalled-going : (command : Command) (told : List Told) (at : At) (o : Option Access) → access_of command ≡ o → IsProcess command → IsSomeAnd o (λ (a : Access). WasSignalled layout view who command a.thread told at) → Saw view who (places.Process process) 0
+  signalled-going command told at None access is was = absurd was
+  signalled-going command told at (Some a) access is was = saw-process a.thread 0 (sym (ap (option_and_then (process_of_thread layout)) (access-thread command a access)) ∙ is) was.going
+
+  either-going : (command : Command) (told : List Told) (at : At) → IsProcess command → IsTableCaused layout list view who command (answers.Sigbus at) ⊎ IsSomeAnd (access_of command) (λ (a : Access). WasSignalled layout view who command a.thread told at)
+      → IsOver (answers.Sigbus at) ⊎ Saw view who (places.Process process) 0
+  either-going command told at is (inl caused) = table-going command (answers.Sigbus at) is caused
+  either-going command told at is (inr was) = inr (signalled-going command told at (access_of command) refl is was)
+
+  going : (command : Command) (told : List Told) (own : Option (Frame × Found)) (answer : Answer) → IsProcess command → IsAnswerCaused layout list view who command told own answer → IsOver answer ⊎ Saw view who (places.Process process) 0
+  going command told own answers.Stopped is caused = inl tt
+  going (commands.RaiseUser thread ripv eipv) told own (answers.Raised n) is caused = inr (saw-process thread 0 is caused.0)
+  going (commands.RaiseUser thread ripv eipv) told own (answers.Gone page) is caused = inl tt
+  going (commands.RaiseKernel ripv eipv) told own (answers.Raised n) is caused = absurd (none-some process is)
+  going (commands.Inject frame) told own answer is caused = absurd (none-some process is)
+  going command told own (answers.Sigbus at) is caused = either-going command told at is caused
+  going command told own answer is caused = table-going command answer is caused
 
   -- a command that was answered that the process had ended saw its word
-  gone : (command : Command) (page : Page) → IsProcess command → IsCaused layout list view who command (answers.Gone page) → Saw view who (places.Process process) (page.0 + 1)
-  gone (commands.Load thread slot line) page is caused = saw-process thread _ is caused.ended
-  gone (commands.Fetch thread slot line) page is caused = saw-process thread _ is caused.ended
-  gone (commands.KLoad thread slot line) page is caused = saw-process thread _ is caused.ended
-  gone (commands.Store thread slot line word) page is caused = saw-process thread _ is caused.ended
-  gone (commands.Prctl thread args) page is caused = saw-process thread _ is caused.ended
-  gone (commands.Inject frame) page is caused = absurd caused.1
-  gone command page is caused = absurd caused
+  table-gone : (command : Command) (page : Page) → IsProcess command → IsTableCaused layout list view who command (answers.Gone page) → Saw view who (places.Process process) (page.0 + 1)
+  table-gone (commands.Load thread slot line) page is caused = saw-process thread _ is caused.0.ended
+  table-gone (commands.Fetch thread slot line) page is caused = saw-process thread _ is caused.0.ended
+  table-gone (commands.KLoad thread slot line) page is caused = saw-process thread _ is caused.0.ended
+  table-gone (commands.Store thread slot line word) page is caused = saw-process thread _ is caused.0.ended
+  table-gone (commands.Prctl thread args) page is caused = saw-process thread _ is caused.0.ended
+  table-gone command page is caused = absurd caused
+
+  gone : (command : Command) (told : List Told) (own : Option (Frame × Found)) (page : Page) → IsProcess command → IsAnswerCaused layout list view who command told own (answers.Gone page) → Saw view who (places.Process process) (page.0 + 1)
+  gone (commands.RaiseUser thread ripv eipv) told own page is caused = saw-process thread _ is caused.0.ended
+  gone (commands.Inject frame) told own page is caused = absurd caused.1
+  gone command told own page is caused = table-gone command page is caused
 
 module _ (script : Script) (seat : Cpu → ℕ) (turns : List Played) (last : State) (report : Report) (run : IsRunOf script seat turns last report) where
   abbrev end : IsEnd script seat last report
@@ -111,7 +145,8 @@ module _ (script : Script) (seat : Cpu → ℕ) (turns : List Played) (last : St
     not-gone was =
         let has = process-command script who process was.process_is in
         let a = answers-of script seat turns last report run who has.0 (answers.Gone was.page) has.1 was.answered in
-        let first : Saw (view_of last (seat who.cpu)) who (places.Process process) (was.page.0 + 1) = gone script.layout a.list (view_of last (seat who.cpu)) who process has.0 was.page (sym (process-is script who has.0 has.1) ∙ was.process_is) a.caused in
+        let first : Saw (view_of last (seat who.cpu)) who (places.Process process) (was.page.0 + 1) = gone script.layout a.list (view_of last (seat who.cpu)) who process has.0 a.row.told a.row.own was.page (sym (process-is script who has.0 has.1) ∙ was.process_is)
+        (subst (IsAnswerCaused script.layout a.list (view_of last (seat who.cpu)) who has.0 a.row.told a.row.own) a.answer_is a.served.caused) in
         let mine : Saw (view_of last (seat later.cpu)) who (places.Process process) (was.page.0 + 1) = subst (λ (c : Cpu). Saw (view_of last (seat c)) who (places.Process process) (was.page.0 + 1)) earlier.0 first in
         let some : mine.1.word ≢ 0 = λ none. (let no_ : was.page.0 + 1 ≡ 0 = sym mine.3.2 ∙ none in omega (arith, no_)) in
         let before : IsEarlier mine.1.stamp.who saw.1.stamp.who = subst (IsEarlier mine.1.stamp.who) (sym saw.3.0) (subst (λ (w : Who). IsEarlier w later) (sym mine.3.0) earlier) in
@@ -121,7 +156,8 @@ module _ (script : Script) (seat : Cpu → ℕ) (turns : List Played) (last : St
   endings-stay who later process answer how earlier of is =
       let has = process-command script later process of in
       let a = answers-of script seat turns last report run later has.0 answer has.1 is in
-      which how a.inside (going script.layout a.list (view_of last (seat later.cpu)) later process has.0 answer (sym (process-is script later has.0 has.1) ∙ of) a.caused)
+      which how a.inside (going script.layout a.list (view_of last (seat later.cpu)) later process has.0 a.row.told a.row.own answer (sym (process-is script later has.0 has.1) ∙ of)
+      (subst (IsAnswerCaused script.layout a.list (view_of last (seat later.cpu)) later has.0 a.row.told a.row.own) a.answer_is a.served.caused))
     where
       which : HasEnded script report who process ⊎ WasGone script report who process → later.cpu.0 < script.layout.cpus → IsOver answer ⊎ Saw (view_of last (seat later.cpu)) later (places.Process process) 0 → IsOver answer
       which how inside (inl over) = over

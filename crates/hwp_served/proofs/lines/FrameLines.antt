@@ -1,6 +1,5 @@
--- The lines of frames: where each is, that none of its lines is marked, and how many are poisoned.
+-- The lines of frames: where each is, which of its lines are bad or weak, and how many are poisoned.
 use Rattle.std.proofs.Common.{◌≡◌, ◌≢◌, ℕ, zero, suc, ◌+◌, ◌-◌, ◌%◌, ◌^◌, ◌<◌, ◌≤◌, Bool, true, false, cond, List, [], ◌∷◌, Option, Some, None, length, slice_get, slice_index, refl, sym, ap, ◌∙◌, subst, arith}
-use Rattle.std.specs.Int.{IsBitSet}
 use Rattle.std.proofs.lemmas.Bool.{eq-eqb, eqb-false, eqb-true, ne_eqb}
 use Rattle.std.proofs.lemmas.Option.{get_or_from_slice_get, none-some, slice_get_within}
 use Rattle.hwp_geom.specs.declared.Cpu.{Cpu}
@@ -14,28 +13,24 @@ use Rattle.hwp_rule.specs.Lists.{SomeMember}
 use Rattle.hwp_rule.specs.Words.{Words, sum_below, words_of}
 use Rattle.hwp_rule.proofs.Lists.{at_map}
 use Rattle.hwp_rule.proofs.Moving.{shaped}
-use Rattle.hwp_step.specs.Boards.{Played, view_of}
-use Rattle.hwp_script.specs.declared.Command.TheVariants as commands
+use Rattle.hwp_step.specs.Boards.{Played}
 use Rattle.hwp_script.specs.declared.Script.{Script}
-use Rattle.hwp_report.specs.declared.Answer.TheVariants as answers
 use Rattle.hwp_report.specs.declared.FrameLine.{FrameLine}
 use Rattle.hwp_report.specs.declared.MarkLine.{MarkLine}
 use Rattle.hwp_report.specs.declared.Place.TheVariants as places
 use Rattle.hwp_report.specs.declared.Report.{Report}
-use Rattle.hwp_law.specs.Frames.{IsFrameLine, IsPlaced, WasDone, poisoned_count}
+use Rattle.hwp_law.specs.Frames.{IsFrameLine, IsPlaced, poisoned_count}
 use Rattle.hwp_law.specs.Records.{ends_poisoned, is_poisoning}
 use Rattle.hwp_runs.specs.Ends.{IsFrameOn, place_in, place_owned}
 use Rattle.hwp_runs.proofs.Placed.{owned-named}
 use Rattle.hwp_served.specs.Runs.{IsRunOf}
-use Rattle.hwp_served.proofs.lines.Clean.{run-clean}
+use Rattle.hwp_served.proofs.lines.SpoiledLines.{bad-so, weak-so}
 use Rattle.hwp_served.proofs.Ending.{IsEnd}
 use Rattle.hwp_served.proofs.Holding.{ended}
 use Rattle.hwp_served.proofs.marks.MarkWords.{mark-poisons}
-use Rattle.hwp_served.proofs.marks.Poisoned.{one-line}
+use Rattle.hwp_served.proofs.marks.Poisoned.{of-mark, one-line}
 use Rattle.hwp_served.proofs.marks.PoisonSeen.{marked-word}
-use Rattle.hwp_served.proofs.lines.RecordLines.{of-mark}
-use Rattle.hwp_served.proofs.lines.Records.{record-is}
-use Rattle.hwp_served.proofs.Showing.{answers-of}
+use Rattle.hwp_served.proofs.lines.Records.{record-so}
 use Rattle.hwp_served.proofs.Sums.{list-below}
 
 -- a record of one poisoning at most says whether it has one
@@ -65,7 +60,7 @@ module _ (script : Script) (seat : Cpu → ℕ) (turns : List Played) (last : St
             let one = one-line script seat last report end frame line line_is k x there in
             let o = of-mark script seat last report end frame line line_is k x there in
             let word : slice_get words.frames o.mark.frame.0 ≡ Some on.word = ap (λ (f : Frame). slice_get words.frames f.0) o.frame_is ∙ on.there in
-            (one.0, one.1, mark-poisons script.layout last end.board.holds (seat o.mark.stamp.who.cpu) o.place (view_of last (seat o.mark.stamp.who.cpu)) o.mark on.word (end.seated.there o.mark.stamp.who.cpu o.inside) o.listed word)
+            (one.0, one.1, mark-poisons script.layout last end.board.holds o.i o.j o.view o.mark on.word o.view_is o.listed word)
 
         some : is_poisoned on.word ≡ true → SomeMember (λ (x : MarkLine). Unit {0}) line.marks
         some poisoned =
@@ -111,28 +106,17 @@ module _ (script : Script) (seat : Cpu → ℕ) (turns : List Played) (last : St
                 ap (λ (b : Bool). cond b None (Some (record { 0 = (suc q - 1) % 2 ^ 16 }))) (ne_eqb (suc q) 0 (λ none. let no : suc q ≡ 0 = none in omega arith))
                 ∙ ap (λ (n : ℕ). Some (record { 0 = n })) (let is : (suc q - 1) % 2 ^ 16 ≡ q = omega arith in is)
 
-  -- no command marks a line bad, or weak
-  never-bad : (frame : Frame) (n : ℕ) → WasDone script report (commands.Bad frame n) → ⊥
-  never-bad frame n done = (answers-of script seat turns last report run done.who (commands.Bad frame n) answers.Done done.made done.answered).caused
-
-  never-weak : (frame : Frame) (n : ℕ) → WasDone script report (commands.Weak frame n) → ⊥
-  never-weak frame n done = (answers-of script seat turns last report run done.who (commands.Weak frame n) answers.Done done.made done.answered).caused
-
-  no-bit : (w n : ℕ) → w ≡ 0 → IsBitSet w n → ⊥
-  no-bit w n none set = absurd (subst (λ (m : ℕ). IsBitSet m n) none set refl)
-
   pub frame-line : (frame : Frame) (kernel : Bool) (line : FrameLine) → slice_get script.layout.kernel frame.0 ≡ Some kernel → slice_get report.frames frame.0 ≡ Some line → IsFrameLine script report kernel frame line
   frame-line frame kernel line kernel_is line_is =
       let o = on frame line line_is in
-      let clean = run-clean script.layout turns last run.rule run.moves in
       let own : is_kernel o.word ≡ kernel = end.board.holds.rule.frames.places.declared frame.0 o.word kernel o.there kernel_is in
       record {
         place = subst (λ (b : Bool). IsPlaced script.layout kernel b line.place) (sym (ends-are frame line line_is))
             (subst (IsPlaced script.layout kernel (is_poisoned o.word)) (sym o.place)
             (subst (λ (k : Bool). IsPlaced script.layout k (is_poisoned o.word) (place_in o.word)) own (placed-so frame line line_is (is_kernel o.word) (is_handled o.word) refl refl)));
-        bad = λ n. (λ set. absurd (no-bit line.bad.0 n (clean.bads frame.0 line.bad.0 o.bad) set), λ done. absurd (never-bad frame n done));
-        weak = λ n. (λ set. absurd (no-bit line.weak.0 n (clean.weaks frame.0 line.weak.0 o.weak) set), λ done. absurd (never-weak frame n done));
-        kept = record-is script seat turns last report run frame kernel kernel_is line line_is;
+        bad = λ n. bad-so script seat last report end frame line.bad.0 n o.bad;
+        weak = λ n. weak-so script seat last report end frame line.weak.0 n o.weak;
+        kept = record-so script seat last report end frame kernel kernel_is line line_is;
       }
 
   -- the count is that of the frames whose record ends poisoned

@@ -21,7 +21,8 @@ use Rattle.hwp_rule.proofs.Lists.{at_map, sum-map, sum-zero}
 use Rattle.hwp_step.specs.Boards.{AreSeated, view_of}
 use Rattle.hwp_report.specs.declared.MarkLine.{MarkLine}
 use Rattle.hwp_runs.proofs.Homes.{there-is}
-use Rattle.hwp_served.specs.Accounts.{IsNote, Note, lines_of, record_of}
+use Rattle.hwp_served.specs.Accounts.{IsNote}
+use Rattle.hwp_served.specs.Rows.{Note, lines_of, record_of}
 use Rattle.hwp_served.specs.Runs.{IsRecord, notes_on}
 use Rattle.hwp_served.proofs.marks.MarkWords.{counts_in, mark-first, marks-few}
 use Rattle.hwp_served.proofs.Seats.{seat-place}
@@ -60,13 +61,13 @@ and-true true c is = sym (ap from_bool is)
 and-true false c is = refl
 
 -- the notes of a frame are as many as the marks of it
-notes-marks : (layout : Layout) (view : View) (frame : Frame) (own : List Note) (marks : List Mark) → Pairs (IsNote layout view) own marks → notes_on frame (λ x. true) own ≡ sum_by (is_on frame.0) marks
-notes-marks layout view frame [] [] pairs = refl
-notes-marks layout view frame [] (m ∷ ms) pairs = absurd pairs
-notes-marks layout view frame (n ∷ ns) [] pairs = absurd pairs
-notes-marks layout view frame (n ∷ ns) (m ∷ ms) (is, rest) =
+notes-marks : (frame : Frame) (own : List Note) (marks : List Mark) → Pairs IsNote own marks → notes_on frame (λ x. true) own ≡ sum_by (is_on frame.0) marks
+notes-marks frame [] [] pairs = refl
+notes-marks frame [] (m ∷ ms) pairs = absurd pairs
+notes-marks frame (n ∷ ns) [] pairs = absurd pairs
+notes-marks frame (n ∷ ns) (m ∷ ms) (is, rest) =
     let first : cond ((n.0.0 == frame.0) && true) 1 0 ≡ is_on frame.0 m = flag-true (n.0.0 == frame.0) ∙ ap (λ (f : Frame). from_bool (f.0 == frame.0)) is.frame in
-    let later : notes_on frame (λ x. true) ns ≡ sum_by (is_on frame.0) ms = notes-marks layout view frame ns ms rest in
+    let later : notes_on frame (λ x. true) ns ≡ sum_by (is_on frame.0) ms = notes-marks frame ns ms rest in
     let one : notes_on frame (λ x. true) (n ∷ ns) ≡ cond ((n.0.0 == frame.0) && true) 1 0 + notes_on frame (λ x. true) ns = sum_by-cons (λ (x : Note). cond ((x.0.0 == frame.0) && true) 1 0) n ns in
     let other : sum_by (is_on frame.0) (m ∷ ms) ≡ is_on frame.0 m + sum_by (is_on frame.0) ms = sum_by-cons (is_on frame.0) m ms in
     omega (arith, first, later, one, other)
@@ -74,7 +75,7 @@ notes-marks layout view frame (n ∷ ns) (m ∷ ms) (is, rest) =
 -- what a processor noted is of its view's marks, which are its own
 pub record AreNoted (layout : Layout) (seat : Cpu → ℕ) (last : State) (notes : List (List Note)) : Type 0 where
   pub fit : length notes ≡ layout.cpus
-  pub noted : (c : ℕ) (own : List Note) → slice_get notes c ≡ Some own → Pairs (IsNote layout (view_of last (seat (record { 0 = c })))) own (view_of last (seat (record { 0 = c }))).marks
+  pub noted : (c : ℕ) (own : List Note) → slice_get notes c ≡ Some own → Pairs IsNote own (view_of last (seat (record { 0 = c }))).marks
   pub marked : (c : ℕ) → c < layout.cpus → EachMember (λ (m : Mark). m.stamp.who.cpu ≡ record { 0 = c }) (view_of last (seat (record { 0 = c }))).marks
 
 module _ (layout : Layout) (seat : Cpu → ℕ) (last : State) (holds : Holds layout last) (seated : AreSeated layout last seat) (notes : List (List Note)) (are : AreNoted layout seat last notes)
@@ -118,13 +119,13 @@ module _ (layout : Layout) (seat : Cpu → ℕ) (last : State) (holds : Holds la
       in-first i j v m view there =
           let within = holds.rule.failures.marks.framed i v.marks (at_map (λ (x : View). x.marks) last.views i v view) j m there in
           let its = there-is (words_of layout last.words).frames m.frame.0 within in
-          and_from (m.cycle == 0) (poisons m.kind) (eq-eqb m.cycle 0 (mark-first layout last holds i j v m its.0 view there its.1)) (ap poisons ((holds.undamaged i v view).marks j m there))
+          and_from (m.cycle == 0) (poisons m.kind) (eq-eqb m.cycle 0 (mark-first layout last holds i j v m its.0 view there its.1)) ((holds.unrevived i v view).marks j m there)
 
-  gathered-few : length (record_of frame notes) ≤ 1
+  pub gathered-few : length (record_of frame notes) ≤ 1
   gathered-few =
       let counted : count_by (λ (x : MarkLine). true) (record_of frame notes) ≡ length (record_of frame notes) = sum-ones (record_of frame notes) in
       let same : count_by (λ (x : MarkLine). true) (record_of frame notes) ≡ sum_by (notes_on frame (λ x. true)) notes = gathered-same frame (λ x. true) notes in
-      let lists : sum_by (notes_on frame (λ x. true)) notes ≡ sum_below marks_by (length notes) = list-below (notes_on frame (λ x. true)) marks_by notes (λ c own there. notes-marks layout (view_of last (seat (record { 0 = c }))) frame own (view_of last (seat (record { 0 = c }))).marks (are.noted c own there)) in
+      let lists : sum_by (notes_on frame (λ x. true)) notes ≡ sum_below marks_by (length notes) = list-below (notes_on frame (λ x. true)) marks_by notes (λ c own there. notes-marks frame own (view_of last (seat (record { 0 = c }))).marks (are.noted c own there)) in
       let cpus : sum_below marks_by (length notes) ≡ sum_below marks_by layout.cpus = ap (sum_below marks_by) are.fit in
       let few : poisonings frame.0 0 (map (λ (v : View). v.marks) last.views) ≤ 1 = marks-few layout last holds frame.0 w word in
       omega (arith, counted, same, lists, cpus, few, all-views, all-poisonings)

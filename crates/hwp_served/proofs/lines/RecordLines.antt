@@ -1,35 +1,45 @@
--- Each line of a frame's record is of a mark, with the situation that the mark's failure found.
-use Rattle.std.proofs.Common.{◌≡◌, ℕ, zero, suc, ◌<◌, ◌==◌, ◌&&◌, not, Bool, true, false, Some, List, slice_get, refl, sym, ap, ◌∙◌, subst, true≢false}
+-- The record of a frame is what is gathered of the notes of all processors: each of its lines tells a failure of the frame, that of an
+-- event which a command told, or that which the command brought about itself.
+use Rattle.std.proofs.Common.{◌≡◌, ◌⊎◌, inl, inr, ℕ, zero, suc, ◌+◌, ◌<◌, ◌≤◌, ◌==◌, ◌&&◌, not, Bool, true, false, cond, List, [], ◌∷◌, Option, Some, None, filter, length, slice_get, refl, sym, ap, ◌∙◌, subst, arith, true≢false}
+use Rattle.std.specs.List.{count_by}
 use Rattle.std.proofs.lemmas.Bool.{and_from, and_parts, eq-eqb, eqb-true}
-use Rattle.std.proofs.lemmas.Option.{same_Some}
+use Rattle.std.proofs.lemmas.List.Sums.{sum_by-cons}
+use Rattle.std.proofs.lemmas.Option.{none-some, slice_get_within}
 use Rattle.hwp_geom.specs.declared.Cpu.{Cpu}
 use Rattle.hwp_geom.specs.declared.Frame.{Frame}
 use Rattle.hwp_geom.specs.declared.Who.{Who}
+use Rattle.hwp_geom.specs.Pairs.{Pairs}
 use Rattle.hwp_page.specs.declared.Outcome.{Outcome}
 use Rattle.hwp_page.specs.declared.Outcome.TheVariants as outcomes
 use Rattle.hwp_page.specs.declared.Situation.{Situation}
 use Rattle.hwp_page.specs.declared.Situation.TheVariants as situations
 use Rattle.hwp_page.specs.Situations.{outcome_of}
-use Rattle.hwp_rule.specs.declared.Mark.{Mark}
 use Rattle.hwp_rule.specs.declared.State.{State}
-use Rattle.hwp_rule.specs.declared.View.{View}
+use Rattle.hwp_rule.specs.Lists.{EachMember}
+use Rattle.hwp_rule.proofs.Counting.{sum-ones}
 use Rattle.hwp_rule.proofs.Lists.{map-was}
 use Rattle.hwp_step.specs.Boards.{view_of}
 use Rattle.hwp_script.specs.declared.Script.{Script}
 use Rattle.hwp_report.specs.declared.FrameLine.{FrameLine}
-use Rattle.hwp_report.specs.declared.How.{How}
 use Rattle.hwp_report.specs.declared.How.TheVariants as hows
 use Rattle.hwp_report.specs.declared.MarkLine.{MarkLine}
 use Rattle.hwp_report.specs.declared.MarkLine.TheVariants as marks
 use Rattle.hwp_report.specs.declared.Report.{Report}
 use Rattle.hwp_law.specs.Pairings.{situation_number}
-use Rattle.hwp_runs.specs.Ends.{Tells}
+use Rattle.hwp_law.specs.Records.{who_in}
+use Rattle.hwp_handler.specs.declared.Found.{Found}
+use Rattle.hwp_handler.specs.declared.Row.{Row}
+use Rattle.hwp_handler.specs.declared.Told.{Told}
+use Rattle.hwp_handler.specs.Told.{frame_of}
 use Rattle.hwp_served.specs.Accounts.{IsNote, is_same}
-use Rattle.hwp_served.specs.Causes.{HasFailed}
-use Rattle.hwp_served.proofs.Ending.{IsEnd, list-of, notes-of, own-view, rows-of}
-use Rattle.hwp_served.proofs.Failed.{one-situation, paired, same-who}
-use Rattle.hwp_served.proofs.marks.Marked.{noted-line, noted_so, same-self}
-use Rattle.hwp_served.proofs.marks.Poisoned.{one-line}
+use Rattle.hwp_served.specs.Rows.{Note, notes_from, record_of}
+use Rattle.hwp_served.specs.Runs.{notes_of, row_at}
+use Rattle.hwp_served.proofs.Ending.{IsEnd, filter-has, list-of, rows-of, served-of}
+use Rattle.hwp_served.proofs.Failed.{same-who}
+use Rattle.hwp_served.proofs.Seen.{filter-is}
+use Rattle.hwp_served.proofs.lines.Gathering.{AreNoted, gathered-few, gathered-same}
+use Rattle.hwp_served.proofs.marks.Marked.{same-self}
+use Rattle.hwp_served.proofs.marks.RowNotes.{all_notes, each-note, is_noted, notes-at, notes-fit, notes-of-command, notes_at, record-flat}
 
 -- ---- a situation by its number
 
@@ -69,84 +79,165 @@ at-outcome outcomes.Recovered = refl
 at-outcome outcomes.Delayed = refl
 at-outcome outcomes.Ignored = refl
 
--- ---- a line that says a failure
+-- ---- a line that tells a failure
 
-abbrev says_how : Situation → How → Bool
-says_how situation (hows.Failure hardware other outcome) = not hardware && ((situation_number other == situation_number situation) && (number_of outcome == number_of (outcome_of situation)))
-says_how situation _ = false
+abbrev pub failure_line : Who → Bool → Found → MarkLine
+failure_line who hardware found = marks.Poisoned found.cycle who (hows.Failure hardware found.situation (outcome_of found.situation))
 
-abbrev says : ℕ → Who → Situation → MarkLine → Bool
-says cycle who situation (marks.Poisoned other by how) = (other == cycle) && (is_same who by && says_how situation how)
-says cycle who situation _ = false
+abbrev same_flag : Bool → Bool → Bool
+same_flag true b = b
+same_flag false b = not b
 
-is-how : (situation : Situation) (how : How) → says_how situation how ≡ true → how ≡ hows.Failure false situation (outcome_of situation)
-is-how situation (hows.Failure true other outcome) is = absurd (true≢false (sym is))
-is-how situation (hows.Failure false other outcome) is =
-    let both = and_parts (situation_number other == situation_number situation) (number_of outcome == number_of (outcome_of situation)) is in
-    let came : outcome ≡ outcome_of situation = sym (at-outcome outcome) ∙ ap outcome_at (eqb-true (number_of outcome) (number_of (outcome_of situation)) both.1) ∙ at-outcome (outcome_of situation) in
-    ap (λ (s : Situation). hows.Failure false s outcome) (same-situation other situation both.0) ∙ ap (hows.Failure false situation) came
-is-how situation hows.Moved is = absurd (true≢false (sym is))
-is-how situation hows.TakenFree is = absurd (true≢false (sym is))
+is-flag : (a b : Bool) → same_flag a b ≡ true → b ≡ a
+is-flag true b is = is
+is-flag false false is = refl
+is-flag false true is = absurd (true≢false (sym is))
 
-is-line : (cycle : ℕ) (who : Who) (situation : Situation) (x : MarkLine) → says cycle who situation x ≡ true → x ≡ marks.Poisoned cycle who (hows.Failure false situation (outcome_of situation))
-is-line cycle who situation (marks.Poisoned other by how) is =
-    let first = and_parts (other == cycle) (is_same who by && says_how situation how) is in
-    let rest = and_parts (is_same who by) (says_how situation how) first.1 in
-    ap (λ (c : ℕ). marks.Poisoned c by how) (eqb-true other cycle first.0) ∙ ap (λ (w : Who). marks.Poisoned cycle w how) (same-who who by rest.0) ∙ ap (marks.Poisoned cycle who) (is-how situation how rest.1)
-is-line cycle who situation (marks.Unpoisoned other by) is = absurd (true≢false (sym is))
+self-flag : (a : Bool) → same_flag a a ≡ true
+self-flag true = refl
+self-flag false = refl
 
-says-so : (m : Mark) (situation : Situation) → says m.cycle m.stamp.who situation (noted_so m situation) ≡ true
-says-so m situation = and_from (m.cycle == m.cycle) _ (eq-eqb m.cycle m.cycle refl) (and_from (is_same m.stamp.who m.stamp.who) _ (same-self m.stamp.who m.stamp.who refl)
-    (and_from (situation_number situation == situation_number situation) _ (eq-eqb (situation_number situation) (situation_number situation) refl) (eq-eqb (number_of (outcome_of situation)) (number_of (outcome_of situation)) refl)))
+abbrev is_line : Who → Bool → Found → MarkLine → Bool
+is_line who hardware found (marks.Poisoned cycle by (hows.Failure other situation outcome)) =
+    (cycle == found.cycle) && (is_same who by && (same_flag hardware other && ((situation_number situation == situation_number found.situation) && (number_of outcome == number_of (outcome_of found.situation)))))
+is_line who hardware found x = false
 
-of-frame : (frame : Frame) (x : MarkLine) (m : Mark) → Tells frame x m → m.frame ≡ frame
-of-frame frame (marks.Poisoned cycle who how) m tells = tells.0
-of-frame frame (marks.Unpoisoned cycle who) m tells = tells.0
+is-line : (who : Who) (hardware : Bool) (found : Found) (x : MarkLine) → is_line who hardware found x ≡ true → x ≡ failure_line who hardware found
+is-line who hardware found (marks.Poisoned cycle by (hows.Failure other situation outcome)) is =
+    let one = and_parts (cycle == found.cycle) _ is in
+    let two = and_parts (is_same who by) _ one.1 in
+    let three = and_parts (same_flag hardware other) _ two.1 in
+    let four = and_parts (situation_number situation == situation_number found.situation) _ three.1 in
+    let came : outcome ≡ outcome_of found.situation = sym (at-outcome outcome) ∙ ap outcome_at (eqb-true (number_of outcome) (number_of (outcome_of found.situation)) four.1) ∙ at-outcome (outcome_of found.situation) in
+    ap (λ (c : ℕ). marks.Poisoned c by (hows.Failure other situation outcome)) (eqb-true cycle found.cycle one.0)
+    ∙ ap (λ (w : Who). marks.Poisoned found.cycle w (hows.Failure other situation outcome)) (same-who who by two.0)
+    ∙ ap (λ (b : Bool). marks.Poisoned found.cycle who (hows.Failure b situation outcome)) (is-flag hardware other three.0)
+    ∙ ap (λ (s : Situation). marks.Poisoned found.cycle who (hows.Failure hardware s outcome)) (same-situation situation found.situation four.0)
+    ∙ ap (λ (o : Outcome). marks.Poisoned found.cycle who (hows.Failure hardware found.situation o)) came
+is-line who hardware found (marks.Poisoned cycle by hows.Moved) is = absurd (true≢false (sym is))
+is-line who hardware found (marks.Poisoned cycle by hows.TakenFree) is = absurd (true≢false (sym is))
+is-line who hardware found (marks.Unpoisoned cycle by) is = absurd (true≢false (sym is))
+
+self-line : (who : Who) (hardware : Bool) (found : Found) → is_line who hardware found (failure_line who hardware found) ≡ true
+self-line who hardware found =
+    and_from (found.cycle == found.cycle) _ (eq-eqb found.cycle found.cycle refl) (and_from (is_same who who) _ (same-self who who refl) (and_from (same_flag hardware hardware) _ (self-flag hardware)
+    (and_from (situation_number found.situation == situation_number found.situation) _ (eq-eqb (situation_number found.situation) (situation_number found.situation) refl)
+    (eq-eqb (number_of (outcome_of found.situation)) (number_of (outcome_of found.situation)) refl))))
+
+-- a line that tells some failure
+pub record IsFailureLine (x : MarkLine) : Type 0 where
+  pub who : Who
+  pub hardware : Bool
+  pub found : Found
+  pub is : x ≡ failure_line who hardware found
+
+-- two lists that count the same, of which one has one such line at most
+same-few : (l g : List MarkLine) → ((test : MarkLine → Bool) → count_by test l ≡ count_by test g) → length g ≤ 1 → EachMember IsFailureLine g → l ≡ g
+same-few l g same few each = which l g (sym (sum-ones l) ∙ same (λ x. true) ∙ sum-ones g) same few each
+  where
+    one : (test : MarkLine → Bool) (x : MarkLine) → count_by test (x ∷ []) ≡ cond (test x) 1 0
+    one test x = let all : count_by test (x ∷ []) ≡ cond (test x) 1 0 + 0 = sum_by-cons (λ (y : MarkLine). cond (test y) 1 0) x [] in omega (arith, all)
+
+    passed : (b : Bool) → ◌≡◌ {A = ℕ} (cond b 1 0) 1 → b ≡ true
+    passed true is = refl
+    passed false is = absurd (omega (arith, is))
+
+    which : (l g : List MarkLine) → length l ≡ length g → ((test : MarkLine → Bool) → count_by test l ≡ count_by test g) → length g ≤ 1 → EachMember IsFailureLine g → l ≡ g
+    which [] [] fit same few each = refl
+    which [] (x ∷ xs) fit same few each = absurd (let no_ : 0 ≡ suc (length xs) = fit in omega arith)
+    which (y ∷ ys) [] fit same few each = absurd (let no_ : suc (length ys) ≡ 0 = fit in omega arith)
+    which (y ∷ ys) (x ∷ z ∷ zs) fit same few each = absurd (let no_ : suc (suc (length zs)) ≤ 1 = few in omega arith)
+    which (y ∷ z ∷ zs) (x ∷ []) fit same few each = absurd (let no_ : suc (suc (length zs)) ≡ 1 = fit in omega arith)
+    which (y ∷ []) (x ∷ []) fit same few each =
+        let of = each 0 x refl in
+        let test : MarkLine → Bool = is_line of.who of.hardware of.found in
+        let mine : test x ≡ true = ap test of.is ∙ self-line of.who of.hardware of.found in
+        let counted : cond (test y) 1 0 ≡ cond (test x) 1 0 = sym (one test y) ∙ same test ∙ one test x in
+        let passes : cond (test y) 1 0 ≡ 1 = counted ∙ ap (λ (b : Bool). cond b 1 0) mine in
+        ap (λ (w : MarkLine). w ∷ []) (is-line of.who of.hardware of.found y (passed (test y) passes) ∙ sym of.is)
+
+-- ---- the lines of a record
+
+-- a line of a frame's record by a command with this row: of an event, or of the command's own failure
+pub record IsOfTold (who : Who) (row : Row) (frame : Frame) (x : MarkLine) : Type 0 where
+  pub i : ℕ
+  pub t : Told
+  pub there : slice_get row.told i ≡ Some t
+  pub found : Found
+  pub found_is : t.found ≡ Some found
+  pub frame_is : frame_of t.held ≡ frame
+  pub line_is : x ≡ failure_line who true found
+
+pub record IsOfOwn (who : Who) (row : Row) (frame : Frame) (x : MarkLine) : Type 0 where
+  pub found : Found
+  pub own_is : row.own ≡ Some (frame, found)
+  pub line_is : x ≡ failure_line who false found
+
+abbrev pub IsOfRow : Who → Row → Frame → MarkLine → Type 0
+IsOfRow who row frame x = IsOfTold who row frame x ⊎ IsOfOwn who row frame x
+
+failure-so : (who : Who) (row : Row) (frame : Frame) (x : MarkLine) → IsOfRow who row frame x → IsFailureLine x
+failure-so who row frame x (inl of) = record { who = who; hardware = true; found = of.found; is = of.line_is }
+failure-so who row frame x (inr of) = record { who = who; hardware = false; found = of.found; is = of.line_is }
+
+pub record OfItsRow (rows : List (List Row)) (frame : Frame) (x : MarkLine) : Type 0 where
+  pub row : Row
+  pub row_is : row_at rows (who_in x) ≡ Some row
+  pub of : IsOfRow (who_in x) row frame x
+
+-- each note is one of its command's row
+note-row : (rows : List (List Row)) (j : ℕ) (n : Note) → slice_get (all_notes (notes_of 0 rows)) j ≡ Some n → OfItsRow rows n.0 n.1
+note-row rows j n there =
+    let who : Who = who_in n.1 in
+    let among = filter-has (is_noted who) (all_notes (notes_of 0 rows)) j n there (and_from (who.cpu.0 == who.cpu.0) (who.seq == who.seq) (eq-eqb who.cpu.0 who.cpu.0 refl) (eq-eqb who.seq who.seq refl)) in
+    which (row_at rows who) refl among.0 (sym (ap (λ (l : List Note). slice_get l among.0) (notes-of-command who rows)) ∙ among.1)
+  where
+    which : (o : Option Row) → row_at rows (who_in n.1) ≡ o → (k : ℕ) → slice_get (notes_at (who_in n.1) o) k ≡ Some n → OfItsRow rows n.0 n.1
+    which None is k at = absurd (none-some n at)
+    which (Some row) is k at = record {
+      row = row;
+      row_is = is;
+      of = each-note (λ (x : Note). IsOfRow (who_in n.1) row x.0 x.1) (who_in n.1) row (λ i t found there some. inl (record { i = i; t = t; there = there; found = found; found_is = some; frame_is = refl; line_is = refl }))
+          (λ frame found own. inr (record { found = found; own_is = own; line_is = refl })) k n at;
+    }
+
+-- and so is each line that is gathered
+pub line-row : (rows : List (List Row)) (frame : Frame) (k : ℕ) (x : MarkLine) → slice_get (record_of frame (notes_of 0 rows)) k ≡ Some x → OfItsRow rows frame x
+line-row rows frame k x there =
+    let on : Note → Bool = λ n. n.0.0 == frame.0 in
+    let of = map-was (λ (n : Note). n.1) (filter on (all_notes (notes_of 0 rows))) k x (sym (ap (λ (l : List MarkLine). slice_get l k) (record-flat frame (notes_of 0 rows))) ∙ there) in
+    let note : Note = of.0 in
+    let found = filter-is on (all_notes (notes_of 0 rows)) k note of.1 in
+    let frame_is : note.0 ≡ frame = ap (λ (f : ℕ). record { 0 = f }) (eqb-true note.0.0 frame.0 found.2) in
+    subst (OfItsRow rows frame) of.2 (subst (λ (f : Frame). OfItsRow rows f note.1) frame_is (note-row rows found.0 note found.1))
 
 module _ (script : Script) (seat : Cpu → ℕ) (last : State) (report : Report) (end : IsEnd script seat last report) where
-  -- the mark of a line, in the view of its processor's seat, and what its failure found
-  pub record IsOfMark (frame : Frame) (x : MarkLine) : Type 0 where
-    pub mark : Mark
-    pub inside : mark.stamp.who.cpu.0 < script.layout.cpus
-    pub place : ℕ
-    pub listed : slice_get (view_of last (seat mark.stamp.who.cpu)).marks place ≡ Some mark
-    pub frame_is : mark.frame ≡ frame
-    pub situation : Situation
-    pub line_is : x ≡ noted_so mark situation
-    pub failed : HasFailed script.layout (view_of last (seat mark.stamp.who.cpu)) mark.stamp.who mark.frame situation
+  -- the notes of each processor are of its marks
+  pub all-noted : AreNoted script.layout seat last (notes_of 0 end.rows)
+  all-noted = record {
+    fit = notes-fit 0 end.rows ∙ end.rows_fit;
+    noted = λ c own there. (let by = notes-at 0 end.rows c own there in
+        let inside : c < script.layout.cpus = subst (λ (n : ℕ). c < n) end.rows_fit (slice_get_within end.rows c by.0 by.1) in
+        let cpu : Cpu = record { 0 = c } in
+        let list = list-of script seat last report end cpu inside in
+        let served = (served-of script seat last report end cpu list.0 by.0 list.1 by.1).0 in
+        subst (λ (l : List Note). Pairs IsNote l (view_of last (seat cpu)).marks) (sym (by.2 ∙ ap (λ (n : ℕ). notes_from (record { 0 = n }) 0 by.0) (let same : 0 + c ≡ c = omega arith in same))) served.noted);
+    marked = λ c inside. (let cpu : Cpu = record { 0 = c } in
+        let list = list-of script seat last report end cpu inside in
+        let own = rows-of script seat last report end cpu inside in
+        let served = (served-of script seat last report end cpu list.0 own.0 list.1 own.1).0 in
+        λ j m there. (served.marked j m there).0);
+  }
 
-  pub of-mark : (frame : Frame) (line : FrameLine) → slice_get report.frames frame.0 ≡ Some line → (k : ℕ) (x : MarkLine) → slice_get line.marks k ≡ Some x → IsOfMark frame x
-  of-mark frame line line_is k x there =
-      let told = (end.board.ends.frames frame line line_is).marks.told k x there in
-      let m : Mark = told.0 in
-      let frame_is : m.frame ≡ frame = of-frame frame x m told.2 in
-      let i = told.1.0 in
-      let was = map-was (λ (v : View). v.marks) last.views i told.1.1 told.1.2 in
-      let at : slice_get was.0.marks told.1.3.0 ≡ Some m = ap (λ (l : List Mark). slice_get l told.1.3.0) was.2 ∙ told.1.3.2 ∙ ap (λ (y : Mark). Some y) told.1.3.3 in
-      let past = (end.board.holds.rule.processors.commands.own i was.0 was.1).marks told.1.3.0 m at in
-      let own = own-view script seat last report end i was.0 m.stamp.who was.1 past in
-      let cpu : Cpu = m.stamp.who.cpu in
-      let view : View = view_of last (seat cpu) in
-      let listed : slice_get view.marks told.1.3.0 ≡ Some m = sym (ap (λ (v : View). slice_get v.marks told.1.3.0) own.1) ∙ at in
-      let list = list-of script seat last report end cpu own.0 in
-      let rows = rows-of script seat last report end cpu own.0 in
-      let notes = notes-of script seat last report end cpu own.0 in
-      let served = end.served cpu list.0 rows.0 notes.0 list.1 rows.1 notes.1 in
-      let note = (paired (IsNote script.layout view) notes.0 view.marks told.1.3.0 m served.noted listed).2 in
-      let found = noted-line script seat last report end cpu own.0 told.1.3.0 m listed (says m.cycle m.stamp.who note.situation)
-      (λ other failed. ap (λ (s : Situation). says m.cycle m.stamp.who note.situation (noted_so m s)) (one-situation script.layout view m.stamp.who m.frame other note.situation failed note.failed) ∙ says-so m note.situation) in
-      let y = found.2 in
-      let same : slice_get report.frames frame.0 ≡ Some found.0 = ap (λ (f : Frame). slice_get report.frames f.0) (sym frame_is) ∙ found.1 in
-      let lines : line ≡ found.0 = same_Some line found.0 (sym line_is ∙ same) in
-      let mine : slice_get line.marks 0 ≡ Some x = subst (λ (n : ℕ). slice_get line.marks n ≡ Some x) (one-line script seat last report end frame line line_is k x there).0 there in
-      let other : slice_get line.marks 0 ≡ Some y.1 = ap (λ (l : FrameLine). slice_get l.marks 0) lines ∙ subst (λ (n : ℕ). slice_get found.0.marks n ≡ Some y.1) (one-line script seat last report end frame found.0 same y.0 y.1 y.2).0 y.2 in
-      record {
-        mark = m;
-        inside = own.0;
-        place = told.1.3.0;
-        listed = listed;
-        frame_is = frame_is;
-        situation = note.situation;
-        line_is = same_Some x y.1 (sym mine ∙ other) ∙ is-line m.cycle m.stamp.who note.situation y.1 y.3;
-        failed = note.failed;
-      }
+  -- the record is what is gathered
+  pub record-is : (frame : Frame) (line : FrameLine) → slice_get report.frames frame.0 ≡ Some line → line.marks ≡ record_of frame (notes_of 0 end.rows)
+  record-is frame line line_is =
+      let on = end.board.ends.frames frame line line_is in
+      let notes : List (List Note) = notes_of 0 end.rows in
+      same-few line.marks (record_of frame notes) (λ test. (end.records frame line line_is).same test ∙ sym (gathered-same frame test notes))
+      (gathered-few script.layout seat last end.board.holds end.seated notes all-noted frame on.word on.there)
+      (λ k x there. let of = line-row end.rows frame k x there in failure-so (who_in x) of.row frame x of.of)
+
+  -- so that each of its lines is of a row
+  pub of-row : (frame : Frame) (line : FrameLine) → slice_get report.frames frame.0 ≡ Some line → (k : ℕ) (x : MarkLine) → slice_get line.marks k ≡ Some x → OfItsRow end.rows frame x
+  of-row frame line line_is k x there = line-row end.rows frame k x (sym (ap (λ (l : List MarkLine). slice_get l k) (record-is frame line line_is)) ∙ there)

@@ -1,238 +1,327 @@
--- What the marks of a command have in the histories: an entry for each that found a page in its frame, and its answer for one at most.
-use Rattle.std.proofs.Common.{◌≡◌, ◌⊎◌, ℕ, zero, suc, ◌+◌, ◌<◌, ◌≤◌, ◌==◌, ◌&&◌, not, Bool, true, false, cond, List, [], ◌∷◌, ◌++◌, Option, Some, None, filter, length, map, slice_get, refl, sym, ap, ◌∙◌, subst, arith, inl, inr, true≢false}
-use Rattle.std.specs.List.{count_by, zip}
-use Rattle.std.proofs.lemmas.Bool.{cases_lt, false_from_ne_true}
-use Rattle.std.proofs.lemmas.List.Sums.{sum_by-cons}
-use Rattle.std.proofs.lemmas.Option.{none-some, same_Some, slice_get_within}
+-- What the marks of a command have in the histories: an entry for each failure that found a page in its frame, with a thread that needed
+-- the page exactly where row S9 graded the event; and its answer for one at most.
+use Rattle.std.proofs.Common.{◌≡◌, inl, inr, ℕ, suc, ◌+◌, ◌<◌, ◌≤◌, ◌==◌, ◌&&◌, not, Bool, true, false, cond, List, [], ◌∷◌, ◌++◌, Option, Some, None, is_some, filter_map, length, map, option_and_then, option_map, slice_get, refl, sym, ap, ◌∙◌, subst, arith, true≢false}
+use Rattle.std.specs.List.{cons_option, count_by, sum_by, zip}
+use Rattle.std.proofs.lemmas.Bool.{and_left, and_right, cases_lt, false_from_ne_true}
+use Rattle.std.proofs.lemmas.List.Sums.{sum_by-append, sum_by-cons}
+use Rattle.std.proofs.lemmas.Option.{none-some, slice_get_within}
+use Rattle.hwp_banks.specs.Addresses.{frame_at}
 use Rattle.hwp_geom.specs.declared.Cpu.{Cpu}
 use Rattle.hwp_geom.specs.declared.Frame.{Frame}
 use Rattle.hwp_geom.specs.declared.Layout.{Layout}
+use Rattle.hwp_geom.specs.declared.Page.{Page}
+use Rattle.hwp_geom.specs.declared.Thread.{Thread}
 use Rattle.hwp_geom.specs.declared.Who.{Who}
+use Rattle.hwp_page.specs.declared.At.{At}
 use Rattle.hwp_page.specs.declared.Situation.{Situation}
+use Rattle.hwp_page.specs.declared.Situation.TheVariants as situations
 use Rattle.hwp_page.specs.declared.What.{What}
 use Rattle.hwp_page.specs.declared.What.TheVariants as entries
 use Rattle.hwp_rule.specs.declared.Made.{Made}
-use Rattle.hwp_rule.specs.declared.Mark.{Mark}
 use Rattle.hwp_rule.specs.declared.State.{State}
 use Rattle.hwp_rule.specs.declared.View.{View}
 use Rattle.hwp_rule.specs.Lists.{EachMember}
-use Rattle.hwp_rule.specs.Undamaged.{is_failure as fails}
-use Rattle.hwp_rule.proofs.Lists.{at_map, sum-zero}
-use Rattle.hwp_step.specs.Boards.{Played, view_of}
+use Rattle.hwp_rule.specs.Words.{sum_below}
+use Rattle.hwp_rule.proofs.Lists.{sum-zero}
+use Rattle.hwp_step.specs.Boards.{view_of}
 use Rattle.hwp_known.specs.Known.{deeds, is_by}
-use Rattle.hwp_script.specs.declared.Command.{Command}
-use Rattle.hwp_script.specs.declared.Command.TheVariants as commands
+use Rattle.hwp_act.specs.declared.Failed.{Failed}
+use Rattle.hwp_act.specs.Abandoned as abandoned
+use Rattle.hwp_fail.specs.Fails.{IsPageless}
 use Rattle.hwp_script.specs.declared.Script.{Script}
-use Rattle.hwp_report.specs.declared.Answer.{Answer}
-use Rattle.hwp_report.specs.declared.Answer.TheVariants as answers
 use Rattle.hwp_report.specs.declared.FrameLine.{FrameLine}
 use Rattle.hwp_report.specs.declared.MarkLine.{MarkLine}
 use Rattle.hwp_report.specs.declared.Report.{Report}
-use Rattle.hwp_law.specs.Lines.{is_same_command}
-use Rattle.hwp_law.specs.Pairings.{AreRecorded, entries_of, finds, has_page, is_commands, is_failure, is_failure_mark, is_move, is_move_mark, is_required, is_soft, is_urgent, marks_in, situation_number, urgent_from}
+use Rattle.hwp_law.specs.Commands.{current_thread}
+use Rattle.hwp_law.specs.Lines.{EventLine, is_same_command}
+use Rattle.hwp_law.specs.Pairings.{AreRecorded, entries_of, finds, has_page, is_commands, is_failure, is_failure_mark, is_move, is_move_mark, is_required, is_urgent, marks_in, situation_number, urgent_from}
 use Rattle.hwp_law.specs.Records.{hardware_marks, how_in, is_by_hardware, result_lines, who_in}
 use Rattle.hwp_runs.proofs.Homes.{there-is}
-use Rattle.hwp_served.specs.Accounts.{frames_marked, is_same, marked_by}
-use Rattle.hwp_served.specs.Causes.{HasFailed, IsEntered}
-use Rattle.hwp_served.specs.Runs.{IsRunOf}
-use Rattle.hwp_served.proofs.deeds.CountedEntries.{entries-inside, entries-outside}
-use Rattle.hwp_served.proofs.marks.CountedMarks.{marks-inside, marks-outside}
-use Rattle.hwp_served.proofs.Ending.{IsEnd, IsOf, command-of, filter-has, list-of, rows-of, served-of}
-use Rattle.hwp_served.proofs.Failed.{one-situation, same-who}
-use Rattle.hwp_served.proofs.Holding.{ended, holds}
-use Rattle.hwp_served.proofs.marks.Marked.{same-self}
-use Rattle.hwp_served.proofs.lines.RecordLines.{same-situation}
-use Rattle.hwp_served.proofs.lines.Records.{has-poisoned, no-hardware}
+use Rattle.hwp_handler.specs.declared.Found.{Found}
+use Rattle.hwp_handler.specs.declared.Row.{Row}
+use Rattle.hwp_handler.specs.declared.Told.{Told}
+use Rattle.hwp_handler.specs.Done.{entered_by, failed_by, failed_in}
+use Rattle.hwp_handler.specs.Fits.{IsEntered}
+use Rattle.hwp_handler.specs.Told.{frame_of, required_by}
+use Rattle.hwp_served.specs.Accounts.{failures_in, own_failure}
+use Rattle.hwp_served.specs.Rows.{Note, note_of, own_note, told_note}
+use Rattle.hwp_served.specs.Runs.{row_at}
+use Rattle.hwp_served.proofs.Ending.{IsEnd, list-of, rows-of, served-of}
+use Rattle.hwp_served.proofs.Failed.{same-who}
+use Rattle.hwp_served.proofs.RowLines.{told_at}
 use Rattle.hwp_served.proofs.Seen.{filter-is}
-use Rattle.hwp_served.proofs.deeds.SoundDeeds.{IsNoFailure, sound-deeds}
-use Rattle.hwp_served.proofs.deeds.Sound.{entries-none, no-required, no-soft}
-
--- a command poisoned no frame, or one
-marked-which : (command : Command) (answer : Answer) → (marked_by command answer ≡ []) ⊎ ((frame : Frame) × (marked_by command answer ≡ frame ∷ []))
-marked-which (commands.Inject frame) answers.Recovered = inr (frame, refl)
-marked-which (commands.Inject frame) answers.Delayed = inr (frame, refl)
-marked-which (commands.Inject frame) answers.Ignored = inr (frame, refl)
-marked-which command answer = inl refl
-
-no-failure : (situation : Situation) (what : What) → fails what ≡ false → is_failure situation what ≡ false
-no-failure situation (entries.Fail other required seen signals) sound = absurd (true≢false sound)
-no-failure situation what sound = refl
-
--- no deed is such as none is
-none-such : (test : What → Bool) (list : List Made) → EachMember (λ (m : Made). test m.entry.what ≡ false) list → count_by (λ (m : Made). test m.entry.what) list ≡ 0
-none-such test list each = sum-zero (λ (m : Made). cond (test m.entry.what) 1 0) list (λ j m there. ap (λ (b : Bool). cond b 1 0) (each j m there))
-
-empty-all : {A : Type 0} (l : List A) → ((j : ℕ) (x : A) → slice_get l j ≡ Some x → ⊥) → l ≡ []
-empty-all [] none = refl
-empty-all (x ∷ xs) none = absurd (none 0 x refl)
-
-none-before : (l : List Made) → EachMember (λ (m : Made). ⊥) l → l ≡ []
-none-before [] each = refl
-none-before (x ∷ xs) each = absurd (each 0 x refl)
+use Rattle.hwp_served.proofs.Sums.{below-front, below-same, sum-same}
+use Rattle.hwp_served.proofs.deeds.CountedEntries.{entries-inside, entries-outside}
+use Rattle.hwp_served.proofs.deeds.Sound.{soft-none}
+use Rattle.hwp_served.proofs.marks.CountedMarks.{marks-of-command}
+use Rattle.hwp_served.proofs.marks.RowNotes.{notes_at}
+use Rattle.hwp_served.proofs.lines.OfRows.{OfRow, own-of, right-of, row-of}
+use Rattle.hwp_served.proofs.lines.RecordLines.{same-situation}
+use Rattle.hwp_served.proofs.lines.Records.{hardware-are, results-of, told-line}
+use Rattle.hwp_served.proofs.lines.RowEvents.{found_on, hardware_line, on-frames, urgent-counts, urgent_weight, weigh}
+use Rattle.hwp_served.proofs.lines.ToldRight.{IsRight}
 
 abbrev flag : Bool → ℕ
 flag b = cond b 1 0
 
--- one entry counts as its test says
-one-counts : (test : What → Bool) (m : Made) → count_by (λ (x : Made). test x.entry.what) (m ∷ []) ≡ flag (test m.entry.what)
-one-counts test m = let all : count_by (λ (x : Made). test x.entry.what) (m ∷ []) ≡ flag (test m.entry.what) + 0 = sum_by-cons (λ (x : Made). flag (test x.entry.what)) m [] in omega arith
+-- ---- counting what is picked of a list
 
--- the deeds of a failure are its entry, where a page was in the frame
-failed-deeds : (layout : Layout) (view : View) (who : Who) (frame : Frame) (s situation : Situation) → HasFailed layout view who frame s → has_page situation ≡ true
-    → count_by (λ (m : Made). is_failure situation m.entry.what) (deeds who view) ≡ cond (situation_number s == situation_number situation) 1 0
-failed-deeds layout view who frame s situation failed page = which (has_page s) refl failed.entered
-  where
-    which : (b : Bool) → has_page s ≡ b → IsEntered view who s b → count_by (λ (m : Made). is_failure situation m.entry.what) (deeds who view) ≡ cond (situation_number s == situation_number situation) 1 0
-    which true mine entered =
-        let made = entered.made.made in
-        let all : deeds who view ≡ made.last ∷ [] = made.all ∙ ap (λ (l : List Made). l ++ made.last ∷ []) (none-before made.before made.such) in
-        ap (count_by (λ (m : Made). is_failure situation m.entry.what)) all ∙ one-counts (is_failure situation) made.last ∙ ap (λ (w : What). flag (is_failure situation w)) made.at.2
-    which false mine none =
-        ap (count_by (λ (m : Made). is_failure situation m.entry.what)) none
-        ∙ sym (ap flag (false_from_ne_true (situation_number s == situation_number situation) (λ same. true≢false (sym page ∙ sym (ap has_page (same-situation s situation same)) ∙ mine))))
+abbrev counts : {A : Type 0} → (A → Bool) → Option A → ℕ
+counts test None = 0
+counts test (Some x) = flag (test x)
 
-module _ (script : Script) (seat : Cpu → ℕ) (turns : List Played) (last : State) (report : Report) (run : IsRunOf script seat turns last report) (who : Who) where
-  abbrev end : IsEnd script seat last report
-  end = ended script seat turns last report run
+count-option : {A : Type 0} (test : A → Bool) (o : Option A) (l : List A) → count_by test (cons_option o l) ≡ counts test o + count_by test l
+count-option test None l = omega arith
+count-option test (Some x) l = sum_by-cons (λ y. flag (test y)) x l
 
+count-picked : {A B : Type 0} (f : A → Option B) (test : B → Bool) (l : List A) → count_by test (filter_map f l) ≡ sum_by (λ (x : A). counts test (f x)) l
+count-picked f test [] = refl
+count-picked {A} f test (x ∷ xs) =
+    let rest : count_by test (filter_map f xs) ≡ sum_by (λ (y : A). counts test (f y)) xs = count-picked f test xs in
+    let one : count_by test (cons_option (f x) (filter_map f xs)) ≡ counts test (f x) + count_by test (filter_map f xs) = count-option test (f x) (filter_map f xs) in
+    let other : sum_by (λ (y : A). counts test (f y)) (x ∷ xs) ≡ counts test (f x) + sum_by (λ (y : A). counts test (f y)) xs = sum_by-cons (λ (y : A). counts test (f y)) x xs in
+    omega (arith, rest, one, other)
+
+-- and of one more, if there is one
+count-more : {A B : Type 0} (f : A → Option B) (test : B → Bool) (l : List A) (o : Option B) → count_by test (filter_map f l ++ cons_option o []) ≡ sum_by (λ (x : A). counts test (f x)) l + counts test o
+count-more {A} f test l o =
+    let both : count_by test (filter_map f l ++ cons_option o []) ≡ count_by test (filter_map f l) + count_by test (cons_option o []) = sum_by-append (λ y. flag (test y)) (filter_map f l) (cons_option o []) in
+    let picked : count_by test (filter_map f l) ≡ sum_by (λ (x : A). counts test (f x)) l = count-picked f test l in
+    let last : count_by test (cons_option o []) ≡ counts test o + 0 = count-option test o [] in
+    omega (arith, both, picked, last)
+
+-- ---- the entries of a command
+
+-- the failures that are in this situation, and those of them by which a thread needed the page
+abbrev is_in : Situation → Failed → Bool
+is_in situation f = situation_number f.situation == situation_number situation
+
+abbrev is_needed : Situation → Failed → Bool
+is_needed situation f = is_in situation f && is_some f.required
+
+failure-counts : (situation : Situation) (page : Page) (place : ℕ) (what : What) → flag (is_failure situation what) ≡ counts (is_in situation) (abandoned.failed_of page place what)
+failure-counts situation page place (entries.Fail other required seen signals) = refl
+failure-counts situation page place what = refl
+
+needed-counts : (situation : Situation) (page : Page) (place : ℕ) (what : What) → flag (is_required situation what) ≡ counts (is_needed situation) (abandoned.failed_of page place what)
+needed-counts situation page place (entries.Fail other required seen signals) = refl
+needed-counts situation page place what = refl
+
+-- the deeds that pass a test are the failures that pass another
+deeds-count : (test : What → Bool) (by : Failed → Bool) → ((page : Page) (place : ℕ) (what : What) → flag (test what) ≡ counts by (abandoned.failed_of page place what)) → (list : List Made)
+    → count_by (λ (m : Made). test m.entry.what) list ≡ count_by by (filter_map abandoned.failed_in list)
+deeds-count test by same list =
+    sum-same (λ (m : Made). flag (test m.entry.what)) (λ (m : Made). counts by (abandoned.failed_in m)) list (λ i m there. same m.page m.place m.entry.what) ∙ sym (count-picked abandoned.failed_in by list)
+
+-- ---- beside the marks
+
+has-none : (layout : Layout) (frame : Frame) (situation : Situation) → IsPageless layout frame situation → has_page situation ≡ false
+has-none layout frame situations.Free is = refl
+has-none layout frame situations.Kernel is = refl
+has-none layout frame situation is = absurd is
+
+-- a failure without a page is in no situation that has one
+not-in : (s situation : Situation) → has_page s ≡ false → has_page situation ≡ true → (situation_number s == situation_number situation) ≡ false
+not-in s situation none page = false_from_ne_true (situation_number s == situation_number situation) (λ same. true≢false (sym page ∙ sym (ap has_page (same-situation s situation same)) ∙ none))
+
+module _ (layout : Layout) (view : View) (who : Who) (situation : Situation) (page : has_page situation ≡ true) where
+  -- a mark has its entry, where a page was in the frame
+  entry-counts : (frame : Frame) (required : Option Thread) (found : Found) → IsEntered layout view who frame required found found.at → counts (is_in situation) (entered_by required found found.at) ≡ flag (situation_number found.situation == situation_number situation)
+  entry-counts frame required found entered = which found.at entered
+    where
+      which : (o : Option At) → IsEntered layout view who frame required found o → counts (is_in situation) (entered_by required found o) ≡ flag (situation_number found.situation == situation_number situation)
+      which None (pageless, unsignalled) = sym (ap flag (not-in found.situation situation (has-none layout frame found.situation pageless) page))
+      which (Some place) made = refl
+
+  required-counts : (frame : Frame) (required : Option Thread) (found : Found) → IsEntered layout view who frame required found found.at
+      → counts (is_needed situation) (entered_by required found found.at) ≡ flag ((situation_number found.situation == situation_number situation) && is_some required)
+  required-counts frame required found entered = which found.at entered
+    where
+      which : (o : Option At) → IsEntered layout view who frame required found o → counts (is_needed situation) (entered_by required found o) ≡ flag ((situation_number found.situation == situation_number situation) && is_some required)
+      which None (pageless, unsignalled) = sym (ap flag (and_left _ (is_some required) (not-in found.situation situation (has-none layout frame found.situation pageless) page)))
+      which (Some place) made = refl
+
+  -- of an event that was told
+  told-counts : (thread : Option Thread) (t : Told) → IsRight layout view who thread t → counts (is_in situation) (failed_in thread t) ≡ counts (λ (n : Note). finds situation (how_in n.1)) (told_note who t)
+  told-counts thread t right = which t.found (λ found is. (right.found found is).1)
+    where
+      which : (o : Option Found) → ((found : Found) → o ≡ Some found → IsEntered layout view who (frame_of t.held) (required_by thread t.held.grade.severity) found found.at)
+          → counts (is_in situation) (failed_by (required_by thread t.held.grade.severity) o) ≡ counts (λ (n : Note). finds situation (how_in n.1)) (option_map (note_of who true (frame_of t.held)) o)
+      which None entered = refl
+      which (Some found) entered = entry-counts (frame_of t.held) (required_by thread t.held.grade.severity) found (entered found refl)
+
+  told-needed : (thread : Option Thread) (t : Told) → IsRight layout view who thread t → counts (is_needed situation) (failed_in thread t) ≡ weigh (urgent_weight situation) t t.found
+  told-needed thread t right = which t.found (λ found is. (right.found found is).1)
+    where
+      which : (o : Option Found) → ((found : Found) → o ≡ Some found → IsEntered layout view who (frame_of t.held) (required_by thread t.held.grade.severity) found found.at)
+          → counts (is_needed situation) (failed_by (required_by thread t.held.grade.severity) o) ≡ weigh (urgent_weight situation) t o
+      which None entered = refl
+      which (Some found) entered =
+          required-counts (frame_of t.held) (required_by thread t.held.grade.severity) found (entered found refl)
+          ∙ ap (λ (b : Bool). flag ((situation_number found.situation == situation_number situation) && b)) (sym right.urgent)
+
+  -- of a command's own failure
+  own-counts : (own : Option (Frame × Found)) → ((frame : Frame) (found : Found) → own ≡ Some (frame, found) → IsEntered layout view who frame None found found.at)
+      → counts (is_in situation) (own_failure own) ≡ counts (λ (n : Note). finds situation (how_in n.1)) (own_note who own)
+  own-counts None entered = refl
+  own-counts (Some x) entered = entry-counts x.0 None x.1 (entered x.0 x.1 refl)
+
+  own-needed : (own : Option (Frame × Found)) → ((frame : Frame) (found : Found) → own ≡ Some (frame, found) → IsEntered layout view who frame None found found.at) → counts (is_needed situation) (own_failure own) ≡ 0
+  own-needed None entered = refl
+  own-needed (Some x) entered = required-counts x.0 None x.1 (entered x.0 x.1 refl) ∙ ap flag (and_right (situation_number x.1.situation == situation_number situation) false refl)
+
+-- ---- marks beside event lines
+
+urgent-below : (report : Report) (who : Who) (situation : Situation) (g : ℕ → ℕ) (n : ℕ) (ls : List FrameLine)
+    → ((i : ℕ) (l : FrameLine) → slice_get ls i ≡ Some l → count_by (is_urgent situation) (zip (hardware_marks who l.marks) (result_lines report who (n + i))) ≡ g (n + i)) → urgent_from report who situation n ls ≡ sum_below (λ i. g (n + i)) (length ls)
+urgent-below report who situation g n [] each = refl
+urgent-below report who situation g n (l ∷ ls) each =
+    let none : n + 0 ≡ n = omega arith in
+    let first : count_by (is_urgent situation) (zip (hardware_marks who l.marks) (result_lines report who n)) ≡ g (n + 0)
+    = ap (λ (k : ℕ). count_by (is_urgent situation) (zip (hardware_marks who l.marks) (result_lines report who k))) (sym none) ∙ each 0 l refl in
+    let rest : urgent_from report who situation (n + 1) ls ≡ sum_below (λ i. g ((n + 1) + i)) (length ls) = urgent-below report who situation g (n + 1) ls (λ i x there. (
+    let same : n + suc i ≡ (n + 1) + i = omega arith in
+    subst (λ (k : ℕ). count_by (is_urgent situation) (zip (hardware_marks who x.marks) (result_lines report who k)) ≡ g k) same (each (suc i) x there))) in
+    let shifted : sum_below (λ i. g ((n + 1) + i)) (length ls) ≡ sum_below (λ i. g (n + suc i)) (length ls) = below-same (λ i. g ((n + 1) + i)) (λ i. g (n + suc i)) (length ls) (λ i before. ap g (let same : (n + 1) + i ≡ n + suc i = omega arith in same)) in
+    let all : sum_below (λ i. g (n + i)) (suc (length ls)) ≡ g (n + 0) + sum_below (λ i. g (n + suc i)) (length ls) = below-front (λ i. g (n + i)) (length ls) in
+    omega (arith, first, rest, shifted, all)
+
+module _ (script : Script) (seat : Cpu → ℕ) (last : State) (report : Report) (end : IsEnd script seat last report) (who : Who) where
   abbrev view : View
   view = view_of last (seat who.cpu)
 
-  -- the command, and what it did; or there is none, and nothing is of it
-  record DidNothing : Type 0 where
-    deeds_none : deeds who view ≡ []
-    marks_none : frames_marked who view ≡ []
+  -- ---- without a row
 
-  did : who.cpu.0 < script.layout.cpus → IsOf script report view who ⊎ DidNothing
-  did inside = which (slice_get list.0 who.seq) refl
-    where
-      list : (l : List Command) × (slice_get script.lists who.cpu.0 ≡ Some l)
-      list = list-of script seat last report end who.cpu inside
+  empty-all : {A : Type 0} (l : List A) → ((j : ℕ) (x : A) → slice_get l j ≡ Some x → ⊥) → l ≡ []
+  empty-all [] none = refl
+  empty-all (x ∷ xs) none = absurd (none 0 x refl)
 
-      past : slice_get list.0 who.seq ≡ None → (other : Who) → other ≡ who → other.seq < length list.0 → ⊥
-      past none other same less = let there = there-is list.0 who.seq (subst (λ (w : Who). w.seq < length list.0) same less) in none-some there.0 (sym none ∙ there.1)
-
-      which : (o : Option Command) → slice_get list.0 who.seq ≡ o → IsOf script report view who ⊎ DidNothing
-      which (Some command) some = let rows = rows-of script seat last report end who.cpu inside in inl (command-of script seat last report end who list.0 rows.0 command list.1 rows.1 some)
-      which None none =
-          let rows = rows-of script seat last report end who.cpu inside in
-          let served = (served-of script seat last report end who.cpu list.0 rows.0 list.1 rows.1).1 in
-          inr (record {
-            deeds_none = empty-all (deeds who view) (λ k m there. let of = filter-is (is_by who) view.made k m there in past none m.entry.who (same-who who m.entry.who of.2) (served.made of.0 m of.1).1);
-            marks_none = ap (λ (l : List Mark). map (λ (m : Mark). m.frame) l) (empty-all (filter (λ (m : Mark). is_same who m.stamp.who) view.marks) (λ k m there.
-                let of = filter-is (λ (x : Mark). is_same who x.stamp.who) view.marks k m there in past none m.stamp.who (same-who who m.stamp.who of.2) (served.marked of.0 m of.1).1));
-          })
-
-  -- no mark is the command's where none is listed of it
-  unmarked : frames_marked who view ≡ [] → (j : ℕ) (m : Mark) → slice_get view.marks j ≡ Some m → m.stamp.who ≡ who → ⊥
-  unmarked none j m there own =
-      let among = filter-has (λ (x : Mark). is_same who x.stamp.who) view.marks j m there (same-self who m.stamp.who own) in
-      let in_ : slice_get (frames_marked who view) among.0 ≡ Some m.frame = at_map (λ (x : Mark). x.frame) (filter (λ (x : Mark). is_same who x.stamp.who) view.marks) among.0 m among.1 in
-      none-some m.frame (sym (ap (λ (l : List Frame). slice_get l among.0) none) ∙ in_)
-
-  no-lines : (test : MarkLine → Bool) → who.cpu.0 < script.layout.cpus → frames_marked who view ≡ [] → marks_in report (λ (x : MarkLine). is_same_command who (who_in x) && test x) ≡ 0
-  no-lines test inside none = marks-inside script seat last report end who test false inside (λ j n m there is own. absurd (unmarked none j m there own))
-
-  module _ (situation : Situation) (page : has_page situation ≡ true) where
-    abbrev Same : Type 0
-    Same = entries_of report who (is_failure situation) ≡ marks_in report (is_failure_mark who situation)
-
-    -- nothing on both sides
-    same-none : who.cpu.0 < script.layout.cpus → EachMember IsNoFailure (deeds who view) → frames_marked who view ≡ [] → Same
-    same-none inside sound none =
-        entries-inside script seat last report end who (is_failure situation) inside
-        ∙ none-such (is_failure situation) (deeds who view) (λ j m there. no-failure situation m.entry.what (sound j m there))
-        ∙ sym (no-lines (λ (x : MarkLine). finds situation (how_in x)) inside none)
-
-    -- a failure of the command
-    same-failed : who.cpu.0 < script.layout.cpus → (frame : Frame) (s : Situation) → frames_marked who view ≡ frame ∷ [] → HasFailed script.layout view who frame s → Same
-    same-failed inside frame s marked failed =
-        entries-inside script seat last report end who (is_failure situation) inside
-        ∙ failed-deeds script.layout view who frame s situation failed page
-        ∙ ap (λ (l : List Frame). cond (situation_number s == situation_number situation) (length l) 0) (sym marked)
-        ∙ sym (marks-inside script seat last report end who (λ (x : MarkLine). finds situation (how_in x)) (situation_number s == situation_number situation) inside (λ j n m there is own.
-        ap (λ (x : MarkLine). finds situation (how_in x)) is.line
-        ∙ ap (λ (t : Situation). situation_number t == situation_number situation) (one-situation script.layout view who frame is.situation s (its j m there own is.situation is.failed) failed)))
-      where
-        its : (j : ℕ) (m : Mark) → slice_get view.marks j ≡ Some m → m.stamp.who ≡ who → (t : Situation) → HasFailed script.layout view m.stamp.who m.frame t → HasFailed script.layout view who frame t
-        its j m there own t bad =
-            let among = filter-has (λ (x : Mark). is_same who x.stamp.who) view.marks j m there (same-self who m.stamp.who own) in
-            let in_ : slice_get (frames_marked who view) among.0 ≡ Some m.frame = at_map (λ (x : Mark). x.frame) (filter (λ (x : Mark). is_same who x.stamp.who) view.marks) among.0 m among.1 in
-            let same : m.frame ≡ frame = only among.0 m.frame (sym (ap (λ (l : List Frame). slice_get l among.0) marked) ∙ in_) in
-            subst (λ (f : Frame). HasFailed script.layout view who f t) same (subst (λ (w : Who). HasFailed script.layout view w m.frame t) own bad)
-          where
-            only : (k : ℕ) (f : Frame) → slice_get (frame ∷ []) k ≡ Some f → f ≡ frame
-            only zero f at = sym (same_Some frame f at)
-            only (suc k) f at = absurd (none-some f at)
-
-    failures-same : Same
-    failures-same = elim (cases_lt who.cpu.0 script.layout.cpus) [
-      | inr outside ↦
-          let no_ : ¬ (who.cpu.0 < script.layout.cpus) = λ inside. omega (arith, inside, outside) in
-          entries-outside script seat last report end who (is_failure situation) no_ ∙ sym (marks-outside script seat last report end who (λ (x : MarkLine). finds situation (how_in x)) no_)
-      | inl inside ↦ by-command inside (did inside)
-    ]
-      where
-        by-command : who.cpu.0 < script.layout.cpus → IsOf script report view who ⊎ DidNothing → Same
-        by-command inside (inr nothing) = same-none inside (subst (EachMember IsNoFailure) (sym nothing.deeds_none) (λ j m there. absurd (none-some m there))) nothing.marks_none
-        by-command inside (inl of) = by-mark (marked-which of.command of.answer)
-          where
-            by-mark : (marked_by of.command of.answer ≡ []) ⊎ ((frame : Frame) × (marked_by of.command of.answer ≡ frame ∷ [])) → Same
-            by-mark (inl none) = same-none inside (sound-deeds script.layout of.list view who of.command of.answer of.caused none) (of.accounted.marked ∙ none)
-            by-mark (inr (frame, some)) =
-                let has = has-poisoned script.layout of.list view who of.command of.answer of.caused 0 frame (ap (λ (l : List Frame). slice_get l 0) some) in
-                same-failed inside frame has.situation (of.accounted.marked ∙ some) has.failed
-
-  -- ---- the rest
-
-  marked-few : who.cpu.0 < script.layout.cpus → length (frames_marked who view) ≤ 1
-  marked-few inside = by-command (did inside)
-    where
-      by-command : IsOf script report view who ⊎ DidNothing → length (frames_marked who view) ≤ 1
-      by-command (inr nothing) = let none : length (frames_marked who view) ≡ 0 = ap length nothing.marks_none in omega arith
-      by-command (inl of) = by-mark (marked-which of.command of.answer)
-        where
-          by-mark : (marked_by of.command of.answer ≡ []) ⊎ ((frame : Frame) × (marked_by of.command of.answer ≡ frame ∷ [])) → length (frames_marked who view) ≤ 1
-          by-mark (inl none) = let few : length (frames_marked who view) ≡ 0 = ap length (of.accounted.marked ∙ none) in omega arith
-          by-mark (inr (frame, some)) = let few : length (frames_marked who view) ≡ 1 = ap length (of.accounted.marked ∙ some) in omega arith
-
-  one-at-most : marks_in report (is_commands who) ≤ 1
-  one-at-most = elim (cases_lt who.cpu.0 script.layout.cpus) [
-    | inr outside ↦
-        let none : marks_in report (is_commands who) ≡ 0 = marks-outside script seat last report end who (λ (x : MarkLine). not (is_by_hardware x)) (λ inside. omega (arith, inside, outside)) in
-        omega (arith, none)
-    | inl inside ↦
-        let few : length (frames_marked who view) ≤ 1 = marked-few inside in
-        let all : marks_in report (is_commands who) ≡ length (frames_marked who view) = marks-inside script seat last report end who (λ (x : MarkLine). not (is_by_hardware x)) true inside (λ j n m there is own. ap (λ (x : MarkLine). not (is_by_hardware x)) is.line) in
-        omega (arith, few, all)
+  -- a command without a row made no entry
+  entries-without : (test : What → Bool) → row_at end.rows who ≡ None → entries_of report who test ≡ 0
+  entries-without test none = elim (cases_lt who.cpu.0 script.layout.cpus) [
+    | inr outside ↦ entries-outside script seat last report end who test (λ inside. omega (arith, inside, outside))
+    | inl inside ↦ entries-inside script seat last report end who test inside ∙ ap (count_by (λ (m : Made). test m.entry.what)) (undone inside)
   ]
+    where
+      undone : who.cpu.0 < script.layout.cpus → deeds who view ≡ []
+      undone inside =
+          let list = list-of script seat last report end who.cpu inside in
+          let own = rows-of script seat last report end who.cpu inside in
+          let served = (served-of script seat last report end who.cpu list.0 own.0 list.1 own.1).0 in
+          empty-all (deeds who view) (λ k m there. (
+          let of = filter-is (is_by who) view.made k m there in
+          let begun : m.entry.who.seq < length list.0 = (served.made of.0 m of.1).1 in
+          let mine : who.seq < length own.0 = subst (λ (n : ℕ). who.seq < n) (sym served.count) (subst (λ (w : Who). w.seq < length list.0) (same-who who m.entry.who of.2) begun) in
+          let row = there-is own.0 who.seq mine in
+          none-some row.0 (sym none ∙ ap (λ (o : Option (List Row)). option_and_then (λ (l : List Row). slice_get l who.seq) o) own.1 ∙ row.1)))
 
-  no-moves : marks_in report (is_move_mark who) ≡ 0
-  no-moves = elim (cases_lt who.cpu.0 script.layout.cpus) [
-    | inr outside ↦ marks-outside script seat last report end who (λ (x : MarkLine). is_move (how_in x)) (λ inside. omega (arith, inside, outside))
-    | inl inside ↦ marks-inside script seat last report end who (λ (x : MarkLine). is_move (how_in x)) false inside (λ j n m there is own. ap (λ (x : MarkLine). is_move (how_in x)) is.line)
-  ]
+  marks-without : (test : MarkLine → Bool) → row_at end.rows who ≡ None → marks_in report (λ (x : MarkLine). is_same_command who (who_in x) && test x) ≡ 0
+  marks-without test none = marks-of-command script seat last report end who test ∙ ap (λ (o : Option Row). count_by (λ (n : Note). test n.1) (notes_at who o)) none
 
-  none-urgent : (situation : Situation) (n : ℕ) (ls : List FrameLine) → EachMember (λ (l : FrameLine). hardware_marks who l.marks ≡ []) ls → urgent_from report who situation n ls ≡ 0
-  none-urgent situation n [] each = refl
-  none-urgent situation n (l ∷ ls) each =
-      let first : count_by (is_urgent situation) (zip (hardware_marks who l.marks) (result_lines report who n)) ≡ 0
-      = ap (λ (ms : List MarkLine). count_by (is_urgent situation) (zip ms (result_lines report who n))) (each 0 l refl) in
-      let rest : urgent_from report who situation (n + 1) ls ≡ 0 = none-urgent situation (n + 1) ls (λ i x there. each (suc i) x there) in
-      omega arith
+  -- ---- with one
 
-  unurgent : EachMember (λ (l : FrameLine). hardware_marks who l.marks ≡ []) report.frames
-  unurgent i l there =
-      let lines : length report.frames ≡ script.layout.frames = run.lengths.frames in
-      let kernels : length script.layout.kernel ≡ script.layout.frames = (holds script seat turns last report run).sound.kernel in
-      let within : i < length report.frames = slice_get_within report.frames i l there in
-      let kernel = there-is script.layout.kernel i (omega arith) in
-      no-hardware script seat turns last report run (record { 0 = i }) kernel.0 kernel.1 l there who
+  module _ (row : Row) (row_is : row_at end.rows who ≡ Some row) where
+    of : OfRow script seat last report end who row
+    of = row-of script seat last report end who row row_is
+
+    entries-are : (test : What → Bool) (by : Failed → Bool) → ((page : Page) (place : ℕ) (what : What) → flag (test what) ≡ counts by (abandoned.failed_of page place what))
+        → entries_of report who test ≡ sum_by (λ (t : Told). counts by (failed_in (current_thread of.of.command) t)) row.told + counts by (own_failure row.own)
+    entries-are test by same =
+        entries-inside script seat last report end who test of.of.inside ∙ deeds-count test by same (deeds who view)
+        ∙ ap (count_by by) (of.of.served.accounted.failed ∙ ap (failures_in of.of.command) of.same)
+        ∙ count-more (failed_in (current_thread of.of.command)) by row.told (own_failure row.own)
+
+    marks-are : (test : MarkLine → Bool) → marks_in report (λ (x : MarkLine). is_same_command who (who_in x) && test x) ≡ sum_by (λ (t : Told). counts (λ (n : Note). test n.1) (told_note who t)) row.told + counts (λ (n : Note). test n.1) (own_note who row.own)
+    marks-are test =
+        marks-of-command script seat last report end who test ∙ ap (λ (o : Option Row). count_by (λ (n : Note). test n.1) (notes_at who o)) row_is
+        ∙ count-more (told_note who) (λ (n : Note). test n.1) row.told (own_note who row.own)
+
+    own-entered : (frame : Frame) (found : Found) → row.own ≡ Some (frame, found) → IsEntered script.layout view who frame None found found.at
+    own-entered frame found is = (own-of script seat last report end who row of frame found is).failed.entered
+
+    failures-with : (situation : Situation) → has_page situation ≡ true → entries_of report who (is_failure situation) ≡ marks_in report (is_failure_mark who situation)
+    failures-with situation page =
+        entries-are (is_failure situation) (is_in situation) (failure-counts situation)
+        ∙ ap (λ (k : ℕ). k + counts (is_in situation) (own_failure row.own)) (sum-same (λ (t : Told). counts (is_in situation) (failed_in (current_thread of.of.command) t)) (λ (t : Told). counts (λ (n : Note). finds situation (how_in n.1)) (told_note who t)) row.told
+        (λ i t there. told-counts script.layout view who situation page (current_thread of.of.command) t (right-of script seat last report end who row of i t there)))
+        ∙ ap (λ (k : ℕ). sum_by (λ (t : Told). counts (λ (n : Note). finds situation (how_in n.1)) (told_note who t)) row.told + k) (own-counts script.layout view who situation page row.own own-entered)
+        ∙ sym (marks-are (λ (x : MarkLine). finds situation (how_in x)))
+
+    required-with : (situation : Situation) → has_page situation ≡ true → entries_of report who (is_required situation) ≡ sum_by (λ (t : Told). weigh (urgent_weight situation) t t.found) row.told
+    required-with situation page =
+        let entries : entries_of report who (is_required situation) ≡ sum_by (λ (t : Told). counts (is_needed situation) (failed_in (current_thread of.of.command) t)) row.told + counts (is_needed situation) (own_failure row.own)
+        = entries-are (is_required situation) (is_needed situation) (needed-counts situation) in
+        let told : sum_by (λ (t : Told). counts (is_needed situation) (failed_in (current_thread of.of.command) t)) row.told ≡ sum_by (λ (t : Told). weigh (urgent_weight situation) t t.found) row.told
+        = sum-same (λ (t : Told). counts (is_needed situation) (failed_in (current_thread of.of.command) t)) (λ (t : Told). weigh (urgent_weight situation) t t.found) row.told
+        (λ i t there. told-needed script.layout view who situation page (current_thread of.of.command) t (right-of script seat last report end who row of i t there)) in
+        let own : counts (is_needed situation) (own_failure row.own) ≡ 0 = own-needed script.layout view who situation page row.own own-entered in
+        omega (arith, entries, told, own)
+
+    no-moves-with : marks_in report (is_move_mark who) ≡ 0
+    no-moves-with =
+        let all : marks_in report (is_move_mark who) ≡ sum_by (λ (t : Told). counts (λ (n : Note). is_move (how_in n.1)) (told_note who t)) row.told + counts (λ (n : Note). is_move (how_in n.1)) (own_note who row.own) = marks-are (λ (x : MarkLine). is_move (how_in x)) in
+        let told : sum_by (λ (t : Told). counts (λ (n : Note). is_move (how_in n.1)) (told_note who t)) row.told ≡ 0 = sum-zero (λ (t : Told). counts (λ (n : Note). is_move (how_in n.1)) (told_note who t)) row.told (λ i t there. still t.found t) in
+        let own : counts (λ (n : Note). is_move (how_in n.1)) (own_note who row.own) ≡ 0 = unmoved row.own in
+        omega (arith, all, told, own)
+      where
+        still : (o : Option Found) (t : Told) → counts (λ (n : Note). is_move (how_in n.1)) (option_map (note_of who true (frame_of t.held)) o) ≡ 0
+        still None t = refl
+        still (Some found) t = refl
+
+        unmoved : (o : Option (Frame × Found)) → counts (λ (n : Note). is_move (how_in n.1)) (own_note who o) ≡ 0
+        unmoved None = refl
+        unmoved (Some x) = refl
+
+    one-with : marks_in report (is_commands who) ≤ 1
+    one-with =
+        let all : marks_in report (is_commands who) ≡ sum_by (λ (t : Told). counts (λ (n : Note). not (is_by_hardware n.1)) (told_note who t)) row.told + counts (λ (n : Note). not (is_by_hardware n.1)) (own_note who row.own) = marks-are (λ (x : MarkLine). not (is_by_hardware x)) in
+        let told : sum_by (λ (t : Told). counts (λ (n : Note). not (is_by_hardware n.1)) (told_note who t)) row.told ≡ 0 = sum-zero (λ (t : Told). counts (λ (n : Note). not (is_by_hardware n.1)) (told_note who t)) row.told (λ i t there. still t.found t) in
+        let own : counts (λ (n : Note). not (is_by_hardware n.1)) (own_note who row.own) ≤ 1 = one row.own in
+        omega (arith, all, told, own)
+      where
+        still : (o : Option Found) (t : Told) → counts (λ (n : Note). not (is_by_hardware n.1)) (option_map (note_of who true (frame_of t.held)) o) ≡ 0
+        still None t = refl
+        still (Some found) t = refl
+
+        one : (o : Option (Frame × Found)) → counts (λ (n : Note). not (is_by_hardware n.1)) (own_note who o) ≤ 1
+        one None = omega arith
+        one (Some x) = omega arith
+
+    within : EachMember (λ (t : Told). (found : Found) → t.found ≡ Some found → frame_at t.held.event.addr < length report.frames) row.told
+    within i t there found some = let line = told-line script seat last report end who row row_is i t found there some in slice_get_within report.frames (frame_at t.held.event.addr) line.0 line.1
+
+  -- ---- the law
+
+  -- the marks of a frame and its event lines that tell a result, side by side
+  urgent-is : (situation : Situation) (i : ℕ) (l : FrameLine) → slice_get report.frames i ≡ Some l
+      → count_by (is_urgent situation) (zip (hardware_marks who l.marks) (result_lines report who i)) ≡ sum_by (urgent_weight situation) (found_on i (told_at (row_at end.rows who)))
+  urgent-is situation i l there =
+      ap (λ (ms : List MarkLine). count_by (is_urgent situation) (zip ms (result_lines report who i))) (hardware-are script seat last report end who (record { 0 = i }) l there)
+      ∙ ap (λ (es : List EventLine). count_by (is_urgent situation) (zip (map (hardware_line who) (found_on i (told_at (row_at end.rows who)))) es)) (results-of script seat last report end who i)
+      ∙ urgent-counts who who.seq situation (found_on i (told_at (row_at end.rows who)))
+
+  all-urgent : (situation : Situation) → urgent_from report who situation 0 report.frames ≡ sum_below (λ i. sum_by (urgent_weight situation) (found_on i (told_at (row_at end.rows who)))) (length report.frames)
+  all-urgent situation =
+      let weight : ℕ → ℕ = λ i. sum_by (urgent_weight situation) (found_on i (told_at (row_at end.rows who))) in
+      urgent-below report who situation weight 0 report.frames (λ i l there. (let same : 0 + i ≡ i = omega arith in
+      subst (λ (k : ℕ). count_by (is_urgent situation) (zip (hardware_marks who l.marks) (result_lines report who k)) ≡ weight k) (sym same) (urgent-is situation i l there)))
+      ∙ below-same (λ i. weight (0 + i)) weight (length report.frames) (λ i before. ap weight (let same : 0 + i ≡ i = omega arith in same))
 
   pub recorded : AreRecorded report who
-  recorded = record {
-    failures = failures-same;
-    required = λ situation page. entries-none script seat last report end who (is_required situation) (no-required situation) ∙ sym (none-urgent situation 0 report.frames unurgent);
-    moves = entries-none script seat last report end who is_soft no-soft ∙ sym no-moves;
-    one = one-at-most;
-  }
+  recorded = which (row_at end.rows who) refl
+    where
+      which : (o : Option Row) → row_at end.rows who ≡ o → AreRecorded report who
+      which None none = record {
+        failures = λ situation page. entries-without (is_failure situation) none ∙ sym (marks-without (λ (x : MarkLine). finds situation (how_in x)) none);
+        required = λ situation page. entries-without (is_required situation) none ∙ sym (all-urgent situation ∙ ap (λ (o : Option Row). sum_below (λ i. sum_by (urgent_weight situation) (found_on i (told_at o))) (length report.frames)) none
+            ∙ on-frames (urgent_weight situation) (length report.frames) [] (λ i t there. absurd (none-some t there)));
+        moves = soft-none script seat last report end who ∙ sym (marks-without (λ (x : MarkLine). is_move (how_in x)) none);
+        one = (let few : marks_in report (is_commands who) ≡ 0 = marks-without (λ (x : MarkLine). not (is_by_hardware x)) none in omega (arith, few));
+      }
+      which (Some row) some = record {
+        failures = failures-with row some;
+        required = λ situation page. required-with row some situation page
+            ∙ sym (all-urgent situation ∙ ap (λ (o : Option Row). sum_below (λ i. sum_by (urgent_weight situation) (found_on i (told_at o))) (length report.frames)) some ∙ on-frames (urgent_weight situation) (length report.frames) row.told (within row some));
+        moves = soft-none script seat last report end who ∙ sym (no-moves-with row some);
+        one = one-with row some;
+      }

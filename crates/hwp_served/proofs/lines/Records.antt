@@ -1,151 +1,217 @@
--- The record of a frame: each line is of a failure by a command that names the frame, with the situation and the answer.
-use Rattle.std.proofs.Common.{◌≡◌, ℕ, zero, suc, ◌<◌, ◌==◌, ◌&&◌, Bool, false, cond, List, [], ◌∷◌, Option, Some, filter, is_some, length, option_map, slice_get, unwrap_or, refl, sym, ap, ◌∙◌, subst}
-use Rattle.std.proofs.lemmas.Bool.{and_right}
-use Rattle.std.proofs.lemmas.Option.{get_or_from_slice_get, none-some, same_Some}
+-- The record of a frame: each line is of a failure of the frame, with what it found and its result; a command's own is its answer, and
+-- those of its events stand beside the event lines that tell them.
+use Rattle.std.proofs.Common.{◌≡◌, inl, inr, ℕ, zero, suc, ◌==◌, ◌&&◌, Bool, true, false, cond, List, [], ◌∷◌, ◌++◌, Option, Some, None, filter, filter_map, is_some, length, map, option_map, slice_get, unwrap_or, refl, sym, ap, ◌∙◌, subst}
+use Rattle.std.specs.List.{cons_option}
+use Rattle.std.proofs.lemmas.Bool.{eq-eqb}
+use Rattle.std.proofs.lemmas.Option.{get_or_from_slice_get, none-some, same_Some, slice_get_within}
 use Rattle.hwp_banks.specs.Addresses.{frame_at}
 use Rattle.hwp_geom.specs.declared.Cpu.{Cpu}
 use Rattle.hwp_geom.specs.declared.Frame.{Frame}
-use Rattle.hwp_geom.specs.declared.Layout.{Layout}
 use Rattle.hwp_geom.specs.declared.Who.{Who}
-use Rattle.hwp_page.specs.declared.Outcome.{Outcome}
-use Rattle.hwp_page.specs.declared.Outcome.TheVariants as outcomes
-use Rattle.hwp_page.specs.declared.Situation.{Situation}
 use Rattle.hwp_page.specs.Situations.{outcome_of}
 use Rattle.hwp_rule.specs.declared.Mark.{Mark}
 use Rattle.hwp_rule.specs.declared.State.{State}
 use Rattle.hwp_rule.specs.declared.View.{View}
 use Rattle.hwp_rule.specs.Lists.{EachMember}
-use Rattle.hwp_rule.proofs.Lists.{at_map}
-use Rattle.hwp_step.specs.Boards.{Played, view_of}
+use Rattle.hwp_rule.proofs.Lists.{at_last, at_map}
+use Rattle.hwp_step.specs.Boards.{view_of}
+use Rattle.hwp_claim.specs.Claims.{is_own}
+use Rattle.hwp_claim.specs.Done.{Marking, poisoning}
 use Rattle.hwp_script.specs.declared.Command.{Command}
-use Rattle.hwp_script.specs.declared.Command.TheVariants as commands
 use Rattle.hwp_script.specs.declared.Script.{Script}
+use Rattle.hwp_report.specs.declared.Acted.{Acted}
+use Rattle.hwp_report.specs.declared.Acted.TheVariants as acts
 use Rattle.hwp_report.specs.declared.Answer.{Answer}
-use Rattle.hwp_report.specs.declared.Answer.TheVariants as answers
 use Rattle.hwp_report.specs.declared.FrameLine.{FrameLine}
 use Rattle.hwp_report.specs.declared.How.{How}
 use Rattle.hwp_report.specs.declared.How.TheVariants as hows
 use Rattle.hwp_report.specs.declared.MarkLine.{MarkLine}
 use Rattle.hwp_report.specs.declared.Report.{Report}
-use Rattle.hwp_law.specs.Commands.{is_kernels}
-use Rattle.hwp_law.specs.Lines.{EventLine, answer_of, is_same_command, marks_of}
-use Rattle.hwp_law.specs.Places.{command_at}
-use Rattle.hwp_law.specs.Records.{HaveEvents, IsAnswered, IsFound, IsFrameRecord, IsMarkAt, hardware_marks, how_in, is_by_hardware, line_results, mark_results, outcome_answer, result_of, who_in}
-use Rattle.hwp_runs.proofs.Homes.{there-is}
-use Rattle.hwp_served.specs.Accounts.{frames_marked, is_same, marked_by}
-use Rattle.hwp_served.specs.Causes.{HasCome, HasFailed, IsCaused}
-use Rattle.hwp_served.specs.Runs.{IsRunOf}
-use Rattle.hwp_served.proofs.Ending.{IsEnd, command-of, filter-has, list-of, rows-of, served-of}
-use Rattle.hwp_served.proofs.Failed.{one-situation}
-use Rattle.hwp_served.proofs.Holding.{ended}
+use Rattle.hwp_law.specs.Causes.{ComesTo, HasMark}
+use Rattle.hwp_law.specs.Checks.{IsResult}
+use Rattle.hwp_law.specs.Commands.{current_thread}
+use Rattle.hwp_law.specs.Lines.{EventLine, marks_of}
+use Rattle.hwp_law.specs.Records.{HaveEvents, is_kernel_found, IsAnswered, IsFound, IsFrameRecord, IsMarkAt, hardware_marks, how_in, is_by_hardware, line_results, mark_results, result_lines, result_of, who_in}
+use Rattle.hwp_handler.specs.declared.Found.{Found}
+use Rattle.hwp_handler.specs.declared.Row.{Row}
+use Rattle.hwp_handler.specs.declared.Told.{Told}
+use Rattle.hwp_handler.specs.Done.{marked_in}
+use Rattle.hwp_handler.specs.Fits.{IsEntered}
+use Rattle.hwp_handler.specs.Told.{required_by}
+use Rattle.hwp_served.specs.Accounts.{markings, markings_in, own_marking}
+use Rattle.hwp_served.specs.Rows.{Note, lines_of, note_of, own_note, record_of, told_note}
+use Rattle.hwp_served.specs.Runs.{notes_of, row_at}
+use Rattle.hwp_served.proofs.Ending.{IsEnd, filter-has}
+use Rattle.hwp_served.proofs.Failed.{HasMarked, has-marked}
+use Rattle.hwp_served.proofs.RowLines.{answer-told, events-by-row, told_at}
+use Rattle.hwp_served.proofs.Seen.{filter-is}
 use Rattle.hwp_served.proofs.deeds.Made.{command-is}
-use Rattle.hwp_served.proofs.marks.Marked.{same-self}
+use Rattle.hwp_served.proofs.lines.OfRows.{kernel-found, own-of, right-of, row-of}
+use Rattle.hwp_served.proofs.lines.RecordLines.{IsOfRow, OfItsRow, failure_line, of-row, record-is}
+use Rattle.hwp_served.proofs.lines.RowEvents.{Came, TellsResult, came_line, found_in, found_on, hardware_line, results-are, row-lines, row-results, same-results}
+use Rattle.hwp_served.proofs.lines.ToldRight.{found_act}
+use Rattle.hwp_served.proofs.marks.Marked.{any-of, line-of}
 use Rattle.hwp_served.proofs.marks.Poisoned.{one-line}
-use Rattle.hwp_served.proofs.lines.RecordLines.{IsOfMark, of-mark}
-use Rattle.hwp_served.proofs.Showing.{answer-told, eventless}
+use Rattle.hwp_served.proofs.marks.RowNotes.{all_notes, hardware-of, is_noted, notes-of-command, notes_at, record-flat}
 
--- where no member passes a test, none is left
-filter-none : {A : Type 0} (test : A → Bool) (l : List A) → EachMember (λ (x : A). test x ≡ false) l → filter test l ≡ []
-filter-none test [] each = refl
-filter-none {A} test (x ∷ xs) each = ap (λ (b : Bool). cond b (x ∷ filter test xs) (filter test xs)) (each 0 x refl) ∙ filter-none test xs (λ i y there. each (suc i) y there)
+-- what an event tells is its result where it tells one
+result-is : (a b : Acted) → result_of a ≡ Some b → a ≡ b
+result-is acts.Recovered b is = same_Some acts.Recovered b is
+result-is acts.Delayed b is = same_Some acts.Delayed b is
+result-is acts.Ignored b is = same_Some acts.Ignored b is
+result-is a b is = absurd (none-some b is)
 
--- a command that poisoned a frame: it names the frame, and its answer is what came of the failure
-pub record HasPoisoned (layout : Layout) (view : View) (who : Who) (frame : Frame) (command : Command) (answer : Answer) : Type 0 where
-  pub situation : Situation
-  pub failed : HasFailed layout view who frame situation
-  pub command_is : command ≡ commands.Inject frame
-  pub answer_is : answer ≡ outcome_answer (outcome_of situation)
+-- a failure of a frame that came to a result is one of the frame's
+came-has : (f : ℕ) (told : List Told) (i : ℕ) (t : Told) (found : Found) → slice_get told i ≡ Some t → t.found ≡ Some found → frame_at t.held.event.addr ≡ f → (k : ℕ) × (slice_get (found_on f told) k ≡ Some (t, found))
+came-has f [] i t found there some at = absurd (none-some t there)
+came-has f (x ∷ xs) zero t found there some at =
+    let same : x ≡ t = same_Some x t there in (
+      0,
+      ap (λ (o : Option Found). slice_get (found_in o (frame_at x.held.event.addr == f) x (found_on f xs)) 0) (ap (λ (y : Told). y.found) same ∙ some)
+          ∙ ap (λ (b : Bool). slice_get (cond b ((x, found) ∷ found_on f xs) (found_on f xs)) 0) (eq-eqb (frame_at x.held.event.addr) f (ap (λ (y : Told). frame_at y.held.event.addr) same ∙ at))
+          ∙ ap (λ (y : Told). Some (y, found)) same,
+    )
+came-has f (x ∷ xs) (suc i) t found there some at = which x.found (frame_at x.held.event.addr == f) (came-has f xs i t found there some at)
+  where
+    which : (o : Option Found) (b : Bool) → (k : ℕ) × (slice_get (found_on f xs) k ≡ Some (t, found)) → (k : ℕ) × (slice_get (found_in o b x (found_on f xs)) k ≡ Some (t, found))
+    which None b rest = rest
+    which (Some other) true rest = (suc rest.0, rest.1)
+    which (Some other) false rest = rest
 
-come-so : (layout : Layout) (view : View) (who : Who) (f frame : Frame) (outcome : Outcome) → HasCome layout view who f outcome → f ≡ frame → HasPoisoned layout view who frame (commands.Inject f) (outcome_answer outcome)
-come-so layout view who f frame outcome (situation, is, failed) same = record {
-  situation = situation;
-  failed = subst (λ (x : Frame). HasFailed layout view who x situation) same failed;
-  command_is = ap commands.Inject same;
-  answer_is = sym (ap outcome_answer is);
-}
+module _ (script : Script) (seat : Cpu → ℕ) (last : State) (report : Report) (end : IsEnd script seat last report) where
+  -- ---- of any command
 
-pub has-poisoned : (layout : Layout) (list : List Command) (view : View) (who : Who) (command : Command) (answer : Answer) → IsCaused layout list view who command answer → (k : ℕ) (frame : Frame) → slice_get (marked_by command answer) k ≡ Some frame
-    → HasPoisoned layout view who frame command answer
-has-poisoned layout list view who (commands.Inject f) answers.Recovered caused zero frame there = come-so layout view who f frame outcomes.Recovered caused.1 (same_Some f frame there)
-has-poisoned layout list view who (commands.Inject f) answers.Delayed caused zero frame there = come-so layout view who f frame outcomes.Delayed caused.1 (same_Some f frame there)
-has-poisoned layout list view who (commands.Inject f) answers.Ignored caused zero frame there = come-so layout view who f frame outcomes.Ignored caused.1 (same_Some f frame there)
-has-poisoned layout list view who command answer caused k frame there = absurd (none-some frame there)
+  tells-at : (who : Who) → EachMember TellsResult (told_at (row_at end.rows who))
+  tells-at who = which (row_at end.rows who) refl
+    where
+      which : (o : Option Row) → row_at end.rows who ≡ o → EachMember TellsResult (told_at o)
+      which None is = λ i t there. absurd (none-some t there)
+      which (Some row) is = λ i t there. (right-of script seat last report end who row (row-of script seat last report end who row is) i t there).result
 
-module _ (script : Script) (seat : Cpu → ℕ) (turns : List Played) (last : State) (report : Report) (run : IsRunOf script seat turns last report) where
-  abbrev end : IsEnd script seat last report
-  end = ended script seat turns last report run
+  -- its lines in a record that its events caused, and its event lines that tell a result
+  pub hardware-are : (who : Who) (frame : Frame) (line : FrameLine) → slice_get report.frames frame.0 ≡ Some line → hardware_marks who line.marks ≡ map (hardware_line who) (found_on frame.0 (told_at (row_at end.rows who)))
+  hardware-are who frame line line_is = ap (hardware_marks who) (record-is script seat last report end frame line line_is) ∙ hardware-of frame who end.rows ∙ which (row_at end.rows who)
+    where
+      which : (o : Option Row) → filter is_by_hardware (lines_of frame (notes_at who o)) ≡ map (hardware_line who) (found_on frame.0 (told_at o))
+      which None = refl
+      which (Some row) = row-lines frame who row
 
-  -- the command of a mark, and its answer
-  pub record Marks (who : Who) (frame : Frame) : Type 0 where
-    pub command_is : command_at script who ≡ Some (commands.Inject frame)
-    pub situation : Situation
-    pub answer_is : answer_of report who ≡ Some (outcome_answer (outcome_of situation))
-    pub failed : HasFailed script.layout (view_of last (seat who.cpu)) who frame situation
+  pub results-of : (who : Who) (f : ℕ) → result_lines report who f ≡ map (came_line who.seq) (found_on f (told_at (row_at end.rows who)))
+  results-of who f =
+      ap (filter (λ (l : EventLine). (f == frame_at l.addr) && is_some (result_of l.acted))) (events-by-row script seat last report end who)
+      ∙ row-results f who.seq (told_at (row_at end.rows who)) (tells-at who)
 
-  pub marks-by : (who : Who) → who.cpu.0 < script.layout.cpus → (j : ℕ) (m : Mark) → slice_get (view_of last (seat who.cpu)).marks j ≡ Some m → m.stamp.who ≡ who → Marks who m.frame
-  marks-by who inside j m listed own =
-      let view : View = view_of last (seat who.cpu) in
-      let list = list-of script seat last report end who.cpu inside in
-      let rows = rows-of script seat last report end who.cpu inside in
-      let served = (served-of script seat last report end who.cpu list.0 rows.0 list.1 rows.1).1 in
-      let begun : who.seq < length list.0 = subst (λ (w : Who). w.seq < length list.0) own (served.marked j m listed).1 in
-      let command = there-is list.0 who.seq begun in
-      let of = command-of script seat last report end who list.0 rows.0 command.0 list.1 rows.1 command.1 in
-      let among = filter-has (λ (x : Mark). is_same who x.stamp.who) view.marks j m listed (same-self who m.stamp.who own) in
-      let in_ : slice_get (frames_marked who view) among.0 ≡ Some m.frame = at_map (λ (x : Mark). x.frame) (filter (λ (x : Mark). is_same who x.stamp.who) view.marks) among.0 m among.1 in
-      let by : slice_get (marked_by of.command of.answer) among.0 ≡ Some m.frame = sym (ap (λ (l : List Frame). slice_get l among.0) of.accounted.marked) ∙ in_ in
-      let has = has-poisoned script.layout of.list view who of.command of.answer of.caused among.0 m.frame by in
-      record {
-        command_is = command-is script who of.list of.command of.list_is of.command_is ∙ ap (λ (c : Command). Some c) has.command_is;
-        situation = has.situation;
-        answer_is = answer-told script seat turns last report run who of.list of.rows of.answer of.list_is of.rows_is of.answer_is ∙ ap (λ (a : Answer). Some a) has.answer_is;
-        failed = has.failed;
-      }
+  -- ---- of a frame
+
+  -- the record of a frame is its line's
+  pub marks-are : (frame : Frame) (line : FrameLine) → slice_get report.frames frame.0 ≡ Some line → marks_of report frame.0 ≡ line.marks
+  marks-are frame line line_is = ap (λ (o : Option FrameLine). unwrap_or (option_map (λ (l : FrameLine). l.marks) o) []) line_is
 
   module _ (frame : Frame) (kernel : Bool) (kernel_is : slice_get script.layout.kernel frame.0 ≡ Some kernel) (line : FrameLine) (line_is : slice_get report.frames frame.0 ≡ Some line) where
-    -- the record is the line's
-    marks-are : marks_of report frame.0 ≡ line.marks
-    marks-are = ap (λ (o : Option FrameLine). unwrap_or (option_map (λ (l : FrameLine). l.marks) o) []) line_is
-
     at-line : (k : ℕ) (x : MarkLine) → slice_get (marks_of report frame.0) k ≡ Some x → slice_get line.marks k ≡ Some x
-    at-line k x there = ap (λ (l : List MarkLine). slice_get l k) (sym marks-are) ∙ there
+    at-line k x there = ap (λ (l : List MarkLine). slice_get l k) (sym (marks-are frame line line_is)) ∙ there
 
-    of : (k : ℕ) (x : MarkLine) → slice_get (marks_of report frame.0) k ≡ Some x → IsOfMark script seat last report end frame x
-    of k x there = of-mark script seat last report end frame line line_is k x (at-line k x there)
+    of : (k : ℕ) (x : MarkLine) → slice_get (marks_of report frame.0) k ≡ Some x → OfItsRow end.rows frame x
+    of k x there = of-row script seat last report end frame line line_is k x (at-line k x there)
 
-    kernel-so : is_kernels script.layout frame ≡ kernel
-    kernel-so = get_or_from_slice_get script.layout.kernel frame.0 kernel false kernel_is
+    -- what it found is right, by its row
+    line-found : (who : Who) (hardware : Bool) (found : Found) (x : MarkLine) (how : How) → x ≡ failure_line who hardware found → is_kernel_found found.situation ≡ kernel → how_in x ≡ Some how → IsFound kernel how
+    line-found who hardware found x how line_is_ right is =
+        subst (IsFound kernel) (same_Some (hows.Failure hardware found.situation (outcome_of found.situation)) how (sym (ap how_in line_is_) ∙ is)) (right, refl)
 
     found-so : (k : ℕ) (x : MarkLine) (how : How) → slice_get (marks_of report frame.0) k ≡ Some x → how_in x ≡ Some how → IsFound kernel how
-    found-so k x how there is =
-        let o = of k x there in
-        let same : hows.Failure false o.situation (outcome_of o.situation) ≡ how = same_Some (hows.Failure false o.situation (outcome_of o.situation)) how (sym (ap how_in o.line_is) ∙ is) in
-        subst (IsFound kernel) same (o.failed.kernel ∙ ap (is_kernels script.layout) o.frame_is ∙ kernel-so, refl)
+    found-so k x how there is = let o = of k x there in which o.row o.row_is o.of
+      where
+        which : (row : Row) → row_at end.rows (who_in x) ≡ Some row → IsOfRow (who_in x) row frame x → IsFound kernel how
+        which row row_is (inl o) =
+            let r = row-of script seat last report end (who_in x) row row_is in
+            let right = right-of script seat last report end (who_in x) row r o.i o.t o.there in
+            let required = required_by (current_thread r.of.command) o.t.held.grade.severity in
+            let entered = subst (λ (f : Frame). IsEntered script.layout (view_of last (seat (who_in x).cpu)) (who_in x) f required o.found o.found.at) o.frame_is (right.found o.found o.found_is).1 in
+            line-found (who_in x) true o.found x how o.line_is (kernel-found script.layout (view_of last (seat (who_in x).cpu)) (who_in x) frame required kernel o.found kernel_is entered) is
+        which row row_is (inr o) =
+            let r = row-of script seat last report end (who_in x) row row_is in
+            let own = own-of script seat last report end (who_in x) row r frame o.found o.own_is in
+            line-found (who_in x) false o.found x how o.line_is (kernel-found script.layout (view_of last (seat (who_in x).cpu)) (who_in x) frame None kernel o.found kernel_is own.failed.entered) is
 
     answered-so : (k : ℕ) (x : MarkLine) → slice_get (marks_of report frame.0) k ≡ Some x → IsAnswered script report frame x
-    answered-so k x there =
-        let o = of k x there in
-        let m : Mark = o.mark in
-        let by = marks-by m.stamp.who o.inside o.place m o.listed refl in
-        let same : by.situation ≡ o.situation = one-situation script.layout (view_of last (seat m.stamp.who.cpu)) m.stamp.who m.frame by.situation o.situation by.failed o.failed in
-        subst (IsAnswered script report frame) (sym o.line_is) (by.command_is ∙ ap (λ (f : Frame). Some (commands.Inject f)) o.frame_is, by.answer_is ∙ ap (λ (s : Situation). Some (outcome_answer (outcome_of s))) same)
+    answered-so k x there = let o = of k x there in which o.row o.row_is o.of
+      where
+        which : (row : Row) → row_at end.rows (who_in x) ≡ Some row → IsOfRow (who_in x) row frame x → IsAnswered script report frame x
+        which row row_is (inl o) = subst (IsAnswered script report frame) (sym o.line_is) tt
+        which row row_is (inr o) =
+            let who : Who = who_in x in
+            let r = row-of script seat last report end who row row_is in
+            let own = own-of script seat last report end who row r frame o.found o.own_is in
+            subst (IsAnswered script report frame) (sym o.line_is) (
+              command-is script who r.of.list r.of.command r.of.list_is r.of.command_is ∙ ap (λ (c : Command). Some c) own.command_is,
+              answer-told script seat last report end (view_of last (seat who.cpu)) who r.of ∙ ap (λ (a : Answer). Some a) own.answer_is,
+            )
 
     mark-at : (k : ℕ) (x : MarkLine) → slice_get (marks_of report frame.0) k ≡ Some x → IsMarkAt k x
     mark-at k x there =
         let one = one-line script seat last report end frame line line_is k x (at-line k x there) in
         subst (λ (n : ℕ). IsMarkAt n x) (sym one.0) (record { cycle = one.2; turn = one.1 })
 
-    -- no mark is by a bank's event
-    pub by-command : EachMember (λ (x : MarkLine). is_by_hardware x ≡ false) line.marks
-    by-command k x there = ap is_by_hardware (of-mark script seat last report end frame line line_is k x there).line_is
-
-    pub no-hardware : (who : Who) → hardware_marks who line.marks ≡ []
-    no-hardware who = filter-none (λ (x : MarkLine). is_same_command who (who_in x) && is_by_hardware x) line.marks (λ k x there. and_right (is_same_command who (who_in x)) (is_by_hardware x) (by-command k x there))
-
     have-events : (who : Who) → HaveEvents report frame who
     have-events who =
-        ap (λ (l : List MarkLine). mark_results (hardware_marks who l)) marks-are ∙ ap mark_results (no-hardware who)
-        ∙ sym (ap (λ (es : List EventLine). line_results (filter (λ (l : EventLine). (frame.0 == frame_at l.addr) && is_some (result_of l.acted)) es)) (eventless script seat turns last report run who))
+        let told : List Told = told_at (row_at end.rows who) in
+        ap (λ (l : List MarkLine). mark_results (hardware_marks who l)) (marks-are frame line line_is) ∙ ap mark_results (hardware-are who frame line line_is)
+        ∙ same-results who who.seq frame.0 told (tells-at who) ∙ sym (ap line_results (results-of who frame.0))
 
-    pub record-is : IsFrameRecord script report kernel frame
-    record-is = record { alternates = mark-at; found = found-so; answered = answered-so; events = have-events }
+    pub record-so : IsFrameRecord script report kernel frame
+    record-so = record { alternates = mark-at; found = found-so; answered = answered-so; events = have-events }
+
+  -- ---- what a row says of a record
+
+  -- a frame that an event made fail has its line
+  pub told-line : (who : Who) (row : Row) → row_at end.rows who ≡ Some row → (i : ℕ) (t : Told) (found : Found) → slice_get row.told i ≡ Some t → t.found ≡ Some found → (line : FrameLine) × (slice_get report.frames (frame_at t.held.event.addr) ≡ Some line)
+  told-line who row row_is i t found there some =
+      let view : View = view_of last (seat who.cpu) in
+      let r = row-of script seat last report end who row row_is in
+      let poisoned = ((right-of script seat last report end who row r i t there).found found some).0 in
+      let m : Mark = poisoned.1 in
+      let listed = filter-is (λ (x : Mark). is_own who x) view.marks poisoned.0 m poisoned.2 in
+      let line = line-of script seat last report end (seat who.cpu) listed.0 view m (end.seated.there who.cpu r.of.inside) listed.1 in
+      (line.0, ap (λ (x : Frame). slice_get report.frames x.0) (sym poisoned.3.0) ∙ line.1)
+
+  -- a failure by an event, which came to a result, is in the frame's record
+  pub result-told : (who : Who) (row : Row) → row_at end.rows who ≡ Some row → (i : ℕ) (t : Told) (found : Found) → slice_get row.told i ≡ Some t → t.found ≡ Some found → IsResult (marks_of report (frame_at t.held.event.addr)) who t.acted
+  result-told who row row_is i t found there some =
+      let f : ℕ = frame_at t.held.event.addr in
+      let right = right-of script seat last report end who row (row-of script seat last report end who row row_is) i t there in
+      let line = told-line who row row_is i t found there some in
+      let told_is : told_at (row_at end.rows who) ≡ row.told = ap told_at row_is in
+      let all : mark_results (hardware_marks who (marks_of report f)) ≡ map (λ (c : Came). found_act c.1) (found_on f row.told)
+      = ap (λ (l : List MarkLine). mark_results (hardware_marks who l)) (marks-are (record { 0 = f }) line.0 line.1) ∙ ap mark_results (hardware-are who (record { 0 = f }) line.0 line.1)
+      ∙ results-are who (found_on f (told_at (row_at end.rows who))) ∙ ap (λ (l : List Told). map (λ (c : Came). found_act c.1) (found_on f l)) told_is in
+      let has = came-has f row.told i t found there some refl in
+      let acted : t.acted ≡ found_act found = result-is t.acted (found_act found) (right.result ∙ ap (option_map found_act) some) in
+      let at : slice_get (mark_results (hardware_marks who (marks_of report f))) has.0 ≡ Some t.acted
+      = ap (λ (l : List Acted). slice_get l has.0) all ∙ at_map (λ (c : Came). found_act c.1) (found_on f row.told) has.0 (t, found) has.1 ∙ ap (λ (a : Acted). Some a) (sym acted) in
+      (has.0, slice_get_within _ has.0 t.acted at, get_or_from_slice_get _ has.0 t.acted t.acted at)
+
+  -- and so is a failure of a command's own
+  pub own-mark : (who : Who) (row : Row) → row_at end.rows who ≡ Some row → (frame : Frame) (found : Found) → row.own ≡ Some (frame, found) → HasMark report who frame (ComesTo (outcome_of found.situation))
+  own-mark who row row_is frame found own =
+      let view : View = view_of last (seat who.cpu) in
+      let r = row-of script seat last report end who row row_is in
+      let note : Note = note_of who false frame found in
+      let told : List Note = filter_map (told_note who) row.told in
+      -- the mark, and so the frame's line
+      let marked : List Marking = filter_map marked_in row.told in
+      let marking_at : slice_get (markings who view) (length marked) ≡ Some (poisoning frame false found.cycle)
+      = ap (λ (l : List Marking). slice_get l (length marked)) (r.of.served.accounted.marked ∙ ap markings_in r.same ∙ ap (λ (o : Option (Frame × Found)). marked ++ cons_option (own_marking o) []) own) ∙ at_last marked (poisoning frame false found.cycle) in
+      let has : HasMarked view who (poisoning frame false found.cycle) = has-marked view who (poisoning frame false found.cycle) (length marked) marking_at in
+      let line = line-of script seat last report end (seat who.cpu) has.j view has.mark (end.seated.there who.cpu r.of.inside) has.there in
+      let line_is : slice_get report.frames frame.0 ≡ Some line.0 = ap (λ (x : Marking). slice_get report.frames x.frame.0) (sym has.marking_is) ∙ line.1 in
+      -- the note, and so the line of the record
+      let note_at : slice_get (notes_at who (row_at end.rows who)) (length told) ≡ Some note
+      = ap (λ (o : Option Row). slice_get (notes_at who o) (length told)) row_is ∙ ap (λ (o : Option (Frame × Found)). slice_get (told ++ cons_option (own_note who o) []) (length told)) own ∙ at_last told note in
+      let among = filter-is (is_noted who) (all_notes (notes_of 0 end.rows)) (length told) note (ap (λ (l : List Note). slice_get l (length told)) (notes-of-command who end.rows) ∙ note_at) in
+      let on = filter-has (λ (n : Note). n.0.0 == frame.0) (all_notes (notes_of 0 end.rows)) among.0 note among.1 (eq-eqb frame.0 frame.0 refl) in
+      let in_record : slice_get (record_of frame (notes_of 0 end.rows)) on.0 ≡ Some note.1
+      = ap (λ (l : List MarkLine). slice_get l on.0) (record-flat frame (notes_of 0 end.rows)) ∙ at_map (λ (n : Note). n.1) (filter (λ (n : Note). n.0.0 == frame.0) (all_notes (notes_of 0 end.rows))) on.0 note on.1 in
+      let at : slice_get (marks_of report frame.0) on.0 ≡ Some note.1
+      = ap (λ (l : List MarkLine). slice_get l on.0) (marks-are frame line.0 line_is ∙ record-is script seat last report end frame line.0 line_is) ∙ in_record in
+      any-of (λ (y : MarkLine). (who_in y ≡ who) × ComesTo (outcome_of found.situation) y) (marks_of report frame.0) (on.0, note.1, at, (refl, refl))

@@ -1,5 +1,5 @@
 -- What a step makes of the bodies in hand: it keeps their pages, their frames and what was seen before them.
-use Rattle.std.proofs.Common.{◌≡◌, ℕ, ◌==◌, Bool, true, false, cond, List, [], ◌∷◌, ◌++◌, Option, Some, None, length, refl, sym, ap}
+use Rattle.std.proofs.Common.{◌≡◌, ℕ, ◌==◌, Bool, true, false, cond, [], ◌∷◌, ◌++◌, Option, Some, None, length, refl, sym, ap}
 use Rattle.std.proofs.lemmas.Bool.{eqb-true}
 use Rattle.hwp_geom.specs.declared.Frame.{Frame}
 use Rattle.hwp_geom.specs.declared.Layout.{Layout}

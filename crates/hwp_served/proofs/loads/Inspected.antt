@@ -17,7 +17,6 @@ use Rattle.hwp_rule.specs.declared.Log.{Log}
 use Rattle.hwp_rule.specs.declared.Made.{Made}
 use Rattle.hwp_rule.specs.declared.Place.{Place}
 use Rattle.hwp_rule.specs.declared.Place.TheVariants as places
-use Rattle.hwp_rule.specs.declared.Rec.{Rec}
 use Rattle.hwp_rule.specs.declared.Sight.{Sight}
 use Rattle.hwp_rule.specs.declared.Stamp.{Stamp}
 use Rattle.hwp_rule.specs.declared.State.{State}
@@ -36,7 +35,7 @@ use Rattle.hwp_rule.proofs.Lists.{at_last, at_push, each-map, each-set, each-wea
 use Rattle.hwp_rule.proofs.MoreEntries.{each-append}
 use Rattle.hwp_rule.proofs.Without.{find-is}
 use Rattle.hwp_step.specs.Boards.{Played}
-use Rattle.hwp_runs.specs.Turns.{Leads, TurnBy}
+use Rattle.hwp_runs.specs.Turns.{Leads}
 use Rattle.hwp_runs.proofs.Adding.{Adds, AddsMade, adds}
 use Rattle.hwp_runs.proofs.Leading.{leads-on}
 use Rattle.hwp_served.specs.Loads.{HasPageIn, Inspects}

@@ -32,7 +32,7 @@ use Rattle.hwp_law.specs.Losses.{LossesAgree, answered, lost_in, told}
 use Rattle.hwp_runs.proofs.Histories.{no-bodies}
 use Rattle.hwp_served.specs.Runs.{IsRunOf}
 use Rattle.hwp_served.proofs.Along.{run-keeps}
-use Rattle.hwp_served.proofs.Ending.{IsEnd, list-of, rows-of, served-of}
+use Rattle.hwp_served.proofs.Ending.{IsEnd, list-of, rows-of, rows-of-lines, served-of}
 use Rattle.hwp_served.proofs.Holding.{ended, nothing}
 use Rattle.hwp_served.proofs.HomePages.{home-sum}
 use Rattle.hwp_served.proofs.losses.LossesTold.{reported_of, told-reported}
@@ -69,11 +69,14 @@ module _ (script : Script) (seat : Cpu → ℕ) (turns : List Played) (last : St
 
     -- ---- what the answers told
 
-    told-by : (c : ℕ) (list : List Command) (rows : List CpuLine) → slice_get script.lists c ≡ Some list → slice_get report.cpus c ≡ Some rows → sum_by (told file) (zip list (filter_map answer_in rows)) ≡ reported-by c
-    told-by c list rows list_is rows_is =
+    told-by : (c : ℕ) (list : List Command) (lines : List CpuLine) → slice_get script.lists c ≡ Some list → slice_get report.cpus c ≡ Some lines → sum_by (told file) (zip list (filter_map answer_in lines)) ≡ reported-by c
+    told-by c list lines list_is lines_is =
         let cpu : Cpu = record { 0 = c } in
-        let served = (served-of script seat last report end cpu list rows list_is rows_is).1 in
-        told-reported script.layout list (view_of last (seat cpu)) cpu (λ j r there. (served.taken j r there).0) file list rows served.answered served.count (λ j r there. (served.taken j r there).1)
+        let has = rows-of-lines script seat last report end cpu lines lines_is in
+        let same : has.list ≡ list = same_Some has.list list (sym has.list_is ∙ list_is) in
+        ap (λ (l : List Command). sum_by (told file) (zip l (filter_map answer_in lines))) (sym same)
+        ∙ ap (λ (l : List CpuLine). sum_by (told file) (zip has.list (filter_map answer_in l))) has.lines_are
+        ∙ told-reported script.layout has.list (view_of last (seat cpu)) cpu (λ j r there. (has.served.taken j r there).0) file has.list has.own has.served.banks has.served.rows_are has.served.count (λ j r there. (has.served.taken j r there).1)
 
     all-told : sum_by (told file) (answered script report) ≡ sum_below reported-by script.layout.cpus
     all-told =
@@ -92,7 +95,7 @@ module _ (script : Script) (seat : Cpu → ℕ) (turns : List Played) (last : St
         let view : View = view_of last (seat cpu) in
         let list = list-of script seat last report end cpu inside in
         let rows = rows-of script seat last report end cpu inside in
-        let served = (served-of script seat last report end cpu list.0 rows.0 list.1 rows.1).1 in
+        let served = (served-of script seat last report end cpu list.0 rows.0 list.1 rows.1).0 in
         sum-one (λ (v : View). sum_by (λ (r : Reported). cond (r.stamp.who.cpu.0 == c) (reported_of file r) 0) v.reported) last.views (seat cpu) view (end.seated.there cpu inside) others
         ∙ sum-same (λ (r : Reported). cond (r.stamp.who.cpu.0 == c) (reported_of file r) 0) (reported_of file) view.reported
         (λ j r there. ap (λ (b : Bool). cond b (reported_of file r) 0) (eq-eqb r.stamp.who.cpu.0 c (ap (λ (x : Cpu). x.0) (served.taken j r there).0)))

@@ -15,12 +15,14 @@ use Rattle.hwp_script.specs.declared.Command.{Command}
 use Rattle.hwp_script.specs.declared.Command.TheVariants as commands
 use Rattle.hwp_report.specs.declared.Answer.{Answer}
 use Rattle.hwp_report.specs.declared.Answer.TheVariants as answers
-use Rattle.hwp_report.specs.declared.CpuLine.{CpuLine}
-use Rattle.hwp_report.specs.declared.CpuLine.TheVariants as lines
-use Rattle.hwp_law.specs.Lines.{answer_in}
+use Rattle.hwp_law.specs.Checks.{Banks, empty_banks}
+use Rattle.hwp_law.specs.Lines.{AnswerLine, answer_in}
 use Rattle.hwp_law.specs.Losses.{told, told_by}
+use Rattle.hwp_handler.specs.declared.Row.{Row}
 use Rattle.hwp_served.specs.Accounts.{is_same, taken_by}
-use Rattle.hwp_served.specs.Served.{AreAnswered}
+use Rattle.hwp_served.specs.Rows.{lines_from}
+use Rattle.hwp_served.specs.Served.{AreRowsServed}
+use Rattle.hwp_served.proofs.RowLines.{answers-split}
 use Rattle.hwp_served.proofs.Sums.{below-front, below-same, sum-split}
 
 -- the losses of a file in a report, and in a list of losses with their files
@@ -63,30 +65,29 @@ taken-reported file who (r ∷ rs) each =
 
 module _ (layout : Layout) (all : List Command) (view : View) (cpu : Cpu) (own : EachMember (λ (r : Reported). r.stamp.who.cpu ≡ cpu) view.reported) (file : FileNo) where
   -- the commands from number n on
-  told-from : (n : ℕ) (list : List Command) (rows : List CpuLine) → AreAnswered layout all view cpu n list rows → length rows ≡ length list
-      → sum_by (told file) (zip list (filter_map answer_in rows)) ≡ sum_below (λ i. by_number file view.reported (n + i)) (length list)
-  told-from n [] [] are same = refl
-  told-from n [] (row ∷ rows) are same = absurd are
-  told-from n (c ∷ cs) [] are same = absurd (let none : zero ≡ suc (length cs) = same in omega arith)
-  told-from n (c ∷ cs) (lines.Event a b s x y z w ∷ rows) are same = absurd are
-  told-from n (c ∷ cs) (lines.Answer seq answer ∷ rows) (seq_is, caused, accounted, rest) same =
+  told-from : (n : ℕ) (before : Banks) (list : List Command) (rows : List Row) (after : Banks) → AreRowsServed layout all view cpu n before list rows after → length rows ≡ length list
+      → sum_by (told file) (zip list (filter_map answer_in (lines_from n rows))) ≡ sum_below (λ i. by_number file view.reported (n + i)) (length list)
+  told-from n before [] [] after are same = refl
+  told-from n before [] (row ∷ rows) after are same = absurd are
+  told-from n before (c ∷ cs) [] after are same = absurd (let none : zero ≡ suc (length cs) = same in omega arith)
+  told-from n before (c ∷ cs) (row ∷ rows) after (between, served, rest) same =
       let who : Who = record { cpu = cpu; seq = n } in
-      let first : told_by file c answer ≡ by_number file view.reported n = told-taken file c answer ∙ sym (ap (sum_by (losses_of_file file)) accounted.taken) ∙ taken-reported file who view.reported own in
-      let later : sum_by (told file) (zip cs (filter_map answer_in rows)) ≡ sum_below (λ i. by_number file view.reported ((n + 1) + i)) (length cs)
-      = told-from (n + 1) cs rows rest (let one : suc (length rows) ≡ suc (length cs) = same in let less : length rows ≡ length cs = omega arith in less) in
-      let both : sum_by (told file) (zip (c ∷ cs) (filter_map answer_in (lines.Answer seq answer ∷ rows))) ≡ told_by file c answer + sum_by (told file) (zip cs (filter_map answer_in rows))
-      = sum_by-cons (told file) (c, record { seq = seq; answer = answer }) (zip cs (filter_map answer_in rows)) in
+      let first : told_by file c row.answer ≡ by_number file view.reported n = told-taken file c row.answer ∙ sym (ap (sum_by (losses_of_file file)) served.accounted.taken) ∙ taken-reported file who view.reported own in
+      let later : sum_by (told file) (zip cs (filter_map answer_in (lines_from (n + 1) rows))) ≡ sum_below (λ i. by_number file view.reported ((n + 1) + i)) (length cs)
+      = told-from (n + 1) between cs rows after rest (let one : suc (length rows) ≡ suc (length cs) = same in let less : length rows ≡ length cs = omega arith in less) in
+      let both : sum_by (told file) (zip (c ∷ cs) (filter_map answer_in (lines_from n (row ∷ rows)))) ≡ told_by file c row.answer + sum_by (told file) (zip cs (filter_map answer_in (lines_from (n + 1) rows)))
+      = ap (λ (l : List AnswerLine). sum_by (told file) (zip (c ∷ cs) l)) (answers-split n row rows) ∙ sum_by-cons (told file) (c, record { seq = n; answer = row.answer }) (zip cs (filter_map answer_in (lines_from (n + 1) rows))) in
       let all_of : sum_below (λ i. by_number file view.reported (n + i)) (suc (length cs)) ≡ by_number file view.reported (n + 0) + sum_below (λ i. by_number file view.reported (n + suc i)) (length cs)
       = below-front (λ i. by_number file view.reported (n + i)) (length cs) in
       let zeroth : by_number file view.reported (n + 0) ≡ by_number file view.reported n = ap (by_number file view.reported) (let is : n + 0 ≡ n = omega arith in is) in
       let shifted : sum_below (λ i. by_number file view.reported (n + suc i)) (length cs) ≡ sum_below (λ i. by_number file view.reported ((n + 1) + i)) (length cs)
-      = below-same (λ i. by_number file view.reported (n + suc i)) (λ i. by_number file view.reported ((n + 1) + i)) (length cs) (λ i before. ap (by_number file view.reported) (let is : n + suc i ≡ (n + 1) + i = omega arith in is)) in
+      = below-same (λ i. by_number file view.reported (n + suc i)) (λ i. by_number file view.reported ((n + 1) + i)) (length cs) (λ i below. ap (by_number file view.reported) (let is : n + suc i ≡ (n + 1) + i = omega arith in is)) in
       omega (arith, first, later, both, all_of, zeroth, shifted)
 
   -- all of them
-  pub told-reported : (list : List Command) (rows : List CpuLine) → AreAnswered layout all view cpu 0 list rows → length rows ≡ length list → EachMember (λ (r : Reported). r.stamp.who.seq < length list) view.reported
-      → sum_by (told file) (zip list (filter_map answer_in rows)) ≡ sum_by (reported_of file) view.reported
-  told-reported list rows are same within =
-      told-from 0 list rows are same
+  pub told-reported : (list : List Command) (rows : List Row) (after : Banks) → AreRowsServed layout all view cpu 0 empty_banks list rows after → length rows ≡ length list → EachMember (λ (r : Reported). r.stamp.who.seq < length list) view.reported
+      → sum_by (told file) (zip list (filter_map answer_in (lines_from 0 rows))) ≡ sum_by (reported_of file) view.reported
+  told-reported list rows after are same within =
+      told-from 0 empty_banks list rows after are same
       ∙ below-same (λ i. by_number file view.reported (0 + i)) (by_number file view.reported) (length list) (λ i before. ap (by_number file view.reported) (let is : 0 + i ≡ i = omega arith in is))
       ∙ sym (sum-split (reported_of file) (λ (r : Reported). r.stamp.who.seq) view.reported (length list) within)

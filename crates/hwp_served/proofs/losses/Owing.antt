@@ -29,17 +29,20 @@ use Rattle.hwp_rule.specs.declared.View.{View}
 use Rattle.hwp_rule.specs.Lists.{EachMember}
 use Rattle.hwp_rule.specs.Logs.{file_of, log_of}
 use Rattle.hwp_rule.specs.Steps.{goes}
-use Rattle.hwp_rule.specs.Views.{body_of, killed_by, listed_of, loaded, loss_made, losses_made, made_from, more_of, noted, put_home, sighted, stamp_of, taken, view_by, without}
+use Rattle.hwp_rule.specs.Views.{body_of, listed_of, loaded, loss_made, losses_made, made_from, more_of, noted, stamp_of, taken, view_by, without}
 use Rattle.hwp_rule.proofs.Lists.{sum-zero}
 use Rattle.hwp_step.specs.Calls.{CanMake, Steps, logs}
 use Rattle.hwp_step.proofs.Stepping.{content_of}
 use Rattle.hwp_known.specs.Known.{deeds, is_by}
 use Rattle.hwp_known.proofs.Listing.{PutsNone}
 use Rattle.hwp_script.specs.declared.Command.{Command}
-use Rattle.hwp_report.specs.declared.Answer.{Answer}
+use Rattle.hwp_law.specs.Commands.{can_fail}
+use Rattle.hwp_law.specs.Entries.{Makes}
+use Rattle.hwp_handler.specs.declared.Row.{Row}
+use Rattle.hwp_served.specs.Accounts.{IsAccounted}
 use Rattle.hwp_served.specs.Causes.{IsCaused}
 use Rattle.hwp_served.specs.Owed.{OwesOwn, loss_of, losses_by}
-use Rattle.hwp_served.proofs.deeds.Deeds.{are-deeds, is_inject, is_sound}
+use Rattle.hwp_served.proofs.deeds.Deeds.{are-deeds}
 
 -- ---- entries past those that are listed
 
@@ -161,10 +164,10 @@ module _ (who : Who) where
 
 -- ---- a command without failures
 
-sound-lossless : (what : What) → is_sound what ≡ true → is_loss what ≡ false
-sound-lossless (entries.Fail situation required seen signals) is = absurd (true≢false (sym is))
-sound-lossless what is = refl
+lossless-so : (command : Command) (what : What) → can_fail command ≡ false → Makes command what → is_loss what ≡ false
+lossless-so command (entries.Fail situation required seen signals) cannot makes = absurd (true≢false (sym makes.0 ∙ cannot))
+lossless-so command what cannot makes = refl
 
-pub lossless : (layout : Layout) (list : List Command) (view : View) (who : Who) (command : Command) (answer : Answer) → is_inject command ≡ false → IsCaused layout list view who command answer → losses_by who view ≡ 0
-lossless layout list view who command answer other caused =
-    sum-zero loss_of (deeds who view) (λ i m at. ap from_bool (sound-lossless m.entry.what ((are-deeds layout list view who command answer caused i m at).sound other)))
+pub lossless : (layout : Layout) (list : List Command) (view : View) (who : Who) (command : Command) (row : Row) → can_fail command ≡ false → IsCaused layout list view who command row → IsAccounted view who command row → losses_by who view ≡ 0
+lossless layout list view who command row cannot caused account =
+    sum-zero loss_of (deeds who view) (λ i m at. ap from_bool (lossless-so command m.entry.what cannot (are-deeds layout list view who command row caused account i m at).makes))

@@ -13,7 +13,7 @@ use Rattle.hwp_rule.specs.Words.{words_of}
 use Rattle.hwp_rule.specs.parts.Counter.{is_poisoning as poisons}
 use Rattle.hwp_rule.specs.parts.Marks.{poisonings}
 use Rattle.hwp_rule.proofs.Lists.{at_map, term-le}
-use Rattle.hwp_rule.proofs.Undamaged.{nothing-damaged}
+use Rattle.hwp_rule.proofs.Unrevived.{nothing-revived}
 
 module _ (layout : Layout) (s : State) (h : Holds layout s) where
   abbrev all_marks : List (List Mark)
@@ -26,12 +26,12 @@ module _ (layout : Layout) (s : State) (h : Holds layout s) where
   -- each mark is counted
   pub mark-counts : (i j : ℕ) (v : View) (m : Mark) → slice_get s.views i ≡ Some v → slice_get v.marks j ≡ Some m → counts_in m.frame.0 m.cycle m ≡ 1
   mark-counts i j v m view there = ap from_bool (and_from (m.frame.0 == m.frame.0) ((m.cycle == m.cycle) && poisons m.kind) (eq-eqb m.frame.0 m.frame.0 refl)
-      (and_from (m.cycle == m.cycle) (poisons m.kind) (eq-eqb m.cycle m.cycle refl) (ap poisons ((h.undamaged i v view).marks j m there))))
+      (and_from (m.cycle == m.cycle) (poisons m.kind) (eq-eqb m.cycle m.cycle refl) ((h.unrevived i v view).marks j m there)))
 
   -- so many there are of a word without a revival
   few : (f w cycle : ℕ) → slice_get (words_of layout s.words).frames f ≡ Some w → poisonings f cycle all_marks ≡ cond (cycle == 0) (poison_of w) 0
   few f w cycle word =
-      let none : cycle_of w ≡ 0 = (nothing-damaged layout s h).first f w word in
+      let none : cycle_of w ≡ 0 = (nothing-revived layout s h).first f w word in
       h.rule.failures.marks.poisoned f w cycle word ∙ ap (λ (n : ℕ). cond (nat_lt cycle n) 1 (cond (cycle == n) (poison_of w) 0)) none ∙ which (nat_lt cycle 0) refl
     where
       which : (low : Bool) → nat_lt cycle 0 ≡ low → cond low 1 (cond (cycle == 0) (poison_of w) 0) ≡ cond (cycle == 0) (poison_of w) 0

@@ -45,6 +45,7 @@ use Rattle.hwp_law.specs.Policies.{commands_before, last_policy, setting_of, set
 use Rattle.hwp_law.specs.Seen.{AreSeen, IsOwnCount, IsPolicySeen, SeenNeverFalls, commands_around, cpu_of_thread, is_done, seen_in, settings_done}
 use Rattle.hwp_runs.proofs.Reported.{entry-listed}
 use Rattle.hwp_served.specs.Accounts.{is_same, set_by}
+use Rattle.hwp_served.specs.Rows.{lines_from}
 use Rattle.hwp_served.specs.Runs.{IsRunOf}
 use Rattle.hwp_served.specs.Served.{IsServed}
 use Rattle.hwp_served.proofs.Along.{run-keeps}
@@ -55,7 +56,7 @@ use Rattle.hwp_served.proofs.deeds.Made.{does}
 use Rattle.hwp_served.proofs.policies.PolicyCounts.{made_before, number-back, number_in}
 use Rattle.hwp_served.proofs.policies.PolicyDone.{are_of, before-done, set-count, set_of, step-count}
 use Rattle.hwp_served.proofs.policies.PolicySeen.{IsPoliced, KnowPolicies, agrees, policies-kept}
-use Rattle.hwp_served.proofs.Showing.{answer-told}
+use Rattle.hwp_served.proofs.RowLines.{answer-told}
 
 -- ---- policies
 
@@ -169,7 +170,7 @@ module _ (script : Script) (seat : Cpu → ℕ) (turns : List Played) (last : St
 
     -- those that the processor's view lists are the first of those that the script sets
     front : (rest : List Policy) × (settings seen.thread list.0 ≡ map (λ (g : Setting). g.policy) set_there ++ rest)
-    front = let rows = rows-of script seat last report end cpu cpu-inside in (served-of script seat last report end cpu list.0 rows.0 list.1 rows.1).1.policies seen.thread
+    front = let rows = rows-of script seat last report end cpu cpu-inside in (served-of script seat last report end cpu list.0 rows.0 list.1 rows.1).0.policies seen.thread
 
     -- the word is the one after some of them
     then : (n : ℕ) × (n ≤ length set_there) × (saw.sight.word ≡ policy_at (length (take n set_there)) (last_set policies.Default (take n set_there)))
@@ -202,20 +203,23 @@ module _ (script : Script) (seat : Cpu → ℕ) (turns : List Played) (last : St
 
     -- ---- of the command's own processor
 
-    module _ (of : IsOf script report view who) (fails : can_fail of.command ≡ true) where
-      served : IsServed script.layout view who.cpu of.list of.rows (served-of script seat last report end who.cpu of.list of.rows of.list_is of.rows_is).0
-      served = (served-of script seat last report end who.cpu of.list of.rows of.list_is of.rows_is).1
+    module _ (of : IsOf script end.rows view who) (fails : can_fail of.command ≡ true) where
+      served : IsServed script.layout view who.cpu of.list of.own × (slice_get report.cpus who.cpu.0 ≡ Some (lines_from 0 of.own))
+      served = served-of script seat last report end who.cpu of.list of.own of.list_is of.own_is
+
+      abbrev lines : List CpuLine
+      lines = lines_from 0 of.own
 
       set-own : EachMember (λ (g : Setting). g.stamp.who.cpu ≡ who.cpu) view.settings
-      set-own i g at = (served.set i g at).0
+      set-own i g at = (served.0.set i g at).0
 
-      each-set : (i : ℕ) (c : Command) → slice_get of.list i ≡ Some c → are_of seen.thread (map set_of (filter (λ (g : Setting). is_same (record { cpu = who.cpu; seq = i }) g.stamp.who) view.settings)) ≡ from_bool (is_some (setting_of seen.thread c) && is_done (answer_among of.rows i))
+      each-set : (i : ℕ) (c : Command) → slice_get of.list i ≡ Some c → are_of seen.thread (map set_of (filter (λ (g : Setting). is_same (record { cpu = who.cpu; seq = i }) g.stamp.who) view.settings)) ≡ from_bool (is_some (setting_of seen.thread c) && is_done (answer_among lines i))
       each-set i c at =
-          let other : IsOf script report view (record { cpu = who.cpu; seq = i }) = command-of script seat last report end (record { cpu = who.cpu; seq = i }) of.list of.rows c of.list_is of.rows_is at in
-          let told : answer_of report (record { cpu = who.cpu; seq = i }) ≡ Some other.answer = answer-told script seat turns last report run (record { cpu = who.cpu; seq = i }) other.list other.rows other.answer other.list_is other.rows_is other.answer_is in
-          let among : answer_among of.rows i ≡ Some other.answer = sym (ap (λ (o : Option (List CpuLine)). answer_among (unwrap_or o []) i) of.rows_is) ∙ told in
+          let other : IsOf script end.rows view (record { cpu = who.cpu; seq = i }) = command-of script seat last report end (record { cpu = who.cpu; seq = i }) of.list c of.list_is at in
+          let told : answer_of report (record { cpu = who.cpu; seq = i }) ≡ Some other.row.answer = answer-told script seat last report end view (record { cpu = who.cpu; seq = i }) other in
+          let among : answer_among lines i ≡ Some other.row.answer = sym (ap (λ (o : Option (List CpuLine)). answer_among (unwrap_or o []) i) served.1) ∙ told in
           let same : other.command ≡ c = same_Some other.command c (sym other.command_is ∙ ap (λ (l : List Command). slice_get l i) (same_Some other.list of.list (sym other.list_is ∙ of.list_is)) ∙ at) in
-          ap (are_of seen.thread) other.accounted.set ∙ set-count seen.thread other.command other.answer ∙ ap (λ (x : Command). from_bool (is_some (setting_of seen.thread x) && is_done (Some other.answer))) same
+          ap (are_of seen.thread) other.served.accounted.set ∙ set-count seen.thread other.command other.row.answer ∙ ap (λ (x : Command). from_bool (is_some (setting_of seen.thread x) && is_done (Some other.row.answer))) same
           ∙ ap (λ (o : Option Answer). from_bool (is_some (setting_of seen.thread c) && is_done o)) (sym among)
 
       own-count : cpu_of_thread script seen.thread ≡ Some who.cpu → seen.n ≡ settings_done seen.thread (rows_of report who) 0 (commands_before script who)
@@ -226,11 +230,11 @@ module _ (script : Script) (seat : Cpu → ℕ) (turns : List Played) (last : St
           let low : made_before seen.thread who.seq view.settings ≤ number_in saw.sight.word = subst (λ (w : Who). made_before seen.thread w.seq view.settings ≤ number_in saw.sight.word) saw.own count.low in
           let high : number_in saw.sight.word ≤ made_before seen.thread (who.seq + 1) view.settings = subst (λ (w : Who). number_in saw.sight.word ≤ made_before seen.thread (w.seq + 1) view.settings) saw.own count.high in
           let step = step-count seen.thread who.cpu who.seq view.settings set-own in
-          let none : are_of seen.thread (map set_of (filter (λ (g : Setting). is_same who g.stamp.who) view.settings)) ≡ 0 = ap (are_of seen.thread) (of.accounted.set ∙ no-setting of.command of.answer fails) in
+          let none : are_of seen.thread (map set_of (filter (λ (g : Setting). is_same who g.stamp.who) view.settings)) ≡ 0 = ap (are_of seen.thread) (of.served.accounted.set ∙ no-setting of.command of.row.answer fails) in
           let within : who.seq < length of.list = slice_get_within of.list who.seq of.command of.command_is in
-          let done : made_before seen.thread who.seq view.settings ≡ settings_done seen.thread of.rows 0 (take who.seq of.list) = before-done seen.thread who.cpu view.settings of.list of.rows set-own each-set who.seq (omega (arith, within)) in
-          let all : settings_done seen.thread (rows_of report who) 0 (commands_before script who) ≡ settings_done seen.thread of.rows 0 (take who.seq of.list)
-          = ap (λ (o : Option (List CpuLine)). settings_done seen.thread (unwrap_or o []) 0 (commands_before script who)) of.rows_is ∙ ap (λ (o : Option (List Command)). settings_done seen.thread of.rows 0 (take who.seq (unwrap_or o []))) of.list_is in
+          let done : made_before seen.thread who.seq view.settings ≡ settings_done seen.thread lines 0 (take who.seq of.list) = before-done seen.thread who.cpu view.settings of.list lines set-own each-set who.seq (omega (arith, within)) in
+          let all : settings_done seen.thread (rows_of report who) 0 (commands_before script who) ≡ settings_done seen.thread lines 0 (take who.seq of.list)
+          = ap (λ (o : Option (List CpuLine)). settings_done seen.thread (unwrap_or o []) 0 (commands_before script who)) served.1 ∙ ap (λ (o : Option (List Command)). settings_done seen.thread lines 0 (take who.seq (unwrap_or o []))) of.list_is in
           omega (arith, word, low, high, step, none, done, all)
 
   pub are-seen : AreSeen script report
@@ -239,9 +243,9 @@ module _ (script : Script) (seat : Cpu → ℕ) (turns : List Played) (last : St
       let d = does script seat last report end at e is in
       (policy-seen e.who seen saw, own d.view d.of d.makes saw)
     where
-      own : (v : View) (of : IsOf script report v e.who) → Makes of.command e.what → SawPolicy e.who seen → IsOwnCount script report e.who seen
+      own : (v : View) (of : IsOf script end.rows v e.who) → Makes of.command e.what → SawPolicy e.who seen → IsOwnCount script report e.who seen
       own v of makes saw =
-          let mine = command-of script seat last report end e.who of.list of.rows of.command of.list_is of.rows_is of.command_is in
+          let mine = command-of script seat last report end e.who of.list of.command of.list_is of.command_is in
           let same : mine.command ≡ of.command = same_Some mine.command of.command (sym mine.command_is ∙ ap (λ (l : List Command). slice_get l e.who.seq) (same_Some mine.list of.list (sym mine.list_is ∙ of.list_is)) ∙ of.command_is) in
           own-count e.who seen saw mine (ap can_fail same ∙ can-fail of.command e.what seen makes has)
 

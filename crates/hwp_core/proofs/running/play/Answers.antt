@@ -11,6 +11,6 @@ pub returns : goal.returns
 returns c =
     let back : take c.in_ok-crew.crew.len (c.step_all.new.tasks ++ drop (length c.step_all.new.tasks) c.in_ok-crew.crew.items) ≡ c.step_all.new.tasks
     = written-back c.in_ok-crew.crew.len c.step_all.new.tasks c.in_ok-crew.crew.items (omega (arith, c.step_all.auto.tasks, c.deref_mut.ensures.len)) in
-    all-played c.args.script.now c.as_slice.result.now c.in_ok-board.board c.step_all.new.board c.in_ok-crew.crew.items c.deref_mut.result.now c.step_all.new.tasks c.in_ok-cpus.cpus c.in_ok-cpus.notes c.as_slice.ensures c.requires.valid c.in_ok-crew.ensures
+    all-played c.args.script.now c.as_slice.result.now c.in_ok-board.board c.step_all.new.board c.in_ok-crew.crew.items c.deref_mut.result.now c.step_all.new.tasks c.in_ok-rows.rows c.as_slice.ensures c.requires.valid c.in_ok-crew.ensures
     c.in_ok-board.ensures.layout c.in_ok-board.ensures.state c.deref_mut.ensures.value c.reached.ensures.reached c.reached.ensures.seats c.in_ok-step_all.ensures.order c.in_ok-step_all.ensures.crew c.reached-2.ensures.seats
-    (subst (λ (ts : List Processor). AreFinished ts c.in_ok-cpus.cpus c.in_ok-cpus.notes) back c.in_ok-cpus.ensures) c.in_ok-step_all.ensures.over
+    (subst (λ (ts : List Processor). AreFinished ts c.in_ok-rows.rows) back c.in_ok-rows.ensures) c.in_ok-step_all.ensures.over

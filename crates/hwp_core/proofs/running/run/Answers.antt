@@ -9,21 +9,17 @@ use Rattle.hwp_core.proofs.running.run.Goals as goal
 
 pub report-requires : goal.report-requires
 report-requires c = record {
-  ended = board-ended c.args.script.now c.in_ok-board.board c.in_ok-board.cpus c.in_ok-board.notes c.requires.valid.one_each c.in_ok-board.ensures
-      c.as_slice-lists.result.now c.as_slice.result.now c.as_slice-lists.ensures c.as_slice.ensures;
+  ended = board-ended c.args.script.now c.in_ok-board.board c.in_ok-board.rows c.requires.valid c.in_ok-board.ensures c.as_slice.result.now c.as_slice-2.result.now c.as_slice.ensures c.as_slice-2.ensures;
 }
 
 pub returns-clause-of_run : goal.returns-clause-of_run
-returns-clause-of_run c = IfOk-weaker c.report.result (IsClosing c.in_ok-board.board.layout c.in_ok-board.board.state c.as_slice-lists.result.now c.in_ok-board.cpus c.as_slice.result.now) (IsOfRun c.args.script.now)
-    (run-of-run c.args.script.now c.in_ok-board.board c.in_ok-board.cpus c.in_ok-board.notes c.requires.valid.one_each c.in_ok-board.ensures
-    c.as_slice-lists.result.now c.as_slice.result.now c.as_slice-lists.ensures c.as_slice.ensures) c.report.ensures
+returns-clause-of_run c = IfOk-weaker c.report.result (IsClosing c.in_ok-board.board.layout c.in_ok-board.board.state c.as_slice.result.now c.as_slice-2.result.now) (IsOfRun c.args.script.now)
+    (run-of-run c.args.script.now c.in_ok-board.board c.in_ok-board.rows c.requires.valid c.in_ok-board.ensures c.as_slice.result.now c.as_slice-2.result.now c.as_slice.ensures c.as_slice-2.ensures) c.report.ensures
 
 pub returns-clause-core : goal.returns-clause-core
-returns-clause-core c = IfOk-weaker c.report.result (IsClosing c.in_ok-board.board.layout c.in_ok-board.board.state c.as_slice-lists.result.now c.in_ok-board.cpus c.as_slice.result.now) (IsCoreRun c.args.script.now)
-    (run-core c.args.script.now c.in_ok-board.board c.in_ok-board.cpus c.in_ok-board.notes c.requires.valid.one_each c.in_ok-board.ensures
-    c.as_slice-lists.result.now c.as_slice.result.now c.as_slice-lists.ensures c.as_slice.ensures) c.report.ensures
+returns-clause-core c = IfOk-weaker c.report.result (IsClosing c.in_ok-board.board.layout c.in_ok-board.board.state c.as_slice.result.now c.as_slice-2.result.now) (IsCoreRun c.args.script.now)
+    (run-core c.args.script.now c.in_ok-board.board c.in_ok-board.rows c.requires.valid c.in_ok-board.ensures c.as_slice.result.now c.as_slice-2.result.now c.as_slice.ensures c.as_slice-2.ensures) c.report.ensures
 
 pub returns-clause-lawful : goal.returns-clause-lawful
-returns-clause-lawful c = IfOk-weaker c.report.result (IsClosing c.in_ok-board.board.layout c.in_ok-board.board.state c.as_slice-lists.result.now c.in_ok-board.cpus c.as_slice.result.now) (IsLawful c.args.script.now)
-    (run-lawful c.args.script.now c.in_ok-board.board c.in_ok-board.cpus c.in_ok-board.notes c.requires.valid.one_each c.in_ok-board.ensures
-    c.as_slice-lists.result.now c.as_slice.result.now c.as_slice-lists.ensures c.as_slice.ensures) c.report.ensures
+returns-clause-lawful c = IfOk-weaker c.report.result (IsClosing c.in_ok-board.board.layout c.in_ok-board.board.state c.as_slice.result.now c.as_slice-2.result.now) (IsLawful c.args.script.now)
+    (run-lawful c.args.script.now c.in_ok-board.board c.in_ok-board.rows c.requires.valid c.in_ok-board.ensures c.as_slice.result.now c.as_slice-2.result.now c.as_slice.ensures c.as_slice-2.ensures) c.report.ensures

@@ -1,8 +1,8 @@
 use Rattle.hwp_job.proofs.job.JobMachine.who.Goals as goal
 use Rattle.hwp_job.proofs.Jobbing.{can, stays}
 
-pub returns-in-Access-clause-law : goal.returns-in-Access-clause-law
-returns-in-Access-clause-law c = record { can = can; stays = stays }
+pub returns-in-Instruction-clause-law : goal.returns-in-Instruction-clause-law
+returns-in-Instruction-clause-law c = record { can = can; stays = stays }
 
 pub returns-in-Evict-clause-law : goal.returns-in-Evict-clause-law
 returns-in-Evict-clause-law c = record { can = can; stays = stays }
@@ -13,8 +13,14 @@ returns-in-Fsync-clause-law c = record { can = can; stays = stays }
 pub returns-in-Prctl-clause-law : goal.returns-in-Prctl-clause-law
 returns-in-Prctl-clause-law c = record { can = can; stays = stays }
 
-pub returns-in-ReadStop-clause-law : goal.returns-in-ReadStop-clause-law
-returns-in-ReadStop-clause-law c = record { can = can; stays = stays }
+pub returns-in-Log-clause-law : goal.returns-in-Log-clause-law
+returns-in-Log-clause-law c = record { can = can; stays = stays }
+
+pub returns-in-Raise-clause-law : goal.returns-in-Raise-clause-law
+returns-in-Raise-clause-law c = record { can = can; stays = stays }
+
+pub returns-in-Spoil-clause-law : goal.returns-in-Spoil-clause-law
+returns-in-Spoil-clause-law c = record { can = can; stays = stays }
 
 pub returns-in-Nested-clause-law : goal.returns-in-Nested-clause-law
 returns-in-Nested-clause-law c = record { can = can; stays = stays }

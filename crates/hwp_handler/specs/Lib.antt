@@ -1,0 +1,8 @@
+pub mod Queue
+pub mod Events
+pub mod Told
+pub mod Lines
+pub mod Handlers
+pub mod Fits
+pub mod Done
+pub mod Checks

@@ -1,0 +1,11 @@
+ghost use Rattle.std.specs.Prelude.{◌≡◌};
+ghost use Rattle.hwp_law.specs.Checks.{empty_banks};
+
+use hwp_banks::{BANKS, Bank};
+
+/// Banks that hold nothing.
+pub fn no_events() -> [Bank; BANKS]
+    ensures { result ≡ empty_banks }
+{
+    [Bank::new(), Bank::new(), Bank::new()]
+}

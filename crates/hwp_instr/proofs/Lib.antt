@@ -1,0 +1,11 @@
+pub mod Checking
+pub mod Quiet
+pub mod Growing
+pub mod Instructing
+pub mod Adding
+pub mod OwnEvents
+pub mod FailureWords
+pub mod Costing
+pub mod AccessTurns
+pub mod AloneTurns
+pub mod InstructionRank

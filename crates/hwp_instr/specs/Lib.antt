@@ -1,0 +1,5 @@
+pub mod Checks
+pub mod Instructions
+pub mod Fits
+pub mod Costs
+pub mod Done

@@ -1,0 +1,127 @@
+-- The turns of a command are few.
+use Rattle.std.proofs.Common.{◌≡◌, ℕ, ◌<◌, ◌≤◌, length, sym, subst, arith}
+use Rattle.hwp_geom.specs.declared.Layout.{Layout}
+use Rattle.hwp_geom.specs.declared.Mode.{Mode}
+use Rattle.hwp_geom.specs.declared.Thread.{Thread}
+use Rattle.hwp_geom.specs.declared.VSlot.{VSlot}
+use Rattle.hwp_geom.specs.declared.Who.{Who}
+use Rattle.hwp_banks.specs.declared.Origin.{Origin}
+use Rattle.hwp_banks.specs.Events.{bank_count}
+use Rattle.hwp_form.specs.declared.Command.{Command}
+use Rattle.hwp_form.specs.declared.Command.TheVariants as commands
+use Rattle.hwp_rule.specs.declared.State.{State}
+use Rattle.hwp_rule.specs.declared.View.{View}
+use Rattle.hwp_rule.specs.Rule.{Holds}
+use Rattle.hwp_rule.specs.Words.{Words}
+use Rattle.hwp_step.specs.Ranks.{words_at}
+use Rattle.hwp_control.proofs.Calling as calling
+use Rattle.hwp_control.proofs.Nesting as nesting
+use Rattle.hwp_control.proofs.Reading as reading
+use Rattle.hwp_control.proofs.Spoiling as spoiling
+use Rattle.hwp_evict.specs.declared.Eviction.TheVariants as evictions
+use Rattle.hwp_evict.specs.Evicts as evicts
+use Rattle.hwp_evict.specs.Fsyncs as fsyncs
+use Rattle.hwp_evict.proofs.EvictCosts.{evict-below}
+use Rattle.hwp_evict.proofs.Fsyncing.{fsync-below}
+use Rattle.hwp_fail.specs.declared.fail.Fail.{Fail}
+use Rattle.hwp_fail.specs.declared.inject.InjectAt.TheVariants as inject_at
+use Rattle.hwp_fail.specs.Fails as fails
+use Rattle.hwp_fail.specs.Injects as injects
+use Rattle.hwp_fail.proofs.InjectRank.{inject-below}
+use Rattle.hwp_fault.specs.declared.AccessKind.{AccessKind}
+use Rattle.hwp_fault.specs.Accesses as accesses
+use Rattle.hwp_handler.specs.declared.Handler.{Handler}
+use Rattle.hwp_handler.specs.declared.handler.HandlerAt.{HandlerAt}
+use Rattle.hwp_handler.specs.declared.handler.HandlerAt.TheVariants as handler_at
+use Rattle.hwp_handler.specs.Handlers as handlers
+use Rattle.hwp_instr.specs.declared.Instruction.{Instruction}
+use Rattle.hwp_instr.specs.Costs as instruction_costs
+use Rattle.hwp_instr.specs.Instructions as instructions
+use Rattle.hwp_instr.proofs.Costing.{again-cost, few-frees, held-most, instruction-below, left-few}
+use Rattle.hwp_law.specs.Checks.{Banks}
+use Rattle.hwp_raise.specs.declared.Raise.{Raise}
+use Rattle.hwp_raise.specs.declared.raise.RaiseAt.{RaiseAt}
+use Rattle.hwp_raise.specs.declared.raise.RaiseAt.TheVariants as raise_at
+use Rattle.hwp_raise.specs.Costs as raise_costs
+use Rattle.hwp_raise.specs.Fits as raise_fits
+use Rattle.hwp_job.specs.declared.job.Job.{Job}
+use Rattle.hwp_job.specs.declared.job.Job.TheVariants as jobs
+use Rattle.hwp_job.specs.Begins.{Begins, BeginsAccess, request_of}
+use Rattle.hwp_job.specs.Jobs.{Fits, cost}
+
+-- ---- a machine check
+
+fail-few : (f : Fail) (w : Words) → fails.cost f w ≤ 8871
+fail-few f w = inject-below (record { alloc = f.alloc; who = f.who; frame = f.frame; at = inject_at.Fail f }) w
+
+handler-few : (h : Handler) (w : Words) → length h.events.left ≤ bank_count → handlers.cost h w ≤ 8874
+handler-few h w few = which h.at
+  where
+    which : (x : HandlerAt) → handlers.cost_with (length h.events.left) x w ≤ 8874
+    which handler_at.Stop = omega arith
+    which (handler_at.Fail f) = let most : fails.cost f w ≤ 8871 = fail-few f w in omega (arith, few, most)
+    which handler_at.GaveUp = omega arith
+    which (handler_at.Over stopped) = omega arith
+
+raise-below : (layout : Layout) (view : View) (r : Raise) (w : Words) → raise_fits.Fits layout view r → raise_costs.cost r w < 32768
+raise-below layout view r w fits = which r.at fits.at
+  where
+    which : (x : RaiseAt) → raise_fits.FitsAt layout view r x → raise_costs.cost_at x w < 32768
+    which raise_at.LoadStop has = omega arith
+    which (raise_at.LoadProcess raiser) has = omega arith
+    which (raise_at.Handle h) has = let most : handlers.cost h w ≤ 8874 = handler-few h w (left-few h has.0.handler.found.few) in omega (arith, most)
+    which raise_at.GiveUp has = omega arith
+    which (raise_at.Over answer) has = omega arith
+
+-- ---- a command that runs
+
+pub job-below : (layout : Layout) (a : State) (view : View) (j : Job) → Holds layout a → Fits layout view j → cost j (words_at layout a) < 32768
+job-below layout a view (jobs.Instruction i) rule fits = instruction-below layout a view i rule fits
+job-below layout a view (jobs.Evict e) rule fits = evict-below (words_at layout a) e
+job-below layout a view (jobs.Fsync f) rule fits = let most = fsync-below f (words_at layout a) in omega (arith, most)
+job-below layout a view (jobs.Prctl p) rule fits = let most = calling.small p in omega (arith, most)
+job-below layout a view (jobs.Log l) rule fits = let most = reading.small l.read in omega (arith, most)
+job-below layout a view (jobs.Raise r) rule fits = raise-below layout view r (words_at layout a) fits
+job-below layout a view (jobs.Spoil s) rule fits = let most = spoiling.small s in omega (arith, most)
+job-below layout a view (jobs.Nested n) rule fits = let most = nesting.small n in omega (arith, most)
+job-below layout a view (jobs.Inject i) rule fits = let most = inject-below i (words_at layout a) in omega (arith, most)
+
+-- ---- and one that begins
+
+access-begins : {layout : Layout} {by : Who} {thread : Thread} {slot : VSlot} {line : ℕ} {kind : AccessKind} {origin : Origin} {mode : Mode} {banks : Banks} {j : Job} (w : Words) → length w.frees ≤ 4 → BeginsAccess layout by thread slot line kind origin mode banks j → cost j w < 32768
+access-begins {layout} {by} {thread} {slot} {line} {kind} {origin} {mode} {banks} {j} w few begun = subst (λ (x : Job). cost x w < 32768) (sym begun.job_is)
+    (let most : accesses.cost (accesses.again i.request) w ≤ 4121 = again-cost i w few in
+    let held : instruction_costs.held_cost banks ≤ instruction_costs.anew_after_wait = held-most banks in
+    omega (arith, most, held))
+  where
+    i : Instruction
+    i = instructions.begin begun.alloc (request_of by thread slot line kind begun.page begun.process) origin mode banks
+
+pub begins-below : (layout : Layout) (a : State) (by : Who) (command : Command) (banks : Banks) (j : Job) → Holds layout a → Begins layout by command banks j → cost j (words_at layout a) < 32768
+begins-below layout a by command banks j rule begun = which command begun
+  where
+    w : Words
+    w = words_at layout a
+
+    below : {x : Job} → j ≡ x → cost x w < 32768 → cost j w < 32768
+    below is less = subst (λ (x : Job). cost x w < 32768) (sym is) less
+
+    which : (c : Command) → Begins layout by c banks j → cost j w < 32768
+    which (commands.Load thread slot line) b = access-begins w (few-frees layout a rule) b
+    which (commands.Fetch thread slot line) b = access-begins w (few-frees layout a rule) b
+    which (commands.KLoad thread slot line) b = access-begins w (few-frees layout a rule) b
+    which (commands.Store thread slot line word) b = access-begins w (few-frees layout a rule) b
+    which (commands.Free slot) b = below b.1.job_is (evict-below w (evicts.begin by b.0 (evictions.Free slot)))
+    which (commands.Drop page) b = below b.job_is (evict-below w (evicts.begin by page evictions.Drop))
+    which (commands.Sync page) b = below b.job_is (evict-below w (evicts.begin by page evictions.Sync))
+    which (commands.Out page) b = below b.job_is (evict-below w (evicts.begin by page evictions.Out))
+    which (commands.Fsync file) b = below b.1 (let most = fsync-below (fsyncs.begin by file) w in omega (arith, most))
+    which (commands.Prctl thread args) b = below b.job_is (omega arith)
+    which (commands.Bad frame line) b = below b.job_is (omega arith)
+    which (commands.Weak frame line) b = below b.job_is (omega arith)
+    which (commands.Log status addr misc) b = below b.job_is (omega arith)
+    which (commands.RaiseUser thread ripv eipv) b = below b.job_is (omega arith)
+    which (commands.RaiseKernel ripv eipv) b = below b.job_is (omega arith)
+    which commands.RaiseNested b = below b (omega arith)
+    which (commands.Inject frame) b = below b.job_is (let most = inject-below (injects.begin b.alloc by frame) w in omega (arith, most))
+    which _ b = absurd b

@@ -1,0 +1,4 @@
+pub mod Logging
+pub mod Raising
+pub mod RaiseRank
+pub mod Adding

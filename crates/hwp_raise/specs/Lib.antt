@@ -1,0 +1,5 @@
+pub mod Raises
+pub mod Fits
+pub mod Costs
+pub mod Done
+pub mod Logs

@@ -1,0 +1,72 @@
+-- What holds of each event of a machine check holds of each event that a row tells.
+use Rattle.std.proofs.Common.{◌≡◌, ℕ, zero, suc, Bool, true, false, List, [], ◌∷◌, Option, Some, None, is_some, slice_get, refl, sym, ap, ◌∙◌, subst}
+use Rattle.std.specs.Prelude.{MatchBool}
+use Rattle.std.proofs.lemmas.Option.{none-some, same_Some}
+use Rattle.hwp_geom.specs.declared.Layout.{Layout}
+use Rattle.hwp_geom.specs.declared.Mode.{Mode}
+use Rattle.hwp_geom.specs.declared.Mode.TheVariants as modes
+use Rattle.hwp_geom.specs.declared.Thread.{Thread}
+use Rattle.hwp_geom.specs.declared.Who.{Who}
+use Rattle.hwp_banks.specs.declared.Origin.{Origin}
+use Rattle.hwp_banks.specs.declared.Origin.TheVariants as origins
+use Rattle.hwp_severity.specs.Graded.{is_user}
+use Rattle.hwp_rule.specs.declared.View.{View}
+use Rattle.hwp_rule.specs.Lists.{EachMember}
+use Rattle.hwp_rule.proofs.MoreEntries.{each-append}
+use Rattle.hwp_script.specs.declared.Command.{Command}
+use Rattle.hwp_script.specs.declared.Command.TheVariants as commands
+use Rattle.hwp_report.specs.declared.Answer.{Answer}
+use Rattle.hwp_law.specs.Checks.{Banks, empty_banks}
+use Rattle.hwp_law.specs.Commands.{Arrival, arrival_of, current_thread}
+use Rattle.hwp_handler.specs.declared.Told.{Told}
+use Rattle.hwp_handler.specs.Checks.{AreChecks, Check, IsActedOn, lines_of}
+use Rattle.hwp_handler.specs.Fits.{AreTold, IsTold}
+use Rattle.hwp_served.specs.Told.{AreToldBy, IsRaiseTold, IsUntold, is_raised}
+
+-- of each event of a machine check that a thread meets, where one in user mode has a thread
+abbrev pub HoldsOfChecks : Layout → View → Who → (Option Thread → Told → Type 0) → Type 0
+HoldsOfChecks layout view who P =
+    (thread : Option Thread) (how : Arrival) (banks : Banks) (lines : List Told) → (is_user how.mode ≡ true → is_some thread ≡ true) → IsActedOn layout view who thread how banks lines → EachMember (P thread) lines
+
+module _ (layout : Layout) (view : View) (who : Who) (P : Option Thread → Told → Type 0) (holds : HoldsOfChecks layout view who P) where
+  of-checks : (thread : Thread) (line : ℕ) (origin : Origin) (mode : Mode) (banks : Banks) (checks : List Check) → AreChecks layout view who thread line origin mode banks checks → EachMember (P (Some thread)) (lines_of checks)
+  of-checks thread line origin mode banks [] are = λ i t there. absurd (none-some t there)
+  of-checks thread line origin mode banks (c ∷ cs) (is, rest) =
+      each-append (P (Some thread)) c.lines (lines_of cs) (holds (Some thread) _ _ c.lines (λ user. refl) is.acted_on) (of-checks thread line origin mode empty_banks cs rest)
+
+  of-access : (thread : Thread) (line : ℕ) (origin : Origin) (mode : Mode) (before : Banks) (told : List Told) (checks : List Check) → AreChecks layout view who thread line origin mode before checks → told ≡ lines_of checks → EachMember (P (Some thread)) told
+  of-access thread line origin mode before told checks are is = subst (EachMember (P (Some thread))) (sym is) (of-checks thread line origin mode before checks are)
+
+  of-none : (thread : Option Thread) (told : List Told) → told ≡ [] → EachMember (P thread) told
+  of-none thread told none i t there = absurd (none-some t (sym (ap (λ (l : List Told). slice_get l i) none) ∙ there))
+
+  of-raise : (thread : Option Thread) (how : Arrival) (answer : Answer) (before : Banks) (told : List Told) (after : Banks) → (is_user how.mode ≡ true → is_some thread ≡ true) → IsRaiseTold layout view who thread how answer before told after → EachMember (P thread) told
+  of-raise thread how answer before told after user is = which (is_raised answer told) is
+    where
+      which : (b : Bool) → MatchBool b (IsActedOn layout view who thread how before told × (after ≡ empty_banks)) (IsUntold told before after) → EachMember (P thread) told
+      which true (acted, left) = holds thread how before told user acted
+      which false (none, left) = of-none thread told none
+
+  -- of a command
+  pub told-by : (command : Command) (answer : Answer) (before : Banks) (told : List Told) (after : Banks) → AreToldBy layout view who command answer before told after → EachMember (P (current_thread command)) told
+  told-by (commands.Load thread slot line) answer before told after is = of-access thread line origins.Access modes.User before told is.checks is.are is.told_is
+  told-by (commands.Fetch thread slot line) answer before told after is = of-access thread line origins.Fetch modes.User before told is.checks is.are is.told_is
+  told-by (commands.KLoad thread slot line) answer before told after is = of-access thread line origins.Access modes.Kernel before told is.checks is.are is.told_is
+  told-by (commands.Store thread slot line word) answer before told after is = of-access thread line origins.Access modes.User before told is.checks is.are is.told_is
+  told-by (commands.RaiseUser thread ripv eipv) answer before told after is = of-raise (Some thread) (arrival_of (commands.RaiseUser thread ripv eipv)) answer before told after (λ user. refl) is
+  told-by (commands.RaiseKernel ripv eipv) answer before told after is = of-raise None (arrival_of (commands.RaiseKernel ripv eipv)) answer before told after (λ user. user) is
+  told-by (commands.Log status addr misc) answer before told after is = of-none _ told is.0
+  told-by command answer before told after is = of-none _ told is.0
+
+module _ (layout : Layout) (view : View) (who : Who) where
+  -- what was done about an event is right, whether failures were held back or not
+  abbrev pub IsToldRight : Option Thread → Told → Type 0
+  IsToldRight thread t = (held_back : Bool) × IsTold layout view who thread held_back t
+
+  pub told-each : (thread : Option Thread) (held_back : Bool) (ts : List Told) → AreTold layout view who thread held_back ts → EachMember (IsToldRight thread) ts
+  told-each thread held_back [] told i x there = absurd (none-some x there)
+  told-each thread held_back (t ∷ ts) (first, rest) zero x there = subst (IsToldRight thread) (same_Some t x there) (held_back, first)
+  told-each thread held_back (t ∷ ts) (first, rest) (suc i) x there = told-each thread _ ts rest i x there
+
+  pub told-so : (command : Command) (answer : Answer) (before : Banks) (told : List Told) (after : Banks) → AreToldBy layout view who command answer before told after → EachMember (IsToldRight (current_thread command)) told
+  told-so = told-by layout view who IsToldRight (λ thread how banks lines user acted. told-each thread _ lines acted.told)

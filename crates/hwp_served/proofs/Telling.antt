@@ -1,0 +1,120 @@
+-- What a command told of its machine checks stays right over each step of another command.
+use Rattle.std.proofs.Common.{◌≡◌, ◌≢◌, ℕ, ◌||◌, Bool, true, false, List, [], ◌∷◌, Option, Some, None, filter, ap, ◌∙◌, length, MatchBool, sym, subst}
+use Rattle.hwp_geom.specs.declared.Frame.{Frame}
+use Rattle.hwp_geom.specs.declared.Layout.{Layout}
+use Rattle.hwp_geom.specs.declared.Mode.{Mode}
+use Rattle.hwp_geom.specs.declared.Mode.TheVariants as modes
+use Rattle.hwp_geom.specs.declared.Thread.{Thread}
+use Rattle.hwp_geom.specs.declared.Who.{Who}
+use Rattle.hwp_banks.specs.declared.Origin.{Origin}
+use Rattle.hwp_banks.specs.declared.Origin.TheVariants as origins
+use Rattle.hwp_page.specs.declared.At.{At}
+use Rattle.hwp_page.specs.declared.What.TheVariants as entries
+use Rattle.hwp_page.specs.History.{BodyValue}
+use Rattle.hwp_rule.specs.declared.Made.{Made}
+use Rattle.hwp_rule.specs.declared.Step.{Step}
+use Rattle.hwp_rule.specs.declared.View.{View}
+use Rattle.hwp_rule.specs.Lists.{SomeMember}
+use Rattle.hwp_step.specs.Calls.{CanMake, Steps, logs}
+use Rattle.hwp_known.specs.Known.{IsAt, deeds}
+use Rattle.hwp_known.proofs.Listing.{deeds-other}
+use Rattle.hwp_known.proofs.Seeing.{saw-stays}
+use Rattle.hwp_script.specs.declared.Command.{Command}
+use Rattle.hwp_script.specs.declared.Command.TheVariants as commands
+use Rattle.hwp_report.specs.declared.Acted.{Acted}
+use Rattle.hwp_report.specs.declared.Answer.{Answer}
+use Rattle.hwp_law.specs.Checks.{Banks, empty_banks, has_stop, is_panic}
+use Rattle.hwp_law.specs.Commands.{Arrival, arrival_of}
+use Rattle.hwp_law.specs.Events.{is_check}
+use Rattle.hwp_handler.specs.declared.Found.{Found}
+use Rattle.hwp_handler.specs.declared.Row.{Row}
+use Rattle.hwp_handler.specs.declared.Told.{Told}
+use Rattle.hwp_handler.specs.Checks.{AreChecks, Check, IsActedOn, IsCheck}
+use Rattle.hwp_handler.specs.Fits.{AreTold, IsDone, IsEntered, IsFailed, IsMark}
+use Rattle.hwp_handler.specs.Told.{at_once, frame_of, required_by}
+use Rattle.hwp_served.specs.Told.{AreToldBy, IsAccessTold, IsRaiseTold, IsRowTold, IsUntold, is_raised}
+use Rattle.hwp_served.proofs.Accounting.{marks-stay}
+
+module _ {layout : Layout} {by : Who} {step : Step} {body : Option BodyValue} {old new : View} {found : ℕ} {got : Option BodyValue} (can : CanMake layout by step body old) (made : Steps layout by step (logs body) old new found got)
+    (who : Who) (other : who ≢ by) where
+  pub deeds-stay : deeds who new ≡ deeds who old
+  deeds-stay = deeds-other who other can made
+
+  -- ---- of one event
+
+  pub entered-stays : (frame : Frame) (required : Option Thread) (f : Found) (at : Option At) → IsEntered layout old who frame required f at → IsEntered layout new who frame required f at
+  entered-stays frame required f None entered = entered
+  entered-stays frame required f (Some place) entered = (
+    record {
+      seen = entered.0.seen;
+      signals = entered.0.signals;
+      made = subst (SomeMember (IsAt place.page place.entry (entries.Fail f.situation required entered.0.seen entered.0.signals))) (sym deeds-stay) entered.0.made;
+      signalled = entered.0.signalled;
+      paged = entered.0.paged;
+    },
+    entered.1,
+  )
+
+  failed-stays : (frame : Frame) (required : Option Thread) (acted : Acted) (f : Option Found) → IsFailed layout old who frame required acted f → IsFailed layout new who frame required acted f
+  failed-stays frame required acted None failed = (failed.0, record { word = failed.1.word; poisoned = failed.1.poisoned; saw = saw-stays made failed.1.saw })
+  failed-stays frame required acted (Some f) failed =
+      (failed.0, subst (SomeMember (IsMark frame f.cycle)) (sym (marks-stay made who other)) failed.1, entered-stays frame required f f.at failed.2)
+
+  done-stays : (required : Option Thread) (t : Told) (acted : Option Acted) → IsDone layout old who required t acted → IsDone layout new who required t acted
+  done-stays required t (Some acted) done = done
+  done-stays required t None done = failed-stays (frame_of t.held) required t.acted t.found done
+
+  -- ---- of all events of a machine check
+
+  told-stay : (thread : Option Thread) (held_back : Bool) (told : List Told) → AreTold layout old who thread held_back told → AreTold layout new who thread held_back told
+  told-stay thread held_back [] are = tt
+  told-stay thread held_back (t ∷ ts) are =
+      (done-stays (required_by thread t.held.grade.severity) t (at_once layout held_back t.held) are.0, told-stay thread (held_back || is_panic t.acted) ts are.1)
+
+  acted-on-stays : (thread : Option Thread) (how : Arrival) (banks : Banks) (lines : List Told) → IsActedOn layout old who thread how banks lines → IsActedOn layout new who thread how banks lines
+  acted-on-stays thread how banks lines acted = record { events = acted.events; told = told-stay thread (has_stop how banks) lines acted.told }
+
+  -- ---- of a command
+
+  check-stays : (thread : Thread) (line : ℕ) (origin : Origin) (mode : Mode) (banks : Banks) (c : Check) → IsCheck layout old who thread line origin mode banks c → IsCheck layout new who thread line origin mode banks c
+  check-stays thread line origin mode banks c is = record {
+    bad = record { mask = is.bad.mask; bad = is.bad.bad; saw = saw-stays made is.bad.saw; within = is.bad.within };
+    acted_on = acted-on-stays (Some thread) _ _ c.lines is.acted_on;
+  }
+
+  checks-stay : (thread : Thread) (line : ℕ) (origin : Origin) (mode : Mode) (banks : Banks) (checks : List Check) → AreChecks layout old who thread line origin mode banks checks
+      → AreChecks layout new who thread line origin mode banks checks
+  checks-stay thread line origin mode banks [] are = tt
+  checks-stay thread line origin mode banks (c ∷ cs) are = (check-stays thread line origin mode banks c are.0, checks-stay thread line origin mode _ cs are.1)
+
+  access-stays : (thread : Thread) (line : ℕ) (origin : Origin) (mode : Mode) (before : Banks) (told : List Told) (after : Banks) → IsAccessTold layout old who thread line origin mode before told after
+      → IsAccessTold layout new who thread line origin mode before told after
+  access-stays thread line origin mode before told after is = record {
+    checks = is.checks;
+    count = is.count ∙ ap (λ (l : List Made). length (filter (λ (m : Made). is_check m.entry.what) l)) (sym deeds-stay);
+    are = checks-stay thread line origin mode before is.checks is.are;
+    told_is = is.told_is;
+    after_is = is.after_is;
+  }
+
+  raise-stays : (thread : Option Thread) (how : Arrival) (answer : Answer) (before : Banks) (told : List Told) (after : Banks) → IsRaiseTold layout old who thread how answer before told after
+      → IsRaiseTold layout new who thread how answer before told after
+  raise-stays thread how answer before told after = by-raised (is_raised answer told)
+    where
+      by-raised : (b : Bool) → MatchBool b (IsActedOn layout old who thread how before told × (after ≡ empty_banks)) (IsUntold told before after)
+          → MatchBool b (IsActedOn layout new who thread how before told × (after ≡ empty_banks)) (IsUntold told before after)
+      by-raised true is = (acted-on-stays thread how before told is.0, is.1)
+      by-raised false is = is
+
+  told-by-stays : (command : Command) (answer : Answer) (before : Banks) (told : List Told) (after : Banks) → AreToldBy layout old who command answer before told after → AreToldBy layout new who command answer before told after
+  told-by-stays (commands.Load thread slot line) answer before told after is = access-stays thread line origins.Access modes.User before told after is
+  told-by-stays (commands.Fetch thread slot line) answer before told after is = access-stays thread line origins.Fetch modes.User before told after is
+  told-by-stays (commands.KLoad thread slot line) answer before told after is = access-stays thread line origins.Access modes.Kernel before told after is
+  told-by-stays (commands.Store thread slot line word) answer before told after is = access-stays thread line origins.Access modes.User before told after is
+  told-by-stays (commands.RaiseUser thread ripv eipv) answer before told after is = raise-stays (Some thread) (arrival_of (commands.RaiseUser thread ripv eipv)) answer before told after is
+  told-by-stays (commands.RaiseKernel ripv eipv) answer before told after is = raise-stays None (arrival_of (commands.RaiseKernel ripv eipv)) answer before told after is
+  told-by-stays command answer before told after is = is
+
+  -- what a row tells of another command stays
+  pub row-told-stays : (command : Command) (before : Banks) (row : Row) (after : Banks) → IsRowTold layout old who command before row after → IsRowTold layout new who command before row after
+  row-told-stays command before row after is = told-by-stays command row.answer before row.told after is

@@ -1,0 +1,61 @@
+-- The rows of a processor, one for each command that is answered: the lines of the report and the notes of frames that they make.
+use Rattle.std.specs.Prelude.{ℕ, ◌+◌, ◌==◌, Bool, true, false, List, [], ◌∷◌, ◌++◌, Option, option_map, map, filter, filter_map, flat_map}
+use Rattle.std.specs.List.{cons_option}
+use Rattle.hwp_geom.specs.declared.Cpu.{Cpu}
+use Rattle.hwp_geom.specs.declared.Frame.{Frame}
+use Rattle.hwp_geom.specs.declared.Who.{Who}
+use Rattle.hwp_page.specs.Situations.{outcome_of}
+use Rattle.hwp_report.specs.declared.CpuLine.{CpuLine}
+use Rattle.hwp_report.specs.declared.CpuLine.TheVariants as lines
+use Rattle.hwp_report.specs.declared.How.TheVariants as hows
+use Rattle.hwp_report.specs.declared.MarkLine.{MarkLine}
+use Rattle.hwp_report.specs.declared.MarkLine.TheVariants as marks
+use Rattle.hwp_handler.specs.declared.Found.{Found}
+use Rattle.hwp_handler.specs.declared.Row.{Row}
+use Rattle.hwp_handler.specs.declared.Told.{Told}
+use Rattle.hwp_handler.specs.Told.{frame_of}
+
+-- ---- lines
+
+-- what a command told of an event
+abbrev pub event_line : ℕ → Told → CpuLine
+event_line seq t = lines.Event seq t.held.bank t.held.event.status.0 t.held.event.addr t.held.event.misc t.held.grade.row t.acted
+
+-- the events first, and then the answer
+abbrev pub row_lines : ℕ → Row → List CpuLine
+row_lines seq row = map (event_line seq) row.told ++ lines.Answer seq row.answer ∷ []
+
+-- of the commands from number n on
+abbrev pub lines_from : ℕ → List Row → List CpuLine
+lines_from n [] = []
+lines_from n (row ∷ rows) = row_lines n row ++ lines_from (n + 1) rows
+
+-- ---- notes
+
+-- a line of a frame's record, with the frame
+abbrev pub Note : Type 0
+Note = Frame × MarkLine
+
+-- a failure of the frame by the command, which a bank reported or not
+abbrev pub note_of : Who → Bool → Frame → Found → Note
+note_of who hardware frame found = (frame, marks.Poisoned found.cycle who (hows.Failure hardware found.situation (outcome_of found.situation)))
+
+abbrev pub told_note : Who → Told → Option Note
+told_note who t = option_map (note_of who true (frame_of t.held)) t.found
+
+abbrev pub own_note : Who → Option (Frame × Found) → Option Note
+own_note who own = option_map (λ (x : Frame × Found). note_of who false x.0 x.1) own
+
+abbrev pub row_notes : Who → Row → List Note
+row_notes who row = filter_map (told_note who) row.told ++ cons_option (own_note who row.own) []
+
+abbrev pub notes_from : Cpu → ℕ → List Row → List Note
+notes_from cpu n [] = []
+notes_from cpu n (row ∷ rows) = row_notes (record { cpu = cpu; seq = n }) row ++ notes_from cpu (n + 1) rows
+
+-- the lines that a processor noted of a frame, and those that all did
+abbrev pub lines_of : Frame → List Note → List MarkLine
+lines_of frame own = map (λ (n : Note). n.1) (filter (λ (n : Note). n.0.0 == frame.0) own)
+
+abbrev pub record_of : Frame → List (List Note) → List MarkLine
+record_of frame notes = flat_map (lines_of frame) notes

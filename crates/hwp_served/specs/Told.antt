@@ -1,0 +1,57 @@
+-- What a command tells of the events of its machine checks, and what it leaves in the banks of its processor.
+use Rattle.std.specs.Prelude.{◌≡◌, ℕ, Bool, true, false, List, [], ◌∷◌, Option, None, Some, MatchBool, length}
+use Rattle.hwp_geom.specs.declared.Layout.{Layout}
+use Rattle.hwp_geom.specs.declared.Mode.{Mode}
+use Rattle.hwp_geom.specs.declared.Mode.TheVariants as modes
+use Rattle.hwp_geom.specs.declared.Thread.{Thread}
+use Rattle.hwp_geom.specs.declared.Who.{Who}
+use Rattle.hwp_banks.specs.declared.Origin.{Origin}
+use Rattle.hwp_banks.specs.declared.Origin.TheVariants as origins
+use Rattle.hwp_rule.specs.declared.View.{View}
+use Rattle.hwp_known.specs.Known.{such_deeds}
+use Rattle.hwp_script.specs.declared.Command.{Command}
+use Rattle.hwp_script.specs.declared.Command.TheVariants as commands
+use Rattle.hwp_report.specs.declared.Answer.{Answer}
+use Rattle.hwp_report.specs.declared.Answer.TheVariants as answers
+use Rattle.hwp_law.specs.Checks.{Banks, empty_banks}
+use Rattle.hwp_law.specs.Commands.{Arrival, arrival_of}
+use Rattle.hwp_law.specs.Events.{is_check, logged_if_done, raw_event}
+use Rattle.hwp_handler.specs.declared.Row.{Row}
+use Rattle.hwp_handler.specs.declared.Told.{Told}
+use Rattle.hwp_handler.specs.Checks.{AreChecks, Check, IsActedOn, left_by, lines_of}
+
+-- an access met as many machine checks as it made entries of such, one after another
+pub record IsAccessTold (layout : Layout) (view : View) (who : Who) (thread : Thread) (line : ℕ) (origin : Origin) (mode : Mode) (before : Banks) (told : List Told) (after : Banks) : Type 0 where
+  pub checks : List Check
+  pub count : length checks ≡ length (such_deeds is_check who view)
+  pub are : AreChecks layout view who thread line origin mode before checks
+  pub told_is : told ≡ lines_of checks
+  pub after_is : after ≡ left_by before checks
+
+-- nothing is told, and the banks stay so
+abbrev pub IsUntold : List Told → Banks → Banks → Type 0
+IsUntold told before after = (told ≡ []) × (after ≡ before)
+
+-- a `raise` that is answered so, with these lines, is a machine check
+abbrev pub is_raised : Answer → List Told → Bool
+is_raised (answers.Raised n) told = true
+is_raised answers.Stopped (t ∷ ts) = true
+is_raised _ told = false
+
+abbrev pub IsRaiseTold : Layout → View → Who → Option Thread → Arrival → Answer → Banks → List Told → Banks → Type 0
+IsRaiseTold layout view who thread how answer before told after =
+    MatchBool (is_raised answer told) (IsActedOn layout view who thread how before told × (after ≡ empty_banks)) (IsUntold told before after)
+
+-- what a command tells that is answered so
+abbrev pub AreToldBy : Layout → View → Who → Command → Answer → Banks → List Told → Banks → Type 0
+AreToldBy layout view who (commands.Load thread slot line) answer before told after = IsAccessTold layout view who thread line origins.Access modes.User before told after
+AreToldBy layout view who (commands.Fetch thread slot line) answer before told after = IsAccessTold layout view who thread line origins.Fetch modes.User before told after
+AreToldBy layout view who (commands.KLoad thread slot line) answer before told after = IsAccessTold layout view who thread line origins.Access modes.Kernel before told after
+AreToldBy layout view who (commands.Store thread slot line word) answer before told after = IsAccessTold layout view who thread line origins.Access modes.User before told after
+AreToldBy layout view who (commands.RaiseUser thread ripv eipv) answer before told after = IsRaiseTold layout view who (Some thread) (arrival_of (commands.RaiseUser thread ripv eipv)) answer before told after
+AreToldBy layout view who (commands.RaiseKernel ripv eipv) answer before told after = IsRaiseTold layout view who None (arrival_of (commands.RaiseKernel ripv eipv)) answer before told after
+AreToldBy layout view who (commands.Log status addr misc) answer before told after = (told ≡ []) × (after ≡ logged_if_done (Some answer) (raw_event status addr misc) before)
+AreToldBy layout view who command answer before told after = IsUntold told before after
+
+abbrev pub IsRowTold : Layout → View → Who → Command → Banks → Row → Banks → Type 0
+IsRowTold layout view who command before row after = AreToldBy layout view who command row.answer before row.told after
