@@ -16,8 +16,8 @@ usage: hwp step < SCRIPT > REPORT
        hwp gen N > SCRIPT
        hwp sum N > SUMMARY
 
-Simulates Linux memory failure (hwpoison) on a machine of its own. Today memory
-fails in it by the command `inject` alone; docs/FORMATS.md has the formats.
+Simulates Linux memory failure (hwpoison) behind machine-check banks, on a
+machine of its own. docs/FORMATS.md has the formats.
 
   hwp step     reads a fault script from standard input, runs it, and writes the
                report to standard output

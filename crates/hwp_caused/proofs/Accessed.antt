@@ -2,7 +2,6 @@
 use Rattle.std.proofs.Common.{◌≡◌, ℕ, Bool, true, false, List, [], Option, Some, refl, sym, ap, ◌∙◌, subst, inl, inr, IsSomeAnd, true≢false}
 use Rattle.std.specs.Option.{option_map}
 use Rattle.std.proofs.lemmas.Bool.{both_ways}
-use Rattle.hwp_geom.specs.declared.Frame.{Frame}
 use Rattle.hwp_geom.specs.declared.Layout.{Layout}
 use Rattle.hwp_geom.specs.declared.Mode.{Mode}
 use Rattle.hwp_geom.specs.declared.Page.{Page}
@@ -33,7 +32,6 @@ use Rattle.hwp_fault.specs.declared.AccessKind.TheVariants as kinds
 use Rattle.hwp_fault.specs.declared.Request.{Request}
 use Rattle.hwp_fault.specs.Accesses.{Answered, IsDeclared, touch_of, what_by, what_of}
 use Rattle.hwp_fault.specs.Touches.{refusal, refusal_by}
-use Rattle.hwp_handler.specs.declared.Found.{Found}
 use Rattle.hwp_handler.specs.declared.Told.{Told}
 use Rattle.hwp_handler.specs.Told.{halts}
 use Rattle.hwp_instr.specs.declared.Instruction.{Instruction}
@@ -42,6 +40,7 @@ use Rattle.hwp_instr.specs.declared.InstructionAnswer.TheVariants as answers
 use Rattle.hwp_instr.specs.Fits.{IsEnd, IsSignalled}
 use Rattle.hwp_instr.specs.Fits as instruction_fits
 use Rattle.hwp_instr.specs.Instructions as instructions
+use Rattle.hwp_row.specs.declared.Own.{Own}
 use Rattle.hwp_job.specs.declared.Job.{Job}
 use Rattle.hwp_job.specs.declared.Job.TheVariants as jobs
 use Rattle.hwp_job.specs.Answers.{instruction_answer}
@@ -150,16 +149,16 @@ module _ (layout : Layout) (view : View) (r : Request) (names : IsDeclared layou
     signalled : (told : List Told) (place : At) → IsSignalled view r told place → WasSignalled layout view r.who command r.thread told place
     signalled told place end = record { going = going end.going; first = end.first; only = only-met end.only }
 
-module _ (layout : Layout) (list : List Command) (view : View) (r : Request) (names : IsDeclared layout r) (told : List Told) (failed : Option (Frame × Found)) where
+module _ (layout : Layout) (list : List Command) (view : View) (r : Request) (names : IsDeclared layout r) (told : List Told) (did : Option Own) where
   module _ (is : r.kind ≡ kinds.Load) where
-    load-value : (word : ℕ) (place : At) → Answered layout view r (access_answers.Value word place.page place.entry) → IsAnswerCaused layout list view r.who (commands.Load r.thread r.slot r.line) told failed (instruction_answer (answers.Value word place))
+    load-value : (word : ℕ) (place : At) → Answered layout view r (access_answers.Value word place.page place.entry) → IsAnswerCaused layout list view r.who (commands.Load r.thread r.slot r.line) told did (instruction_answer (answers.Value word place))
     load-value word place has = (
       record { 0 = has.2.mask },
       reached layout view r names place (what_of r has.2.mask word) (entries.Load r.slot r.line (Word (record { 0 = has.2.mask }) word)) has.1
           (ap (λ (k : AccessKind). what_by k r.slot r.line (record { 0 = has.2.mask }) word) is) has.2.alive has.2.made,
     )
 
-    load : (x : InstructionAnswer) → IsEnd layout view r told x → IsAnswerCaused layout list view r.who (commands.Load r.thread r.slot r.line) told failed (instruction_answer x)
+    load : (x : InstructionAnswer) → IsEnd layout view r told x → IsAnswerCaused layout list view r.who (commands.Load r.thread r.slot r.line) told did (instruction_answer x)
     load (answers.Value word place) end = load-value word place end.answered
     load (answers.Stored place) end = absurd (load-no-store end.answered.0 is end.answered.1)
     load (answers.Sigbus place) (inl end) = inl (refused layout view r names kinds.Load is place end.answered)
@@ -168,7 +167,7 @@ module _ (layout : Layout) (list : List Command) (view : View) (r : Request) (na
     load (answers.Gone page) end = gone layout view r names page end.answered
     load answers.Stopped end = stopped layout view r names (commands.Load r.thread r.slot r.line) refl refl told end
 
-    fetch : (x : InstructionAnswer) → IsEnd layout view r told x → IsAnswerCaused layout list view r.who (commands.Fetch r.thread r.slot r.line) told failed (instruction_answer x)
+    fetch : (x : InstructionAnswer) → IsEnd layout view r told x → IsAnswerCaused layout list view r.who (commands.Fetch r.thread r.slot r.line) told did (instruction_answer x)
     fetch (answers.Value word place) end = load-value word place end.answered
     fetch (answers.Stored place) end = absurd (load-no-store end.answered.0 is end.answered.1)
     fetch (answers.Sigbus place) (inl end) = inl (refused layout view r names kinds.Load is place end.answered)
@@ -177,7 +176,7 @@ module _ (layout : Layout) (list : List Command) (view : View) (r : Request) (na
     fetch (answers.Gone page) end = gone layout view r names page end.answered
     fetch answers.Stopped end = stopped layout view r names (commands.Fetch r.thread r.slot r.line) refl refl told end
 
-    kload : (x : InstructionAnswer) → IsEnd layout view r told x → IsAnswerCaused layout list view r.who (commands.KLoad r.thread r.slot r.line) told failed (instruction_answer x)
+    kload : (x : InstructionAnswer) → IsEnd layout view r told x → IsAnswerCaused layout list view r.who (commands.KLoad r.thread r.slot r.line) told did (instruction_answer x)
     kload (answers.Value word place) end = load-value word place end.answered
     kload (answers.Stored place) end = absurd (load-no-store end.answered.0 is end.answered.1)
     kload (answers.Sigbus place) (inl end) = inl (refused layout view r names kinds.Load is place end.answered)
@@ -187,7 +186,7 @@ module _ (layout : Layout) (list : List Command) (view : View) (r : Request) (na
     kload answers.Stopped end = stopped layout view r names (commands.KLoad r.thread r.slot r.line) refl refl told end
 
   module _ (word : ℕ) (is : r.kind ≡ kinds.Store word) where
-    store : (x : InstructionAnswer) → IsEnd layout view r told x → IsAnswerCaused layout list view r.who (commands.Store r.thread r.slot r.line word) told failed (instruction_answer x)
+    store : (x : InstructionAnswer) → IsEnd layout view r told x → IsAnswerCaused layout list view r.who (commands.Store r.thread r.slot r.line word) told did (instruction_answer x)
     store (answers.Value found place) end = absurd (load-no-store word end.answered.0 is)
     store (answers.Stored place) end = let has = end.answered in (
       record { 0 = has.3.mask },
@@ -200,22 +199,22 @@ module _ (layout : Layout) (list : List Command) (view : View) (r : Request) (na
     store (answers.Gone page) end = gone layout view r names page end.answered
     store answers.Stopped end = stopped layout view r names (commands.Store r.thread r.slot r.line word) refl refl told end
 
-module _ (list : List Command) {layout : Layout} {view : View} {who : Who} {thread : Thread} {slot : VSlot} {line : ℕ} {origin : Origin} {mode : Mode} {j : Job} {a : Answer} (failed : Option (Frame × Found)) where
-  pub load-caused : KnowsAccess layout view who thread slot line kinds.Load origin mode j a → IsAnswerCaused layout list view who (commands.Load thread slot line) (told_of j) failed a
-  load-caused k = carried (λ (r : Request) (told : List Told) (x : Answer). IsAnswerCaused layout list view r.who (commands.Load r.thread r.slot r.line) told failed x) k
-      (load layout list view k.task.request k.fits.names k.task.lines.told failed (ap (λ (r : Request). r.kind) k.request_is) k.own (instruction-ended k.task k.fits k.said).ended)
+module _ (list : List Command) {layout : Layout} {view : View} {who : Who} {thread : Thread} {slot : VSlot} {line : ℕ} {origin : Origin} {mode : Mode} {j : Job} {a : Answer} (did : Option Own) where
+  pub load-caused : KnowsAccess layout view who thread slot line kinds.Load origin mode j a → IsAnswerCaused layout list view who (commands.Load thread slot line) (told_of j) did a
+  load-caused k = carried (λ (r : Request) (told : List Told) (x : Answer). IsAnswerCaused layout list view r.who (commands.Load r.thread r.slot r.line) told did x) k
+      (load layout list view k.task.request k.fits.names k.task.lines.told did (ap (λ (r : Request). r.kind) k.request_is) k.own (instruction-ended k.task k.fits k.said).ended)
 
-  pub fetch-caused : KnowsAccess layout view who thread slot line kinds.Load origin mode j a → IsAnswerCaused layout list view who (commands.Fetch thread slot line) (told_of j) failed a
-  fetch-caused k = carried (λ (r : Request) (told : List Told) (x : Answer). IsAnswerCaused layout list view r.who (commands.Fetch r.thread r.slot r.line) told failed x) k
-      (fetch layout list view k.task.request k.fits.names k.task.lines.told failed (ap (λ (r : Request). r.kind) k.request_is) k.own (instruction-ended k.task k.fits k.said).ended)
+  pub fetch-caused : KnowsAccess layout view who thread slot line kinds.Load origin mode j a → IsAnswerCaused layout list view who (commands.Fetch thread slot line) (told_of j) did a
+  fetch-caused k = carried (λ (r : Request) (told : List Told) (x : Answer). IsAnswerCaused layout list view r.who (commands.Fetch r.thread r.slot r.line) told did x) k
+      (fetch layout list view k.task.request k.fits.names k.task.lines.told did (ap (λ (r : Request). r.kind) k.request_is) k.own (instruction-ended k.task k.fits k.said).ended)
 
-  pub kload-caused : KnowsAccess layout view who thread slot line kinds.Load origin mode j a → IsAnswerCaused layout list view who (commands.KLoad thread slot line) (told_of j) failed a
-  kload-caused k = carried (λ (r : Request) (told : List Told) (x : Answer). IsAnswerCaused layout list view r.who (commands.KLoad r.thread r.slot r.line) told failed x) k
-      (kload layout list view k.task.request k.fits.names k.task.lines.told failed (ap (λ (r : Request). r.kind) k.request_is) k.own (instruction-ended k.task k.fits k.said).ended)
+  pub kload-caused : KnowsAccess layout view who thread slot line kinds.Load origin mode j a → IsAnswerCaused layout list view who (commands.KLoad thread slot line) (told_of j) did a
+  kload-caused k = carried (λ (r : Request) (told : List Told) (x : Answer). IsAnswerCaused layout list view r.who (commands.KLoad r.thread r.slot r.line) told did x) k
+      (kload layout list view k.task.request k.fits.names k.task.lines.told did (ap (λ (r : Request). r.kind) k.request_is) k.own (instruction-ended k.task k.fits k.said).ended)
 
-  pub store-caused : {word : ℕ} → KnowsAccess layout view who thread slot line (kinds.Store word) origin mode j a → IsAnswerCaused layout list view who (commands.Store thread slot line word) (told_of j) failed a
-  store-caused {word} k = carried (λ (r : Request) (told : List Told) (x : Answer). IsAnswerCaused layout list view r.who (commands.Store r.thread r.slot r.line word) told failed x) k
-      (store layout list view k.task.request k.fits.names k.task.lines.told failed word (ap (λ (r : Request). r.kind) k.request_is) k.own (instruction-ended k.task k.fits k.said).ended)
+  pub store-caused : {word : ℕ} → KnowsAccess layout view who thread slot line (kinds.Store word) origin mode j a → IsAnswerCaused layout list view who (commands.Store thread slot line word) (told_of j) did a
+  store-caused {word} k = carried (λ (r : Request) (told : List Told) (x : Answer). IsAnswerCaused layout list view r.who (commands.Store r.thread r.slot r.line word) told did x) k
+      (store layout list view k.task.request k.fits.names k.task.lines.told did word (ap (λ (r : Request). r.kind) k.request_is) k.own (instruction-ended k.task k.fits k.said).ended)
 
 -- ---- what an access tells
 

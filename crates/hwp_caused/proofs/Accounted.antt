@@ -1,6 +1,6 @@
 -- What a command has done beside its answer is what its row says.
 use Rattle.std.proofs.Common.{◌≡◌, ℕ, false, List, [], ◌++◌, Option, Some, None, map, refl, sym, ap, ◌∙◌, subst}
-use Rattle.std.specs.Prelude.{filter_map}
+use Rattle.std.specs.Prelude.{filter_map, option_and_then}
 use Rattle.std.specs.List.{cons_option}
 use Rattle.std.proofs.lemmas.Option.{none-some, same_Some}
 use Rattle.hwp_geom.specs.declared.FileNo.{FileNo}
@@ -46,7 +46,6 @@ use Rattle.hwp_fail.specs.Fails as fails
 use Rattle.hwp_fail.specs.Injects as injects
 use Rattle.hwp_fault.specs.declared.AccessKind.{AccessKind}
 use Rattle.hwp_fault.specs.declared.Request.{Request}
-use Rattle.hwp_handler.specs.declared.Found.{Found}
 use Rattle.hwp_handler.specs.declared.Told.{Told}
 use Rattle.hwp_handler.specs.Done.{failed_in, marked_in}
 use Rattle.hwp_instr.specs.declared.instruction.InstructionAt.{InstructionAt}
@@ -58,20 +57,31 @@ use Rattle.hwp_raise.specs.declared.raise.RaiseAt.{RaiseAt}
 use Rattle.hwp_raise.specs.declared.raise.RaiseAt.TheVariants as raise_at
 use Rattle.hwp_raise.specs.Done as raise_done
 use Rattle.hwp_raise.specs.Raises.{thread_of}
+use Rattle.hwp_scrub.specs.declared.scrub.ScrubAt.{ScrubAt}
+use Rattle.hwp_scrub.specs.declared.scrub.ScrubAt.TheVariants as scrub_at
+use Rattle.hwp_scrub.specs.Done as scrub_done
+use Rattle.hwp_soft.specs.declared.Soft.{Soft}
+use Rattle.hwp_soft.specs.declared.SoftAnswer.{SoftAnswer}
+use Rattle.hwp_soft.specs.declared.SoftAnswer.TheVariants as soft_answers
+use Rattle.hwp_soft.specs.Done.{marked_at, marked_of}
+use Rattle.hwp_soft.specs.Softs.{cycle_in}
+use Rattle.hwp_row.specs.declared.Own.{Own}
 use Rattle.hwp_job.specs.declared.Job.{Job}
 use Rattle.hwp_job.specs.declared.Job.TheVariants as jobs
-use Rattle.hwp_job.specs.Answers.{fail_answer, fsync_answer, prctl_answer}
+use Rattle.hwp_job.specs.Answers.{fail_answer, fsync_answer, prctl_answer, soft_answer}
 use Rattle.hwp_job.specs.Begins.{BeginsPrctl}
 use Rattle.hwp_job.specs.Done.{failed_at, failed_now, marked_now, policies_now, taken_at, taken_now}
-use Rattle.hwp_job.specs.Jobs.{Fits, answer, own_by, own_of, row_of, told_of}
+use Rattle.hwp_job.specs.Jobs.{Fits, answer, offlined_by, own_by, own_of, row_of, told_of}
 use Rattle.hwp_job.specs.Runs.{Runs, anew}
 use Rattle.hwp_job.specs.Settings.{set_at}
-use Rattle.hwp_job.proofs.Ending.{fsync-over, instruction-over, mapped, prctl-over, raise-over}
+use Rattle.hwp_job.proofs.Ending.{fsync-over, instruction-over, mapped, prctl-over, raise-over, scrub-over, soft-over}
 use Rattle.hwp_job.proofs.OfKind.{of-evict, of-fsync, of-log, of-nested, of-prctl, of-spoil}
 use Rattle.hwp_job.proofs.Staying.{set-says}
 use Rattle.hwp_caused.proofs.Accessed.{KnowsAccess, knows-access}
 use Rattle.hwp_caused.proofs.Injected.{KnowsFailure, knows-failure}
+use Rattle.hwp_caused.proofs.Offlined.{KnowsSoft, knows-soft}
 use Rattle.hwp_caused.proofs.Raised.{KnowsRaise, knows-kernel-raise, knows-user-raise}
+use Rattle.hwp_caused.proofs.Scrubbed.{KnowsScrub, knows-scrub}
 use Rattle.hwp_served.specs.Accounts.{IsOwn, failures_in, markings_in, own_failure, own_marking, set_by, set_for, taken_by}
 
 -- ---- the losses of a file
@@ -157,6 +167,37 @@ module _ (frame : Frame) where
   own-so answers.Already = tt
   own-so (answers.Done situation cycle place signalled) = (refl, refl)
 
+-- ---- the frame that is taken out of use
+
+module _ (frame : Frame) where
+  poisoned-so : (x : SoftAnswer) → marked_of frame (cycle_in x) ≡ cons_option (own_marking (offlined_by frame x)) []
+  poisoned-so soft_answers.Stopped = refl
+  poisoned-so soft_answers.Kernel = refl
+  poisoned-so soft_answers.Already = refl
+  poisoned-so (soft_answers.HasBad mask) = refl
+  poisoned-so soft_answers.NoFrame = refl
+  poisoned-so (soft_answers.TakenFree cycle) = refl
+  poisoned-so (soft_answers.Moved to place cycle) = refl
+
+  -- none of its content fails
+  unfailed-so : (x : SoftAnswer) → [] ≡ cons_option (own_failure (offlined_by frame x)) []
+  unfailed-so soft_answers.Stopped = refl
+  unfailed-so soft_answers.Kernel = refl
+  unfailed-so soft_answers.Already = refl
+  unfailed-so (soft_answers.HasBad mask) = refl
+  unfailed-so soft_answers.NoFrame = refl
+  unfailed-so (soft_answers.TakenFree cycle) = refl
+  unfailed-so (soft_answers.Moved to place cycle) = refl
+
+  offlined-so : (x : SoftAnswer) → IsOwn (commands.Soft frame) (soft_answer x) (offlined_by frame x)
+  offlined-so soft_answers.Stopped = tt
+  offlined-so soft_answers.Kernel = tt
+  offlined-so soft_answers.Already = tt
+  offlined-so (soft_answers.HasBad mask) = tt
+  offlined-so soft_answers.NoFrame = tt
+  offlined-so (soft_answers.TakenFree cycle) = (refl, refl)
+  offlined-so (soft_answers.Moved to place cycle) = (refl, refl)
+
 -- ---- each command
 
 -- what the command has done is what its row says
@@ -174,6 +215,15 @@ inject-does {frame = frame} {j} {a} k = subst (λ (q : Job). DoesSo (commands.In
   taken = refl;
   set = refl;
   own = subst (λ (o : Option FailAnswer). IsOwn (commands.Inject k.inject.frame) (fail_answer k.own) (own_by k.inject.frame o)) (sym k.said) (own-so k.inject.frame k.own);
+})))
+
+soft-does : {layout : Layout} {view : View} {who : Who} {frame : Frame} {j : Job} {a : Answer} → KnowsSoft layout view who frame j a → DoesSo (commands.Soft frame) j a
+soft-does {frame = frame} {j} {a} k = subst (λ (q : Job). DoesSo (commands.Soft frame) q a) (sym k.job_is) (subst (DoesSo (commands.Soft frame) (jobs.Soft k.task)) k.answer_is (subst (λ (s : Soft). DoesSo (commands.Soft s.frame) (jobs.Soft k.task) (soft_answer k.own)) k.begun (record {
+  marked = ap (marked_at k.task.frame) (soft-over k.task k.said) ∙ poisoned-so k.task.frame k.own ∙ ap (λ (o : Option SoftAnswer). cons_option (own_marking (option_and_then (offlined_by k.task.frame) o)) []) (sym k.said);
+  failed = unfailed-so k.task.frame k.own ∙ ap (λ (o : Option SoftAnswer). cons_option (own_failure (option_and_then (offlined_by k.task.frame) o)) []) (sym k.said);
+  taken = refl;
+  set = refl;
+  own = subst (λ (o : Option SoftAnswer). IsOwn (commands.Soft k.task.frame) (soft_answer k.own) (option_and_then (offlined_by k.task.frame) o)) (sym k.said) (offlined-so k.task.frame k.own);
 })))
 
 -- a command whose machine checks have done it all: its task, once it is over, has done what its lines tell
@@ -205,11 +255,23 @@ raise-does {raiser = raiser} {a = a} command of taken set own k = subst (λ (q :
     over : k.task.at ≡ raise_at.Over (Some k.own)
     over = raise-over k.task k.said
 
+scrub-does : {layout : Layout} {view : View} {who : Who} {first last : Frame} {j : Job} {a : Answer} → KnowsScrub layout view who first last j a → DoesSo (commands.Scrub first last) j a
+scrub-does {first = first} {last} {a = a} k = subst (λ (q : Job). DoesSo (commands.Scrub first last) q a) (sym k.job_is) (record {
+  marked = ap (λ (x : ScrubAt). filter_map marked_in k.task.lines.told ++ scrub_done.marked_at x) over;
+  failed = ap (λ (x : ScrubAt). filter_map (failed_in None) k.task.lines.told ++ scrub_done.failed_at x) over;
+  taken = refl;
+  set = refl;
+  own = tt;
+})
+  where
+    over : k.task.at ≡ scrub_at.Over (Some k.own)
+    over = scrub-over k.task k.said
+
 -- a command of which no memory fails
 by-kind : {command : Command} {j k : Job} {a : Answer} → j ≡ k → (told_of k ≡ []) × (own_of k ≡ None) × (marked_now k ≡ []) × (failed_now k ≡ []) → taken_now j ≡ taken_by command a → policies_now j ≡ set_by command a → IsOwn command a None → DoesSo command j a
 by-kind {command} {j} {k} {a} is none taken set own = record {
-  marked = ap marked_now is ∙ none.2 ∙ sym (ap (λ (q : Job). markings_in (row_of q a)) is ∙ ap (λ (told : List Told). filter_map marked_in told ++ cons_option (own_marking (own_of k)) []) none.0 ∙ ap (λ (o : Option (Frame × Found)). cons_option (own_marking o) []) none.1);
-  failed = ap failed_now is ∙ none.3 ∙ sym (ap (λ (q : Job). failures_in command (row_of q a)) is ∙ ap (λ (told : List Told). filter_map (failed_in (current_thread command)) told ++ cons_option (own_failure (own_of k)) []) none.0 ∙ ap (λ (o : Option (Frame × Found)). cons_option (own_failure o) []) none.1);
+  marked = ap marked_now is ∙ none.2 ∙ sym (ap (λ (q : Job). markings_in (row_of q a)) is ∙ ap (λ (told : List Told). filter_map marked_in told ++ cons_option (own_marking (own_of k)) []) none.0 ∙ ap (λ (o : Option Own). cons_option (own_marking o) []) none.1);
+  failed = ap failed_now is ∙ none.3 ∙ sym (ap (λ (q : Job). failures_in command (row_of q a)) is ∙ ap (λ (told : List Told). filter_map (failed_in (current_thread command)) told ++ cons_option (own_failure (own_of k)) []) none.0 ∙ ap (λ (o : Option Own). cons_option (own_failure o) []) none.1);
   taken = taken;
   set = set;
   own = subst (IsOwn command a) (sym (ap own_of is ∙ none.1)) own;
@@ -228,9 +290,11 @@ does layout view who (commands.Fsync file) j runs fits is = let task = (of-fsync
 does layout view who (commands.Prctl thread args) j runs fits is = let task = (of-prctl j runs.job_is).1 in by-kind task (refl, refl, refl, refl) (ap taken_now task) (prctl-set view j runs fits is) tt
 does layout view who (commands.Bad frame line) j runs fits is = let task = (of-spoil j runs.job_is).1 in by-kind task (refl, refl, refl, refl) (ap taken_now task) (ap policies_now task) tt
 does layout view who (commands.Weak frame line) j runs fits is = let task = (of-spoil j runs.job_is).1 in by-kind task (refl, refl, refl, refl) (ap taken_now task) (ap policies_now task) tt
+does layout view who (commands.Scrub first last) j runs fits is = scrub-does (knows-scrub j runs fits is)
 does layout view who (commands.Log status addr misc) j runs fits is = let task = (of-log j runs.job_is).1 in by-kind task (refl, refl, refl, refl) (ap taken_now task) (ap policies_now task) tt
 does layout view who (commands.RaiseUser thread ripv eipv) j runs fits is = raise-does (commands.RaiseUser thread ripv eipv) refl refl refl tt (knows-user-raise j runs fits is).knows
 does layout view who (commands.RaiseKernel ripv eipv) j runs fits is = raise-does (commands.RaiseKernel ripv eipv) refl refl refl tt (knows-kernel-raise j runs fits is)
 does layout view who commands.RaiseNested j runs fits is = let task = (of-nested j runs).1 in by-kind task (refl, refl, refl, refl) (ap taken_now task) (ap policies_now task) tt
 does layout view who (commands.Inject frame) j runs fits is = inject-does (knows-failure j runs fits is)
+does layout view who (commands.Soft frame) j runs fits is = soft-does (knows-soft j runs fits is)
 does layout view who _ j runs fits is = absurd runs

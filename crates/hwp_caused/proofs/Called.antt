@@ -56,10 +56,10 @@ use Rattle.hwp_evict.specs.declared.Fsync.{Fsync}
 use Rattle.hwp_evict.specs.declared.FsyncAnswer.{FsyncAnswer}
 use Rattle.hwp_evict.specs.declared.FsyncAnswer.TheVariants as fsync_answers
 use Rattle.hwp_evict.specs.Fsyncs as fsyncs
-use Rattle.hwp_handler.specs.declared.Found.{Found}
 use Rattle.hwp_handler.specs.declared.Told.{Told}
 use Rattle.hwp_raise.specs.declared.Log.{Log}
 use Rattle.hwp_raise.specs.Logs as logs
+use Rattle.hwp_row.specs.declared.Own.{Own}
 use Rattle.hwp_job.specs.declared.Job.{Job}
 use Rattle.hwp_job.specs.declared.Job.TheVariants as jobs
 use Rattle.hwp_job.specs.Answers.{fsync_answer, nested_answer, prctl_answer, read_stop_answer, spoil_answer}
@@ -75,10 +75,10 @@ use Rattle.hwp_caused.proofs.Unmade.{found-stopped}
 
 -- ---- the losses of a file
 
-pub fsync-caused : (layout : Layout) (list : List Command) (view : View) (told : List Told) (failed : Option (Frame × Found)) {who : Who} {file : FileNo} (j : Job) {a : Answer} → anew j ≡ jobs.Fsync (fsyncs.begin who file) → Fits layout view j → answer j ≡ Some a → IsAnswerCaused layout list view who (commands.Fsync file) told failed a
-fsync-caused layout list view told failed {who} {file} j {a} runs fits is =
-    subst (λ (f : Fsync). IsAnswerCaused layout list view f.who (commands.Fsync f.file) told failed a) task.2
-    (subst (IsAnswerCaused layout list view task.0.who (commands.Fsync task.0.file) told failed) own.2 (by own.0 (subst (fsyncs.FitsAt view task.0.who task.0.file) (fsync-over task.0 own.1) fit.at)))
+pub fsync-caused : (layout : Layout) (list : List Command) (view : View) (told : List Told) (did : Option Own) {who : Who} {file : FileNo} (j : Job) {a : Answer} → anew j ≡ jobs.Fsync (fsyncs.begin who file) → Fits layout view j → answer j ≡ Some a → IsAnswerCaused layout list view who (commands.Fsync file) told did a
+fsync-caused layout list view told did {who} {file} j {a} runs fits is =
+    subst (λ (f : Fsync). IsAnswerCaused layout list view f.who (commands.Fsync f.file) told did a) task.2
+    (subst (IsAnswerCaused layout list view task.0.who (commands.Fsync task.0.file) told did) own.2 (by own.0 (subst (fsyncs.FitsAt view task.0.who task.0.file) (fsync-over task.0 own.1) fit.at)))
   where
     task : (f : Fsync) × (j ≡ jobs.Fsync f) × (fsyncs.begin f.who f.file ≡ fsyncs.begin who file)
     task = of-fsync j runs
@@ -89,18 +89,18 @@ fsync-caused layout list view told failed {who} {file} j {a} runs fits is =
     fit : fsyncs.Fits layout view task.0
     fit = subst (Fits layout view) task.1 fits
 
-    by : (x : FsyncAnswer) → fsyncs.IsCaused view task.0.who task.0.file x → IsAnswerCaused layout list view task.0.who (commands.Fsync task.0.file) told failed (fsync_answer x)
+    by : (x : FsyncAnswer) → fsyncs.IsCaused view task.0.who task.0.file x → IsAnswerCaused layout list view task.0.who (commands.Fsync task.0.file) told did (fsync_answer x)
     by fsync_answers.Stopped has = found-stopped layout (commands.Fsync task.0.file) view task.0.who (inl has) fit.made_none
     by fsync_answers.Done has = (fit.made_none, has)
     by (fsync_answers.Eio lost) has = (fit.made_none, has.0, has.1)
 
 -- ---- commands of machine checks
 
-pub log-caused : (layout : Layout) (list : List Command) (view : View) (told : List Told) (failed : Option (Frame × Found)) {who : Who} {status addr misc : ℕ} {banks : Banks} (j : Job) {a : Answer} → BeginsLog layout who (raw_event status addr misc) banks (anew j) → Fits layout view j → answer j ≡ Some a
-    → IsAnswerCaused layout list view who (commands.Log status addr misc) told failed a
-log-caused layout list view told failed {who} {status} {addr} {misc} {banks} j {a} runs fits is =
-    subst (λ (l : Log). IsAnswerCaused layout list view l.read.who (commands.Log status addr misc) told failed a) task.2
-    (subst (IsAnswerCaused layout list view task.0.read.who (commands.Log status addr misc) told failed) own.2 (by own.0 (subst (read_stops.FitsAt view task.0.read.who) (read-over task.0.read own.1) fit.read.at)))
+pub log-caused : (layout : Layout) (list : List Command) (view : View) (told : List Told) (did : Option Own) {who : Who} {status addr misc : ℕ} {banks : Banks} (j : Job) {a : Answer} → BeginsLog layout who (raw_event status addr misc) banks (anew j) → Fits layout view j → answer j ≡ Some a
+    → IsAnswerCaused layout list view who (commands.Log status addr misc) told did a
+log-caused layout list view told did {who} {status} {addr} {misc} {banks} j {a} runs fits is =
+    subst (λ (l : Log). IsAnswerCaused layout list view l.read.who (commands.Log status addr misc) told did a) task.2
+    (subst (IsAnswerCaused layout list view task.0.read.who (commands.Log status addr misc) told did) own.2 (by own.0 (subst (read_stops.FitsAt view task.0.read.who) (read-over task.0.read own.1) fit.read.at)))
   where
     task : (l : Log) × (j ≡ jobs.Log l) × (logs.begin l.read.who l.event l.before.value ≡ logs.begin who (raw_event status addr misc) banks)
     task = of-log j runs.job_is
@@ -111,14 +111,14 @@ log-caused layout list view told failed {who} {status} {addr} {misc} {banks} j {
     fit : logs.Fits layout view task.0
     fit = subst (Fits layout view) task.1 fits
 
-    by : (x : ReadStopAnswer) → read_stops.FitsAt view task.0.read.who (read_at.Over x) → IsAnswerCaused layout list view task.0.read.who (commands.Log status addr misc) told failed (read_stop_answer x)
+    by : (x : ReadStopAnswer) → read_stops.FitsAt view task.0.read.who (read_at.Over x) → IsAnswerCaused layout list view task.0.read.who (commands.Log status addr misc) told did (read_stop_answer x)
     by read_answers.Stopped has = found-stopped layout (commands.Log status addr misc) view task.0.read.who (inl has) fit.read.made
     by read_answers.Done has = fit.read.made
 
-pub nested-caused : (layout : Layout) (list : List Command) (view : View) (told : List Told) (failed : Option (Frame × Found)) {who : Who} (j : Job) {a : Answer} → anew j ≡ jobs.Nested (nesteds.begin who) → Fits layout view j → answer j ≡ Some a → IsAnswerCaused layout list view who commands.RaiseNested told failed a
-nested-caused layout list view told failed {who} j {a} runs fits is =
-    subst (λ (n : Nested). IsAnswerCaused layout list view n.who commands.RaiseNested told failed a) task.2
-    (subst (IsAnswerCaused layout list view task.0.who commands.RaiseNested told failed) own.2 (by own.0 (subst (nesteds.FitsAt view task.0.who) (nested-over task.0 own.1) fit.at)))
+pub nested-caused : (layout : Layout) (list : List Command) (view : View) (told : List Told) (did : Option Own) {who : Who} (j : Job) {a : Answer} → anew j ≡ jobs.Nested (nesteds.begin who) → Fits layout view j → answer j ≡ Some a → IsAnswerCaused layout list view who commands.RaiseNested told did a
+nested-caused layout list view told did {who} j {a} runs fits is =
+    subst (λ (n : Nested). IsAnswerCaused layout list view n.who commands.RaiseNested told did a) task.2
+    (subst (IsAnswerCaused layout list view task.0.who commands.RaiseNested told did) own.2 (by own.0 (subst (nesteds.FitsAt view task.0.who) (nested-over task.0 own.1) fit.at)))
   where
     task : (n : Nested) × (j ≡ jobs.Nested n) × (nesteds.begin n.who ≡ nesteds.begin who)
     task = of-nested j runs
@@ -129,17 +129,17 @@ nested-caused layout list view told failed {who} j {a} runs fits is =
     fit : nesteds.Fits layout view task.0
     fit = subst (Fits layout view) task.1 fits
 
-    by : (x : NestedAnswer) → nesteds.FitsAt view task.0.who (nested_at.Over (Some x)) → IsAnswerCaused layout list view task.0.who commands.RaiseNested told failed (nested_answer x)
+    by : (x : NestedAnswer) → nesteds.FitsAt view task.0.who (nested_at.Over (Some x)) → IsAnswerCaused layout list view task.0.who commands.RaiseNested told did (nested_answer x)
     by nested_answers.Shutdown has = found-stopped layout commands.RaiseNested view task.0.who (inr has) fit.made
     by nested_answers.Stopped has = found-stopped layout commands.RaiseNested view task.0.who (inl has) fit.made
 
 -- ---- damage to a line
 
-pub spoil-caused : (layout : Layout) (list : List Command) (view : View) (told : List Told) (failed : Option (Frame × Found)) {who : Who} {frame : Frame} {line : ℕ} {damage : Damage} (j : Job) {a : Answer} → BeginsSpoil layout who frame line damage (anew j) → Fits layout view j → answer j ≡ Some a
-    → IsAnswerCaused layout list view who (spoiling damage frame line) told failed a
-spoil-caused layout list view told failed {who} {frame} {line} {damage} j {a} runs fits is =
-    subst (λ (s : Spoil). IsAnswerCaused layout list view s.who (spoiling s.damage s.frame s.line) told failed a) task.2
-    (subst (IsAnswerCaused layout list view task.0.who (spoiling task.0.damage task.0.frame task.0.line) told failed) own.2
+pub spoil-caused : (layout : Layout) (list : List Command) (view : View) (told : List Told) (did : Option Own) {who : Who} {frame : Frame} {line : ℕ} {damage : Damage} (j : Job) {a : Answer} → BeginsSpoil layout who frame line damage (anew j) → Fits layout view j → answer j ≡ Some a
+    → IsAnswerCaused layout list view who (spoiling damage frame line) told did a
+spoil-caused layout list view told did {who} {frame} {line} {damage} j {a} runs fits is =
+    subst (λ (s : Spoil). IsAnswerCaused layout list view s.who (spoiling s.damage s.frame s.line) told did a) task.2
+    (subst (IsAnswerCaused layout list view task.0.who (spoiling task.0.damage task.0.frame task.0.line) told did) own.2
     (by task.0.damage own.0 (subst (spoils.FitsAt view task.0.who task.0.frame task.0.line task.0.damage) (spoil-over task.0 own.1) fit.at)))
   where
     task : (s : Spoil) × (j ≡ jobs.Spoil s) × (spoils.begin s.who s.frame s.line s.damage ≡ spoils.begin who frame line damage)
@@ -154,7 +154,7 @@ spoil-caused layout list view told failed {who} {frame} {line} {damage} j {a} ru
     inside : task.0.line < line_limit
     inside = subst (λ (s : Spoil). s.line < line_limit) (sym task.2) runs.inside
 
-    by : (d : Damage) (x : SpoilAnswer) → spoils.FitsAt view task.0.who task.0.frame task.0.line d (spoil_at.Over x) → IsAnswerCaused layout list view task.0.who (spoiling d task.0.frame task.0.line) told failed (spoil_answer x)
+    by : (d : Damage) (x : SpoilAnswer) → spoils.FitsAt view task.0.who task.0.frame task.0.line d (spoil_at.Over x) → IsAnswerCaused layout list view task.0.who (spoiling d task.0.frame task.0.line) told did (spoil_answer x)
     by damages.Bad spoil_answers.Stopped has = found-stopped layout (commands.Bad task.0.frame task.0.line) view task.0.who (inl has) fit.made
     by damages.Weak spoil_answers.Stopped has = found-stopped layout (commands.Weak task.0.frame task.0.line) view task.0.who (inl has) fit.made
     by damages.Bad spoil_answers.Done has = record { within = inside; spoiled = has; made = fit.made }
@@ -195,29 +195,29 @@ module _ (list : List Command) (view : View) (p : Prctl) where
   replied-so replies.Einval over has counted =
       sym has ∙ ap (λ (x : Policy). reply x p.arguments) (last-same policy_names.Default (settings_of p.thread view.settings) ∙ ap laws.last_policy (now-is (ap set_at over) counted))
 
-module _ {layout : Layout} (list : List Command) {view : View} (told : List Told) (failed : Option (Frame × Found)) (p : Prctl) (fits : prctls.Fits layout view p) where
+module _ {layout : Layout} (list : List Command) {view : View} (told : List Told) (did : Option Own) (p : Prctl) (fits : prctls.Fits layout view p) where
   going : {word : ℕ} → Saw view p.who (places.Process p.process) word → SawProcess layout view p.who p.thread word
   going saw = record { process = p.process; process_is = ap (option_map (λ (t : ThreadDecl). t.process)) fits.declared ∙ ap Some fits.process_is; saw = saw }
 
-  replied-caused : {args : PrctlArgs} → p.arguments ≡ arguments args → (r : Reply) → IsReplied layout list view p.who p.thread p.arguments (reply_answer r) → IsAnswerCaused layout list view p.who (commands.Prctl p.thread args) told failed (reply_answer r)
+  replied-caused : {args : PrctlArgs} → p.arguments ≡ arguments args → (r : Reply) → IsReplied layout list view p.who p.thread p.arguments (reply_answer r) → IsAnswerCaused layout list view p.who (commands.Prctl p.thread args) told did (reply_answer r)
   replied-caused same (replies.Set policy) has = subst (λ (given : List ℕ). IsReplied layout list view p.who p.thread given (reply_answer (replies.Set policy))) same has
   replied-caused same (replies.Is policy) has = subst (λ (given : List ℕ). IsReplied layout list view p.who p.thread given (reply_answer (replies.Is policy))) same has
   replied-caused same replies.Einval has = subst (λ (given : List ℕ). IsReplied layout list view p.who p.thread given (reply_answer replies.Einval)) same has
 
   called : {args : PrctlArgs} → p.arguments ≡ arguments args → (x : PrctlAnswer) → p.at ≡ prctl_at.Over x → prctls.FitsOver view p.who p.thread p.process p.arguments x → ((r : Reply) → x ≡ prctl_answers.Replied r → IsCounted list view p.who (jobs.Prctl p) p.thread)
-      → IsAnswerCaused layout list view p.who (commands.Prctl p.thread args) told failed (prctl_answer x)
+      → IsAnswerCaused layout list view p.who (commands.Prctl p.thread args) told did (prctl_answer x)
   called {args} same prctl_answers.Stopped over has counted = found-stopped layout (commands.Prctl p.thread args) view p.who (inl has) fits.made
   called same (prctl_answers.Gone page) over has counted = (record { ended = going has }, fits.made)
   called same (prctl_answers.Replied r) over has counted =
       replied-caused same r (record { going = going has.0; made = fits.made; replied = ap reply_answer (replied-so list view p r over has.1 (counted r refl)) })
 
-pub prctl-caused : {layout : Layout} (list : List Command) (view : View) (told : List Told) (failed : Option (Frame × Found)) {who : Who} {thread : Thread} {args : PrctlArgs} (j : Job) {a : Answer} → BeginsPrctl layout who thread args (anew j) → Fits layout view j → answer j ≡ Some a
-    → ((t : Thread) → HasReplied j t → IsCounted list view who j t) → IsAnswerCaused layout list view who (commands.Prctl thread args) told failed a
-prctl-caused {layout} list view told failed {who} {thread} {args} j {a} runs fits is counted =
-    subst (λ (w : Who). IsAnswerCaused layout list view w (commands.Prctl thread args) told failed a) own-who
-    (subst (λ (t : Thread). IsAnswerCaused layout list view task.0.who (commands.Prctl t args) told failed a) own-thread
-    (subst (IsAnswerCaused layout list view task.0.who (commands.Prctl task.0.thread args) told failed) own.2
-    (called list told failed task.0 fit own-arguments own.0 over (subst (prctls.FitsAt view task.0.who task.0.thread task.0.process task.0.arguments) over fit.at) known)))
+pub prctl-caused : {layout : Layout} (list : List Command) (view : View) (told : List Told) (did : Option Own) {who : Who} {thread : Thread} {args : PrctlArgs} (j : Job) {a : Answer} → BeginsPrctl layout who thread args (anew j) → Fits layout view j → answer j ≡ Some a
+    → ((t : Thread) → HasReplied j t → IsCounted list view who j t) → IsAnswerCaused layout list view who (commands.Prctl thread args) told did a
+prctl-caused {layout} list view told did {who} {thread} {args} j {a} runs fits is counted =
+    subst (λ (w : Who). IsAnswerCaused layout list view w (commands.Prctl thread args) told did a) own-who
+    (subst (λ (t : Thread). IsAnswerCaused layout list view task.0.who (commands.Prctl t args) told did a) own-thread
+    (subst (IsAnswerCaused layout list view task.0.who (commands.Prctl task.0.thread args) told did) own.2
+    (called list told did task.0 fit own-arguments own.0 over (subst (prctls.FitsAt view task.0.who task.0.thread task.0.process task.0.arguments) over fit.at) known)))
   where
     task : (p : Prctl) × (j ≡ jobs.Prctl p) × (prctls.begin p.who p.thread p.process p.arguments ≡ prctls.begin who thread runs.decl.process (arguments args))
     task = of-prctl j runs.job_is

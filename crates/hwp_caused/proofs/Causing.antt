@@ -16,7 +16,9 @@ use Rattle.hwp_caused.proofs.Accessed.{fetch-caused, kload-caused, knows-access,
 use Rattle.hwp_caused.proofs.Called.{fsync-caused, log-caused, nested-caused, prctl-caused, spoil-caused}
 use Rattle.hwp_caused.proofs.Injected.{inject-caused, knows-failure}
 use Rattle.hwp_caused.proofs.Evicted.{drop-caused, free-caused, knows-eviction, out-caused, sync-caused}
+use Rattle.hwp_caused.proofs.Offlined.{knows-soft, soft-caused}
 use Rattle.hwp_caused.proofs.Raised.{kernel-caused, knows-kernel-raise, knows-user-raise, user-caused}
+use Rattle.hwp_caused.proofs.Scrubbed.{knows-scrub, scrub-caused}
 
 pub caused : (layout : Layout) (list : List Command) (view : View) (who : Who) (command : Command) (j : Job) {a : Answer} → Runs layout who command j → Fits layout view j → answer j ≡ Some a
     → ((thread : Thread) → HasReplied j thread → IsCounted list view who j thread) → IsCaused layout list view who command (row_of j a)
@@ -32,9 +34,11 @@ caused layout list view who (commands.Fsync file) j runs fits is counted = fsync
 caused layout list view who (commands.Prctl thread args) j runs fits is counted = prctl-caused list view (told_of j) (own_of j) j runs fits is counted
 caused layout list view who (commands.Bad frame line) j runs fits is counted = spoil-caused layout list view (told_of j) (own_of j) j runs fits is
 caused layout list view who (commands.Weak frame line) j runs fits is counted = spoil-caused layout list view (told_of j) (own_of j) j runs fits is
+caused layout list view who (commands.Scrub first last) j runs fits is counted = scrub-caused (knows-scrub j runs fits is) list (own_of j)
 caused layout list view who (commands.Log status addr misc) j runs fits is counted = log-caused layout list view (told_of j) (own_of j) j runs fits is
 caused layout list view who (commands.RaiseUser thread ripv eipv) j runs fits is counted = user-caused list ripv eipv (own_of j) (knows-user-raise j runs fits is)
 caused layout list view who (commands.RaiseKernel ripv eipv) j runs fits is counted = kernel-caused list ripv eipv (own_of j) (knows-kernel-raise j runs fits is)
 caused layout list view who commands.RaiseNested j runs fits is counted = nested-caused layout list view (told_of j) (own_of j) j runs fits is
 caused layout list view who (commands.Inject frame) j runs fits is counted = inject-caused list (told_of j) j (knows-failure j runs fits is)
+caused layout list view who (commands.Soft frame) j runs fits is counted = soft-caused list (told_of j) j (knows-soft j runs fits is)
 caused layout list view who _ j runs fits is counted = absurd runs

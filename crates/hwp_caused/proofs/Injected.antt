@@ -26,6 +26,7 @@ use Rattle.hwp_fail.specs.declared.Inject.{Inject}
 use Rattle.hwp_fail.specs.Injects as injects
 use Rattle.hwp_handler.specs.declared.Found.{Found}
 use Rattle.hwp_handler.specs.declared.Told.{Told}
+use Rattle.hwp_row.specs.declared.Own.{Own}
 use Rattle.hwp_job.specs.declared.Job.{Job}
 use Rattle.hwp_job.specs.declared.Job.TheVariants as jobs
 use Rattle.hwp_job.specs.Answers.{fail_answer}
@@ -98,13 +99,13 @@ module _ (layout : Layout) (view : View) (who : Who) (frame : Frame) where
     only = each-is has.0.made (λ (m : Made). is_failure m.entry.what ≡ true) (ap is_failure has.0.made.at.2);
   }
 
-  by-outcome : (own : Option (Frame × Found)) (outcome : Outcome) → HasCome layout view who frame own outcome → IsInjectCaused layout view who frame own (outcome_answer outcome)
+  by-outcome : (own : Option Own) (outcome : Outcome) → HasCome layout view who frame own outcome → IsInjectCaused layout view who frame own (outcome_answer outcome)
   by-outcome own outcomes.Recovered has = has
   by-outcome own outcomes.Delayed has = has
   by-outcome own outcomes.Ignored has = has
 
   -- what comes of a failure is no stop of the machine
-  caused-by : (list : List Command) (told : List Told) (own : Option (Frame × Found)) (outcome : Outcome) → layout.recovery ≡ true → IsInjectCaused layout view who frame own (outcome_answer outcome)
+  caused-by : (list : List Command) (told : List Told) (own : Option Own) (outcome : Outcome) → layout.recovery ≡ true → IsInjectCaused layout view who frame own (outcome_answer outcome)
       → IsAnswerCaused layout list view who (commands.Inject frame) told own (outcome_answer outcome)
   caused-by list told own outcomes.Recovered recovers has = (recovers, has)
   caused-by list told own outcomes.Delayed recovers has = (recovers, has)
@@ -130,7 +131,7 @@ failed layout list view told i (answers.Done situation cycle place signalled) en
 
 pub inject-caused : {layout : Layout} (list : List Command) {view : View} (told : List Told) {who : Who} {frame : Frame} (j : Job) {a : Answer} → KnowsFailure layout view who frame j a → IsAnswerCaused layout list view who (commands.Inject frame) told (own_of j) a
 inject-caused {layout} list {view} told {who} {frame} j {a} k =
-    subst (λ (own : Option (Frame × Found)). IsAnswerCaused layout list view who (commands.Inject frame) told own a) (sym own-is)
+    subst (λ (own : Option Own). IsAnswerCaused layout list view who (commands.Inject frame) told own a) (sym own-is)
     (subst (IsAnswerCaused layout list view who (commands.Inject frame) told (own_by frame (Some k.own))) k.answer_is
     (subst (λ (f : Frame). IsAnswerCaused layout list view who (commands.Inject f) told (own_by f (Some k.own)) (fail_answer k.own)) k.frame_is
     (subst (λ (w : Who). IsAnswerCaused layout list view w (commands.Inject k.inject.frame) told (own_by k.inject.frame (Some k.own)) (fail_answer k.own)) k.who_is (failed layout list view told k.inject k.own k.ended))))

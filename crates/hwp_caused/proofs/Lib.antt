@@ -2,7 +2,9 @@ mod Accessed
 mod Evicted
 mod Called
 mod Raised
+mod Scrubbed
 mod Injected
+mod Offlined
 mod Unmade
 mod Causing
 mod Accounted

@@ -2,7 +2,6 @@
 use Rattle.std.proofs.Common.{◌≡◌, Bool, true, false, List, [], ◌∷◌, Option, Some, None, length, refl, sym, ap, ◌∙◌, subst, inl, inr, true≢false}
 use Rattle.std.specs.Option.{option_map}
 use Rattle.std.specs.declared.alloc.Global.{Global}
-use Rattle.hwp_geom.specs.declared.Frame.{Frame}
 use Rattle.hwp_geom.specs.declared.Layout.{Layout}
 use Rattle.hwp_geom.specs.declared.Proc.{Proc}
 use Rattle.hwp_geom.specs.declared.Thread.{Thread}
@@ -15,7 +14,6 @@ use Rattle.hwp_form.specs.declared.Command.TheVariants as commands
 use Rattle.hwp_report.specs.declared.Answer.{Answer}
 use Rattle.hwp_law.specs.Checks.{Banks}
 use Rattle.hwp_law.specs.Commands.{can_fail, process_of_thread}
-use Rattle.hwp_handler.specs.declared.Found.{Found}
 use Rattle.hwp_handler.specs.declared.Told.{Told}
 use Rattle.hwp_handler.specs.Checks.{IsActedOn}
 use Rattle.hwp_handler.specs.Told.{halts}
@@ -26,6 +24,7 @@ use Rattle.hwp_raise.specs.declared.Raiser.{Raiser}
 use Rattle.hwp_raise.specs.Fits.{GoesOn, HasOnlyFailed, IsEnd, IsGone}
 use Rattle.hwp_raise.specs.Raises.{how_of, mode_of, thread_of}
 use Rattle.hwp_raise.specs.Raises as raises
+use Rattle.hwp_row.specs.declared.Own.{Own}
 use Rattle.hwp_job.specs.declared.Job.{Job}
 use Rattle.hwp_job.specs.declared.Job.TheVariants as jobs
 use Rattle.hwp_job.specs.Answers.{raise_answer}
@@ -107,27 +106,27 @@ module _ (layout : Layout) (view : View) (r : Raise) (command : Command) (fails 
   raised : IsEnd layout view r answers.Raised → WasRaised layout view r.who command r.lines.told (length r.lines.told)
   raised has = record { count = refl; only = only-met has.only }
 
-module _ (layout : Layout) (list : List Command) (view : View) (r : Raise) (failed : Option (Frame × Found)) where
+module _ (layout : Layout) (list : List Command) (view : View) (r : Raise) (did : Option Own) where
   module _ (thread : Thread) (ripv eipv : Bool) (process : Proc) (process_is : process_of_thread layout thread ≡ Some process) (is : r.raiser ≡ Some (record { thread = thread; process = process })) where
-    user : (x : RaiseAnswer) → IsEnd layout view r x → IsAnswerCaused layout list view r.who (commands.RaiseUser thread ripv eipv) r.lines.told failed (raise_answer (length r.lines.told) x)
+    user : (x : RaiseAnswer) → IsEnd layout view r x → IsAnswerCaused layout list view r.who (commands.RaiseUser thread ripv eipv) r.lines.told did (raise_answer (length r.lines.told) x)
     user answers.Raised has = (record { process = process; process_is = process_is; saw = subst (GoesOn view r.who) is has.going }, raised layout view r (commands.RaiseUser thread ripv eipv) refl has)
     user answers.Stopped has = stopped layout view r (commands.RaiseUser thread ripv eipv) refl has
     user (answers.Gone page) has = (record { ended = record { process = process; process_is = process_is; saw = subst (λ (o : Option Raiser). IsGone view r.who o page) is has.1 } }, has.0.made)
 
   module _ (ripv eipv : Bool) (is : r.raiser ≡ None) where
-    kernel : (x : RaiseAnswer) → IsEnd layout view r x → IsAnswerCaused layout list view r.who (commands.RaiseKernel ripv eipv) r.lines.told failed (raise_answer (length r.lines.told) x)
+    kernel : (x : RaiseAnswer) → IsEnd layout view r x → IsAnswerCaused layout list view r.who (commands.RaiseKernel ripv eipv) r.lines.told did (raise_answer (length r.lines.told) x)
     kernel answers.Raised has = raised layout view r (commands.RaiseKernel ripv eipv) refl has
     kernel answers.Stopped has = stopped layout view r (commands.RaiseKernel ripv eipv) refl has
     kernel (answers.Gone page) has = absurd (subst (λ (o : Option Raiser). IsGone view r.who o page) is has.1)
 
-module _ {layout : Layout} (list : List Command) {view : View} {who : Who} {mcg : McgBits} {j : Job} {a : Answer} (ripv eipv : Bool) (failed : Option (Frame × Found)) where
-  pub user-caused : {thread : Thread} → KnowsUserRaise layout view who thread mcg j a → IsAnswerCaused layout list view who (commands.RaiseUser thread ripv eipv) (told_of j) failed a
-  user-caused {thread} k = carried (λ (r : Raise) (told : List Told) (x : Answer). IsAnswerCaused layout list view r.who (commands.RaiseUser thread ripv eipv) told failed x) k.knows
-      (user layout list view k.knows.task failed thread ripv eipv k.process k.process_is (ap (λ (r : Raise). r.raiser) k.knows.begun) k.knows.own k.knows.ended)
+module _ {layout : Layout} (list : List Command) {view : View} {who : Who} {mcg : McgBits} {j : Job} {a : Answer} (ripv eipv : Bool) (did : Option Own) where
+  pub user-caused : {thread : Thread} → KnowsUserRaise layout view who thread mcg j a → IsAnswerCaused layout list view who (commands.RaiseUser thread ripv eipv) (told_of j) did a
+  user-caused {thread} k = carried (λ (r : Raise) (told : List Told) (x : Answer). IsAnswerCaused layout list view r.who (commands.RaiseUser thread ripv eipv) told did x) k.knows
+      (user layout list view k.knows.task did thread ripv eipv k.process k.process_is (ap (λ (r : Raise). r.raiser) k.knows.begun) k.knows.own k.knows.ended)
 
-  pub kernel-caused : KnowsRaise layout view who None mcg j a → IsAnswerCaused layout list view who (commands.RaiseKernel ripv eipv) (told_of j) failed a
-  kernel-caused k = carried (λ (r : Raise) (told : List Told) (x : Answer). IsAnswerCaused layout list view r.who (commands.RaiseKernel ripv eipv) told failed x) k
-      (kernel layout list view k.task failed ripv eipv (ap (λ (r : Raise). r.raiser) k.begun) k.own k.ended)
+  pub kernel-caused : KnowsRaise layout view who None mcg j a → IsAnswerCaused layout list view who (commands.RaiseKernel ripv eipv) (told_of j) did a
+  kernel-caused k = carried (λ (r : Raise) (told : List Told) (x : Answer). IsAnswerCaused layout list view r.who (commands.RaiseKernel ripv eipv) told did x) k
+      (kernel layout list view k.task did ripv eipv (ap (λ (r : Raise). r.raiser) k.begun) k.own k.ended)
 
 -- ---- what it tells
 

@@ -22,10 +22,11 @@ use Rattle.hwp_job.specs.Begins.{BeginsLog}
 use Rattle.hwp_job.specs.Jobs.{Fits, answer, banks_after, banks_before, told_of}
 use Rattle.hwp_job.specs.Runs.{Runs, anew}
 use Rattle.hwp_job.proofs.Ending.{mapped}
-use Rattle.hwp_job.proofs.OfKind.{of-evict, of-fsync, of-inject, of-log, of-nested, of-prctl, of-spoil}
+use Rattle.hwp_job.proofs.OfKind.{of-evict, of-fsync, of-inject, of-log, of-nested, of-prctl, of-soft, of-spoil}
 use Rattle.hwp_served.specs.Told.{AreToldBy}
 use Rattle.hwp_caused.proofs.Accessed.{access-heeded, access-told, knows-access}
 use Rattle.hwp_caused.proofs.Raised.{knows-kernel-raise, knows-user-raise, raise-heeded, raise-told}
+use Rattle.hwp_caused.proofs.Scrubbed.{knows-scrub, scrub-heeded, scrub-told}
 
 -- what the command tells is right; and where one of its events stopped the machine, it is answered `stopped`
 pub record TellsRight (layout : Layout) (view : View) (who : Who) (command : Command) (j : Job) (a : Answer) (kept : Banks) : Type 0 where
@@ -73,9 +74,11 @@ tells layout view who (commands.Fsync file) j kept runs fits is = by-kind kept (
 tells layout view who (commands.Prctl thread args) j kept runs fits is = by-kind kept (commands.Prctl thread args) (of-prctl j runs.job_is).1 refl (refl, refl)
 tells layout view who (commands.Bad frame line) j kept runs fits is = by-kind kept (commands.Bad frame line) (of-spoil j runs.job_is).1 refl (refl, refl)
 tells layout view who (commands.Weak frame line) j kept runs fits is = by-kind kept (commands.Weak frame line) (of-spoil j runs.job_is).1 refl (refl, refl)
+tells layout view who (commands.Scrub first last) j kept runs fits is = let k = knows-scrub j runs fits is in record { told = scrub-told k kept; heeded = scrub-heeded k }
 tells layout view who (commands.Log status addr misc) j kept runs fits is = log-told kept j runs fits is
 tells layout view who (commands.RaiseUser thread ripv eipv) j kept runs fits is = let k = knows-user-raise j runs fits is in record { told = raise-told k.knows kept; heeded = raise-heeded k.knows }
 tells layout view who (commands.RaiseKernel ripv eipv) j kept runs fits is = let k = knows-kernel-raise j runs fits is in record { told = raise-told k kept; heeded = raise-heeded k }
 tells layout view who commands.RaiseNested j kept runs fits is = by-kind kept commands.RaiseNested (of-nested j runs).1 refl (refl, refl)
 tells layout view who (commands.Inject frame) j kept runs fits is = by-kind kept (commands.Inject frame) (of-inject j runs.job_is).1 refl (refl, refl)
+tells layout view who (commands.Soft frame) j kept runs fits is = by-kind kept (commands.Soft frame) (of-soft j runs.job_is).1 refl (refl, refl)
 tells layout view who _ j kept runs fits is = absurd runs

@@ -52,7 +52,7 @@ Keeps x = Unit {0}
 
 module _ (frame : Frame) (hardware : Bool) where
   module _ (who : Who) (own : Frame) (cycle : ℕ) where
-    looked-done : (b c d : Bool) (found : ℕ) → done_in frame hardware (cond b (at.Kernel cycle) (cond c (at.Free cycle) (cond d (at.Grab cycle (grabs.begin who own)) (at.Meet cycle (meets.begin who own cycle found))))) ≡ (poisoning frame hardware cycle ∷ [], 0)
+    looked-done : (b c d : Bool) (found : ℕ) → done_in frame hardware (cond b (at.Kernel cycle) (cond c (at.Free cycle) (cond d (at.Grab cycle (grabs.begin who own)) (at.Meet cycle (meets.begin who own (Some cycle) found))))) ≡ (poisoning frame hardware cycle ∷ [], 0)
     looked-done true c d found = refl
     looked-done false true d found = refl
     looked-done false false true found = refl
@@ -116,7 +116,7 @@ adds-none {old} {new} who frame hardware {x} {y} same like = record {
 }
 
 module _ {layout : Layout} {old new : View} {found : ℕ} {got : Option BodyValue} (who : Who) (frame : Frame) (hardware : Bool) where
-  poison-adds : Steps layout who (steps.Poison frame hardware) None old new found got → (b : Bool) → is_poisoned found ≡ b → Adds old new who frame hardware at.Poison (cond b at.Already (at.Count (cycle_of found)))
+  pub poison-adds : Steps layout who (steps.Poison frame hardware) None old new found got → (b : Bool) → is_poisoned found ≡ b → Adds old new who frame hardware at.Poison (cond b at.Already (at.Count (cycle_of found)))
   poison-adds made true set = adds-none who frame hardware (poison-keeps frame hardware made set) refl
   poison-adds made false clear = record {
     made = ap (λ (v : View). v.made) (is-poisoned frame hardware made clear);
@@ -128,7 +128,7 @@ module _ {layout : Layout} {old new : View} {found : ℕ} {got : Option BodyValu
       more true is = let n : counts_owed new ≡ old.owed.counts + (old.owed.hardware + 1) + old.owed.uncounts = ap (λ (d : Debts). d.counts + d.hardware + d.uncounts) is in omega (arith, n)
       more false is = let n : counts_owed new ≡ old.owed.counts + 1 + old.owed.hardware + old.owed.uncounts = ap (λ (d : Debts). d.counts + d.hardware + d.uncounts) is in omega (arith, n)
 
-  count-adds : (cycle : ℕ) → Steps layout who (steps.CountPoison hardware) None old new found got → OwesCount old hardware → Adds old new who frame hardware (at.Count cycle) (at.Look cycle)
+  pub count-adds : (cycle : ℕ) → Steps layout who (steps.CountPoison hardware) None old new found got → OwesCount old hardware → Adds old new who frame hardware (at.Count cycle) (at.Look cycle)
   count-adds cycle made owes = record {
     made = ap (λ (v : View). v.made) made.told.next;
     marked = inl (ap (λ (v : View). v.marks) made.told.next, refl);

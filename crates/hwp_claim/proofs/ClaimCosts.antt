@@ -168,15 +168,15 @@ module _ {layout : Layout} {seat : ℕ} {a b : State} {s t : Claim} {turned : Tu
         w : Words
         w = words_at layout b
 
-        counted : (z : Bool) → (count_of made.found == 0) ≡ z → cost_with rest (cond z (at.Grab cycle (grabs.begin s.who s.frame)) (at.Meet cycle (meets.begin s.who s.frame cycle made.found))) (words_at layout b) < rest + 11
+        counted : (z : Bool) → (count_of made.found == 0) ≡ z → cost_with rest (cond z (at.Grab cycle (grabs.begin s.who s.frame)) (at.Meet cycle (meets.begin s.who s.frame (Some cycle) made.found))) (words_at layout b) < rest + 11
         counted true zero = let idle : stale (grabs.is_idle s.frame (words_at layout b)) ≡ 0 = ap (λ (n : ℕ). stale (count_of n == 0)) (looked-word e) ∙ ap stale zero in omega (arith, idle)
         counted false some = let fresh : stale (meets.word_in s.frame (words_at layout b) == made.found) ≡ 0 = ap stale (same-number _ made.found (looked-word e)) in omega (arith, fresh)
 
-        done : (d : Bool) → cost_with rest (cond d (at.Free cycle) (cond (count_of made.found == 0) (at.Grab cycle (grabs.begin s.who s.frame)) (at.Meet cycle (meets.begin s.who s.frame cycle made.found)))) (words_at layout b) < rest + 11
+        done : (d : Bool) → cost_with rest (cond d (at.Free cycle) (cond (count_of made.found == 0) (at.Grab cycle (grabs.begin s.who s.frame)) (at.Meet cycle (meets.begin s.who s.frame (Some cycle) made.found)))) (words_at layout b) < rest + 11
         done true = omega arith
         done false = counted (count_of made.found == 0) refl
 
-        kernel : (k : Bool) → cost_with rest (cond k (at.Kernel cycle) (cond (is_done cycle made.found) (at.Free cycle) (cond (count_of made.found == 0) (at.Grab cycle (grabs.begin s.who s.frame)) (at.Meet cycle (meets.begin s.who s.frame cycle made.found))))) (words_at layout b) < rest + 11
+        kernel : (k : Bool) → cost_with rest (cond k (at.Kernel cycle) (cond (is_done cycle made.found) (at.Free cycle) (cond (count_of made.found == 0) (at.Grab cycle (grabs.begin s.who s.frame)) (at.Meet cycle (meets.begin s.who s.frame (Some cycle) made.found))))) (words_at layout b) < rest + 11
         kernel true = omega arith
         kernel false = done (is_done cycle made.found)
 

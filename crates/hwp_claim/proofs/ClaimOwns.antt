@@ -1,14 +1,12 @@
 -- The failure that a `Claim` begins is claimed until it is ended; and the rank of the task.
-use Rattle.std.proofs.Common.{◌≡◌, ◌≢◌, ◌⊎◌, inl, inr, ℕ, ◌+◌, ◌<◌, ◌≤◌, ◌==◌, ◌&&◌, ◌||◌, Bool, true, false, not, cond, List, Option, Some, None, set, slice_get, slice_index, refl, sym, ap, ◌∙◌, subst, arith, bit_or}
+use Rattle.std.proofs.Common.{◌≡◌, ◌≢◌, ◌⊎◌, inl, inr, ℕ, ◌+◌, ◌<◌, ◌≤◌, ◌==◌, ◌&&◌, ◌||◌, Bool, true, false, not, cond, Option, Some, None, slice_get, slice_index, refl, sym, ap, ◌∙◌, subst, arith}
 use Rattle.std.proofs.lemmas.Bool.{both_ways}
-use Rattle.std.proofs.lemmas.List.{get_or-set_other}
 use Rattle.std.proofs.lemmas.Option.{none-some, same_Some}
 use Rattle.hwp_geom.specs.declared.Frame.{Frame}
 use Rattle.hwp_geom.specs.declared.Layout.{Layout}
 use Rattle.hwp_geom.specs.declared.Page.{Page}
 use Rattle.hwp_page.specs.History.{BodyValue}
 use Rattle.hwp_words.specs.Frames.{count_of, cycle_of, is_handled, is_kernel, is_poisoned}
-use Rattle.hwp_words.proofs.FrameSteps.{fields-poison}
 use Rattle.hwp_rule.specs.declared.FrameLock.{FrameLock}
 use Rattle.hwp_rule.specs.declared.Place.TheVariants as places
 use Rattle.hwp_rule.specs.declared.State.{State}
@@ -17,7 +15,7 @@ use Rattle.hwp_rule.specs.declared.Step.TheVariants as steps
 use Rattle.hwp_rule.specs.Served.{IsMild}
 use Rattle.hwp_rule.specs.Steps.{place_of}
 use Rattle.hwp_rule.specs.Words.{Words, read}
-use Rattle.hwp_rule.proofs.Lists.{same-number, same-or}
+use Rattle.hwp_rule.proofs.Lists.{same-number}
 use Rattle.hwp_step.specs.declared.Turn.{Turn}
 use Rattle.hwp_step.specs.Boards.{view_of}
 use Rattle.hwp_step.specs.Hands.{Hand}
@@ -27,7 +25,6 @@ use Rattle.hwp_hold.specs.declared.release.ReleaseAt.{ReleaseAt}
 use Rattle.hwp_hold.specs.declared.release.ReleaseAt.TheVariants as release_at
 use Rattle.hwp_hold.specs.Holds.{is_free}
 use Rattle.hwp_hold.specs.Releases as releases
-use Rattle.hwp_hold.specs.Unlocks.{empty_frame}
 use Rattle.hwp_hold.specs.Unlocks as unlocks
 use Rattle.hwp_hold.proofs.Unlocking as unlocking
 use Rattle.hwp_claim.specs.declared.claim.Claim.{Claim}
@@ -41,11 +38,12 @@ use Rattle.hwp_claim.specs.declared.meet.MeetAt.{MeetAt}
 use Rattle.hwp_claim.specs.declared.meet.MeetAt.TheVariants as meet_at
 use Rattle.hwp_claim.specs.Grabs as grabs
 use Rattle.hwp_claim.specs.Meets as meets
-use Rattle.hwp_claim.specs.Meets.{is_ended, owner_in, word_in}
+use Rattle.hwp_claim.specs.Meets.{has_ended, is_ended, owner_in}
 use Rattle.hwp_claim.specs.Claims.{plan_at, bare_at, poisoned, is_done, looked, after_grab, after_meet, next_at, FitsAt, class, claims, claims_at, cost}
 use Rattle.hwp_claim.proofs.GrabCosts as grab_costs
-use Rattle.hwp_claim.proofs.MeetCosts.{after-is, meet-mild, met-at, set-word}
-use Rattle.hwp_claim.proofs.Retiring.{Keeps, claim-of, drops, drops-now, owned-by, retired}
+use Rattle.hwp_claim.proofs.MeetCosts.{meet-mild}
+use Rattle.hwp_claim.proofs.Poisoning.{poison-owns}
+use Rattle.hwp_claim.proofs.Retiring.{Keeps, drops, drops-now, owned-by, retired}
 use Rattle.hwp_claim.proofs.ClaimCosts.{claim-class, claim-falls, claim-leaves, claim-member, claim-small, claim-waits, seen-word}
 
 -- ---- a word that shows that a failure isn't pending
@@ -62,9 +60,6 @@ module _ (w : Words) (frame : Frame) (cycle word : ℕ) (there : slice_index w.f
 
   not-kernel : is_kernel word ≡ true → ⊥
   not-kernel is = both_ways (is_kernel word) (sym (ap is_kernel there) ∙ pending.kernel) is
-
-abbrev no-claim : Option (Frame × ℕ)
-no-claim = None
 
 module _ {layout : Layout} {seat : ℕ} {a b : State} {s t : Claim} {turned : Turn} (made : Made claim-member layout seat a b s t turned) where
   abbrev w : Words
@@ -106,7 +101,7 @@ module _ {layout : Layout} {seat : ℕ} {a b : State} {s t : Claim} {turned : Tu
   grab-keeps cycle g same grab_at.LookAgain e = absurd (none-some made.step e)
   grab-keeps cycle g same (grab_at.Grabbed word) e = absurd (none-some made.step e)
 
-  module _ (cycle : ℕ) (m : Meet) (same : m.frame ≡ s.frame) (own : m.cycle ≡ cycle) where
+  module _ (cycle : ℕ) (m : Meet) (same : m.frame ≡ s.frame) (own : m.cycle ≡ Some cycle) where
     abbrev old-claim : MeetAt → Option (Frame × ℕ)
     old-claim x = claims_at s.frame (at.Meet cycle (record m { at = x }))
 
@@ -114,8 +109,8 @@ module _ {layout : Layout} {seat : ℕ} {a b : State} {s t : Claim} {turned : Tu
     new-claim x = claims_at s.frame (after_meet cycle (record m { at = x }))
 
     -- the word under the lock shows that the failure has ended
-    ended-now : Some (steps.LockFrame m.frame) ≡ Some made.step → is_ended m.cycle made.found ≡ true → Pending w s.frame cycle → ⊥
-    ended-now e is pending = not-ended w s.frame cycle made.found (frame-there e (ap (λ (f : Frame). places.Frame f) same)) pending (ap (λ (n : ℕ). is_ended n made.found) (sym own) ∙ is)
+    ended-now : Some (steps.LockFrame m.frame) ≡ Some made.step → has_ended m.cycle made.found ≡ true → Pending w s.frame cycle → ⊥
+    ended-now e is pending = not-ended w s.frame cycle made.found (frame-there e (ap (λ (f : Frame). places.Frame f) same)) pending (ap (λ (n : Option ℕ). has_ended n made.found) (sym own) ∙ is)
 
     meet-keeps : (x : MeetAt) → meets.plan_at m.frame x ≡ Some made.step → Keeps w now (old-claim x) (new-claim (meets.next_at m.who m.frame m.cycle (meets.bare_at x) made.found made.got))
     meet-keeps (meet_at.GetRef seen) e = by (made.found == seen) (owner_in seen)
@@ -124,9 +119,9 @@ module _ {layout : Layout} {seat : ℕ} {a b : State} {s t : Claim} {turned : Tu
         by true None = inr (inl refl)
         by true (Some page) = inr (inl refl)
         by false o = inr (inl refl)
-    meet-keeps meet_at.LockFree e = by (is_free made.found) (is_ended m.cycle made.found) (meets.is_taken made.found) refl
+    meet-keeps meet_at.LockFree e = by (is_free made.found) (has_ended m.cycle made.found) (meets.is_taken made.found) refl
       where
-        by : (c d h : Bool) → is_ended m.cycle made.found ≡ d → Keeps w now (Some (s.frame, cycle)) (new-claim (cond c (meets.free_at made.got d h) meet_at.LockFree))
+        by : (c d h : Bool) → has_ended m.cycle made.found ≡ d → Keeps w now (Some (s.frame, cycle)) (new-claim (cond c (meets.free_at made.got d h) meet_at.LockFree))
         by false d h is = inr (inl refl)
         by true true h is = drops w now None s.frame cycle (ended-now e is)
         by true false true is = inr (inl refl)
@@ -136,9 +131,9 @@ module _ {layout : Layout} {seat : ℕ} {a b : State} {s t : Claim} {turned : Tu
         by : (c : Bool) → Keeps w now (Some (s.frame, cycle)) (new-claim (cond c (meet_at.LockOwned page made.got) (meet_at.LockPage page)))
         by true = inr (inl refl)
         by false = inr (inl refl)
-    meet-keeps (meet_at.LockOwned page shelf) e = by (is_free made.found) (is_ended m.cycle made.found) (meets.is_owner page made.found) made.got refl
+    meet-keeps (meet_at.LockOwned page shelf) e = by (is_free made.found) (has_ended m.cycle made.found) (meets.is_owner page made.found) made.got refl
       where
-        by : (c d h : Bool) (got : Option BodyValue) → is_ended m.cycle made.found ≡ d → Keeps w now (Some (s.frame, cycle)) (new-claim (cond c (meets.owned_at page shelf got d h) (meet_at.LockOwned page shelf)))
+        by : (c d h : Bool) (got : Option BodyValue) → has_ended m.cycle made.found ≡ d → Keeps w now (Some (s.frame, cycle)) (new-claim (cond c (meets.owned_at page shelf got d h) (meet_at.LockOwned page shelf)))
         by false d h got is = inr (inl refl)
         by true true h got is = drops w now None s.frame cycle (ended-now e is)
         by true false false got is = inr (inl refl)
@@ -169,73 +164,20 @@ module _ {layout : Layout} {seat : ℕ} {a b : State} {s t : Claim} {turned : Tu
       there : slice_index w.frames s.frame.0 ≡ made.found
       there = frame-there e refl
 
-      counted : (z : Bool) → Keeps w now (Some (s.frame, cycle)) (claims_at s.frame (cond z (at.Grab cycle (grabs.begin s.who s.frame)) (at.Meet cycle (meets.begin s.who s.frame cycle made.found))))
+      counted : (z : Bool) → Keeps w now (Some (s.frame, cycle)) (claims_at s.frame (cond z (at.Grab cycle (grabs.begin s.who s.frame)) (at.Meet cycle (meets.begin s.who s.frame (Some cycle) made.found))))
       counted true = inr (inl refl)
       counted false = inr (inl refl)
 
       done : (d h : Bool) → is_ended cycle made.found ≡ d → is_handled made.found ≡ h
-          → Keeps w now (Some (s.frame, cycle)) (claims_at s.frame (cond (d || h) (at.Free cycle) (cond (count_of made.found == 0) (at.Grab cycle (grabs.begin s.who s.frame)) (at.Meet cycle (meets.begin s.who s.frame cycle made.found)))))
+          → Keeps w now (Some (s.frame, cycle)) (claims_at s.frame (cond (d || h) (at.Free cycle) (cond (count_of made.found == 0) (at.Grab cycle (grabs.begin s.who s.frame)) (at.Meet cycle (meets.begin s.who s.frame (Some cycle) made.found)))))
       done true h ended is = drops w now None s.frame cycle (λ pending. not-ended w s.frame cycle made.found there pending ended)
       done false true ended is = drops w now None s.frame cycle (λ pending. not-handled w s.frame cycle made.found there pending is)
       done false false ended is = counted (count_of made.found == 0)
 
       kernel : (k : Bool) → is_kernel made.found ≡ k
-          → Keeps w now (Some (s.frame, cycle)) (claims_at s.frame (cond k (at.Kernel cycle) (cond (is_done cycle made.found) (at.Free cycle) (cond (count_of made.found == 0) (at.Grab cycle (grabs.begin s.who s.frame)) (at.Meet cycle (meets.begin s.who s.frame cycle made.found))))))
+          → Keeps w now (Some (s.frame, cycle)) (claims_at s.frame (cond k (at.Kernel cycle) (cond (is_done cycle made.found) (at.Free cycle) (cond (count_of made.found == 0) (at.Grab cycle (grabs.begin s.who s.frame)) (at.Meet cycle (meets.begin s.who s.frame (Some cycle) made.found))))))
       kernel true is = drops w now None s.frame cycle (λ pending. not-kernel w s.frame cycle made.found there pending is)
       kernel false is = done (is_ended cycle made.found) (is_handled made.found) refl refl
-
-  -- ---- the frame is poisoned
-
-  module _ (e : Some (steps.Poison s.frame s.hardware) ≡ Some made.step) (frame : Frame) (cycle : ℕ) (pending : Pending now frame cycle) where
-    abbrev Owned : ClaimAt → Type 0
-    Owned x = (claims_at s.frame x ≡ Some (frame, cycle)) ⊎ (Pending w frame cycle × (no-claim ≢ Some (frame, cycle)))
-
-    set-frames : now.frames ≡ set w.frames s.frame.0 (bit_or made.found 2)
-    set-frames = ap (λ (x : Words). x.frames) (after-is made e)
-
-    -- of another frame
-    elsewhere : (x : ClaimAt) → frame.0 ≢ s.frame.0 → Owned x
-    elsewhere x other = inr (
-      record {
-        poisoned = ap is_poisoned (sym same) ∙ pending.poisoned;
-        handled = ap is_handled (sym same) ∙ pending.handled;
-        kernel = ap is_kernel (sym same) ∙ pending.kernel;
-        cycle_is = ap cycle_of (sym same) ∙ pending.cycle_is;
-      },
-      λ is. none-some (frame, cycle) is,
-    )
-      where
-        same : slice_index now.frames frame.0 ≡ slice_index w.frames frame.0
-        same = ap (λ (l : List ℕ). slice_index l frame.0) set-frames ∙ get_or-set_other w.frames s.frame.0 frame.0 (bit_or made.found 2) 0 other
-
-    module _ (same : frame.0 ≡ s.frame.0) where
-      there : slice_index w.frames frame.0 ≡ made.found
-      there = ap (λ (n : ℕ). slice_index w.frames n) same ∙ frame-there e refl
-
-      word-is : slice_index now.frames frame.0 ≡ bit_or made.found 2
-      word-is = ap (λ (n : ℕ). slice_index now.frames n) same ∙ ap (word_in s.frame) (after-is made e) ∙ set-word layout a made.rule s.frame made.fits.frame made.found made.move.fits (met-at made e) (bit_or made.found 2)
-
-      same-cycle : cycle_of made.found ≡ cycle
-      same-cycle = sym (fields-poison made.found).cycle ∙ sym (ap cycle_of word-is) ∙ pending.cycle_is
-
-      own-frame : (c : Bool) → is_poisoned made.found ≡ c → Owned (cond c at.Already (at.Count (cycle_of made.found)))
-      own-frame false is = inl (ap (λ (n : ℕ). claim-of (record { 0 = n }) (cycle_of made.found)) (sym same) ∙ ap (claim-of frame) same-cycle)
-      own-frame true is = inr (
-        record {
-          poisoned = ap is_poisoned there ∙ is;
-          handled = ap is_handled there ∙ ap (λ (n : ℕ). n == 1) (sym (fields-poison made.found).handled) ∙ sym (ap is_handled word-is) ∙ pending.handled;
-          kernel = ap is_kernel there ∙ ap (λ (n : ℕ). n == 1) (sym (fields-poison made.found).kernel) ∙ sym (ap is_kernel word-is) ∙ pending.kernel;
-          cycle_is = ap cycle_of there ∙ same-cycle;
-        },
-        λ is. none-some (frame, cycle) is,
-      )
-
-    poison-owns : Owned (poisoned made.found)
-    poison-owns = which (same-or frame.0 s.frame.0)
-      where
-        which : (frame.0 ≡ s.frame.0) ⊎ (frame.0 ≢ s.frame.0) → Owned (poisoned made.found)
-        which (inl same) = own-frame same (is_poisoned made.found) refl
-        which (inr other) = elsewhere (poisoned made.found) other
 
   -- ---- every turn
 
@@ -254,7 +196,10 @@ module _ {layout : Layout} {seat : ℕ} {a b : State} {s t : Claim} {turned : Tu
       which : (x : ClaimAt) → FitsAt layout (view_of a seat) s.who s.frame s.hardware x → plan_at s.who s.frame s.hardware x ≡ Some made.step
           → (claims_at s.frame (next_at s.who s.frame (bare_at x) made.found made.got) ≡ Some (frame, cycle)) ⊎ (Pending w frame cycle × (claims_at s.frame x ≢ Some (frame, cycle)))
       which at.Stop has e = kept None _ (mild-planned e tt) (inl refl)
-      which at.Poison has e = poison-owns e frame cycle pending
+      which at.Poison has e = elim (poison-owns made s.frame s.hardware made.fits.frame e frame cycle pending) [
+        | inl own ↦ inl (ap (λ (c : Bool). claims_at s.frame (cond c at.Already (at.Count (cycle_of made.found)))) own.0 ∙ own.1)
+        | inr before ↦ inr (before, λ is. none-some (frame, cycle) is)
+      ]
       which (at.Count own) has e = kept (Some (s.frame, own)) (Some (s.frame, own)) (mild-planned e tt) (inr (inl refl))
       which (at.Look own) has e = kept (Some (s.frame, own)) _ (mild-planned e tt) (look-keeps own e)
       which (at.Grab own g) has e = kept (Some (s.frame, own)) _ (grab_costs.mild g made.step e) (grab-keeps own g has.0.frame_is g.at e)

@@ -61,7 +61,7 @@ use Rattle.hwp_claim.specs.declared.meet.MeetAnswer.TheVariants as meet_answers
 use Rattle.hwp_claim.specs.Grabs as grabs
 use Rattle.hwp_claim.specs.Meets as meets
 use Rattle.hwp_claim.specs.Meets.{AsTaken, is_ended}
-use Rattle.hwp_claim.specs.Claims.{plan, plan_at, put, put_at, bare, bare_at, stopped, poisoned, is_done, looked, grabbed, after_grab, after_grab_by, after_meet, after_meet_by, owned_by, after_unlock, next, next_at, turn, Shows, ShowsAt, is_own, marks_by, HasMarked, HasPoisoned, IsGrabbing, IsMeeting, IsUnlocking, IsUsers, Fits, FitsAt, pressing, class, class_at}
+use Rattle.hwp_claim.specs.Claims.{plan, plan_at, put, put_at, bare, bare_at, stopped, poisoned, is_done, looked, grabbed, after_grab, after_grab_by, after_meet, after_meet_by, owned_by, after_unlock, next, next_at, turn, Shows, ShowsAt, is_own, marks_by, HasMarked, HasPoisoned, SawPoison, IsGrabbing, IsMeeting, IsUnlocking, IsUsers, Fits, FitsAt, pressing, class, class_at}
 use Rattle.hwp_claim.proofs.Grabbing as grabbing
 use Rattle.hwp_claim.proofs.Meeting as meeting
 use Rattle.hwp_claim.proofs.Keeping.{Account, account_of, either, kept, grab-only, meet-only, unlock-only}
@@ -181,12 +181,38 @@ module _ {layout : Layout} {who : Who} {old new : View} {found : ℕ} {got : Opt
     new-marks : new.marks ≡ old.marks ++ the-mark ∷ []
     new-marks = ap (λ (v : View). v.marks) is-poisoned
 
+    -- the command marked it last, and owes the count
+    pub has-marked : HasMarked new who frame hardware (cycle_of found)
+    has-marked = record {
+      before = marks_by who old;
+      mark = the-mark;
+      marks = ap (filter (is_own who)) new-marks ∙ filter-append (is_own who) old.marks (the-mark ∷ []) ∙ ap (λ (b : Bool). marks_by who old ++ cond b (the-mark ∷ []) []) own-mark;
+      frame_is = refl;
+      cycle_is = refl;
+      kind_is = refl;
+    }
+
+    owes : (h : Bool) → new.owed ≡ owing_count h old.owed → OwesCount new h
+    owes true is = subst (λ (n : ℕ). 0 < n) (sym (ap (λ (d : _). d.hardware) is)) (omega arith)
+    owes false is = subst (λ (n : ℕ). 0 < n) (sym (ap (λ (d : _). d.counts) is)) (omega arith)
+
+    pub owes-count : OwesCount new hardware
+    owes-count = owes hardware (ap (λ (v : View). v.owed) is-poisoned)
+
   module _ (set : is_poisoned found ≡ true) where
     no-bit : (found / 2 % 2 == 0) ≡ false
     no-bit = ne_eqb (found / 2 % 2) 0 (λ e. let one : found / 2 % 2 ≡ 1 = eqb-true (found / 2 % 2) 1 set in omega (arith, e, one))
 
     pub poison-keeps : account_of new ≡ account_of old
     poison-keeps = ap account_of (next-is false no-bit)
+
+    -- it was shown poisoned
+    pub saw-poison : SawPoison new who frame
+    saw-poison = record {
+      word = found;
+      poisoned = set;
+      saw = subst (SomeMember (IsShown who (places.Frame frame) found)) (sym (ap (λ (v : View). v.sights) (next-is false no-bit))) (some-last (IsShown who (places.Frame frame) found) old.sights (record { stamp = stamp_of who (noted who old); place = places.Frame frame; word = found }) (refl, refl, refl));
+    }
 
   module _ (paid : old.owed.losses ≡ []) (held : hand_of new ≡ empty) where
     few-losses : sum_by (λ (m : Made). from_bool (is_loss m.entry.what)) old.made ≤ sum_by (λ (m : Mark). from_bool (is_poisoning m.kind)) old.marks
@@ -197,23 +223,12 @@ module _ {layout : Layout} {who : Who} {old new : View} {found : ℕ} {got : Opt
 
     has-poisoned : is_poisoned found ≡ false → HasPoisoned new who frame hardware (cycle_of found)
     has-poisoned clear = record {
-      marked = record {
-        before = marks_by who old;
-        mark = the-mark;
-        marks = ap (filter (is_own who)) (new-marks clear) ∙ filter-append (is_own who) old.marks (the-mark ∷ []) ∙ ap (λ (b : Bool). marks_by who old ++ cond b (the-mark ∷ []) []) own-mark;
-        frame_is = refl;
-        cycle_is = refl;
-        kind_is = refl;
-      };
+      marked = has-marked clear;
       spare = subst (λ (l : List Made). Spares l new.marks) (sym (ap (λ (v : View). v.made) (is-poisoned clear))) (subst (λ (l : List Mark). Spares old.made l) (sym (new-marks clear))
           (let few : sum_by (λ (m : Made). from_bool (is_loss m.entry.what)) old.made ≤ sum_by (λ (m : Mark). from_bool (is_poisoning m.kind)) old.marks = few-losses in
           let more : sum_by (λ (m : Mark). from_bool (is_poisoning m.kind)) (old.marks ++ the-mark ∷ []) ≡ sum_by (λ (m : Mark). from_bool (is_poisoning m.kind)) old.marks + 1 = sum_by-append (λ (m : Mark). from_bool (is_poisoning m.kind)) old.marks (the-mark ∷ []) in
           omega (arith, few, more)));
     }
-
-    owes : (h : Bool) → new.owed ≡ owing_count h old.owed → OwesCount new h
-    owes true is = subst (λ (n : ℕ). 0 < n) (sym (ap (λ (d : _). d.hardware) is)) (omega arith)
-    owes false is = subst (λ (n : ℕ). 0 < n) (sym (ap (λ (d : _). d.counts) is)) (omega arith)
 
     still-paid : (h : Bool) → new.owed ≡ owing_count h old.owed → new.owed.losses ≡ []
     still-paid true is = ap (λ (d : _). d.losses) is ∙ paid
@@ -222,20 +237,13 @@ module _ {layout : Layout} {who : Who} {old new : View} {found : ℕ} {got : Opt
     goes-on : is_poisoned found ≡ false → After layout new who frame hardware (at.Count (cycle_of found))
     goes-on clear = record {
       paid = still-paid hardware (ap (λ (v : View). v.owed) (is-poisoned clear));
-      at = (held, has-poisoned clear, owes hardware (ap (λ (v : View). v.owed) (is-poisoned clear)));
+      at = (held, has-poisoned clear, owes-count clear);
     }
 
     stays-off : is_poisoned found ≡ true → After layout new who frame hardware at.Already
     stays-off set = record {
       paid = same-paid old new (poison-keeps set) paid;
-      at = (
-        held,
-        record {
-          word = found;
-          poisoned = set;
-          saw = subst (SomeMember (IsShown who (places.Frame frame) found)) (sym (ap (λ (v : View). v.sights) (next-is false (no-bit set)))) (some-last (IsShown who (places.Frame frame) found) old.sights (record { stamp = stamp_of who (noted who old); place = places.Frame frame; word = found }) (refl, refl, refl));
-        },
-      );
+      at = (held, saw-poison set);
     }
 
     after-poison : After layout new who frame hardware (poisoned found)
@@ -288,7 +296,7 @@ module _ {layout : Layout} {who : Who} {new : View} (frame : Frame) (hardware : 
         unhandled true h is = absurd (both_ways true is refl)
         unhandled false h is = is
 
-        counted : (z : Bool) → (count_of found == 0) ≡ z → is_kernel found ≡ false → is_done cycle found ≡ false → FitsAt layout new who frame hardware (cond z (at.Grab cycle (grabs.begin who frame)) (at.Meet cycle (meets.begin who frame cycle found)))
+        counted : (z : Bool) → (count_of found == 0) ≡ z → is_kernel found ≡ false → is_done cycle found ≡ false → FitsAt layout new who frame hardware (cond z (at.Grab cycle (grabs.begin who frame)) (at.Meet cycle (meets.begin who frame (Some cycle) found)))
         counted true zero user going = (
           record {
             grab = record { on_turn = on; frame = inside; users = (mine user).users; held = held; knows = tt };
@@ -310,12 +318,12 @@ module _ {layout : Layout} {who : Who} {new : View} (frame : Frame) (hardware : 
         )
 
         done : (d : Bool) → is_done cycle found ≡ d → is_kernel found ≡ false
-            → FitsAt layout new who frame hardware (cond d (at.Free cycle) (cond (count_of found == 0) (at.Grab cycle (grabs.begin who frame)) (at.Meet cycle (meets.begin who frame cycle found))))
+            → FitsAt layout new who frame hardware (cond d (at.Free cycle) (cond (count_of found == 0) (at.Grab cycle (grabs.begin who frame)) (at.Meet cycle (meets.begin who frame (Some cycle) found))))
         done true is user = (held, mine user)
         done false is user = counted (count_of found == 0) refl user is
 
         by : (k : Bool) → is_kernel found ≡ k
-            → FitsAt layout new who frame hardware (cond k (at.Kernel cycle) (cond (is_done cycle found) (at.Free cycle) (cond (count_of found == 0) (at.Grab cycle (grabs.begin who frame)) (at.Meet cycle (meets.begin who frame cycle found)))))
+            → FitsAt layout new who frame hardware (cond k (at.Kernel cycle) (cond (is_done cycle found) (at.Free cycle) (cond (count_of found == 0) (at.Grab cycle (grabs.begin who frame)) (at.Meet cycle (meets.begin who frame (Some cycle) found)))))
         by true is = (held, same-poisoned keeps has, kernel ∙ ap (λ (b : Bool). Some b) is)
         by false is = done (is_done cycle found) refl is
 
@@ -358,10 +366,10 @@ module _ {layout : Layout} {who : Who} {new : View} (frame : Frame) (hardware : 
 
     -- ---- it is met
 
-    after-meet-is : (m : Meet) → meets.Fits layout new m → m.who ≡ who → m.frame ≡ frame → m.cycle ≡ cycle → FitsAt layout new who frame hardware (after_meet cycle m)
+    after-meet-is : (m : Meet) → meets.Fits layout new m → m.who ≡ who → m.frame ≡ frame → m.cycle ≡ Some cycle → FitsAt layout new who frame hardware (after_meet cycle m)
     after-meet-is m fits own frame_is cycle_is = which (meets.answer m) refl
       where
-        goes-on : (x : MeetAt) → meets.FitsAt layout new m.who m.frame x → meets.answer_at x ≡ None → is_none (meets.plan_at m.frame x) ≡ false
+        goes-on : (x : MeetAt) → meets.FitsAt layout new m.who m.frame m.cycle x → meets.answer_at x ≡ None → is_none (meets.plan_at m.frame x) ≡ false
         goes-on (meet_at.GetRef seen) has none = refl
         goes-on meet_at.LockFree has none = refl
         goes-on (meet_at.LockPage page) has none = refl
@@ -374,8 +382,8 @@ module _ {layout : Layout} {who : Who} {new : View} (frame : Frame) (hardware : 
         goes-on meet_at.Free has none = absurd (none-some _ (sym none))
         goes-on (meet_at.Owned page body) has none = absurd (none-some _ (sym none))
 
-        owned : (page : Page) (x : MeetAt) → (meets.is_owned_at x ≡ true) × ((body : BodyValue) → meets.IsBodyAt x body → meets.HoldsPoisoned layout new m.who page m.frame body) → FitsAt layout new who frame hardware (owned_by cycle m page x)
-        owned page (meet_at.Owned own-page body) has = (subst (λ (w : Who). meets.HoldsPoisoned layout new w page frame body) own (subst (λ (f : Frame). meets.HoldsPoisoned layout new m.who page f body) frame_is (has.1 body refl)), users)
+        owned : (page : Page) (x : MeetAt) → (meets.is_owned_at x ≡ true) × ((body : BodyValue) → meets.IsBodyAt x body → meets.HoldsMet layout new m.who page m.frame m.cycle body) → FitsAt layout new who frame hardware (owned_by cycle m page x)
+        owned page (meet_at.Owned own-page body) has = (subst (λ (w : Who). meets.HoldsMet layout new w page frame (Some cycle) body) own (subst (λ (f : Frame). meets.HoldsMet layout new m.who page f (Some cycle) body) frame_is (subst (λ (o : Option ℕ). meets.HoldsMet layout new m.who page m.frame o body) cycle_is (has.1 body refl))), users)
         owned page (meet_at.GetRef seen) has = absurd (both_ways true (sym has.0) refl)
         owned page meet_at.LockFree has = absurd (both_ways true (sym has.0) refl)
         owned page (meet_at.LockPage own-page) has = absurd (both_ways true (sym has.0) refl)
@@ -387,11 +395,14 @@ module _ {layout : Layout} {who : Who} {new : View} (frame : Frame) (hardware : 
         owned page (meet_at.Back ended) has = absurd (both_ways true (sym has.0) refl)
         owned page meet_at.Free has = absurd (both_ways true (sym has.0) refl)
 
+        free : meets.HoldsFree new m.frame m.cycle → hand_of new ≡ empty_frame frame false true
+        free has = has.hand_is ∙ ap (empty_frame m.frame false) (subst (λ (o : Option ℕ). meets.IsFailed o has.poisoned) cycle_is has.failed) ∙ ap (λ (f : Frame). empty_frame f false true) frame_is
+
         which : (x : Option MeetAnswer) → meets.answer m ≡ x → FitsAt layout new who frame hardware (after_meet_by cycle m x)
         which None e = (record { meet = fits; own = own; frame_is = frame_is; cycle_is = cycle_is; under_way = goes-on m.at fits.at e }, users)
         which (Some meet_answers.LookAgain) e = (meeting.is-met layout new m meet_answers.LookAgain fits e, users.poisoned)
         which (Some meet_answers.Ended) e = (meeting.is-met layout new m meet_answers.Ended fits e, users)
-        which (Some meet_answers.Free) e = (meeting.is-met layout new m meet_answers.Free fits e ∙ ap (λ (f : Frame). empty_frame f false true) frame_is, users)
+        which (Some meet_answers.Free) e = (free (meeting.is-met layout new m meet_answers.Free fits e), users)
         which (Some (meet_answers.Owned page)) e = owned page m.at (meeting.is-met layout new m (meet_answers.Owned page) fits e)
 
     -- ---- it is let go

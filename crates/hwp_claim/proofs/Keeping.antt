@@ -111,7 +111,7 @@ module _ {layout : Layout} {who : Who} {old new : View} {found : ℕ} {got : Opt
 
 -- ---- the parts' steps
 
-planned : {step other : Step} → Some other ≡ Some step → OnlyHolds other → OnlyHolds step
+pub planned : {step other : Step} → Some other ≡ Some step → OnlyHolds other → OnlyHolds step
 planned {step} {other} is only = subst OnlyHolds (same_Some other step is) only
 
 pub grab-only : (g : Grab) (step : Step) → grabs.plan g ≡ Some step → OnlyHolds step

@@ -5,6 +5,7 @@ pub mod Leaving
 pub mod Meeting
 pub mod MeetCosts
 pub mod Retiring
+pub mod Poisoning
 pub mod Keeping
 pub mod Claiming
 pub mod Adding

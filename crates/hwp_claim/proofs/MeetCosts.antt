@@ -36,7 +36,7 @@ use Rattle.hwp_hold.proofs.Ranking.{met-own, release-class, release-falls, relea
 use Rattle.hwp_claim.specs.declared.meet.Meet.{Meet}
 use Rattle.hwp_claim.specs.declared.meet.MeetAt.{MeetAt}
 use Rattle.hwp_claim.specs.declared.meet.MeetAt.TheVariants as at
-use Rattle.hwp_claim.specs.Meets.{is_ended, is_owner, is_page, is_taken, owner_in, plan, plan_at, put as given, bare, bare_at, referenced, free_at, owned_at, released, next, next_at, ShowsAt, turn, turn_at, Fits, FitsAt, class, class_at, cost, cost_with, end_cost, word_in}
+use Rattle.hwp_claim.specs.Meets.{has_ended, is_owner, is_page, is_taken, owner_in, plan, plan_at, put as given, bare, bare_at, referenced, free_at, owned_at, released, next, next_at, ShowsAt, turn, turn_at, Fits, FitsAt, class, class_at, cost, cost_with, end_cost, word_in}
 use Rattle.hwp_claim.proofs.Meeting.{both, paged-locks}
 
 abbrev pub meet-member : Member Meet
@@ -115,7 +115,7 @@ module _ {layout : Layout} {seat : ℕ} {a b : State} {s t : Meet} {turn : Turn}
     owned-cost page shelf (Some body) false true w now is some = omega arith
     owned-cost page shelf None false true w now is some = absurd (both_ways true (sym (some refl refl)) refl)
 
-    falls-at : (x : MeetAt) → plan_at s.frame x ≡ Some made.step → FitsAt layout (view_of a seat) s.who s.frame x → ShowsAt s.cycle (bare_at x) made.found made.got → is_waits (turn_at (bare_at x) made.found) ≡ false
+    falls-at : (x : MeetAt) → plan_at s.frame x ≡ Some made.step → FitsAt layout (view_of a seat) s.who s.frame s.cycle x → ShowsAt s.cycle (bare_at x) made.found made.got → is_waits (turn_at (bare_at x) made.found) ≡ false
         → cost_with rest again s.frame (next_at s.who s.frame s.cycle (bare_at x) made.found made.got) (words_at layout b) < cost_with rest again s.frame x (words_at layout a)
     falls-at (at.GetRef seen) e has shows goes = by (made.found == seen) refl
       where
@@ -131,8 +131,8 @@ module _ {layout : Layout} {seat : ℕ} {a b : State} {s t : Meet} {turn : Turn}
         shown = met-own (words_at layout a) made.found e (met made)
 
         by : (c : Bool) → is_waits (cond c Moved (Waits made.found)) ≡ false
-            → cost_with rest again s.frame (cond c (free_at made.got (is_ended s.cycle made.found) (is_taken made.found)) at.LockFree) (words_at layout b) < rest + 5 + stale (not (is_taken (word_in s.frame (words_at layout a))))
-        by true goes = free-cost (is_ended s.cycle made.found) (is_taken made.found) (words_at layout a) (words_at layout b) (ap is_taken shown)
+            → cost_with rest again s.frame (cond c (free_at made.got (has_ended s.cycle made.found) (is_taken made.found)) at.LockFree) (words_at layout b) < rest + 5 + stale (not (is_taken (word_in s.frame (words_at layout a))))
+        by true goes = free-cost (has_ended s.cycle made.found) (is_taken made.found) (words_at layout a) (words_at layout b) (ap is_taken shown)
         by false goes = absurd (both_ways true goes refl)
     falls-at (at.LockPage page) e has shows goes = by (is_free made.found) goes
       where
@@ -148,9 +148,9 @@ module _ {layout : Layout} {seat : ℕ} {a b : State} {s t : Meet} {turn : Turn}
         shown : word_in s.frame (words_at layout a) ≡ made.found
         shown = met-own (words_at layout a) made.found e (met made)
 
-        by : (c : Bool) → is_waits (cond c Moved (Waits made.found)) ≡ false → (c ≡ true → is_ended s.cycle made.found ≡ false → is_owner page made.found ≡ true → is_some made.got ≡ true)
-            → cost_with rest again s.frame (cond c (owned_at page shelf made.got (is_ended s.cycle made.found) (is_owner page made.found)) (at.LockOwned page shelf)) (words_at layout b) < rest + 6 + stale (is_owner page (word_in s.frame (words_at layout a)))
-        by true goes shows = owned-cost page shelf made.got (is_ended s.cycle made.found) (is_owner page made.found) (words_at layout a) (words_at layout b) (ap (is_owner page) shown) (shows refl)
+        by : (c : Bool) → is_waits (cond c Moved (Waits made.found)) ≡ false → (c ≡ true → has_ended s.cycle made.found ≡ false → is_owner page made.found ≡ true → is_some made.got ≡ true)
+            → cost_with rest again s.frame (cond c (owned_at page shelf made.got (has_ended s.cycle made.found) (is_owner page made.found)) (at.LockOwned page shelf)) (words_at layout b) < rest + 6 + stale (is_owner page (word_in s.frame (words_at layout a)))
+        by true goes shows = owned-cost page shelf made.got (has_ended s.cycle made.found) (is_owner page made.found) (words_at layout a) (words_at layout b) (ap (is_owner page) shown) (shows refl)
         by false goes shows = absurd (both_ways true goes refl)
     falls-at (at.Unlock body ended) e has shows goes = omega arith
     falls-at (at.UnlockFrame page shelf body ended) e has shows goes = omega arith
@@ -183,7 +183,7 @@ module _ {layout : Layout} {seat : ℕ} {a b : State} {s t : Meet} {turn : Turn}
       changed true = refl
       changed false = refl
 
-      which : (x : MeetAt) → plan_at s.frame x ≡ Some made.step → FitsAt layout (view_of a seat) s.who s.frame x → is_waits (turn_at (bare_at x) made.found) ≡ true → min (class_at x) 3 ≤ c → ⊥
+      which : (x : MeetAt) → plan_at s.frame x ≡ Some made.step → FitsAt layout (view_of a seat) s.who s.frame s.cycle x → is_waits (turn_at (bare_at x) made.found) ≡ true → min (class_at x) 3 ≤ c → ⊥
       which (at.GetRef seen) e has waits least = both_ways true (sym waits ∙ changed (made.found == seen)) refl
       which at.LockFree e has waits least = free made.found (frame-free layout a made.rule s.frame made.found made.fits.frame (met-at made e) (no-lock quiet (omega (arith, least)) (ap (λ (h : Hand). h.locks) has))) waits
       which (at.LockPage page) e has waits least = free made.found (page-free layout a made.rule page made.found has.1 (met-at made e) (no-page quiet (omega (arith, least)) (ap (λ (h : Hand). h.pages) has.0))) waits

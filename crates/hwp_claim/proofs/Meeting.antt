@@ -48,7 +48,7 @@ use Rattle.hwp_claim.specs.declared.meet.MeetAt.{MeetAt}
 use Rattle.hwp_claim.specs.declared.meet.MeetAt.TheVariants as at
 use Rattle.hwp_claim.specs.declared.meet.MeetAnswer.{MeetAnswer}
 use Rattle.hwp_claim.specs.declared.meet.MeetAnswer.TheVariants as answers
-use Rattle.hwp_claim.specs.Meets.{AsTaken, is_ended, is_owner, is_taken, owner_in, plan, plan_at, put, put_at, bare, bare_at, referenced, free_at, owned_at, released_at, next, next_at, ShowsAt, Shows, turn, paged, reference, IsPaged, IsLeaving, HoldsPoisoned, Fits, FitsAt, Met, MetAt, answer, answer_at, back, class, class_at, released_answer}
+use Rattle.hwp_claim.specs.Meets.{AsTaken, is_ended, has_ended, IsFailed, HoldsMet, is_owner, is_taken, owner_in, plan, plan_at, put, put_at, bare, bare_at, referenced, free_at, owned_at, released_at, next, next_at, ShowsAt, Shows, turn, paged, reference, IsPaged, IsLeaving, Fits, FitsAt, Met, MetAt, answer, answer_at, back, class, class_at, released_answer}
 use Rattle.hwp_claim.proofs.FrameSlots
 use Rattle.hwp_claim.proofs.Leaving
 
@@ -63,6 +63,10 @@ not-ended cycle word is = which (is_poisoned word) refl
     which : (b : Bool) → is_poisoned word ≡ b → is_poisoned word ≡ true
     which true e = e
     which false e = absurd (both_ways (is_ended cycle word) is (ap (λ (b : Bool). not (b && (cycle_of word == cycle))) e))
+
+failed-met : (cycle : Option ℕ) (word : ℕ) → has_ended cycle word ≡ false → IsFailed cycle (is_poisoned word)
+failed-met None word is = tt
+failed-met (Some cycle) word is = not-ended cycle word is
 
 not-handled : (word : ℕ) → is_taken word ≡ false → is_handled word ≡ false
 not-handled word is = which (is_handled word) refl
@@ -111,17 +115,17 @@ shelf-freed layout page frame log seen of_log = grind arith
 counted : (frame : Frame) → 1 + locks_on frame.0 [] ≤ refs_on frame.0 (one_ref frame)
 counted frame = let same = same-number frame.0 frame.0 refl in grind arith
 
-module _ (layout : Layout) (old new : View) (who : Who) (frame : Frame) (inside : frame.0 < layout.frames) (cycle found : ℕ) (got : Option BodyValue) (on : IsOnTurn new who) where
+module _ (layout : Layout) (old new : View) (who : Who) (frame : Frame) (inside : frame.0 < layout.frames) (cycle : Option ℕ) (found : ℕ) (got : Option BodyValue) (on : IsOnTurn new who) where
   -- ---- the reference
 
-  ref-got : (seen : ℕ) → Steps layout who (steps.GetRef frame seen 1) None old new found got → hand_of old ≡ empty → FitsAt layout new who frame (cond (found == seen) (referenced (owner_in seen)) (at.Back false))
+  ref-got : (seen : ℕ) → Steps layout who (steps.GetRef frame seen 1) None old new found got → hand_of old ≡ empty → FitsAt layout new who frame cycle (cond (found == seen) (referenced (owner_in seen)) (at.Back false))
   ref-got seen made none = which (found == seen) refl (hand-planned made refl none)
     where
-      with-owner : (o : Option Page) → owner_in found ≡ o → hand_of new ≡ reference frame → FitsAt layout new who frame (referenced o)
+      with-owner : (o : Option Page) → owner_in found ≡ o → hand_of new ≡ reference frame → FitsAt layout new who frame cycle (referenced o)
       with-owner None is hand = hand
       with-owner (Some page) is hand = (hand, FrameSlots.page-within layout made.told.board made.told.rule frame found inside made.told.met page is)
 
-      which : (b : Bool) → (found == seen) ≡ b → hand_of new ≡ cond b (reference frame) empty → FitsAt layout new who frame (cond b (referenced (owner_in seen)) (at.Back false))
+      which : (b : Bool) → (found == seen) ≡ b → hand_of new ≡ cond b (reference frame) empty → FitsAt layout new who frame cycle (cond b (referenced (owner_in seen)) (at.Back false))
       which true same hand = with-owner (owner_in seen) (ap owner_in (eqb-true found seen same)) hand
       which false other hand = hand
 
@@ -156,10 +160,10 @@ module _ (layout : Layout) (old new : View) (who : Who) (frame : Frame) (inside 
     shelf-taken None seen is = refl
     shelf-taken (Some b) seen is = let same : page.0 ≡ b.page.0 = sym (ap (λ (p : Page). p.0) (is b refl)) in grind arith
 
-    page-locked : FitsAt layout new who frame (cond (is_free found) (at.LockOwned page got) (at.LockPage page))
+    page-locked : FitsAt layout new who frame cycle (cond (is_free found) (at.LockOwned page got) (at.LockPage page))
     page-locked = which (is_free found) refl
       where
-        which : (free : Bool) → is_free found ≡ free → FitsAt layout new who frame (cond free (at.LockOwned page got) (at.LockPage page))
+        which : (free : Bool) → is_free found ≡ free → FitsAt layout new who frame cycle (cond free (at.LockOwned page got) (at.LockPage page))
         which false is = (after-page ∙ went (is_free found) false _ _ is, within)
         which true is = record {
           seen = length old.sights;
@@ -201,26 +205,25 @@ module _ (layout : Layout) (old new : View) (who : Who) (frame : Frame) (inside 
         goes-as-taken : AsTaken new got
         goes-as-taken = Leaving.alone-taken layout who new frame found (length old.sights) got hand-free
 
-        bare-lock : is_ended cycle found ≡ false → is_taken found ≡ false → hand_of new ≡ empty_frame frame false true
-        bare-lock lasts unused = hand-free ∙ ap (λ (c : Option Log). taking layout (Some frame) c (length old.sights) (record (reference frame) { locks = lock_found frame found ∷ [] })) (ap logs (unnamed got (named is ∙ zero)))
+        bare-lock : is_taken found ≡ false → hand_of new ≡ empty_frame frame false (is_poisoned found)
+        bare-lock unused = hand-free ∙ ap (λ (c : Option Log). taking layout (Some frame) c (length old.sights) (record (reference frame) { locks = lock_found frame found ∷ [] })) (ap logs (unnamed got (named is ∙ zero)))
             ∙ ap (λ (o : ℕ). record (reference frame) { locks = record { frame = frame; owner = o; handled = is_handled found; poisoned = is_poisoned found } ∷ [] }) zero
             ∙ ap (λ (b : Bool). empty_frame frame b (is_poisoned found)) (not-handled found unused)
-            ∙ ap (empty_frame frame false) (not-ended cycle found lasts)
           where
             zero : owner_of found ≡ 0
             zero = FrameSlots.owner-none layout made.told.board made.told.rule frame found inside made.told.met (free-word found is) (no-owner found unused)
 
-      free-locked : FitsAt layout new who frame (cond (is_free found) (free_at got (is_ended cycle found) (is_taken found)) at.LockFree)
+      free-locked : FitsAt layout new who frame cycle (cond (is_free found) (free_at got (has_ended cycle found) (is_taken found)) at.LockFree)
       free-locked = which (is_free found) refl
         where
-          choose : (e t : Bool) → is_free found ≡ true → is_ended cycle found ≡ e → is_taken found ≡ t → FitsAt layout new who frame (free_at got e t)
+          choose : (e t : Bool) → is_free found ≡ true → has_ended cycle found ≡ e → is_taken found ≡ t → FitsAt layout new who frame cycle (free_at got e t)
           choose true t is ended taken = (let-go is, goes-as-taken is)
           choose false true is ended taken = (let-go is, goes-as-taken is)
-          choose false false is ended taken = bare-lock is ended taken
+          choose false false is ended taken = record { poisoned = is_poisoned found; hand_is = bare-lock is taken; failed = failed-met cycle found ended }
 
-          which : (free : Bool) → is_free found ≡ free → FitsAt layout new who frame (cond free (free_at got (is_ended cycle found) (is_taken found)) at.LockFree)
+          which : (free : Bool) → is_free found ≡ free → FitsAt layout new who frame cycle (cond free (free_at got (has_ended cycle found) (is_taken found)) at.LockFree)
           which false is = after-free ∙ went (is_free found) false _ _ is
-          which true is = choose (is_ended cycle found) (is_taken found) is refl refl
+          which true is = choose (has_ended cycle found) (is_taken found) is refl refl
 
     -- where the page is locked
     module _ (page : Page) (shelf : Option BodyValue) (has : IsPaged layout old page frame shelf) where
@@ -323,33 +326,33 @@ module _ (layout : Layout) (old new : View) (who : Who) (frame : Frame) (inside 
                 by true (Some log) = refl
                 by false content = refl
 
-            poisoned-met : is_ended cycle found ≡ false → HoldsPoisoned layout new who page frame b
+            held-met : has_ended cycle found ≡ false → HoldsMet layout new who page frame cycle b
             unfolding holds
-            poisoned-met lasts = record {
+            held-met lasts = record {
               holds = holds;
               unhandled = FrameSlots.owner-unhandled layout made.told.board made.told.rule frame found inside made.told.met (free-word found is) page owner;
-              poisoned = not-ended cycle found lasts;
+              failed = failed-met cycle found lasts;
               few = let same : length new.sights ≡ length old.sights = ap (λ (l : List _). length l) same-sights in omega (arith, same);
               saw = saw-log-frame (subst (λ (g : Option BodyValue). Steps layout who (steps.LockFrame frame) None old new found g) brought-is made) is bare-lock-of
                   (ap (λ (h : Hand). slice_get h.pages 0) (has.hand_is ∙ ap (λ (x : Option BodyValue). paged layout page frame has.cache (logs x) has.seen) no-shelf)) (sym page-is);
               inside = has.inside;
             }
 
-          own-fits : (e : Bool) → is_ended cycle found ≡ e → FitsAt layout new who frame (owned_at page shelf got e true)
-          own-fits true ended = subst (λ (g : Option BodyValue). FitsAt layout new who frame (owned_at page shelf g true true)) (sym there-is.1) (own-leaves there-is.0 there-is.1 there-is.2)
-          own-fits false lasts = subst (λ (g : Option BodyValue). FitsAt layout new who frame (owned_at page shelf g false true)) (sym there-is.1) (poisoned-met there-is.0 there-is.1 there-is.2 lasts)
+          own-fits : (e : Bool) → has_ended cycle found ≡ e → FitsAt layout new who frame cycle (owned_at page shelf got e true)
+          own-fits true ended = subst (λ (g : Option BodyValue). FitsAt layout new who frame cycle (owned_at page shelf g true true)) (sym there-is.1) (own-leaves there-is.0 there-is.1 there-is.2)
+          own-fits false lasts = subst (λ (g : Option BodyValue). FitsAt layout new who frame cycle (owned_at page shelf g false true)) (sym there-is.1) (held-met there-is.0 there-is.1 there-is.2 lasts)
 
-      owned-locked : ShowsAt cycle (at.LockOwned page shelf) found got × FitsAt layout new who frame (cond (is_free found) (owned_at page shelf got (is_ended cycle found) (is_owner page found)) (at.LockOwned page shelf))
+      owned-locked : ShowsAt cycle (at.LockOwned page shelf) found got × FitsAt layout new who frame cycle (cond (is_free found) (owned_at page shelf got (has_ended cycle found) (is_owner page found)) (at.LockOwned page shelf))
       owned-locked = ((λ free lasts own. ap (λ (g : Option BodyValue). is_some g) (there-is free own).1), which (is_free found) refl)
         where
-          choose : (e o : Bool) → is_free found ≡ true → is_ended cycle found ≡ e → is_owner page found ≡ o → FitsAt layout new who frame (owned_at page shelf got e o)
+          choose : (e o : Bool) → is_free found ≡ true → has_ended cycle found ≡ e → is_owner page found ≡ o → FitsAt layout new who frame cycle (owned_at page shelf got e o)
           choose e true is ended own = own-fits is own e ended
           choose true false is ended differs = leaves is differs
           choose false false is ended differs = leaves is differs
 
-          which : (free : Bool) → is_free found ≡ free → FitsAt layout new who frame (cond free (owned_at page shelf got (is_ended cycle found) (is_owner page found)) (at.LockOwned page shelf))
+          which : (free : Bool) → is_free found ≡ free → FitsAt layout new who frame cycle (cond free (owned_at page shelf got (has_ended cycle found) (is_owner page found)) (at.LockOwned page shelf))
           which false is = record { seen = has.seen; cache = has.cache; hand_is = after-paged ∙ went (is_free found) false _ _ is; body_is = has.body_is; inside = has.inside }
-          which true is = choose (is_ended cycle found) (is_owner page found) is refl refl
+          which true is = choose (has_ended cycle found) (is_owner page found) is refl refl
 
   -- ---- what is let go
 
@@ -370,7 +373,7 @@ module _ (layout : Layout) (old new : View) (who : Who) (frame : Frame) (inside 
   frame-let-go : (page : Page) (shelf body : Option BodyValue) → IsLeaving layout who old page frame shelf body → Steps layout who (steps.UnlockFrame frame) (logs body) old new found got → IsPaged layout new page frame shelf
   frame-let-go page shelf body has made = record { seen = has.seen; cache = has.cache; hand_is = hand-planned made refl refl ∙ has.left; body_is = has.body_is; inside = has.inside }
 
-  release-goes : (r : Release) (x : ReleaseAt) (ended : Bool) → unlocks.FitsAt layout new who (unlocks.after_release_at (record r { at = x }) x) → FitsAt layout new who frame (released_at (record r { at = x }) ended x)
+  release-goes : (r : Release) (x : ReleaseAt) (ended : Bool) → unlocks.FitsAt layout new who (unlocks.after_release_at (record r { at = x }) x) → FitsAt layout new who frame cycle (released_at (record r { at = x }) ended x)
   release-goes r release_at.Put ended has = has
   release-goes r release_at.Give ended has = has
   release-goes r release_at.Unreserve ended has = has
@@ -386,8 +389,8 @@ both layout old new m step found got fits is made = let all = which m.at is fits
     on : IsOnTurn new m.who
     on = on-turn-after fits.on_turn made
 
-    which : (x : MeetAt) → plan_at m.frame x ≡ Some step → FitsAt layout old m.who m.frame x → Steps layout m.who step (logs (put_at x)) old new found got
-        → ShowsAt m.cycle (bare_at x) found got × FitsAt layout new m.who m.frame (next_at m.who m.frame m.cycle (bare_at x) found got)
+    which : (x : MeetAt) → plan_at m.frame x ≡ Some step → FitsAt layout old m.who m.frame m.cycle x → Steps layout m.who step (logs (put_at x)) old new found got
+        → ShowsAt m.cycle (bare_at x) found got × FitsAt layout new m.who m.frame m.cycle (next_at m.who m.frame m.cycle (bare_at x) found got)
     which (at.GetRef seen) e has made = (tt, ref-got layout old new m.who m.frame fits.frame m.cycle found got on seen (steps-planned e made) has.0)
     which at.LockFree e has made = (tt, free-locked layout old new m.who m.frame fits.frame m.cycle found got on (steps-planned e made) has)
     which (at.LockPage page) e has made = (tt, page-locked layout old new m.who m.frame fits.frame m.cycle found got on page has.1 (steps-planned e made) has.0)
@@ -463,7 +466,7 @@ module _ (layout : Layout) (view : View) (who : Who) (frame : Frame) where
 pub can : (layout : Layout) (view : View) (m : Meet) (step : Step) → Fits layout view m → plan m ≡ Some step → CanMake layout m.who step (put m) view
 can layout view m step fits is = which m.at fits.at is
   where
-    which : (x : MeetAt) → FitsAt layout view m.who m.frame x → plan_at m.frame x ≡ Some step → CanMake layout m.who step (put_at x) view
+    which : (x : MeetAt) → FitsAt layout view m.who m.frame m.cycle x → plan_at m.frame x ≡ Some step → CanMake layout m.who step (put_at x) view
     which (at.GetRef seen) has e = can-make fits.on_turn e tt fits.frame (has.1.counted, omega arith, room layout view m.who m.frame has.0)
     which at.LockFree has e = can-make fits.on_turn e tt fits.frame (can-lock layout view m.who m.frame (ap (λ (h : Hand). h.refs) has) (ap (λ (h : Hand). h.locks) has))
     which (at.LockPage page) has e = can-make fits.on_turn e tt has.1 (ap (λ (h : Hand). length h.pages) has.0)
@@ -484,7 +487,7 @@ can layout view m step fits is = which m.at fits.at is
 pub is-met : (layout : Layout) (view : View) (m : Meet) (x : MeetAnswer) → Fits layout view m → answer m ≡ Some x → Met layout view m x
 is-met layout view m x fits answered = which m.at fits.at answered
   where
-    which : (y : MeetAt) → FitsAt layout view m.who m.frame y → answer_at y ≡ Some x → MetAt layout view m.who m.frame y x
+    which : (y : MeetAt) → FitsAt layout view m.who m.frame m.cycle y → answer_at y ≡ Some x → MetAt layout view m.who m.frame m.cycle y x
     which (at.GetRef seen) has is = absurd (none-some x is)
     which at.LockFree has is = absurd (none-some x is)
     which (at.LockPage page) has is = absurd (none-some x is)
@@ -494,20 +497,20 @@ is-met layout view m x fits answered = which m.at fits.at answered
     which (at.UnlockPage page shelf ended) has is = absurd (none-some x is)
     which (at.Release r ended) has is = by r.at has.under_way is
       where
-        by : (y : ReleaseAt) → is_none (releases.plan_at r.frame r.count y) ≡ false → released_answer ended y ≡ Some x → MetAt layout view m.who m.frame (at.Release r ended) x
+        by : (y : ReleaseAt) → is_none (releases.plan_at r.frame r.count y) ≡ false → released_answer ended y ≡ Some x → MetAt layout view m.who m.frame m.cycle (at.Release r ended) x
         by release_at.Put on is = absurd (none-some x is)
         by release_at.Give on is = absurd (none-some x is)
         by release_at.Unreserve on is = absurd (none-some x is)
         by release_at.Adopt on is = absurd (none-some x is)
         by release_at.Retire on is = absurd (none-some x is)
         by release_at.Back on is = absurd (both_ways true on refl)
-    which (at.Back ended) has is = subst (MetAt layout view m.who m.frame (at.Back ended)) (same_Some (back ended) x is) (by ended)
+    which (at.Back ended) has is = subst (MetAt layout view m.who m.frame m.cycle (at.Back ended)) (same_Some (back ended) x is) (by ended)
       where
-        by : (e : Bool) → MetAt layout view m.who m.frame (at.Back ended) (back e)
+        by : (e : Bool) → MetAt layout view m.who m.frame m.cycle (at.Back ended) (back e)
         by true = has
         by false = has
-    which at.Free has is = subst (MetAt layout view m.who m.frame at.Free) (same_Some answers.Free x is) has
-    which (at.Owned page body) has is = subst (MetAt layout view m.who m.frame (at.Owned page body)) (same_Some (answers.Owned page) x is) (refl, λ b own. subst (HoldsPoisoned layout view m.who page m.frame) (sym own) has)
+    which at.Free has is = subst (MetAt layout view m.who m.frame m.cycle at.Free) (same_Some answers.Free x is) has
+    which (at.Owned page body) has is = subst (MetAt layout view m.who m.frame m.cycle (at.Owned page body)) (same_Some (answers.Owned page) x is) (refl, λ b own. subst (HoldsMet layout view m.who page m.frame m.cycle) (sym own) has)
 
 -- its class tells what is held
 pub meet-tells : (layout : Layout) (view : View) (m : Meet) → Fits layout view m → Tells view (class m)
@@ -520,7 +523,7 @@ meet-tells layout view m fits = which m.at fits.at
     counting : hand_of view ≡ reference m.frame → Tells view 4
     counting is = ((λ some. absurd (no-frame view is refl refl refl some)), (λ some. absurd (no-page view is refl some)))
 
-    which : (x : MeetAt) → FitsAt layout view m.who m.frame x → Tells view (class_at x)
+    which : (x : MeetAt) → FitsAt layout view m.who m.frame m.cycle x → Tells view (class_at x)
     which (at.GetRef seen) has = empty-tells view 4 has.0
     which at.LockFree has = counting has
     which (at.LockPage page) has = counting has.0
@@ -541,7 +544,7 @@ puts-as-taken layout view m fits = which m.at fits.at
     shelved page None has = λ b is. absurd (none-some b is)
     shelved page (Some b) has = Leaving.one-taken layout m.who view None b has.seen (ap (λ (h : Hand). h.bodies) has.hand_is)
 
-    which : (x : MeetAt) → FitsAt layout view m.who m.frame x → AsTaken view (put_at x)
+    which : (x : MeetAt) → FitsAt layout view m.who m.frame m.cycle x → AsTaken view (put_at x)
     which (at.GetRef seen) has = λ b is. absurd (none-some b is)
     which at.LockFree has = λ b is. absurd (none-some b is)
     which (at.LockPage page) has = λ b is. absurd (none-some b is)

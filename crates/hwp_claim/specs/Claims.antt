@@ -113,7 +113,7 @@ is_done cycle word = is_ended cycle word || is_handled word
 -- what is to be done about the word of the poisoned frame
 abbrev pub looked : Who → Frame → ℕ → ℕ → ClaimAt
 looked who frame cycle word =
-    cond (is_kernel word) (at.Kernel cycle) (cond (is_done cycle word) (at.Free cycle) (cond (count_of word == 0) (at.Grab cycle (grabs.begin who frame)) (at.Meet cycle (meets.begin who frame cycle word))))
+    cond (is_kernel word) (at.Kernel cycle) (cond (is_done cycle word) (at.Free cycle) (cond (count_of word == 0) (at.Grab cycle (grabs.begin who frame)) (at.Meet cycle (meets.begin who frame (Some cycle) word))))
 
 -- the frame that was grabbed
 abbrev pub grabbed : Who → Frame → ℕ → ℕ → ClaimAt
@@ -261,7 +261,7 @@ pub record IsMeeting (layout : Layout) (view : View) (who : Who) (frame : Frame)
   pub meet : meets.Fits layout view m
   pub own : m.who ≡ who
   pub frame_is : m.frame ≡ frame
-  pub cycle_is : m.cycle ≡ cycle
+  pub cycle_is : m.cycle ≡ Some cycle
   pub under_way : is_none (meets.plan m) ≡ false
 
 pub record IsUnlocking (layout : Layout) (view : View) (who : Who) (u : Unlock) : Type 0 where
@@ -289,7 +289,7 @@ FitsAt layout view who frame hardware at.Stopped = (hand_of view ≡ empty) × I
 FitsAt layout view who frame hardware at.Already = (hand_of view ≡ empty) × SawPoison view who frame
 FitsAt layout view who frame hardware (at.Free cycle) = (hand_of view ≡ empty) × IsUsers layout view who frame hardware cycle
 FitsAt layout view who frame hardware (at.Kernel cycle) = (hand_of view ≡ empty) × HasPoisoned view who frame hardware cycle × (slice_get layout.kernel frame.0 ≡ Some true)
-FitsAt layout view who frame hardware (at.Owned cycle page body) = meets.HoldsPoisoned layout view who page frame body × IsUsers layout view who frame hardware cycle
+FitsAt layout view who frame hardware (at.Owned cycle page body) = meets.HoldsMet layout view who page frame (Some cycle) body × IsUsers layout view who frame hardware cycle
 
 -- the processor holds nothing at first, and then what the task took; no loss is owed. The command may have made entries, and have
 -- poisoned other frames, before

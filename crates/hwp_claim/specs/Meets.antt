@@ -1,4 +1,4 @@
--- A poisoned frame in use, met under its locks: the task's states, its steps and what they come to.
+-- A frame in use, met under its locks: the task's states, its steps and what they come to.
 use Rattle.std.specs.Prelude.{◌≡◌, ℕ, ◌+◌, ◌<◌, ◌≤◌, ◌==◌, ◌&&◌, ◌||◌, Bool, true, false, not, cond, [], ◌∷◌, Option, Some, None, is_some, length, slice_index}
 use Rattle.hwp_geom.specs.declared.Frame.{Frame}
 use Rattle.hwp_geom.specs.declared.Layout.{Layout}
@@ -37,6 +37,11 @@ use Rattle.hwp_claim.specs.declared.meet.MeetAnswer.TheVariants as answers
 abbrev pub is_ended : ℕ → ℕ → Bool
 is_ended cycle word = not (is_poisoned word && (cycle_of word == cycle))
 
+-- the failure that the frame is met for, if it is met for one, has ended
+abbrev pub has_ended : Option ℕ → ℕ → Bool
+has_ended None word = false
+has_ended (Some cycle) word = is_ended cycle word
+
 -- the page in the frame
 abbrev pub owner_in : ℕ → Option Page
 owner_in word = page_named (owner_of word)
@@ -53,7 +58,7 @@ is_page page (Some owner) = owner.0 == page.0
 abbrev pub is_owner : Page → ℕ → Bool
 is_owner page word = is_page page (owner_in word)
 
-abbrev pub begin : Who → Frame → ℕ → ℕ → Meet
+abbrev pub begin : Who → Frame → Option ℕ → ℕ → Meet
 begin who frame cycle seen = record { who = who; frame = frame; cycle = cycle; at = at.GetRef seen }
 
 abbrev pub plan_at : Frame → MeetAt → Option Step
@@ -122,11 +127,11 @@ released_at r ended _ = at.Release r ended
 abbrev pub released : Release → Bool → MeetAt
 released r ended = released_at r ended r.at
 
-abbrev pub next_at : Who → Frame → ℕ → MeetAt → ℕ → Option BodyValue → MeetAt
+abbrev pub next_at : Who → Frame → Option ℕ → MeetAt → ℕ → Option BodyValue → MeetAt
 next_at who frame cycle (at.GetRef seen) found got = cond (found == seen) (referenced (owner_in seen)) (at.Back false)
-next_at who frame cycle at.LockFree found got = cond (is_free found) (free_at got (is_ended cycle found) (is_taken found)) at.LockFree
+next_at who frame cycle at.LockFree found got = cond (is_free found) (free_at got (has_ended cycle found) (is_taken found)) at.LockFree
 next_at who frame cycle (at.LockPage page) found got = cond (is_free found) (at.LockOwned page got) (at.LockPage page)
-next_at who frame cycle (at.LockOwned page shelf) found got = cond (is_free found) (owned_at page shelf got (is_ended cycle found) (is_owner page found)) (at.LockOwned page shelf)
+next_at who frame cycle (at.LockOwned page shelf) found got = cond (is_free found) (owned_at page shelf got (has_ended cycle found) (is_owner page found)) (at.LockOwned page shelf)
 next_at who frame cycle (at.Unlock body ended) found got = at.Release (releases.begin who frame 1) ended
 next_at who frame cycle (at.UnlockFrame page shelf body ended) found got = at.UnlockPage page shelf ended
 next_at who frame cycle (at.UnlockPage page shelf ended) found got = at.Release (releases.begin who frame 1) ended
@@ -139,8 +144,8 @@ abbrev pub next : Meet → ℕ → Option BodyValue → Meet
 next m found got = record m { at = next_at m.who m.frame m.cycle m.at found got }
 
 -- the body is there where the page is in its frame
-abbrev pub ShowsAt : ℕ → MeetAt → ℕ → Option BodyValue → Type 0
-ShowsAt cycle (at.LockOwned page shelf) found got = is_free found ≡ true → is_ended cycle found ≡ false → is_owner page found ≡ true → is_some got ≡ true
+abbrev pub ShowsAt : Option ℕ → MeetAt → ℕ → Option BodyValue → Type 0
+ShowsAt cycle (at.LockOwned page shelf) found got = is_free found ≡ true → has_ended cycle found ≡ false → is_owner page found ≡ true → is_some got ≡ true
 ShowsAt cycle _ found got = Unit {0}
 
 abbrev pub Shows : Meet → ℕ → Option BodyValue → Type 0
@@ -201,7 +206,7 @@ abbrev pub paged : Layout → Page → Frame → Option ℕ → Option Log → �
 paged layout page frame cache None seen = record empty { pages = record { page = page; resident = true; cache = cache; trans = None } ∷ []; refs = one_ref frame }
 paged layout page frame cache (Some log) seen = record (locked layout page (Some log) seen) { refs = one_ref frame }
 
--- the word that the parent loaded shows a frame in use whose failure wasn't handled
+-- the word that the parent loaded shows a frame in use that wasn't handled
 pub record IsInUse (seen : ℕ) : Type 0 where
   pub counted : 0 < count_of seen
   pub unhandled : is_handled seen ≡ false
@@ -224,43 +229,54 @@ pub record IsLeaving (layout : Layout) (who : Who) (view : View) (page : Page) (
   pub body_is : (b : BodyValue) → shelf ≡ Some b → IsBodyOf layout page None b
   pub inside : page.0 < length layout.pages
 
--- the page is held with its poisoned frame, which isn't handled, and the command saw the history of its body
-pub record HoldsPoisoned (layout : Layout) (view : View) (who : Who) (page : Page) (frame : Frame) (body : BodyValue) : Type 0 where
+-- a frame that is met for a failure is poisoned
+abbrev pub IsFailed : Option ℕ → Bool → Type 0
+IsFailed None poisoned = Unit {0}
+IsFailed (Some cycle) poisoned = poisoned ≡ true
+
+-- the page is held with its frame, as it was met, and the command saw the history of its body
+pub record HoldsMet (layout : Layout) (view : View) (who : Who) (page : Page) (frame : Frame) (cycle : Option ℕ) (body : BodyValue) : Type 0 where
   pub holds : HoldsPage layout view page (Some frame) body
   pub unhandled : holds.handled ≡ false
-  pub poisoned : holds.poisoned ≡ true
+  pub failed : IsFailed cycle holds.poisoned
   pub few : holds.seen ≤ length view.sights
   pub saw : SawLog view who (log_of body)
   pub inside : page.0 < length layout.pages
 
-abbrev pub FitsAt : Layout → View → Who → Frame → MeetAt → Type 0
-FitsAt layout view who frame (at.GetRef seen) = (hand_of view ≡ empty) × IsInUse seen
-FitsAt layout view who frame at.LockFree = hand_of view ≡ reference frame
-FitsAt layout view who frame (at.LockPage page) = (hand_of view ≡ reference frame) × (page.0 < length layout.pages)
-FitsAt layout view who frame (at.LockOwned page shelf) = IsPaged layout view page frame shelf
-FitsAt layout view who frame (at.Unlock body ended) = FitsFrame layout view who frame body × AsTaken view body
-FitsAt layout view who frame (at.UnlockFrame page shelf body ended) = IsLeaving layout who view page frame shelf body
-FitsAt layout view who frame (at.UnlockPage page shelf ended) = IsPaged layout view page frame shelf
-FitsAt layout view who frame (at.Release r ended) = IsReleasing layout view who r
-FitsAt layout view who frame (at.Back ended) = hand_of view ≡ empty
-FitsAt layout view who frame at.Free = hand_of view ≡ empty_frame frame false true
-FitsAt layout view who frame (at.Owned page body) = HoldsPoisoned layout view who page frame body
+-- the frame is locked, with one reference and no page
+pub record HoldsFree (view : View) (frame : Frame) (cycle : Option ℕ) : Type 0 where
+  pub poisoned : Bool
+  pub hand_is : hand_of view ≡ empty_frame frame false poisoned
+  pub failed : IsFailed cycle poisoned
+
+abbrev pub FitsAt : Layout → View → Who → Frame → Option ℕ → MeetAt → Type 0
+FitsAt layout view who frame cycle (at.GetRef seen) = (hand_of view ≡ empty) × IsInUse seen
+FitsAt layout view who frame cycle at.LockFree = hand_of view ≡ reference frame
+FitsAt layout view who frame cycle (at.LockPage page) = (hand_of view ≡ reference frame) × (page.0 < length layout.pages)
+FitsAt layout view who frame cycle (at.LockOwned page shelf) = IsPaged layout view page frame shelf
+FitsAt layout view who frame cycle (at.Unlock body ended) = FitsFrame layout view who frame body × AsTaken view body
+FitsAt layout view who frame cycle (at.UnlockFrame page shelf body ended) = IsLeaving layout who view page frame shelf body
+FitsAt layout view who frame cycle (at.UnlockPage page shelf ended) = IsPaged layout view page frame shelf
+FitsAt layout view who frame cycle (at.Release r ended) = IsReleasing layout view who r
+FitsAt layout view who frame cycle (at.Back ended) = hand_of view ≡ empty
+FitsAt layout view who frame cycle at.Free = HoldsFree view frame cycle
+FitsAt layout view who frame cycle (at.Owned page body) = HoldsMet layout view who page frame cycle body
 
 -- the processor holds nothing at first, and then what the task took
 pub record Fits (layout : Layout) (view : View) (m : Meet) : Type 0 where
   pub on_turn : IsOnTurn view m.who
   pub frame : m.frame.0 < layout.frames
-  pub at : FitsAt layout view m.who m.frame m.at
+  pub at : FitsAt layout view m.who m.frame m.cycle m.at
 
 -- what each answer leaves: nothing held; the frame locked, with one reference and no page; or the page and the frame held, with the body
-abbrev pub MetAt : Layout → View → Who → Frame → MeetAt → MeetAnswer → Type 0
-MetAt layout view who frame x answers.LookAgain = hand_of view ≡ empty
-MetAt layout view who frame x answers.Ended = hand_of view ≡ empty
-MetAt layout view who frame x answers.Free = hand_of view ≡ empty_frame frame false true
-MetAt layout view who frame x (answers.Owned page) = (is_owned_at x ≡ true) × ((body : BodyValue) → IsBodyAt x body → HoldsPoisoned layout view who page frame body)
+abbrev pub MetAt : Layout → View → Who → Frame → Option ℕ → MeetAt → MeetAnswer → Type 0
+MetAt layout view who frame cycle x answers.LookAgain = hand_of view ≡ empty
+MetAt layout view who frame cycle x answers.Ended = hand_of view ≡ empty
+MetAt layout view who frame cycle x answers.Free = HoldsFree view frame cycle
+MetAt layout view who frame cycle x (answers.Owned page) = (is_owned_at x ≡ true) × ((body : BodyValue) → IsBodyAt x body → HoldsMet layout view who page frame cycle body)
 
 abbrev pub Met : Layout → View → Meet → MeetAnswer → Type 0
-Met layout view m x = MetAt layout view m.who m.frame m.at x
+Met layout view m x = MetAt layout view m.who m.frame m.cycle m.at x
 
 -- 1 while the frame is locked, in hand or reserved, and 2 while the page is locked
 abbrev pub class_at : MeetAt → ℕ

@@ -195,7 +195,7 @@ fn looked(who: Who, frame: Frame, cycle: u32, found: u64) -> ClaimAt
     } else {
         ClaimAt::Meet {
             cycle,
-            meet: Meet::new(who, frame, cycle, found),
+            meet: Meet::new(who, frame, Some(cycle), found),
         }
     }
 }

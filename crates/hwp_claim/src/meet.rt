@@ -8,13 +8,15 @@ use hwp_step::{Machine, Ranked, Turn};
 use hwp_words::FrameWord;
 use std::mem;
 
-/// Meets a poisoned frame that is in use: takes a reference to it and its lock, and before that the lock of the page that is in
-/// it, if any; and looks, under the locks, whether the frame is still what it was (Linux memory_failure, from get_hwpoison_page on).
+/// Meets a frame that is in use: takes a reference to it and its lock, and before that the lock of the page that is in it, if
+/// any; and looks, under the locks, whether the frame is still what it was (Linux memory_failure, from get_hwpoison_page on, and
+/// soft_offline_in_use_page).
 #[derive(Drop)]
 pub struct Meet {
     who: Who,
     frame: Frame,
-    cycle: u32,
+    /// That of the failure that the frame is met for, if it is met for one.
+    cycle: Option<u32>,
     at: MeetAt,
 }
 
@@ -76,8 +78,8 @@ pub enum MeetAnswer {
 impl Meet {
     ghost use Rattle.hwp_claim.specs.Meets.{begin, plan, answer, is_owned, IsBody};
 
-    /// The command meets the frame. Its word was `seen`, and its failure is of this cycle.
-    pub fn new(who: Who, frame: Frame, cycle: u32, seen: u64) -> Meet
+    /// The command meets the frame, for its failure of this cycle or for none. Its word was `seen`.
+    pub fn new(who: Who, frame: Frame, cycle: Option<u32>, seen: u64) -> Meet
         ensures { result ≡ begin who frame cycle seen }
     {
         Meet {
@@ -139,6 +141,7 @@ ghost use Rattle.hwp_hold.specs.Holds.{is_free};
 ghost use Rattle.hwp_claim.specs.Meets.{
   back,
   is_ended,
+  has_ended,
   is_taken,
   is_owner,
   referenced,
@@ -175,6 +178,15 @@ pub(crate) fn is_ended(cycle: u32, word: u64) -> bool
     !(frame.poisoned && frame.cycle == cycle)
 }
 
+fn has_ended(cycle: Option<u32>, word: u64) -> bool
+    ensures { result ≡ has_ended cycle word }
+{
+    match cycle {
+        Some(cycle) => is_ended(cycle, word),
+        None => false,
+    }
+}
+
 fn is_taken(word: u64) -> bool
     ensures { result ≡ is_taken word }
 {
@@ -200,10 +212,10 @@ fn referenced(seen: u64) -> MeetAt
     }
 }
 
-fn free_at(cycle: u32, found: u64, got: Option<Body>) -> MeetAt
-    ensures { result ≡ free_at got (is_ended cycle found) (is_taken found) }
+fn free_at(cycle: Option<u32>, found: u64, got: Option<Body>) -> MeetAt
+    ensures { result ≡ free_at got (has_ended cycle found) (is_taken found) }
 {
-    if is_ended(cycle, found) {
+    if has_ended(cycle, found) {
         MeetAt::Unlock {
             body: got,
             ended: true,
@@ -218,10 +230,16 @@ fn free_at(cycle: u32, found: u64, got: Option<Body>) -> MeetAt
     }
 }
 
-fn owned_at(page: Page, cycle: u32, found: u64, shelf: Option<Body>, got: Option<Body>) -> MeetAt
-    ensures { result ≡ owned_at page shelf got (is_ended cycle found) (is_owner page found) }
+fn owned_at(
+    page: Page,
+    cycle: Option<u32>,
+    found: u64,
+    shelf: Option<Body>,
+    got: Option<Body>,
+) -> MeetAt
+    ensures { result ≡ owned_at page shelf got (has_ended cycle found) (is_owner page found) }
 {
-    if is_ended(cycle, found) {
+    if has_ended(cycle, found) {
         MeetAt::UnlockFrame {
             page,
             shelf,
@@ -274,8 +292,8 @@ fn get_ref(seen: u64, found: u64) -> (MeetAt, Turn)
     }
 }
 
-fn lock_free(cycle: u32, found: u64, got: Option<Body>) -> (MeetAt, Turn)
-    ensures at { result.0 ≡ cond (is_free found) (free_at got (is_ended cycle found) (is_taken found)) LockFree }
+fn lock_free(cycle: Option<u32>, found: u64, got: Option<Body>) -> (MeetAt, Turn)
+    ensures at { result.0 ≡ cond (is_free found) (free_at got (has_ended cycle found) (is_taken found)) LockFree }
     ensures turn { result.1 ≡ cond (is_free found) Moved (Waits found) }
 {
     if is_free(found) {
@@ -298,12 +316,12 @@ fn lock_page(page: Page, found: u64, got: Option<Body>) -> (MeetAt, Turn)
 
 fn lock_owned(
     page: Page,
-    cycle: u32,
+    cycle: Option<u32>,
     found: u64,
     shelf: Option<Body>,
     got: Option<Body>,
 ) -> (MeetAt, Turn)
-    ensures at { result.0 ≡ cond (is_free found) (owned_at page shelf got (is_ended cycle found) (is_owner page found)) (LockOwned page shelf) }
+    ensures at { result.0 ≡ cond (is_free found) (owned_at page shelf got (has_ended cycle found) (is_owner page found)) (LockOwned page shelf) }
     ensures turn { result.1 ≡ cond (is_free found) Moved (Waits found) }
 {
     if is_free(found) {
@@ -317,7 +335,7 @@ fn lock_owned(
 fn settled(
     who: Who,
     frame: Frame,
-    cycle: u32,
+    cycle: Option<u32>,
     layout: &Layout,
     at: MeetAt,
     found: u64,

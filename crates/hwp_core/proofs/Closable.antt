@@ -25,7 +25,7 @@ use Rattle.hwp_report.specs.declared.Acted.TheVariants as acts
 use Rattle.hwp_law.specs.Checks.{empty_banks, is_panic}
 use Rattle.hwp_runs.proofs.Homes.{there-is}
 use Rattle.hwp_handler.specs.declared.Found.{Found}
-use Rattle.hwp_handler.specs.declared.Row.{Row}
+use Rattle.hwp_row.specs.declared.Row.{Row}
 use Rattle.hwp_handler.specs.declared.Told.{Told}
 use Rattle.hwp_handler.specs.Fits.{IsDone, IsTold}
 use Rattle.hwp_handler.specs.Told.{at_once, failure_at_once, frame_of, required_by, severity_at_once}
@@ -34,6 +34,7 @@ use Rattle.hwp_served.specs.Rows.{Note, notes_from}
 use Rattle.hwp_served.specs.Runs.{AreServed, notes_of}
 use Rattle.hwp_served.specs.Served.{IsOwnStop, IsServed}
 use Rattle.hwp_served.proofs.Ending.{nothing-held, row-at, seat-view}
+use Rattle.hwp_served.proofs.lines.ScrubBank.{empty-free}
 use Rattle.hwp_served.proofs.lines.Gathering.{AreNoted}
 use Rattle.hwp_served.proofs.RowTold.{told-so}
 use Rattle.hwp_served.proofs.marks.RowNotes.{notes-at, notes-fit}
@@ -155,7 +156,7 @@ module _ (script : Script) (seat : Cpu → ℕ) (last : State) (rows : List (Lis
       named k row at j t told =
           let within : k < length list.0 = let less : k < length own = slice_get_within own k row at in let count : length own ≡ length list.0 = by.count in omega (arith, less, count) in
           let command = there-is list.0 k within in
-          let has = row-at script.layout list.0 (view_of last (seat cpu)) cpu 0 empty_banks list.0 own by.banks k k command.0 by.rows_are by.count command.1 (omega arith) in
+          let has = row-at script.layout list.0 (view_of last (seat cpu)) cpu 0 empty_banks list.0 own by.banks k k command.0 by.rows_are by.count command.1 (omega arith) empty-free in
           let same : has.row ≡ row = same_Some has.row row (sym has.row_is ∙ at) in
           let right = told-so script.layout (view_of last (seat cpu)) (record { cpu = cpu; seq = k }) command.0 has.row.answer has.before has.row.told has.after has.served.told j t (ap (λ (r : Row). slice_get r.told j) same ∙ told) in
           told-named script.layout small (view_of last (seat cpu)) (record { cpu = cpu; seq = k }) _ right.0 t right.1

@@ -22,7 +22,7 @@ use Rattle.hwp_sched.specs.Ready.{IsCrew}
 use Rattle.hwp_sched.proofs.Opening.{opening-crew}
 use Rattle.hwp_runs.proofs.Homes.{there-is}
 use Rattle.hwp_runs.proofs.Lasting.{kept-ordered}
-use Rattle.hwp_handler.specs.declared.Row.{Row}
+use Rattle.hwp_row.specs.declared.Row.{Row}
 use Rattle.hwp_served.specs.Rows.{lines_from}
 use Rattle.hwp_served.specs.Runs.{AreServed}
 use Rattle.hwp_served.specs.Served.{IsServed}

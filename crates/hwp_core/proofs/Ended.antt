@@ -32,7 +32,7 @@ use Rattle.hwp_report.specs.declared.StopCause.TheVariants as causes
 use Rattle.hwp_law.specs.Checks.{is_panic, is_stopping}
 use Rattle.hwp_law.specs.Commands.{Arrival, arrival_of}
 use Rattle.hwp_runs.specs.Ends.{IsFrameOn, IsStopOn}
-use Rattle.hwp_handler.specs.declared.Row.{Row}
+use Rattle.hwp_row.specs.declared.Row.{Row}
 use Rattle.hwp_handler.specs.declared.Told.{Told}
 use Rattle.hwp_handler.specs.Told.{halts}
 use Rattle.hwp_served.specs.Rows.{Note, record_of}

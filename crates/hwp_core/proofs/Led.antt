@@ -10,7 +10,7 @@ use Rattle.hwp_sched.specs.Order.{running}
 use Rattle.hwp_runs.specs.Turns.{Leads}
 use Rattle.hwp_runs.proofs.Leading.{leads-hold, leads-ordered}
 use Rattle.hwp_script.specs.Valid.{IsValid}
-use Rattle.hwp_handler.specs.declared.Row.{Row}
+use Rattle.hwp_row.specs.declared.Row.{Row}
 use Rattle.hwp_served.specs.Runs.{notes_of}
 use Rattle.hwp_served.proofs.lines.Gathering.{AreNoted}
 use Rattle.hwp_core.specs.Closing.{IsEnded}

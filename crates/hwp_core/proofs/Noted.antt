@@ -7,16 +7,19 @@ use Rattle.hwp_geom.specs.declared.Frame.{Frame}
 use Rattle.hwp_geom.specs.declared.Layout.{Layout}
 use Rattle.hwp_geom.specs.Pairs.{Pairs}
 use Rattle.hwp_rule.specs.declared.Mark.{Mark}
+use Rattle.hwp_rule.specs.declared.MarkKind.TheVariants as kinds
 use Rattle.hwp_rule.specs.declared.State.{State}
 use Rattle.hwp_rule.specs.declared.View.{View}
 use Rattle.hwp_rule.specs.Lists.{SomeMember}
 use Rattle.hwp_rule.specs.Rule.{Holds}
 use Rattle.hwp_rule.proofs.Lists.{at_longer, at_map, map-was}
 use Rattle.hwp_step.specs.Boards.{AreSeated, view_of}
+use Rattle.hwp_report.specs.declared.How.{How}
+use Rattle.hwp_report.specs.declared.How.TheVariants as hows
 use Rattle.hwp_report.specs.declared.MarkLine.{MarkLine}
-use Rattle.hwp_runs.specs.Ends.{AreMarks, IsListed, Tells}
+use Rattle.hwp_runs.specs.Ends.{AreMarks, IsListed, Tells, cause_of}
 use Rattle.hwp_runs.proofs.Homes.{there-is}
-use Rattle.hwp_served.specs.Accounts.{IsNote}
+use Rattle.hwp_served.specs.Accounts.{IsHow, IsNote}
 use Rattle.hwp_served.specs.Rows.{Note, lines_of, record_of}
 use Rattle.hwp_served.proofs.Ending.{filter-has}
 use Rattle.hwp_served.proofs.Failed.{paired}
@@ -60,10 +63,16 @@ beside R (a ∷ xs) [] j x pairs there = absurd pairs
 beside {A} {B} R (a ∷ xs) (b ∷ ys) zero x pairs there = (b, refl, subst (λ (z : A). R z b) (same_Some a x there) pairs.0)
 beside R (a ∷ xs) (b ∷ ys) (suc j) x pairs there = beside R xs ys j x pairs.1 there
 
+-- a poisoning is by the hardware as its record says
+caused-so : (hardware : Bool) (how : How) → IsHow hardware how → hardware ≡ cause_of how
+caused-so hardware (hows.Failure reported situation outcome) is = sym is.0
+caused-so hardware hows.Moved is = is
+caused-so hardware hows.TakenFree is = is
+
 module _ (layout : Layout) (seat : Cpu → ℕ) (last : State) (holds : Holds layout last) (seated : AreSeated layout last seat) (notes : List (List Note)) (are : AreNoted layout seat last notes) (frame : Frame) where
   -- a note of the frame tells its mark
   tells : (note : Note) (m : Mark) → IsNote note m → m.frame ≡ frame → Tells frame note.1 m
-  tells note m is of = subst (λ (x : MarkLine). Tells frame x m) (sym is.line) (of, refl, refl, is.kind)
+  tells note m is of = subst (λ (x : MarkLine). Tells frame x m) (sym is.line) (of, refl, refl, is.kind ∙ ap kinds.Poisoned (caused-so is.hardware is.how is.is))
 
   told : (place : ℕ) (line : MarkLine) → slice_get (record_of frame notes) place ≡ Some line → (mark : Mark) × IsListed last.views mark × Tells frame line mark
   told place line there =

@@ -15,7 +15,7 @@ use Rattle.hwp_sched.specs.Ready.{IsCrew}
 use Rattle.hwp_runs.specs.Turns.{Leads}
 use Rattle.hwp_runs.proofs.Lasting.{same-ordered}
 use Rattle.hwp_runs.proofs.Leading.{leads-hold, leads-ordered}
-use Rattle.hwp_handler.specs.declared.Row.{Row}
+use Rattle.hwp_row.specs.declared.Row.{Row}
 use Rattle.hwp_served.proofs.Settled.{settled-when-over}
 use Rattle.hwp_processor.specs.declared.Processor.{Processor}
 use Rattle.hwp_processor.proofs.Telling.{tells}

@@ -13,7 +13,7 @@ use Rattle.hwp_script.specs.declared.Command.{Command}
 use Rattle.hwp_report.specs.declared.Answer.TheVariants as answers
 use Rattle.hwp_report.specs.declared.CpuLine.{CpuLine}
 use Rattle.hwp_report.specs.declared.StopCause.{StopCause}
-use Rattle.hwp_handler.specs.declared.Row.{Row}
+use Rattle.hwp_row.specs.declared.Row.{Row}
 use Rattle.hwp_handler.specs.declared.Told.{Told}
 use Rattle.hwp_served.specs.Rows.{Note, lines_from, notes_from, own_note, row_lines, row_notes, told_note}
 use Rattle.hwp_processor.specs.Processors.{at_number}

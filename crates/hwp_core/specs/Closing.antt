@@ -24,7 +24,7 @@ use Rattle.hwp_law.specs.Checks.{is_panic}
 use Rattle.hwp_law.specs.Commands.{arrival_of}
 use Rattle.hwp_runs.specs.Ends.{AreMarks, EndsWith, place_in}
 use Rattle.hwp_handler.specs.declared.Found.{Found}
-use Rattle.hwp_handler.specs.declared.Row.{Row}
+use Rattle.hwp_row.specs.declared.Row.{Row}
 use Rattle.hwp_handler.specs.declared.Told.{Told}
 use Rattle.hwp_handler.specs.Told.{frame_of}
 use Rattle.hwp_served.specs.Rows.{Note, lines_from, record_of}

@@ -13,7 +13,7 @@ use Rattle.hwp_script.specs.declared.Script.{Script}
 use Rattle.hwp_sched.specs.Order.{InOrder, Running, running}
 use Rattle.hwp_report.specs.declared.Report.{Report}
 use Rattle.hwp_runs.specs.Run.{CoreRun}
-use Rattle.hwp_handler.specs.declared.Row.{Row}
+use Rattle.hwp_row.specs.declared.Row.{Row}
 use Rattle.hwp_served.specs.Runs.{AreServed}
 use Rattle.hwp_job.specs.Begins.{is_supported}
 use Rattle.hwp_processor.specs.declared.Processor.{Processor}

@@ -3,8 +3,9 @@ ghost use Rattle.hwp_served.specs.Rows.{event_line, lines_from, row_lines};
 ghost use Rattle.hwp_core.specs.Closing.{AreTellable, IsTellable, lines_of_all};
 
 use hwp_geom::{List, OutOfMemory};
-use hwp_handler::{Row, Told};
+use hwp_handler::Told;
 use hwp_report::CpuLine;
+use hwp_row::Row;
 use std::alloc::Global;
 
 /// The lines of all processors.

@@ -2,14 +2,15 @@ ghost use Rattle.std.specs.Prelude.{◌≡◌, ◌++◌, ◌≤◌, ◌<◌, ◌
 ghost use Rattle.std.specs.List.{cons_option};
 ghost use Rattle.hwp_geom.specs.Limits.{cpu_limit};
 ghost use Rattle.hwp_rule.specs.Lists.{EachMember};
-ghost use Rattle.hwp_served.specs.Rows.{note_of, notes_from, own_note, told_note};
+ghost use Rattle.hwp_served.specs.Rows.{note_by, note_of, notes_from, offlined, own_note, told_note};
 ghost use Rattle.hwp_served.specs.Runs.{notes_of};
 ghost use Rattle.hwp_handler.specs.Told.{frame_of};
 ghost use Rattle.hwp_core.specs.Closing.{AreTellable, IsNamed, IsTellable};
 
 use hwp_geom::{Cpu, Frame, List, OutOfMemory, Who};
-use hwp_handler::{Found, Held, Row, Told};
+use hwp_handler::{Found, Held, Told};
 use hwp_report::{How, MarkLine};
+use hwp_row::{Own, Row};
 use std::alloc::Global;
 
 type Note = (Frame, MarkLine);
@@ -78,13 +79,37 @@ fn told_note(who: Who, event: &Told) -> Option<Note>
 }
 
 /// The poisoning of a frame that the command itself brought about.
-fn own_note(who: Who, own: Option<(Frame, Found)>) -> Option<Note>
+fn own_note(who: Who, own: Option<Own>) -> Option<Note>
     ensures { result ≡ own_note who own }
 {
-    let Some((frame, found)) = own else {
+    let Some(own) = own else {
         return None;
     };
-    Some(note_of(who, false, frame, found))
+    Some(note_by(who, own))
+}
+
+/// The line of a frame's record for what the command did to it.
+fn note_by(who: Who, own: Own) -> Note
+    ensures { result ≡ note_by who own }
+{
+    match own {
+        Own::Failed { frame, found } => note_of(who, false, frame, found),
+        Own::Offlined {
+            frame,
+            cycle,
+            moved,
+        } => {
+            let how = offlined(moved);
+            (frame, MarkLine::Poisoned { cycle, who, how })
+        }
+    }
+}
+
+/// How a soft offline took a frame out of use.
+fn offlined(moved: bool) -> How
+    ensures { result ≡ offlined moved }
+{
+    if moved { How::Moved } else { How::TakenFree }
 }
 
 /// The frame that an event names.

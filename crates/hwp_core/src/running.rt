@@ -6,10 +6,10 @@ ghost use Rattle.hwp_core.specs.Runs.{AreAtBeginning, AreFinished, AreSupported,
 
 use crate::closing::report;
 use hwp_geom::{Cpu, List, OutOfMemory};
-use hwp_handler::Row;
 use hwp_plain::PlainBoard;
 use hwp_processor::Processor;
 use hwp_report::Report;
+use hwp_row::Row;
 use hwp_sched::step_all;
 use hwp_script::Script;
 use std::alloc::Global;

@@ -11,8 +11,9 @@ ghost use Rattle.hwp_core.specs.Closing.{AreTellable, HasStopper, IsFirstStop, I
 
 use crate::notes::frame_of;
 use hwp_geom::{Cpu, List, Mode, Who};
-use hwp_handler::{Row, Told};
+use hwp_handler::Told;
 use hwp_report::{Acted, Answer, Stop, StopCause};
+use hwp_row::Row;
 use hwp_script::Command;
 use hwp_severity::McgBits;
 use hwp_words::StopWord;

@@ -89,7 +89,7 @@ module _ {layout : Layout} {new : View} {who : Who} {frame : Frame} (on : IsOnTu
         (subst (λ (g : Frame). claims.FitsAt layout new who g c.hardware c.at) frame_is (subst (λ (w : Who). claims.FitsAt layout new w c.frame c.hardware c.at) own fits.at))
 
     held-failed : (cycle : ℕ) (page : Page) (body : BodyValue) → claims.FitsAt layout new who frame hardware (claim_at.Owned cycle page body) → HoldsFailed layout new page frame body
-    held-failed cycle page body has = record { holds = has.0.holds; unhandled = has.0.unhandled; poisoned = has.0.poisoned; few = has.0.few; inside = has.0.inside }
+    held-failed cycle page body has = record { holds = has.0.holds; unhandled = has.0.unhandled; poisoned = has.0.failed; few = has.0.few; inside = has.0.inside }
 
     acts-is : (cycle : ℕ) (page : Page) (x : FailAt) → claims.answer c ≡ Some (claim_answers.Owned cycle page) → Acts who frame required cycle page c x → FitsAt layout new who frame required hardware x
     acts-is cycle page x answered has = which c.at fits-own answered has.body_is

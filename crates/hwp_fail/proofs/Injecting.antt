@@ -129,7 +129,7 @@ module _ (who : Who) (frame : Frame) where
   after-look : (cycle word : ℕ) → recovers_in (claims.looked who frame cycle word) ≡ true
   after-look cycle word = which (is_kernel word) (claims.is_done cycle word) (count_of word == 0)
     where
-      which : (b c d : Bool) → recovers_in (cond b (claim_at.Kernel cycle) (cond c (claim_at.Free cycle) (cond d (claim_at.Grab cycle (grabs.begin who frame)) (claim_at.Meet cycle (meets.begin who frame cycle word))))) ≡ true
+      which : (b c d : Bool) → recovers_in (cond b (claim_at.Kernel cycle) (cond c (claim_at.Free cycle) (cond d (claim_at.Grab cycle (grabs.begin who frame)) (claim_at.Meet cycle (meets.begin who frame (Some cycle) word))))) ≡ true
       which true c d = refl
       which false true d = refl
       which false false true = refl

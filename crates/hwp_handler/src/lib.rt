@@ -11,4 +11,4 @@ mod told;
 pub use empty::no_events;
 pub use handler::Handler;
 pub use lines::ToldLines;
-pub use told::{Found, Held, Row, Told};
+pub use told::{Found, Held, Told};

@@ -1,7 +1,6 @@
 use hwp_banks::Event;
-use hwp_geom::{Frame, List};
 use hwp_page::{At, Situation};
-use hwp_report::{Acted, Answer};
+use hwp_report::Acted;
 use hwp_severity::Grade;
 
 /// An event that a bank holds at a machine check, with its grade.
@@ -30,14 +29,4 @@ pub struct Told {
     pub held: Held,
     pub acted: Acted,
     pub found: Option<Found>,
-}
-
-/// What a command came to (this project's rule).
-#[derive(Drop)]
-pub struct Row {
-    /// What was done about the events of its machine checks, in order.
-    pub told: List<Told>,
-    /// The frame that the command itself made fail, with what the failure found where it poisoned the frame.
-    pub own: Option<(Frame, Found)>,
-    pub answer: Answer,
 }

@@ -20,6 +20,11 @@ load 0 0 0\nload 0 0 0\ncpu 1\ninject 0\ninject 1\nschedule 0. 1 0 0 1\nend\n",
     // a machine check inside a machine check
     "hwp 1\ncpus 2\nframes 2\nproc 0\nthread 0 0 1 handler\npage 0 anon\ntrans 0 0 0\ncpu 0\nraise nested\ncpu 1\n\
 store 0 0 0 5\nload 0 0 0\nschedule 1. 0\nend\n",
+    // frames taken out of use: of a page that the other processor uses, free ones, one that has failed, and the kernel's
+    "hwp 1\ncpus 2\nframes 6\nkernel 5\nproc 0\nproc 1\nthread 0 0 0 handler\nthread 1 1 1 handler\npage 0 anon\n\
+trans 0 0 0\ntrans 1 1 0\ncpu 0\nstore 0 0 5 77\nsoft 0\nload 0 0 5\nweak 1 5\nscrub 0 5\nsoft 1\nsoft 5\nsoft 0\ncpu 1\n\
+load 1 1 5\nload 1 1 5\ninject 2\nbad 3 1\nsoft 3\nout 0\nload 1 1 5\nschedule 0. 1. 0@load_bad 1 0 1 0@poison 1. 0 1 0\n\
+schedule 1 0. 1.\nend\n",
 ];
 
 /// A scrub that meets a bad and a weak line of a free frame, and another one; and commands on frames that have failed or haven't.
@@ -44,5 +49,5 @@ hwp-report 1\nstop none\ncount 1\nframe 0 handled bad 20 weak 0\npoisoned 0 0 2 
 frame 1 free bad 0 weak 0\npage 0 5\nin 0 0\nmap 0 0 0\nstore 0 0 0 5 0 77\nmce 0 2 0 5 20\nfail 0 2 anononly req 0 0 1\n\
 signal 0 0 ar 0\ncpu 0 5\n0 stored 0 2\n1 done\n2 event 1 bd80000000000150 140 86 S9 recovered\n2 sigbus 0 4\n3 gone 0\nend\n";
 
-/// Scripts that `step` refuses as not built, with their reports.
+/// Scripts with machine checks, with their reports.
 pub const MET: &[(&str, &str)] = &[(SCRUBBED, SCRUBBED_REPORT), (FETCHED, FETCHED_REPORT)];

@@ -44,6 +44,9 @@ use Rattle.hwp_raise.specs.declared.raise.RaiseAt.{RaiseAt}
 use Rattle.hwp_raise.specs.declared.raise.RaiseAt.TheVariants as raise_at
 use Rattle.hwp_raise.specs.Costs as raise_costs
 use Rattle.hwp_raise.specs.Fits as raise_fits
+use Rattle.hwp_scrub.proofs.ScrubRank.{scrub-below}
+use Rattle.hwp_soft.specs.Softs as softs
+use Rattle.hwp_soft.proofs.SoftRank.{soft-small}
 use Rattle.hwp_job.specs.declared.job.Job.{Job}
 use Rattle.hwp_job.specs.declared.job.Job.TheVariants as jobs
 use Rattle.hwp_job.specs.Begins.{Begins, BeginsAccess, request_of}
@@ -82,9 +85,11 @@ job-below layout a view (jobs.Fsync f) rule fits = let most = fsync-below f (wor
 job-below layout a view (jobs.Prctl p) rule fits = let most = calling.small p in omega (arith, most)
 job-below layout a view (jobs.Log l) rule fits = let most = reading.small l.read in omega (arith, most)
 job-below layout a view (jobs.Raise r) rule fits = raise-below layout view r (words_at layout a) fits
+job-below layout a view (jobs.Scrub c) rule fits = scrub-below layout view c (words_at layout a) fits
 job-below layout a view (jobs.Spoil s) rule fits = let most = spoiling.small s in omega (arith, most)
 job-below layout a view (jobs.Nested n) rule fits = let most = nesting.small n in omega (arith, most)
 job-below layout a view (jobs.Inject i) rule fits = let most = inject-below i (words_at layout a) in omega (arith, most)
+job-below layout a view (jobs.Soft s) rule fits = let most : softs.cost s (words_at layout a) ≤ 9380 = soft-small layout a s rule in omega (arith, most)
 
 -- ---- and one that begins
 
@@ -119,9 +124,11 @@ begins-below layout a by command banks j rule begun = which command begun
     which (commands.Prctl thread args) b = below b.job_is (omega arith)
     which (commands.Bad frame line) b = below b.job_is (omega arith)
     which (commands.Weak frame line) b = below b.job_is (omega arith)
+    which (commands.Scrub first last) b = below b.job_is (let frames : layout.frames ≤ 256 = b.sound.frames in let within : last.0 < layout.frames = b.frames.within in omega (arith, frames, within))
     which (commands.Log status addr misc) b = below b.job_is (omega arith)
     which (commands.RaiseUser thread ripv eipv) b = below b.job_is (omega arith)
     which (commands.RaiseKernel ripv eipv) b = below b.job_is (omega arith)
     which commands.RaiseNested b = below b (omega arith)
     which (commands.Inject frame) b = below b.job_is (let most = inject-below (injects.begin b.alloc by frame) w in omega (arith, most))
+    which (commands.Soft frame) b = below b.job_is (omega arith)
     which _ b = absurd b

@@ -79,6 +79,17 @@ use Rattle.hwp_raise.specs.Done as raise_done
 use Rattle.hwp_raise.specs.Raises as raises
 use Rattle.hwp_raise.specs.Raises.{thread_of}
 use Rattle.hwp_raise.proofs.Adding.{raise-adds}
+use Rattle.hwp_scrub.specs.declared.Scrub.{Scrub}
+use Rattle.hwp_scrub.specs.Done as scrub_done
+use Rattle.hwp_scrub.specs.Scrubs as scrubs
+use Rattle.hwp_scrub.proofs.Adding.{scrub-adds}
+use Rattle.hwp_soft.specs.declared.Soft.{Soft}
+use Rattle.hwp_soft.specs.declared.SoftAnswer.{SoftAnswer}
+use Rattle.hwp_soft.specs.declared.SoftAnswer.TheVariants as soft_answers
+use Rattle.hwp_soft.specs.Done as soft_done
+use Rattle.hwp_soft.specs.Offline as offline
+use Rattle.hwp_soft.specs.Softs as softs
+use Rattle.hwp_soft.proofs.Adding.{soft-adds}
 use Rattle.hwp_job.specs.declared.job.Job.{Job}
 use Rattle.hwp_job.specs.declared.job.Job.TheVariants as jobs
 use Rattle.hwp_job.specs.Answers.{fail_answer}
@@ -86,10 +97,10 @@ use Rattle.hwp_job.specs.Done.{HasDone, can_fail, failed_at, failed_now, marked_
 use Rattle.hwp_job.specs.Jobs.{Fits, answer, who}
 use Rattle.hwp_job.specs.Settings.{set_at}
 use Rattle.hwp_job.specs.Stays.{IsAtStop, Stepped}
-use Rattle.hwp_job.proofs.Ending.{evict-caused, instruction-over, mapped, raise-over}
-use Rattle.hwp_job.proofs.Leaving.{Rest}
+use Rattle.hwp_job.proofs.Ending.{evict-caused, instruction-over, mapped, raise-over, scrub-over, soft-ended, soft-over}
+use Rattle.hwp_job.proofs.Leaving.{Left, Rest, soft-leaves}
 use Rattle.hwp_job.proofs.Quiet.{evict, read}
-use Rattle.hwp_job.proofs.Resting.{inject-left, instruction-left, quiet-step, raise-left}
+use Rattle.hwp_job.proofs.Resting.{inject-left, instruction-left, quiet-step, raise-left, scrub-left}
 use Rattle.hwp_job.proofs.Setting.{ended, replied, stopped}
 
 -- ---- commands of which no memory fails
@@ -263,6 +274,12 @@ module _ {layout : Layout} {old new : View} {r : Raise} {after : Job} (s : Stepp
       (let adds = raise-adds layout old new r s.step s.found s.got s.fits s.planned s.made s.follows.0 s.turn s.follows.2 in
       adds-done (record { marked = adds.marked; failed = failures-grow r.who old new adds.failed; counted = adds.counted }) (raise-left s).rest refl refl)
 
+module _ {layout : Layout} {old new : View} {c : Scrub} {after : Job} (s : Stepped layout old new (jobs.Scrub c) after) where
+  scrub-done-so : HasDone old new c.who (jobs.Scrub c) after
+  scrub-done-so = subst (HasDone old new c.who (jobs.Scrub c)) (sym s.follows.1)
+      (let adds = scrub-adds layout old new c s.step s.found s.got s.fits s.planned s.made s.follows.0 s.turn s.follows.2 in
+      adds-done (record { marked = adds.marked; failed = failures-grow c.who old new adds.failed; counted = adds.counted }) (scrub-left s).rest refl refl)
+
 module _ {layout : Layout} {old new : View} {i : Inject} {after : Job} (s : Stepped layout old new (jobs.Inject i) after) where
   abbrev injected : Inject
   injected = s.follows.0
@@ -314,6 +331,30 @@ module _ {layout : Layout} {old new : View} {i : Inject} {after : Job} (s : Step
     counted = inject-adds.2;
   }) (inject-left s).rest refl refl)
 
+-- ---- a frame that is taken out of use
+
+module _ {layout : Layout} {old new : View} {o : Soft} {after : Job} (s : Stepped layout old new (jobs.Soft o) after) where
+  abbrev softened : Soft
+  softened = s.follows.0
+
+  soft-done-so : HasDone old new o.who (jobs.Soft o) after
+  soft-done-so = subst (HasDone old new o.who (jobs.Soft o)) (sym s.follows.1) (record {
+    marked = subst (λ (n : Frame). Grows (λ (m : Mark). m.stamp.who) marking_of old.marks new.marks o.who (soft_done.marked_at o.frame o.at) (soft_done.marked_at n softened.at)) (sym (ap (λ (k : Soft). k.frame) s.follows.2.0)) adds.marked;
+    failed = unfailed refl;
+    taken = inl (left.rest.reported, refl);
+    set = inl (left.rest.settings, refl);
+    counted = counted;
+  })
+    where
+      adds : soft_done.Adds old new o.who o.frame o.at softened.at
+      adds = soft-adds layout old new o s.step s.found s.got s.fits s.planned s.made softened s.turn s.follows.2
+
+      left : Left old new
+      left = soft-leaves o s.planned s.made
+
+      counted : counts_owed old ≡ soft_done.owed_at o.at → counts_owed new ≡ soft_done.owed_at softened.at
+      counted has = let sum : counts_owed new + soft_done.owed_at o.at ≡ counts_owed old + soft_done.owed_at softened.at = adds.counted in omega (arith, sum, has)
+
 pub done : {layout : Layout} {old new : View} {j after : Job} → Stepped layout old new j after → HasDone old new (who j) j after
 done {j = jobs.Instruction i} s = instruction-done s
 done {j = jobs.Evict e} s = nothing s (leaves s.made (quiet-step (evict e.at) s.planned)) (refl, refl, refl) (subst IsBlank (sym s.follows.1) (refl, refl, refl)) (ap taken_now s.follows.1) (ap policies_now s.follows.1)
@@ -321,9 +362,11 @@ done {j = jobs.Fsync f} s = fsync-done s
 done {j = jobs.Prctl p} s = prctl-done s
 done {j = jobs.Log l} s = nothing s (leaves s.made (quiet-step (read l.read.at) s.planned)) (refl, refl, refl) (subst IsBlank (sym s.follows.0) (refl, refl, refl)) (ap taken_now s.follows.0) (ap policies_now s.follows.0)
 done {j = jobs.Raise r} s = raise-done-so s
+done {j = jobs.Scrub c} s = scrub-done-so s
 done {j = jobs.Spoil p} s = spoil-done s
 done {j = jobs.Nested n} s = nested-done s
 done {j = jobs.Inject i} s = inject-done s
+done {j = jobs.Soft o} s = soft-done-so s
 
 -- ---- at its beginning a command has done nothing
 
@@ -338,19 +381,24 @@ unset-policies-at-start _ start = refl
 pub unmarked-at-start : (j : Job) → IsAtStop j → marked_now j ≡ []
 unmarked-at-start (jobs.Instruction i) start = ap (λ (l : List Told). instruction_done.marked_by l ++ instruction_done.marked_at i.at) start.3 ∙ ap instruction_done.marked_at start.1
 unmarked-at-start (jobs.Raise r) start = ap (λ (l : List Told). filter_map marked_in l ++ raise_done.marked_at r.at) start.1 ∙ ap raise_done.marked_at start.0
+unmarked-at-start (jobs.Scrub c) start = ap (λ (l : List Told). filter_map marked_in l ++ scrub_done.marked_at c.at) start.1 ∙ ap scrub_done.marked_at start.0
 unmarked-at-start (jobs.Inject i) start = ap (marked_at i.frame) start
+unmarked-at-start (jobs.Soft s) start = ap (soft_done.marked_at s.frame) start
 unmarked-at-start _ start = refl
 
 pub unfailed-at-start : (j : Job) → IsAtStop j → failed_now j ≡ []
 unfailed-at-start (jobs.Instruction i) start = ap (λ (l : List Told). instruction_done.failed_by (Some i.request.thread) l ++ instruction_done.failed_at i.at) start.3 ∙ ap instruction_done.failed_at start.1
 unfailed-at-start (jobs.Raise r) start = ap (λ (l : List Told). filter_map (failed_told (thread_of r.raiser)) l ++ raise_done.failed_at r.at) start.1 ∙ ap raise_done.failed_at start.0
+unfailed-at-start (jobs.Scrub c) start = ap (λ (l : List Told). filter_map (failed_told None) l ++ scrub_done.failed_at c.at) start.1 ∙ ap scrub_done.failed_at start.0
 unfailed-at-start (jobs.Inject i) start = ap failed_at start
 unfailed-at-start _ start = refl
 
 pub unowed-at-start : (j : Job) → IsAtStop j → owed_now j ≡ 0
 unowed-at-start (jobs.Instruction i) start = ap instruction_done.owed_at start.1
 unowed-at-start (jobs.Raise r) start = ap raise_done.owed_at start.0
+unowed-at-start (jobs.Scrub c) start = ap scrub_done.owed_at start.0
 unowed-at-start (jobs.Inject i) start = ap owed_at start
+unowed-at-start (jobs.Soft s) start = ap soft_done.owed_at start
 unowed-at-start _ start = refl
 
 -- ---- once it is answered
@@ -359,6 +407,8 @@ unowed-at-start _ start = refl
 pub unowed-at-end : (j : Job) {a : Answer} → answer j ≡ Some a → owed_now j ≡ 0
 unowed-at-end (jobs.Instruction i) is = ap instruction_done.owed_at (instruction-over i (mapped _ (instructions.answer i) is).1)
 unowed-at-end (jobs.Raise r) is = ap raise_done.owed_at (raise-over r (mapped _ (raises.answer r) is).1)
+unowed-at-end (jobs.Scrub c) is = ap scrub_done.owed_at (scrub-over c (mapped _ (scrubs.answer c) is).1)
+unowed-at-end (jobs.Soft s) is = ap soft_done.owed_at (soft-over s (mapped _ (softs.answer s) is).1)
 unowed-at-end (jobs.Inject i) {a} is = which i.at is
   where
     by : (y : FailAt) → option_map fail_answer (fails.answer_at y) ≡ Some a → fail_done.owed_at y ≡ 0
@@ -390,10 +440,24 @@ evict-failures layout view who page what (evict_answers.Done at) caused =
     ap (filter_map failed_in) (has.all ∙ ap (λ (l : List Made). l ++ has.last ∷ []) (none-among has.before has.such))
     ∙ ap (λ (o : Option Failed). cons_option o []) (ap (failed_of has.last.page has.last.place) has.at.2 ∙ evict-unfailed has.last.page has.last.place what)
 
+-- nor does a command that takes a frame out of use
+soft-failures : (layout : Layout) (view : View) (who : Who) (frame : Frame) (x : SoftAnswer) → offline.IsCaused layout view who frame x → failures_by who view ≡ []
+soft-failures layout view who frame soft_answers.Stopped caused = ap (filter_map failed_in) caused.0
+soft-failures layout view who frame soft_answers.Kernel caused = ap (filter_map failed_in) caused.0
+soft-failures layout view who frame soft_answers.Already caused = ap (filter_map failed_in) caused.0
+soft-failures layout view who frame (soft_answers.HasBad mask) caused = ap (filter_map failed_in) caused.0
+soft-failures layout view who frame soft_answers.NoFrame caused = ap (filter_map failed_in) caused.0
+soft-failures layout view who frame (soft_answers.TakenFree cycle) caused = ap (filter_map failed_in) caused.0
+soft-failures layout view who frame (soft_answers.Moved to place cycle) caused =
+    let has = caused.0 in
+    ap (filter_map failed_in) (has.all ∙ ap (λ (l : List Made). l ++ has.last ∷ []) (none-among has.before has.such))
+    ∙ ap (λ (o : Option Failed). cons_option o []) (ap (failed_of has.last.page has.last.place) has.at.2)
+
 -- its failures are those that its entries tell
 pub failures-at-end : (layout : Layout) (view : View) (j : Job) {a : Answer} → Fits layout view j → answer j ≡ Some a → (can_fail j ≡ true → failures_by (who j) view ≡ failed_now j) → failures_by (who j) view ≡ failed_now j
 failures-at-end layout view (jobs.Instruction i) fits is has = has refl
 failures-at-end layout view (jobs.Raise r) fits is has = has refl
+failures-at-end layout view (jobs.Scrub c) fits is has = has refl
 failures-at-end layout view (jobs.Inject i) fits is has = has refl
 failures-at-end layout view (jobs.Evict e) fits is has = let own = mapped _ (evicts.answer e) is in evict-failures layout view e.who e.page e.what own.0 (evict-caused e fits own.1).1
 failures-at-end layout view (jobs.Fsync f) fits is has = ap (filter_map failed_in) fits.made_none
@@ -401,6 +465,7 @@ failures-at-end layout view (jobs.Prctl p) fits is has = ap (filter_map failed_i
 failures-at-end layout view (jobs.Log l) fits is has = ap (filter_map failed_in) fits.read.made
 failures-at-end layout view (jobs.Spoil s) fits is has = ap (filter_map failed_in) fits.made
 failures-at-end layout view (jobs.Nested n) fits is has = ap (filter_map failed_in) fits.made
+failures-at-end layout view (jobs.Soft s) fits is has = let own = mapped _ (softs.answer s) is in soft-failures layout view s.who s.frame own.0 (soft-ended s fits own.1).1
 
 -- ---- what a view lists of a command
 

@@ -62,6 +62,19 @@ use Rattle.hwp_raise.specs.declared.raise.RaiseAt.TheVariants as raise_at
 use Rattle.hwp_raise.specs.Fits as raise_fits
 use Rattle.hwp_raise.specs.Logs as logs
 use Rattle.hwp_raise.specs.Raises as raises
+use Rattle.hwp_scrub.specs.declared.Scrub.{Scrub}
+use Rattle.hwp_scrub.specs.declared.ScrubAnswer.{ScrubAnswer}
+use Rattle.hwp_scrub.specs.declared.ScrubAnswer.TheVariants as scrub_answers
+use Rattle.hwp_scrub.specs.declared.scrub.ScrubAt.{ScrubAt}
+use Rattle.hwp_scrub.specs.declared.scrub.ScrubAt.TheVariants as scrub_at
+use Rattle.hwp_scrub.specs.Fits as scrub_fits
+use Rattle.hwp_scrub.specs.Scrubs as scrubs
+use Rattle.hwp_soft.specs.declared.Soft.{Soft}
+use Rattle.hwp_soft.specs.declared.SoftAnswer.{SoftAnswer}
+use Rattle.hwp_soft.specs.declared.soft.SoftAt.{SoftAt}
+use Rattle.hwp_soft.specs.declared.soft.SoftAt.TheVariants as soft_at
+use Rattle.hwp_soft.specs.Offline as offline
+use Rattle.hwp_soft.specs.Softs as softs
 use Rattle.hwp_job.specs.declared.job.Job.{Job}
 use Rattle.hwp_job.specs.declared.job.Job.TheVariants as jobs
 use Rattle.hwp_job.specs.Answers.{fail_answer}
@@ -117,6 +130,13 @@ raise-over r {x} is = which r.at is
     which (raise_at.Over other) some = ap raise_at.Over some
     which _ none = absurd (none-some x none)
 
+pub scrub-over : (s : Scrub) {x : ScrubAnswer} → scrubs.answer s ≡ Some x → s.at ≡ scrub_at.Over (Some x)
+scrub-over s {x} is = which s.at is
+  where
+    which : (y : ScrubAt) → scrubs.answer_at y ≡ Some x → y ≡ scrub_at.Over (Some x)
+    which (scrub_at.Over other) some = ap scrub_at.Over some
+    which _ none = absurd (none-some x none)
+
 pub spoil-over : (s : Spoil) {x : SpoilAnswer} → spoils.answer s ≡ Some x → s.at ≡ spoil_at.Over x
 spoil-over s {x} is = which s.at is
   where
@@ -129,6 +149,13 @@ nested-over n {x} is = which n.at is
   where
     which : (y : NestedAt) → nesteds.answer_at y ≡ Some x → y ≡ nested_at.Over (Some x)
     which (nested_at.Over other) some = ap nested_at.Over some
+    which _ none = absurd (none-some x none)
+
+pub soft-over : (s : Soft) {x : SoftAnswer} → softs.answer s ≡ Some x → s.at ≡ soft_at.Over x
+soft-over s {x} is = which s.at is
+  where
+    which : (y : SoftAt) → softs.answer_at y ≡ Some x → y ≡ soft_at.Over x
+    which (soft_at.Over other) some = ap soft_at.Over (same_Some other x some)
     which _ none = absurd (none-some x none)
 
 -- what a memory failure that is over knows: it holds nothing and owes no loss; its answer has its cause, and says what
@@ -173,8 +200,21 @@ instruction-ended {layout} {view} i fits is = subst (instruction_fits.FitsAt lay
 pub raise-ended : {layout : Layout} {view : View} (r : Raise) {x : RaiseAnswer} → raise_fits.Fits layout view r → raises.answer r ≡ Some x → IsAtRest view × raise_fits.IsEnd layout view r x
 raise-ended {layout} {view} r fits is = subst (raise_fits.FitsAt layout view r) (raise-over r is) fits.at
 
+-- and a scrub
+pub scrub-ended : {layout : Layout} {view : View} (s : Scrub) {x : ScrubAnswer} → scrub_fits.Fits layout view s → scrubs.answer s ≡ Some x → scrub_fits.IsEnd layout view s x
+scrub-ended {layout} {view} s fits is = subst (scrub_fits.FitsAt layout view s) (scrub-over s is) fits.at
+
+scrub-rests : (layout : Layout) (view : View) (s : Scrub) (x : ScrubAnswer) → scrub_fits.IsEnd layout view s x → IsAtRest view
+scrub-rests layout view s scrub_answers.Scrubbed ended = ended.rest
+scrub-rests layout view s scrub_answers.Stopped (inl unbegun) = unbegun.0.rest
+scrub-rests layout view s scrub_answers.Stopped (inr halted) = halted.1.rest
+
 pub evict-caused : {layout : Layout} {view : View} (e : Evict) {x : EvictAnswer} → evicts.Fits layout view e → evicts.answer e ≡ Some x → (hand_of view ≡ empty) × IsCaused layout view e.who e.page e.what x
 evict-caused {layout} {view} e fits is = subst (evicts.FitsAt layout view e.who e.page e.what) (evict-over e is) fits.at
+
+-- a frame that was to be taken out of use
+pub soft-ended : {layout : Layout} {view : View} (s : Soft) {x : SoftAnswer} → offline.Fits layout view s → softs.answer s ≡ Some x → (hand_of view ≡ empty) × offline.IsCaused layout view s.who s.frame x
+soft-ended {layout} {view} s fits is = subst (offline.FitsAt layout view s.who s.frame) (soft-over s is) fits.at
 
 -- it plans no step
 pub answered-over : {a : Answer} (j : Job) → answer j ≡ Some a → plan j ≡ None
@@ -184,8 +224,10 @@ answered-over (jobs.Fsync f) is = ap (fsyncs.plan_at f.file) (fsync-over f (mapp
 answered-over (jobs.Prctl p) is = ap (prctls.plan_at p.thread p.process) (prctl-over p (mapped _ (prctls.answer p) is).1)
 answered-over (jobs.Log l) is = ap read_stops.plan_at (read-over l.read (mapped _ (logs.answer l) is).1)
 answered-over (jobs.Raise r) is = ap raises.plan_at (raise-over r (mapped _ (raises.answer r) is).1)
+answered-over (jobs.Scrub s) is = ap scrubs.plan_at (scrub-over s (mapped _ (scrubs.answer s) is).1)
 answered-over (jobs.Spoil s) is = ap (spoils.plan_at s.frame s.line s.damage) (spoil-over s (mapped _ (spoils.answer s) is).1)
 answered-over (jobs.Nested n) is = ap (nesteds.plan_at n.who) (nested-over n (mapped _ (nesteds.answer n) is).1)
+answered-over (jobs.Soft s) is = ap (softs.plan_at s.frame) (soft-over s (mapped _ (softs.answer s) is).1)
 answered-over {a} (jobs.Inject i) is = which i.at is
   where
     by : (x : FailAt) → option_map fail_answer (fails.answer_at x) ≡ Some a → fails.plan_at x ≡ None
@@ -205,9 +247,11 @@ empty-handed layout view (jobs.Fsync f) fits is = fits.hand_is
 empty-handed layout view (jobs.Prctl p) fits is = fits.hand_is
 empty-handed layout view (jobs.Log l) fits is = fits.read.hand_is
 empty-handed layout view (jobs.Raise r) fits is = (raise-ended r fits (mapped _ (raises.answer r) is).1).0.hand_is
+empty-handed layout view (jobs.Scrub s) fits is = let own = mapped _ (scrubs.answer s) is in (scrub-rests layout view s own.0 (scrub-ended s fits own.1)).hand_is
 empty-handed layout view (jobs.Spoil s) fits is = fits.hand_is
 empty-handed layout view (jobs.Nested n) fits is = fits.hand_is
 empty-handed layout view (jobs.Inject i) fits is = (inject-ended i fits (mapped _ (injects.answer i) is).1).hand_is
+empty-handed layout view (jobs.Soft s) fits is = (soft-ended s fits (mapped _ (softs.answer s) is).1).0
 
 pub ends : (layout : Layout) (view : View) (j : Job) {a : Answer} → Fits layout view j → answer j ≡ Some a → (hand_of view ≡ empty) × (plan j ≡ None)
 ends layout view j fits is = (empty-handed layout view j fits is, answered-over j is)
@@ -216,5 +260,6 @@ ends layout view j fits is = (empty-handed layout view j fits is, answered-over 
 pub paid-at-end : (layout : Layout) (view : View) (j : Job) {a : Answer} → Fits layout view j → answer j ≡ Some a → (view.owed.losses ≡ []) ⊎ (failed_now j ≡ [])
 paid-at-end layout view (jobs.Instruction i) fits is = inl (instruction-ended i fits (mapped _ (instructions.answer i) is).1).paid
 paid-at-end layout view (jobs.Raise r) fits is = inl (raise-ended r fits (mapped _ (raises.answer r) is).1).0.paid
+paid-at-end layout view (jobs.Scrub s) fits is = inl (let own = mapped _ (scrubs.answer s) is in (scrub-rests layout view s own.0 (scrub-ended s fits own.1)).paid)
 paid-at-end layout view (jobs.Inject i) fits is = inl (inject-ended i fits (mapped _ (injects.answer i) is).1).paid
 paid-at-end layout view _ fits is = inr refl

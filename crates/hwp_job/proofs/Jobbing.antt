@@ -68,11 +68,27 @@ use Rattle.hwp_raise.specs.Raises as raises
 use Rattle.hwp_raise.proofs.Logging as logging
 use Rattle.hwp_raise.proofs.Raising as raising
 use Rattle.hwp_raise.proofs.RaiseRank.{raise-member, raise-ranked, raise-tells}
+use Rattle.hwp_scrub.specs.declared.Scrub.{Scrub}
+use Rattle.hwp_scrub.specs.declared.scrub.ScrubAt.{ScrubAt}
+use Rattle.hwp_scrub.specs.declared.scrub.ScrubAt.TheVariants as scrub_at
+use Rattle.hwp_scrub.specs.Costs as scrub_costs
+use Rattle.hwp_scrub.specs.Scrubs as scrubs
+use Rattle.hwp_scrub.proofs.ScrubRank.{scrub-member, scrub-ranked, scrub-tells}
+use Rattle.hwp_scrub.proofs.Scrubbing as scrubbing
+use Rattle.hwp_soft.specs.declared.Soft.{Soft}
+use Rattle.hwp_soft.specs.declared.SoftAnswer.{SoftAnswer}
+use Rattle.hwp_soft.specs.declared.soft.SoftAt.{SoftAt}
+use Rattle.hwp_soft.specs.declared.soft.SoftAt.TheVariants as soft_at
+use Rattle.hwp_soft.specs.Softs as softs
+use Rattle.hwp_soft.proofs.Offlining as offlining
+use Rattle.hwp_soft.proofs.Softening as softening
+use Rattle.hwp_soft.proofs.SoftRank.{soft-member, soft-ranked}
+use Rattle.hwp_soft.proofs.SoftTells.{soft-tells-class}
 use Rattle.hwp_job.specs.declared.job.Job.{Job}
 use Rattle.hwp_job.specs.declared.job.Job.TheVariants as jobs
-use Rattle.hwp_job.specs.Answers.{fail_answer, instruction_answer, raise_answer}
+use Rattle.hwp_job.specs.Answers.{fail_answer, instruction_answer, raise_answer, scrub_answer, soft_answer}
 use Rattle.hwp_job.specs.Jobs.{Fits, Next, Shows, aborts, answer, bare, claims, class, cost, plan, put, who}
-use Rattle.hwp_job.proofs.Refusing.{handler-unanswered, refused-unanswered}
+use Rattle.hwp_job.proofs.Refusing.{handler-unanswered, refused-unanswered, soft-unanswered}
 
 -- ---- tasks
 
@@ -83,9 +99,11 @@ can layout view (jobs.Fsync x) step fits is = fsyncing.can layout view x step fi
 can layout view (jobs.Prctl x) step fits is = calling.can layout view x step fits is
 can layout view (jobs.Log x) step fits is = logging.can layout view x step fits is
 can layout view (jobs.Raise x) step fits is = raising.can layout view x step fits is
+can layout view (jobs.Scrub x) step fits is = scrubbing.can layout view x step fits is
 can layout view (jobs.Spoil x) step fits is = spoiling.can layout view x step fits is
 can layout view (jobs.Nested x) step fits is = nesting.can layout view x step fits is
 can layout view (jobs.Inject x) step fits is = injecting.can layout view x step fits is
+can layout view (jobs.Soft x) step fits is = offlining.can layout view x step fits is
 
 -- what follows is of the same kind
 follows-so : {T : Type 0} (of : T → Job) (layout : Layout) (new : View) (j after : Job) (t : T) → after ≡ of t → Fits layout new (of t) × ((who (of t)).cpu ≡ (who j).cpu) → Fits layout new after × ((who after).cpu ≡ (who j).cpu)
@@ -111,6 +129,9 @@ stays layout old new (jobs.Log x) step found got fits is made =
 stays layout old new (jobs.Raise x) step found got fits is made =
     let s = raising.stays layout old new x step found got fits is made in
     (s.0, λ after turn next. follows-so jobs.Raise layout new (jobs.Raise x) after next.0 next.1 (s.1 next.0 turn next.2))
+stays layout old new (jobs.Scrub x) step found got fits is made =
+    let s = scrubbing.stays layout old new x step found got fits is made in
+    (s.0, λ after turn next. follows-so jobs.Scrub layout new (jobs.Scrub x) after next.0 next.1 (s.1 next.0 turn next.2))
 stays layout old new (jobs.Spoil x) step found got fits is made =
     let s = spoiling.stays layout old new x step found got fits is made in
     (s.0, λ after turn next. follows-so jobs.Spoil layout new (jobs.Spoil x) after (spoils.next x found) next.0 (s.1 (spoils.next x found) turn (refl, next.1)))
@@ -120,6 +141,9 @@ stays layout old new (jobs.Nested x) step found got fits is made =
 stays layout old new (jobs.Inject x) step found got fits is made =
     let s = injecting.stays layout old new x step found got fits is made in
     (s.0, λ after turn next. follows-so jobs.Inject layout new (jobs.Inject x) after next.0 next.1 (s.1 next.0 turn next.2))
+stays layout old new (jobs.Soft x) step found got fits is made =
+    let s = softening.stays layout old new x step found got fits is made in
+    (s.0, λ after turn next. follows-so jobs.Soft layout new (jobs.Soft x) after next.0 next.1 (s.1 next.0 turn next.2))
 
 -- ---- the rank
 
@@ -181,6 +205,13 @@ module _ {layout : Layout} {seat : ℕ} {a b : State} {t : Job} {turn : Turn} wh
     made = record { step = made.step; found = made.found; got = made.got; rule = made.rule; kept = made.kept; fits = made.fits; planned = made.planned; move = made.move; brings = made.brings; follows = made.follows.2 };
   }
 
+  of-scrub : {x : Scrub} → Made job-member layout seat a b (jobs.Scrub x) t turn → IsTurnOf scrub-member jobs.Scrub layout seat a b x t turn
+  of-scrub made = record {
+    after = made.follows.0;
+    after_is = made.follows.1;
+    made = record { step = made.step; found = made.found; got = made.got; rule = made.rule; kept = made.kept; fits = made.fits; planned = made.planned; move = made.move; brings = made.brings; follows = made.follows.2 };
+  }
+
   of-spoil : {x : Spoil} → Made job-member layout seat a b (jobs.Spoil x) t turn → IsTurnOf spoiling.the-member jobs.Spoil layout seat a b x t turn
   of-spoil {x} made = record {
     after = spoils.next x made.found;
@@ -197,6 +228,13 @@ module _ {layout : Layout} {seat : ℕ} {a b : State} {t : Job} {turn : Turn} wh
 
   of-inject : {x : Inject} → Made job-member layout seat a b (jobs.Inject x) t turn → IsTurnOf inject-member jobs.Inject layout seat a b x t turn
   of-inject made = record {
+    after = made.follows.0;
+    after_is = made.follows.1;
+    made = record { step = made.step; found = made.found; got = made.got; rule = made.rule; kept = made.kept; fits = made.fits; planned = made.planned; move = made.move; brings = made.brings; follows = made.follows.2 };
+  }
+
+  of-soft : {x : Soft} → Made job-member layout seat a b (jobs.Soft x) t turn → IsTurnOf soft-member jobs.Soft layout seat a b x t turn
+  of-soft made = record {
     after = made.follows.0;
     after_is = made.follows.1;
     made = record { step = made.step; found = made.found; got = made.got; rule = made.rule; kept = made.kept; fits = made.fits; planned = made.planned; move = made.move; brings = made.brings; follows = made.follows.2 };
@@ -230,9 +268,11 @@ falls layout seat a b (jobs.Fsync x) t turn made goes = let m = of-fsync made in
 falls layout seat a b (jobs.Prctl x) t turn made goes = let m = of-prctl made in lowers-so calling.the-member jobs.Prctl (λ s w. refl) (λ s. refl) m (calling.ranked.falls layout seat a b x m.after turn m.made goes)
 falls layout seat a b (jobs.Log x) t turn made goes = let m = of-log made in lowers-so logging.the-member jobs.Log (λ s w. refl) (λ s. refl) m (logging.ranked.falls layout seat a b x m.after turn m.made goes)
 falls layout seat a b (jobs.Raise x) t turn made goes = let m = of-raise made in lowers-so raise-member jobs.Raise (λ s w. refl) (λ s. refl) m (raise-ranked.falls layout seat a b x m.after turn m.made goes)
+falls layout seat a b (jobs.Scrub x) t turn made goes = let m = of-scrub made in lowers-so scrub-member jobs.Scrub (λ s w. refl) (λ s. refl) m (scrub-ranked.falls layout seat a b x m.after turn m.made goes)
 falls layout seat a b (jobs.Spoil x) t turn made goes = let m = of-spoil made in lowers-so spoiling.the-member jobs.Spoil (λ s w. refl) (λ s. refl) m (spoiling.ranked.falls layout seat a b x m.after turn m.made goes)
 falls layout seat a b (jobs.Nested x) t turn made goes = let m = of-nested made in lowers-so nesting.the-member jobs.Nested (λ s w. refl) (λ s. refl) m (nesting.ranked.falls layout seat a b x m.after turn m.made goes)
 falls layout seat a b (jobs.Inject x) t turn made goes = let m = of-inject made in lowers-so inject-member jobs.Inject (λ s w. refl) (λ s. refl) m (inject-ranked.falls layout seat a b x m.after turn m.made goes)
+falls layout seat a b (jobs.Soft x) t turn made goes = let m = of-soft made in lowers-so soft-member jobs.Soft (λ s w. refl) (λ s. refl) m (soft-ranked.falls layout seat a b x m.after turn m.made goes)
 
 waits : (layout : Layout) (seat : ℕ) (a b : State) (s t : Job) (turn : Turn) → Made job-member layout seat a b s t turn → is_waits turn ≡ true → Quiet (class s) layout a seat → CostFalls job-member layout a b s t ⊎ ((aborts t ≡ true) × OtherHand a seat)
 waits layout seat a b (jobs.Instruction x) t turn made is quiet = let m = of-instruction made in waits-so instruction-member jobs.Instruction (λ s w. refl) (λ s. refl) m (instruction-ranked.waits layout seat a b x m.after turn m.made is quiet)
@@ -241,9 +281,11 @@ waits layout seat a b (jobs.Fsync x) t turn made is quiet = let m = of-fsync mad
 waits layout seat a b (jobs.Prctl x) t turn made is quiet = let m = of-prctl made in waits-so calling.the-member jobs.Prctl (λ s w. refl) (λ s. refl) m (calling.ranked.waits layout seat a b x m.after turn m.made is quiet)
 waits layout seat a b (jobs.Log x) t turn made is quiet = let m = of-log made in waits-so logging.the-member jobs.Log (λ s w. refl) (λ s. refl) m (logging.ranked.waits layout seat a b x m.after turn m.made is quiet)
 waits layout seat a b (jobs.Raise x) t turn made is quiet = let m = of-raise made in waits-so raise-member jobs.Raise (λ s w. refl) (λ s. refl) m (raise-ranked.waits layout seat a b x m.after turn m.made is quiet)
+waits layout seat a b (jobs.Scrub x) t turn made is quiet = let m = of-scrub made in waits-so scrub-member jobs.Scrub (λ s w. refl) (λ s. refl) m (scrub-ranked.waits layout seat a b x m.after turn m.made is quiet)
 waits layout seat a b (jobs.Spoil x) t turn made is quiet = let m = of-spoil made in waits-so spoiling.the-member jobs.Spoil (λ s w. refl) (λ s. refl) m (spoiling.ranked.waits layout seat a b x m.after turn m.made is quiet)
 waits layout seat a b (jobs.Nested x) t turn made is quiet = let m = of-nested made in waits-so nesting.the-member jobs.Nested (λ s w. refl) (λ s. refl) m (nesting.ranked.waits layout seat a b x m.after turn m.made is quiet)
 waits layout seat a b (jobs.Inject x) t turn made is quiet = let m = of-inject made in waits-so inject-member jobs.Inject (λ s w. refl) (λ s. refl) m (inject-ranked.waits layout seat a b x m.after turn m.made is quiet)
+waits layout seat a b (jobs.Soft x) t turn made is quiet = let m = of-soft made in waits-so soft-member jobs.Soft (λ s w. refl) (λ s. refl) m (soft-ranked.waits layout seat a b x m.after turn m.made is quiet)
 
 classes : (j : Job) → (1 ≤ class j) × (class j ≤ 4)
 classes (jobs.Instruction x) = instruction-ranked.classes x
@@ -252,9 +294,11 @@ classes (jobs.Fsync x) = fsync-ranked.classes x
 classes (jobs.Prctl x) = calling.ranked.classes x
 classes (jobs.Log x) = logging.ranked.classes x
 classes (jobs.Raise x) = raise-ranked.classes x
+classes (jobs.Scrub x) = scrub-ranked.classes x
 classes (jobs.Spoil x) = spoiling.ranked.classes x
 classes (jobs.Nested x) = nesting.ranked.classes x
 classes (jobs.Inject x) = inject-ranked.classes x
+classes (jobs.Soft x) = soft-ranked.classes x
 
 small : (layout : Layout) (a : State) (seat : ℕ) (j : Job) → Holds layout a → Fits layout (view_of a seat) j → cost j (words_at layout a) < top
 small layout a seat (jobs.Instruction x) rule fits = instruction-ranked.small layout a seat x rule fits
@@ -263,15 +307,19 @@ small layout a seat (jobs.Fsync x) rule fits = fsync-ranked.small layout a seat 
 small layout a seat (jobs.Prctl x) rule fits = calling.ranked.small layout a seat x rule fits
 small layout a seat (jobs.Log x) rule fits = logging.ranked.small layout a seat x rule fits
 small layout a seat (jobs.Raise x) rule fits = raise-ranked.small layout a seat x rule fits
+small layout a seat (jobs.Scrub x) rule fits = scrub-ranked.small layout a seat x rule fits
 small layout a seat (jobs.Spoil x) rule fits = spoiling.ranked.small layout a seat x rule fits
 small layout a seat (jobs.Nested x) rule fits = nesting.ranked.small layout a seat x rule fits
 small layout a seat (jobs.Inject x) rule fits = inject-ranked.small layout a seat x rule fits
+small layout a seat (jobs.Soft x) rule fits = soft-ranked.small layout a seat x rule fits
 
--- a memory failure alone can give up what it has begun, and then it looks at its frame again
+-- a command that claims a frame alone can give up what it has begun, and then it looks at its frame again
 leaves : (layout : Layout) (seat : ℕ) (a b : State) (s t : Job) (turn : Turn) → Made job-member layout seat a b s t turn → aborts s ≡ true → (plan t ≡ None) ⊎ (1 < class t)
 leaves layout seat a b (jobs.Instruction x) t turn made is = let m = of-instruction made in subst (λ (j : Job). (plan j ≡ None) ⊎ (1 < class j)) (sym m.after_is) (instruction-ranked.leaves layout seat a b x m.after turn m.made is)
 leaves layout seat a b (jobs.Raise x) t turn made is = let m = of-raise made in subst (λ (j : Job). (plan j ≡ None) ⊎ (1 < class j)) (sym m.after_is) (raise-ranked.leaves layout seat a b x m.after turn m.made is)
+leaves layout seat a b (jobs.Scrub x) t turn made is = let m = of-scrub made in subst (λ (j : Job). (plan j ≡ None) ⊎ (1 < class j)) (sym m.after_is) (scrub-ranked.leaves layout seat a b x m.after turn m.made is)
 leaves layout seat a b (jobs.Inject x) t turn made is = let m = of-inject made in subst (λ (j : Job). (plan j ≡ None) ⊎ (1 < class j)) (sym m.after_is) (inject-ranked.leaves layout seat a b x m.after turn m.made is)
+leaves layout seat a b (jobs.Soft x) t turn made is = let m = of-soft made in subst (λ (j : Job). (plan j ≡ None) ⊎ (1 < class j)) (sym m.after_is) (soft-ranked.leaves layout seat a b x m.after turn m.made is)
 leaves layout seat a b _ t turn made is = absurd (both_ways true (sym is) refl)
 
 -- a command that poisons no frame with its step, and claims none, has no failure to end
@@ -287,8 +335,12 @@ owns layout seat a b (jobs.Instruction x) t turn frame cycle made going pending 
     let m = of-instruction made in subst (λ (j : Job). Owns layout a b (jobs.Instruction x) j frame cycle) (sym m.after_is) (instruction-ranked.owns layout seat a b x m.after turn frame cycle m.made going pending)
 owns layout seat a b (jobs.Raise x) t turn frame cycle made going pending =
     let m = of-raise made in subst (λ (j : Job). Owns layout a b (jobs.Raise x) j frame cycle) (sym m.after_is) (raise-ranked.owns layout seat a b x m.after turn frame cycle m.made going pending)
+owns layout seat a b (jobs.Scrub x) t turn frame cycle made going pending =
+    let m = of-scrub made in subst (λ (j : Job). Owns layout a b (jobs.Scrub x) j frame cycle) (sym m.after_is) (scrub-ranked.owns layout seat a b x m.after turn frame cycle m.made going pending)
 owns layout seat a b (jobs.Inject x) t turn frame cycle made going pending =
     let m = of-inject made in subst (λ (j : Job). Owns layout a b (jobs.Inject x) j frame cycle) (sym m.after_is) (inject-ranked.owns layout seat a b x m.after turn frame cycle m.made going pending)
+owns layout seat a b (jobs.Soft x) t turn frame cycle made going pending =
+    let m = of-soft made in subst (λ (j : Job). Owns layout a b (jobs.Soft x) j frame cycle) (sym m.after_is) (soft-ranked.owns layout seat a b x m.after turn frame cycle m.made going pending)
 owns layout seat a b (jobs.Evict x) t turn frame cycle made going pending = inr (owns-none frame cycle made (evict-mild x made.step made.planned) refl pending)
 owns layout seat a b (jobs.Fsync x) t turn frame cycle made going pending = inr (owns-none frame cycle made (fsync-mild x made.step made.planned) refl pending)
 owns layout seat a b (jobs.Prctl x) t turn frame cycle made going pending = inr (owns-none frame cycle made (calling.mild x made.step made.planned) refl pending)
@@ -318,6 +370,20 @@ unclaimed-raise x {r} is = which x.at is
   where
     which : (y : RaiseAt) → option_map (raise_answer (length x.lines.told)) (raises.answer_at y) ≡ Some r → raise_costs.claims_at y ≡ None
     which (raise_at.Over o) said = refl
+    which _ said = absurd (none-some r said)
+
+unclaimed-scrub : (x : Scrub) {r : Answer} → answer (jobs.Scrub x) ≡ Some r → scrub_costs.claims x ≡ None
+unclaimed-scrub x {r} is = which x.at is
+  where
+    which : (y : ScrubAt) → option_map (scrub_answer (length x.lines.told)) (scrubs.answer_at y) ≡ Some r → scrub_costs.claims_at y ≡ None
+    which (scrub_at.Over o) said = refl
+    which _ said = absurd (none-some r said)
+
+unclaimed-soft : (x : Soft) {r : Answer} → answer (jobs.Soft x) ≡ Some r → softs.claims x ≡ None
+unclaimed-soft x {r} is = which x.at is
+  where
+    which : (y : SoftAt) → option_map soft_answer (softs.answer_at y) ≡ Some r → softs.claims_at x.frame y ≡ None
+    which (soft_at.Over o) said = refl
     which _ said = absurd (none-some r said)
 
 -- a command that is answered leaves no failure of its own
@@ -371,6 +437,25 @@ module _ {layout : Layout} {seat : ℕ} {a b : State} {t : Job} {turn : Turn} (f
       which raise_at.GiveUp at e next = owns-none frame cycle made (subst IsMild (same_Some steps.GiveUp made.step e) tt) (ap raise_costs.claims_at at) pending
       which (raise_at.Over o) at e next = absurd (none-some made.step e)
 
+  scrub-settled : (x : Scrub) → Made job-member layout seat a b (jobs.Scrub x) t turn → OwnsNone layout a (jobs.Scrub x) frame cycle
+  scrub-settled x made = which x.at refl made.planned m.made.follows
+    where
+      m : IsTurnOf scrub-member jobs.Scrub layout seat a b x t turn
+      m = of-scrub made
+
+      refused : (f : Frame) (h : Handler) → scrubs.FollowsAt layout (scrubs.bare x) (scrub_at.Handle f (handlers.bare h)) m.made.found m.made.got m.after turn → is_refused turn ≡ true → answer t ≡ None
+      refused f h next no_ = ap answer m.after_is ∙ ap (λ (k : Scrub). answer (jobs.Scrub k)) next.next_is
+          ∙ ap (λ (o : Option Bool). answer (jobs.Scrub (scrubs.after_handler_by (scrubs.bare x) f next.handler o))) (handler-unanswered layout h next.handler m.made.found m.made.got turn next.follows no_)
+
+      which : (y : ScrubAt) → x.at ≡ y → scrubs.plan_at y ≡ Some made.step → scrubs.FollowsAt layout (scrubs.bare x) (scrubs.bare_at y) m.made.found m.made.got m.after turn → OwnsNone layout a (jobs.Scrub x) frame cycle
+      which (scrub_at.Handle f h) at e next =
+          settled frame cycle made is pending (refused f h next) (ap claims m.after_is ∙ unclaimed-scrub m.after (sym (ap answer m.after_is) ∙ is))
+      which scrub_at.LoadStop at e next = owns-none frame cycle made (subst IsMild (same_Some (steps.Load places.Stop) made.step e) tt) (ap scrub_costs.claims_at at) pending
+      which (scrub_at.LoadBad f) at e next = owns-none frame cycle made (subst IsMild (same_Some (steps.Load (places.Bad f)) made.step e) tt) (ap scrub_costs.claims_at at) pending
+      which (scrub_at.LoadWeak f) at e next = owns-none frame cycle made (subst IsMild (same_Some (steps.Load (places.Weak f)) made.step e) tt) (ap scrub_costs.claims_at at) pending
+      which scrub_at.GiveUp at e next = owns-none frame cycle made (subst IsMild (same_Some steps.GiveUp made.step e) tt) (ap scrub_costs.claims_at at) pending
+      which (scrub_at.Over o) at e next = absurd (none-some made.step e)
+
   inject-settled : (x : Inject) → Made job-member layout seat a b (jobs.Inject x) t turn → OwnsNone layout a (jobs.Inject x) frame cycle
   inject-settled x made = settled frame cycle made is pending refused (ap claims m.after_is ∙ unclaimed m.after.at (sym (ap answer m.after_is) ∙ is))
     where
@@ -380,11 +465,22 @@ module _ {layout : Layout} {seat : ℕ} {a b : State} {t : Job} {turn : Turn} (f
       refused : is_refused turn ≡ true → answer t ≡ None
       refused no_ = ap answer m.after_is ∙ ap (λ (o : Option FailAnswer). option_map fail_answer o) (refused-unanswered layout x m.after m.made.found m.made.got turn m.made.follows no_)
 
+  soft-settled : (x : Soft) → Made job-member layout seat a b (jobs.Soft x) t turn → OwnsNone layout a (jobs.Soft x) frame cycle
+  soft-settled x made = settled frame cycle made is pending refused (ap claims m.after_is ∙ unclaimed-soft m.after (sym (ap answer m.after_is) ∙ is))
+    where
+      m : IsTurnOf soft-member jobs.Soft layout seat a b x t turn
+      m = of-soft made
+
+      refused : is_refused turn ≡ true → answer t ≡ None
+      refused no_ = ap answer m.after_is ∙ ap (λ (o : Option SoftAnswer). option_map soft_answer o) (soft-unanswered layout x m.after m.made.found m.made.got turn m.made.follows no_)
+
 pub owns-answered : (layout : Layout) (seat : ℕ) (a b : State) (s t : Job) (turn : Turn) (frame : Frame) (cycle : ℕ) {r : Answer} → Made job-member layout seat a b s t turn → answer t ≡ Some r → Pending (words_at layout b) frame cycle
     → Pending (words_at layout a) frame cycle × (claims s ≢ Some (frame, cycle))
 owns-answered layout seat a b (jobs.Instruction x) t turn frame cycle made is pending = instruction-settled frame cycle is pending x made
 owns-answered layout seat a b (jobs.Raise x) t turn frame cycle made is pending = raise-settled frame cycle is pending x made
+owns-answered layout seat a b (jobs.Scrub x) t turn frame cycle made is pending = scrub-settled frame cycle is pending x made
 owns-answered layout seat a b (jobs.Inject x) t turn frame cycle made is pending = inject-settled frame cycle is pending x made
+owns-answered layout seat a b (jobs.Soft x) t turn frame cycle made is pending = soft-settled frame cycle is pending x made
 owns-answered layout seat a b (jobs.Evict x) t turn frame cycle made is pending = owns-none frame cycle made (evict-mild x made.step made.planned) refl pending
 owns-answered layout seat a b (jobs.Fsync x) t turn frame cycle made is pending = owns-none frame cycle made (fsync-mild x made.step made.planned) refl pending
 owns-answered layout seat a b (jobs.Prctl x) t turn frame cycle made is pending = owns-none frame cycle made (calling.mild x made.step made.planned) refl pending
@@ -407,9 +503,11 @@ tells = record { frame = frame; page = page; claim = claim }
     frame layout view (jobs.Prctl x) fits has = calling.tells.frame layout view x fits has
     frame layout view (jobs.Log x) fits has = logging.tells.frame layout view x fits has
     frame layout view (jobs.Raise x) fits has = raise-tells.frame layout view x fits has
+    frame layout view (jobs.Scrub x) fits has = scrub-tells.frame layout view x fits has
     frame layout view (jobs.Spoil x) fits has = spoiling.tells.frame layout view x fits has
     frame layout view (jobs.Nested x) fits has = nesting.tells.frame layout view x fits has
     frame layout view (jobs.Inject x) fits has = inject-tells.frame layout view x fits has
+    frame layout view (jobs.Soft x) fits has = soft-tells-class.frame layout view x fits has
 
     page : (layout : Layout) (view : View) (j : Job) → Fits layout view j → HasPage view → (class j ≤ 2) × (plan j ≢ None)
     page layout view (jobs.Instruction x) fits has = instruction-tells.page layout view x fits has
@@ -418,12 +516,16 @@ tells = record { frame = frame; page = page; claim = claim }
     page layout view (jobs.Prctl x) fits has = calling.tells.page layout view x fits has
     page layout view (jobs.Log x) fits has = logging.tells.page layout view x fits has
     page layout view (jobs.Raise x) fits has = raise-tells.page layout view x fits has
+    page layout view (jobs.Scrub x) fits has = scrub-tells.page layout view x fits has
     page layout view (jobs.Spoil x) fits has = spoiling.tells.page layout view x fits has
     page layout view (jobs.Nested x) fits has = nesting.tells.page layout view x fits has
     page layout view (jobs.Inject x) fits has = inject-tells.page layout view x fits has
+    page layout view (jobs.Soft x) fits has = soft-tells-class.page layout view x fits has
 
     claim : (layout : Layout) (view : View) (j : Job) (f : Frame) (cycle : ℕ) → Fits layout view j → claims j ≡ Some (f, cycle) → (class j ≤ 3) × (plan j ≢ None)
     claim layout view (jobs.Instruction x) f cycle fits has = instruction-tells.claim layout view x f cycle fits has
     claim layout view (jobs.Raise x) f cycle fits has = raise-tells.claim layout view x f cycle fits has
+    claim layout view (jobs.Scrub x) f cycle fits has = scrub-tells.claim layout view x f cycle fits has
     claim layout view (jobs.Inject x) f cycle fits has = inject-tells.claim layout view x f cycle fits has
+    claim layout view (jobs.Soft x) f cycle fits has = soft-tells-class.claim layout view x f cycle fits has
     claim layout view _ f cycle fits has = absurd (none-some (f, cycle) has)

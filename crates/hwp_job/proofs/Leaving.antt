@@ -1,6 +1,7 @@
--- What a step leaves of what a view lists, by the task that makes it: a memory failure, or a machine check.
+-- What a step leaves of what a view lists, by the task that makes it: a failure, a machine check, or a frame taken out of use.
 use Rattle.std.proofs.Common.{◌≡◌, ◌⊎◌, inl, inr, ℕ, ◌==◌, Bool, true, false, cond, [], ◌∷◌, ◌++◌, Option, Some, None, refl, sym, ap, ◌∙◌, subst, true≢false}
 use Rattle.std.proofs.lemmas.Option.{none-some}
+use Rattle.hwp_geom.specs.declared.Frame.{Frame}
 use Rattle.hwp_geom.specs.declared.Layout.{Layout}
 use Rattle.hwp_geom.specs.declared.Who.{Who}
 use Rattle.hwp_page.specs.History.{BodyValue}
@@ -24,7 +25,7 @@ use Rattle.hwp_fail.specs.declared.fail.FailAt.{FailAt}
 use Rattle.hwp_fail.specs.declared.fail.FailAt.TheVariants as fail_at
 use Rattle.hwp_fail.specs.Fails as fails
 use Rattle.hwp_fail.specs.Injects.{recovers_at, recovers_in}
-use Rattle.hwp_fail.proofs.Quiet.{Alike, IsQuiet, PlansQuiet, act, leaves}
+use Rattle.hwp_fail.proofs.Quiet.{Alike, IsQuiet, PlansQuiet, act, give-up, leaves, release, unhold, unlock}
 use Rattle.hwp_handler.specs.declared.Handler.{Handler}
 use Rattle.hwp_handler.specs.declared.handler.HandlerAt.{HandlerAt}
 use Rattle.hwp_handler.specs.declared.handler.HandlerAt.TheVariants as handler_at
@@ -32,7 +33,20 @@ use Rattle.hwp_handler.specs.Fits as handler_fits
 use Rattle.hwp_handler.specs.Handlers as handlers
 use Rattle.hwp_handler.specs.Told.{halts}
 use Rattle.hwp_handler.proofs.Handling.{stop-leaves}
-use Rattle.hwp_job.proofs.Quiet.{claim}
+use Rattle.hwp_move.specs.declared.discard.DiscardAt.{DiscardAt}
+use Rattle.hwp_move.specs.declared.discard.DiscardAt.TheVariants as discard_at
+use Rattle.hwp_move.specs.declared.relocate.RelocateAt.{RelocateAt}
+use Rattle.hwp_move.specs.declared.relocate.RelocateAt.TheVariants as relocate_at
+use Rattle.hwp_move.specs.declared.relocate.Transfer.{Transfer}
+use Rattle.hwp_move.specs.Discards as discards
+use Rattle.hwp_move.specs.Relocations as relocations
+use Rattle.hwp_move.specs.Seizes as seizes
+use Rattle.hwp_soft.specs.declared.Soft.{Soft}
+use Rattle.hwp_soft.specs.declared.soft.SoftAt.{SoftAt}
+use Rattle.hwp_soft.specs.declared.soft.SoftAt.TheVariants as soft_at
+use Rattle.hwp_soft.specs.Softs as softs
+use Rattle.hwp_soft.proofs.Adding.{relocate, take}
+use Rattle.hwp_job.proofs.Quiet.{claim, seize}
 
 -- the policies set, the losses taken and the damage stay as they were
 pub record Rest (v x : View) : Type 0 where
@@ -92,6 +106,49 @@ fail-plain f = which f.at
 
 pub fail-left : {layout : Layout} {who : Who} {step : Step} {put : Option Log} {old new : View} {found : ℕ} {got : Option BodyValue} (f : Fail) → recovers_at f.at ≡ true → fails.plan f ≡ Some step → Steps layout who step put old new found got → Left old new
 fail-left {step = step} f recovers is made = plain-left step made (subst PlansPlain is (fail-plain f recovers))
+
+-- ---- steps of a command that takes a frame out of use
+
+discard-plain : (frame : Frame) (x : DiscardAt) → PlansPlain (discards.plan_at frame x)
+discard-plain frame (discard_at.Poison used) = tt
+discard-plain frame (discard_at.Count cycle) = tt
+discard-plain frame (discard_at.Retire cycle) = tt
+discard-plain frame (discard_at.Unlock u) = quiet-plain _ (unlock u.at)
+discard-plain frame (discard_at.Over cycle) = tt
+
+relocate-plain : (t : Transfer) (x : RelocateAt) → PlansPlain (relocations.plan_at t x)
+relocate-plain t relocate_at.Count = tt
+relocate-plain t relocate_at.SetOwner = tt
+relocate-plain t (relocate_at.Refer f) = quiet-plain _ (relocate t (relocate_at.Refer f) tt)
+relocate-plain t (relocate_at.Remap m) = quiet-plain _ (relocate t (relocate_at.Remap m) tt)
+relocate-plain t relocate_at.SetCache = tt
+relocate-plain t relocate_at.ClearOwner = tt
+relocate-plain t relocate_at.UnlockFrame = tt
+relocate-plain t (relocate_at.Release l) = quiet-plain _ (relocate t (relocate_at.Release l) tt)
+relocate-plain t relocate_at.PutRef = tt
+relocate-plain t relocate_at.Retire = tt
+relocate-plain t relocate_at.UnlockPage = tt
+relocate-plain t relocate_at.Over = tt
+
+soft-plain : (s : Soft) → PlansPlain (softs.plan s)
+soft-plain s = which s.at
+  where
+    which : (x : SoftAt) → PlansPlain (softs.plan_at s.frame x)
+    which soft_at.LoadStop = tt
+    which (soft_at.Seize z) = quiet-plain _ (seize z.frame z.at)
+    which (soft_at.Discard d) = discard-plain d.frame d.at
+    which (soft_at.LoadBad page body) = tt
+    which (soft_at.Take page body t) = quiet-plain _ (take t.at)
+    which (soft_at.Poison page body to) = tt
+    which (soft_at.UnlockSpare page body to) = tt
+    which (soft_at.ReleaseSpare page body r) = quiet-plain _ (release r.frame r.count r.at)
+    which (soft_at.Relocate r answer) = relocate-plain r.transfer r.at
+    which (soft_at.Unhold u answer) = quiet-plain _ (unhold u.page u.at)
+    which (soft_at.GiveUp g) = quiet-plain _ (give-up g.at)
+    which (soft_at.Over answer) = tt
+
+pub soft-leaves : {layout : Layout} {who : Who} {step : Step} {put : Option Log} {old new : View} {found : ℕ} {got : Option BodyValue} (s : Soft) → softs.plan s ≡ Some step → Steps layout who step put old new found got → Left old new
+soft-leaves {step = step} s is made = plain-left step made (subst PlansPlain is (soft-plain s))
 
 -- ---- a stop
 

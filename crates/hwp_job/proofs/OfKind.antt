@@ -10,6 +10,8 @@ use Rattle.hwp_fail.specs.declared.Inject.{Inject}
 use Rattle.hwp_instr.specs.declared.Instruction.{Instruction}
 use Rattle.hwp_raise.specs.declared.Log.{Log}
 use Rattle.hwp_raise.specs.declared.Raise.{Raise}
+use Rattle.hwp_scrub.specs.declared.Scrub.{Scrub}
+use Rattle.hwp_soft.specs.declared.Soft.{Soft}
 use Rattle.hwp_control.specs.Nesteds as nesteds
 use Rattle.hwp_control.specs.Prctls as prctls
 use Rattle.hwp_control.specs.Spoils as spoils
@@ -19,6 +21,8 @@ use Rattle.hwp_fail.specs.Injects as injects
 use Rattle.hwp_instr.specs.Instructions as instructions
 use Rattle.hwp_raise.specs.Logs as logs
 use Rattle.hwp_raise.specs.Raises as raises
+use Rattle.hwp_scrub.specs.Scrubs as scrubs
+use Rattle.hwp_soft.specs.Softs as softs
 use Rattle.hwp_job.specs.declared.job.Job.{Job}
 use Rattle.hwp_job.specs.declared.job.Job.TheVariants as jobs
 use Rattle.hwp_job.specs.Runs.{anew}
@@ -31,9 +35,11 @@ kind (jobs.Fsync f) = 2
 kind (jobs.Prctl p) = 3
 kind (jobs.Log l) = 4
 kind (jobs.Raise r) = 5
-kind (jobs.Spoil s) = 6
-kind (jobs.Nested n) = 7
-kind (jobs.Inject i) = 8
+kind (jobs.Scrub s) = 6
+kind (jobs.Spoil s) = 7
+kind (jobs.Nested n) = 8
+kind (jobs.Inject i) = 9
+kind (jobs.Soft s) = 10
 
 differ : {j k : Job} → j ≡ k → (kind j == kind k) ≡ false → ⊥
 differ {j} {k} is apart = both_ways (kind j == kind k) apart (eq-eqb (kind j) (kind k) (ap kind is))
@@ -63,6 +69,10 @@ abbrev raise_in : Raise → Job → Raise
 raise_in d (jobs.Raise r) = r
 raise_in d _ = d
 
+abbrev scrub_in : Scrub → Job → Scrub
+scrub_in d (jobs.Scrub s) = s
+scrub_in d _ = d
+
 abbrev spoil_in : Spoil → Job → Spoil
 spoil_in d (jobs.Spoil s) = s
 spoil_in d _ = d
@@ -74,6 +84,10 @@ nested_in d _ = d
 abbrev inject_in : Inject → Job → Inject
 inject_in d (jobs.Inject i) = i
 inject_in d _ = d
+
+abbrev soft_in : Soft → Job → Soft
+soft_in d (jobs.Soft s) = s
+soft_in d _ = d
 
 pub of-instruction : (j : Job) {x : Instruction} → anew j ≡ jobs.Instruction x → (i : Instruction) × (j ≡ jobs.Instruction i) × (instructions.begin i.alloc i.request i.origin i.mode i.before.value ≡ x)
 of-instruction (jobs.Instruction i) {x} is = (i, refl, ap (instruction_in x) is)
@@ -99,6 +113,10 @@ pub of-raise : (j : Job) {x : Raise} → anew j ≡ jobs.Raise x → (r : Raise)
 of-raise (jobs.Raise r) {x} is = (r, refl, ap (raise_in x) is)
 of-raise _ is = absurd (differ is refl)
 
+pub of-scrub : (j : Job) {x : Scrub} → anew j ≡ jobs.Scrub x → (s : Scrub) × (j ≡ jobs.Scrub s) × (scrubs.begin s.alloc s.who s.first s.last s.before.value ≡ x)
+of-scrub (jobs.Scrub s) {x} is = (s, refl, ap (scrub_in x) is)
+of-scrub _ is = absurd (differ is refl)
+
 pub of-spoil : (j : Job) {x : Spoil} → anew j ≡ jobs.Spoil x → (s : Spoil) × (j ≡ jobs.Spoil s) × (spoils.begin s.who s.frame s.line s.damage ≡ x)
 of-spoil (jobs.Spoil s) {x} is = (s, refl, ap (spoil_in x) is)
 of-spoil _ is = absurd (differ is refl)
@@ -110,3 +128,7 @@ of-nested _ is = absurd (differ is refl)
 pub of-inject : (j : Job) {x : Inject} → anew j ≡ jobs.Inject x → (i : Inject) × (j ≡ jobs.Inject i) × (injects.begin i.alloc i.who i.frame ≡ x)
 of-inject (jobs.Inject i) {x} is = (i, refl, ap (inject_in x) is)
 of-inject _ is = absurd (differ is refl)
+
+pub of-soft : (j : Job) {x : Soft} → anew j ≡ jobs.Soft x → (s : Soft) × (j ≡ jobs.Soft s) × (softs.begin s.who s.frame ≡ x)
+of-soft (jobs.Soft s) {x} is = (s, refl, ap (soft_in x) is)
+of-soft _ is = absurd (differ is refl)

@@ -23,6 +23,9 @@ use Rattle.hwp_claim.specs.Grabs as grabs
 use Rattle.hwp_claim.specs.Meets as meets
 use Rattle.hwp_fail.proofs.Quiet.{PlansQuiet, clear, give-up, release, unhold, unlock}
 use Rattle.hwp_instr.proofs.Quiet.{hold}
+use Rattle.hwp_move.specs.declared.seize.SeizeAt.{SeizeAt}
+use Rattle.hwp_move.specs.declared.seize.SeizeAt.TheVariants as seize_at
+use Rattle.hwp_move.specs.Seizes as seizes
 
 vacate : (page : Page) (frame : Frame) (x : VacateAt) → PlansQuiet (vacates.plan_at page frame x)
 vacate page frame vacate_at.SetCache = tt
@@ -47,7 +50,7 @@ pub read : (x : ReadStopAt) → PlansQuiet (read_stops.plan_at x)
 read read_stop_at.LoadStop = tt
 read (read_stop_at.Over answer) = tt
 
--- ---- parts of a memory failure
+-- ---- parts of a memory failure, and of a frame taken out of use
 
 grab : (frame : Frame) (x : GrabAt) → PlansQuiet (grabs.plan_at frame x)
 grab frame grab_at.LoadAvailable = tt
@@ -70,6 +73,16 @@ meet frame (meet_at.Release r ended) = release r.frame r.count r.at
 meet frame (meet_at.Back ended) = tt
 meet frame meet_at.Free = tt
 meet frame (meet_at.Owned page body) = tt
+
+pub seize : (frame : Frame) (x : SeizeAt) → PlansQuiet (seizes.plan_at frame x)
+seize frame seize_at.Look = tt
+seize frame (seize_at.Grab g) = grab g.frame g.at
+seize frame (seize_at.Meet m) = meet m.frame m.at
+seize frame seize_at.Kernel = tt
+seize frame seize_at.Already = tt
+seize frame seize_at.Grabbed = tt
+seize frame seize_at.Free = tt
+seize frame (seize_at.Owned page body) = tt
 
 -- a claim that neither stops the machine nor poisons its frame or counts that
 abbrev pub IsQuietAt : ClaimAt → Type 0

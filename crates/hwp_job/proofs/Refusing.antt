@@ -1,4 +1,4 @@
--- A turn by which a memory failure, or a machine check, is refused memory leaves its command without an answer.
+-- A turn by which a memory failure, a machine check or a command that takes a frame out of use is refused memory leaves no answer.
 use Rattle.std.proofs.Common.{◌≡◌, ℕ, ◌==◌, Bool, true, false, cond, Option, Some, None, is_none, refl, sym, ap, ◌∙◌, true≢false}
 use Rattle.hwp_geom.specs.declared.Frame.{Frame}
 use Rattle.hwp_geom.specs.declared.Layout.{Layout}
@@ -39,6 +39,13 @@ use Rattle.hwp_handler.specs.declared.Handler.{Handler}
 use Rattle.hwp_handler.specs.declared.handler.HandlerAt.{HandlerAt}
 use Rattle.hwp_handler.specs.declared.handler.HandlerAt.TheVariants as handler_at
 use Rattle.hwp_handler.specs.Handlers as handlers
+use Rattle.hwp_hold.specs.declared.take.TakeAt.{TakeAt}
+use Rattle.hwp_hold.specs.declared.take.TakeAt.TheVariants as take_at
+use Rattle.hwp_hold.specs.Takes as takes
+use Rattle.hwp_soft.specs.declared.Soft.{Soft}
+use Rattle.hwp_soft.specs.declared.soft.SoftAt.{SoftAt}
+use Rattle.hwp_soft.specs.declared.soft.SoftAt.TheVariants as soft_at
+use Rattle.hwp_soft.specs.Softs as softs
 
 -- such a turn is no other
 other : {A : Type 0} (turn : Turn) → is_refused turn ≡ false → is_refused turn ≡ true → A
@@ -110,6 +117,37 @@ refused-unanswered layout i k found got turn follows is = which i.at follows.1
     which inject_at.LoadStop next = other turn (ap is_refused next.1) is
     which (inject_at.Fail f) next = ap injects.answer_at next.next_is ∙ fail-refused f next.after found got turn next.follows is
     which inject_at.Stopped next = other turn (ap is_refused next.1) is
+
+-- a command that takes a frame out of use
+take-goes : (x : TakeAt) (found : ℕ) → is_refused (takes.turn_at x found) ≡ false
+take-goes (take_at.Reserve seen) found = either (found == seen) turns.Moved (turns.Changed found) refl refl
+take-goes (take_at.TakeBit frame) found = either (takes.has_bit frame found) turns.Moved (turns.Changed found) refl refl
+take-goes _ found = refl
+
+pub soft-unanswered : (layout : Layout) (s k : Soft) (found : ℕ) (got : Option BodyValue) (turn : Turn) → softs.Follows layout (softs.bare s) found got k turn → is_refused turn ≡ true → softs.answer k ≡ None
+soft-unanswered layout s k found got turn follows is = which s.at follows.1
+  where
+    -- the turn that ends it is an answer
+    unended : (x : SoftAt) (t : Turn) → is_refused (softs.ended x t) ≡ true → softs.answer_at x ≡ None
+    unended (soft_at.Over answer) t is_ = absurd (true≢false (sym is_))
+    unended _ t is_ = refl
+
+    by-end : (x : SoftAt) (t : Turn) → k.at ≡ x → turn ≡ softs.ended x t → softs.answer k ≡ None
+    by-end x t next turned = ap softs.answer_at next ∙ unended x t (sym (ap is_refused turned) ∙ is)
+
+    which : (x : SoftAt) → softs.FollowsAt layout s.who s.frame (softs.bare_at x) found got k.at turn → softs.answer k ≡ None
+    which soft_at.LoadStop next = by-end _ turns.Moved next.0 next.1
+    which (soft_at.Seize z) next = by-end _ _ next.0 next.1
+    which (soft_at.Discard d) next = by-end _ turns.Moved next.0 next.1
+    which (soft_at.LoadBad page body) next = other turn (ap is_refused next.1) is
+    which (soft_at.Take page body t) next = other turn (ap is_refused next.1 ∙ take-goes t.at found) is
+    which (soft_at.Poison page body to) next = other turn (ap is_refused next.1) is
+    which (soft_at.UnlockSpare page body to) next = other turn (ap is_refused next.1) is
+    which (soft_at.ReleaseSpare page body r) next = other turn (ap is_refused next.1) is
+    which (soft_at.Relocate r answer) next = by-end _ next.own_turn next.next_is next.turn_is
+    which (soft_at.Unhold u answer) next = by-end _ turns.Moved next.0 next.1
+    which (soft_at.GiveUp g) next = ap softs.answer_at next.0
+    which (soft_at.Over answer) next = other turn (ap is_refused next.1) is
 
 pub handler-unanswered : (layout : Layout) (h after : Handler) (found : ℕ) (got : Option BodyValue) (turn : Turn) → handlers.Follows layout (handlers.bare h) found got after turn → is_refused turn ≡ true → handlers.answer after ≡ None
 handler-unanswered layout h after found got turn follows is = which h.at follows

@@ -57,11 +57,17 @@ use Rattle.hwp_raise.specs.declared.raise.RaiseAt.{RaiseAt}
 use Rattle.hwp_raise.specs.declared.raise.RaiseAt.TheVariants as raise_at
 use Rattle.hwp_raise.specs.Fits as raise_fits
 use Rattle.hwp_raise.specs.Raises as raises
+use Rattle.hwp_scrub.specs.declared.Scrub.{Scrub}
+use Rattle.hwp_scrub.specs.declared.scrub.ScrubAt.{ScrubAt}
+use Rattle.hwp_scrub.specs.declared.scrub.ScrubAt.TheVariants as scrub_at
+use Rattle.hwp_scrub.specs.Fits as scrub_fits
+use Rattle.hwp_scrub.specs.Scrubs as scrubs
+use Rattle.hwp_scrub.proofs.Visiting.{halts-both}
 use Rattle.hwp_job.specs.declared.job.Job.{Job}
 use Rattle.hwp_job.specs.declared.job.Job.TheVariants as jobs
 use Rattle.hwp_job.specs.Jobs.{plan}
 use Rattle.hwp_job.specs.Stays.{HasStopped, Stepped, StopsItself}
-use Rattle.hwp_job.proofs.Leaving.{HandlerLeft, HasHalted, Rest, fail-left, handler-left, quiet-rest, stop-rest, stops-by}
+use Rattle.hwp_job.proofs.Leaving.{HandlerLeft, HasHalted, Rest, fail-left, handler-left, quiet-rest, soft-leaves, stop-rest, stops-by}
 use Rattle.hwp_job.proofs.Quiet.{evict, read}
 
 pub quiet-step : {o : Option Step} {step : Step} → PlansQuiet o → o ≡ Some step → IsQuiet step
@@ -144,6 +150,37 @@ module _ {layout : Layout} {old new : View} {r : Raise} {after : Job} (s : Stepp
       which (raise_at.Handle h) at has e made follows = raise-handled h at has.0 e made follows
       which raise_at.GiveUp at has e made follows = by-load s tt e
       which (raise_at.Over answer) at has e made follows = absurd (none-some s.step e)
+
+module _ {layout : Layout} {old new : View} {c : Scrub} {after : Job} (s : Stepped layout old new (jobs.Scrub c) after) where
+  abbrev scrubbed : Scrub
+  scrubbed = s.follows.0
+
+  scrub-handled : (frame : Frame) (h : Handler) → c.at ≡ scrub_at.Handle frame h → scrub_fits.HasHandler layout old c frame h → handlers.plan h ≡ Some s.step → Steps layout c.who s.step (logs (handlers.put h)) old new s.found s.got
+      → scrubs.FollowsAt layout (scrubs.bare c) (scrub_at.Handle frame (handlers.bare h)) s.found s.got scrubbed s.turn → IsLeft (jobs.Scrub c) after old new
+  scrub-handled frame h at is e made follows = record { rest = left.rest; stops = by left.stops }
+    where
+      left : HandlerLeft h follows.handler old new
+      left = handler-left h s.turn is.handler e (subst (λ (w : Who). Steps layout w s.step (logs (handlers.put h)) old new s.found s.got) (sym is.own) made) follows.follows
+
+      halted : HasHalted h follows.handler old new → HasStopped (jobs.Scrub scrubbed)
+      halted has = subst (λ (k : Scrub). HasStopped (jobs.Scrub k)) (sym (follows.next_is ∙ ap (scrubs.after_handler_by (scrubs.bare c) frame follows.handler) has.over))
+          (refl, halts-both c.lines.told follows.handler.events.told (ap halts is.told_is ∙ is.visited.halts_none) ∙ has.halts_is)
+
+      by : (new.stops ≡ old.stops) ⊎ HasHalted h follows.handler old new → StopsLeft (jobs.Scrub c) after old new
+      by (inl same) = inl same
+      by (inr has) = inr (record { stopping = (frame, h, at, has.stopping); has = subst HasStopped (sym s.follows.1) (halted has); stops_are = has.stops_are ∙ ap (λ (w : Who). old.stops ++ w ∷ []) is.own })
+
+  pub scrub-left : IsLeft (jobs.Scrub c) after old new
+  scrub-left = which c.at refl s.fits.at s.planned s.made s.follows.2
+    where
+      which : (x : ScrubAt) → c.at ≡ x → scrub_fits.FitsAt layout old c x → scrubs.plan_at x ≡ Some s.step → Steps layout c.who s.step (logs (scrubs.put_at x)) old new s.found s.got
+          → scrubs.FollowsAt layout (scrubs.bare c) (scrubs.bare_at x) s.found s.got scrubbed s.turn → IsLeft (jobs.Scrub c) after old new
+      which scrub_at.LoadStop at has e made follows = by-load s tt e
+      which (scrub_at.LoadBad frame) at has e made follows = by-load s tt e
+      which (scrub_at.Handle frame h) at has e made follows = scrub-handled frame h at has.0 e made follows
+      which (scrub_at.LoadWeak frame) at has e made follows = by-load s tt e
+      which scrub_at.GiveUp at has e made follows = by-load s tt e
+      which (scrub_at.Over answer) at has e made follows = absurd (none-some s.step e)
 
 module _ {layout : Layout} {old new : View} {n : Nested} {after : Job} (s : Stepped layout old new (jobs.Nested n) after) where
   pub nested-left : IsLeft (jobs.Nested n) after old new
@@ -270,3 +307,6 @@ evict-left {e = e} s = by-quiet s (evict e.at)
 
 pub log-left : {layout : Layout} {old new : View} {l : _} {after : Job} → Stepped layout old new (jobs.Log l) after → IsLeft (jobs.Log l) after old new
 log-left {l = l} s = by-quiet s (read l.read.at)
+
+pub soft-left : {layout : Layout} {old new : View} {o : _} {after : Job} → Stepped layout old new (jobs.Soft o) after → IsLeft (jobs.Soft o) after old new
+soft-left {o = o} s = let left = soft-leaves o s.planned s.made in record { rest = left.rest; stops = inl left.stops }

@@ -45,9 +45,16 @@ use Rattle.hwp_raise.specs.declared.raise.RaiseAt.{RaiseAt}
 use Rattle.hwp_raise.specs.declared.raise.RaiseAt.TheVariants as raise_at
 use Rattle.hwp_raise.specs.Logs as logs
 use Rattle.hwp_raise.specs.Raises as raises
+use Rattle.hwp_scrub.specs.declared.Scrub.{Scrub}
+use Rattle.hwp_scrub.specs.declared.scrub.ScrubAt.{ScrubAt}
+use Rattle.hwp_scrub.specs.declared.scrub.ScrubAt.TheVariants as scrub_at
+use Rattle.hwp_scrub.specs.Scrubs as scrubs
+use Rattle.hwp_scrub.specs.Visits.{AreBanks}
+use Rattle.hwp_scrub.proofs.Scrubbing as scrubbing
+use Rattle.hwp_soft.specs.declared.Soft.{Soft}
 use Rattle.hwp_job.specs.declared.job.Job.{Job}
 use Rattle.hwp_job.specs.declared.job.Job.TheVariants as jobs
-use Rattle.hwp_job.specs.Begins.{Begins, BeginsAccess, BeginsEviction, BeginsInject, BeginsLog, BeginsPrctl, BeginsRaiseKernel, BeginsRaiseUser, BeginsSpoil, request_of}
+use Rattle.hwp_job.specs.Begins.{Begins, BeginsAccess, BeginsEviction, BeginsInject, BeginsLog, BeginsPrctl, BeginsRaiseKernel, BeginsRaiseUser, BeginsScrub, BeginsSoft, BeginsSpoil, request_of}
 use Rattle.hwp_job.specs.Done.{can_fail}
 use Rattle.hwp_job.specs.Jobs.{Fits, Next, banks_before, bare, claims, class, left_in, who}
 use Rattle.hwp_job.specs.Runs.{AtRest, Runs, anew}
@@ -127,6 +134,40 @@ raise-kept layout r k found got turn follows = which r.at follows
     which raise_at.GiveUp next = ap asked-raise next.0
     which (raise_at.Over answer) next = ap asked-raise next.0
 
+abbrev AskedScrub : Type 0
+AskedScrub = Global × Who × Frame × Frame × Banks
+
+abbrev asked-scrub : Scrub → AskedScrub
+asked-scrub s = (s.alloc, s.who, s.first, s.last, s.before.value)
+
+scrub-handled : (s : Scrub) (frame : Frame) (h : Handler) → asked-scrub (scrubs.after_handler s frame h) ≡ asked-scrub s
+scrub-handled s frame h = which (handlers.answer h)
+  where
+    which : (o : Option Bool) → asked-scrub (scrubs.after_handler_by s frame h o) ≡ asked-scrub s
+    which None = refl
+    which (Some stopped) = refl
+
+scrub-kept : (layout : Layout) (s k : Scrub) (found : ℕ) (got : Option BodyValue) (turn : Turn) → scrubs.Follows layout (scrubs.bare s) found got k turn → asked-scrub k ≡ asked-scrub s
+scrub-kept layout s k found got turn follows = which s.at follows
+  where
+    bad : (frame : Frame) (o : Option ℕ) → scrubs.AfterBadBy layout (scrubs.bare s) frame o k → asked-scrub k ≡ asked-scrub s
+    bad frame None is = ap asked-scrub is
+    bad frame (Some line) (inl refused) = ap asked-scrub refused
+    bad frame (Some line) (inr (spare, room, is)) = ap asked-scrub is ∙ scrub-handled (scrubs.emptied (scrubs.bare s) spare) frame (scrubs.handler_of layout (scrubs.bare s) frame line)
+
+    weak : (frame : Frame) (o : Option ℕ) → scrubs.AfterWeakBy (scrubs.bare s) frame o k → asked-scrub k ≡ asked-scrub s
+    weak frame None is = ap asked-scrub is
+    weak frame (Some line) (inl refused) = ap asked-scrub refused
+    weak frame (Some line) (inr (spare, room, is)) = ap asked-scrub is
+
+    which : (x : ScrubAt) → scrubs.FollowsAt layout (scrubs.bare s) (scrubs.bare_at x) found got k turn → asked-scrub k ≡ asked-scrub s
+    which scrub_at.LoadStop next = ap asked-scrub next.0
+    which (scrub_at.LoadBad frame) next = bad frame next.0.0 next.0.2
+    which (scrub_at.Handle frame h) next = ap asked-scrub next.next_is ∙ scrub-handled (scrubs.bare s) frame next.handler
+    which (scrub_at.LoadWeak frame) next = weak frame next.0.0 next.0.2
+    which scrub_at.GiveUp next = ap asked-scrub next.0
+    which (scrub_at.Over answer) next = ap asked-scrub next.0
+
 abbrev asked-log : Log → Who × Event × Banks
 asked-log l = (l.read.who, l.event, l.before.value)
 
@@ -156,6 +197,11 @@ goes-on layout found got turn (jobs.Raise r) after next = subst (GoesOn (jobs.Ra
   before = λ kept. ap (λ (a : AskedRaise). a.4) (raise-kept layout r next.0 found got turn next.2);
   fails = refl;
 })
+goes-on layout found got turn (jobs.Scrub s) after next = subst (GoesOn (jobs.Scrub s)) (sym next.1) (record {
+  anew_is = ap (λ (a : AskedScrub). jobs.Scrub (scrubs.begin a.0 a.1 a.2 a.3 a.4)) (scrub-kept layout s next.0 found got turn next.2);
+  before = λ kept. ap (λ (a : AskedScrub). a.4) (scrub-kept layout s next.0 found got turn next.2);
+  fails = refl;
+})
 goes-on layout found got turn (jobs.Log l) after next = subst (GoesOn (jobs.Log l)) (sym next.0) (record {
   anew_is = ap (λ (a : Who × Event × Banks). jobs.Log (logs.begin a.0 a.1 a.2)) (log-kept l found);
   before = λ kept. ap (λ (a : Who × Event × Banks). a.2) (log-kept l found);
@@ -163,6 +209,7 @@ goes-on layout found got turn (jobs.Log l) after next = subst (GoesOn (jobs.Log 
 })
 goes-on layout found got turn (jobs.Evict e) after next = subst (GoesOn (jobs.Evict e)) (sym next.1) (record { anew_is = ap (λ (x : Evict). anew (jobs.Evict x)) next.2.0; before = λ kept. refl; fails = refl })
 goes-on layout found got turn (jobs.Inject i) after next = subst (GoesOn (jobs.Inject i)) (sym next.1) (record { anew_is = ap (λ (x : Inject). anew (jobs.Inject x)) next.2.0; before = λ kept. refl; fails = refl })
+goes-on layout found got turn (jobs.Soft s) after next = subst (GoesOn (jobs.Soft s)) (sym next.1) (record { anew_is = ap (λ (x : Soft). anew (jobs.Soft x)) next.2.0; before = λ kept. refl; fails = refl })
 goes-on layout found got turn (jobs.Fsync f) after next = subst (GoesOn (jobs.Fsync f)) (sym next.0) (record { anew_is = refl; before = λ kept. refl; fails = refl })
 goes-on layout found got turn (jobs.Prctl p) after next = subst (GoesOn (jobs.Prctl p)) (sym next.0) (record { anew_is = refl; before = λ kept. refl; fails = refl })
 goes-on layout found got turn (jobs.Spoil s) after next = subst (GoesOn (jobs.Spoil s)) (sym next.0) (record { anew_is = refl; before = λ kept. refl; fails = refl })
@@ -217,11 +264,13 @@ has-begun layout by command banks j begun = which command begun
     which (commands.Prctl thread args) b = from (commands.Prctl thread args) _ b.job_is (λ r. record { runs = r; who_is = refl; start = refl; before = refl; idle = (refl, refl); call = refl }) b
     which (commands.Bad frame line) b = from (commands.Bad frame line) _ b.job_is (λ r. record { runs = r; who_is = refl; start = refl; before = refl; idle = (refl, refl); call = refl }) b
     which (commands.Weak frame line) b = from (commands.Weak frame line) _ b.job_is (λ r. record { runs = r; who_is = refl; start = refl; before = refl; idle = (refl, refl); call = refl }) b
+    which (commands.Scrub first last) b = from (commands.Scrub first last) _ b.job_is (λ r. record { runs = r; who_is = refl; start = (refl, refl); before = refl; idle = (refl, refl); call = refl }) b
     which (commands.Log status addr misc) b = from (commands.Log status addr misc) _ b.job_is (λ r. record { runs = r; who_is = refl; start = refl; before = refl; idle = (refl, refl); call = refl }) b
     which (commands.RaiseUser thread ripv eipv) b = from (commands.RaiseUser thread ripv eipv) _ b.job_is (λ r. record { runs = r; who_is = refl; start = (refl, refl); before = refl; idle = (refl, refl); call = refl }) b
     which (commands.RaiseKernel ripv eipv) b = from (commands.RaiseKernel ripv eipv) _ b.job_is (λ r. record { runs = r; who_is = refl; start = (refl, refl); before = refl; idle = (refl, refl); call = refl }) b
     which commands.RaiseNested b = from commands.RaiseNested _ b (λ r. record { runs = r; who_is = refl; start = refl; before = refl; idle = (refl, refl); call = refl }) b
     which (commands.Inject frame) b = from (commands.Inject frame) _ b.job_is (λ r. record { runs = r; who_is = refl; start = refl; before = refl; idle = (refl, refl); call = refl }) b
+    which (commands.Soft frame) b = from (commands.Soft frame) _ b.job_is (λ r. record { runs = r; who_is = refl; start = refl; before = refl; idle = (refl, refl); call = refl }) b
     which _ b = absurd b
 
 pub begins-runs : (layout : Layout) (who : Who) (command : Command) (banks : Banks) (j : Job) → Begins layout who command banks j → Runs layout who command j
@@ -285,6 +334,10 @@ module _ {layout : Layout} {view : View} {who : Who} (rest : AtRest view who) {j
     at = record { rest = record { hand_is = rest.hand_is; paid = rest.paid }; unchecked = record { told_none = refl; banks_are = refl; made = rest.made } };
   })
 
+  scrub-fits : {first last : Frame} {banks : Banks} → BeginsScrub layout who first last banks j → AreBanks banks → Fits layout view j
+  scrub-fits {first} {last} {banks} begun free = subst (Fits layout view) (sym begun.job_is)
+      (scrubbing.begins layout view (scrubs.begin begun.alloc who first last banks) refl rest.on_turn begun.sound begun.frames free (record { hand_is = rest.hand_is; paid = rest.paid }) rest.made)
+
   inject-fits : {frame : Frame} → BeginsInject layout who frame j → Fits layout view j
   inject-fits begun = subst (Fits layout view) (sym begun.job_is) (record {
     on_turn = rest.on_turn;
@@ -293,22 +346,27 @@ module _ {layout : Layout} {view : View} {who : Who} (rest : AtRest view who) {j
     at = record { hand_is = rest.hand_is; paid = rest.paid; made = rest.made; unmarked = rest.unmarked };
   })
 
-pub begins-fits : (layout : Layout) (view : View) (who : Who) (command : Command) (banks : Banks) (j : Job) → Begins layout who command banks j → AtRest view who → Fits layout view j
-begins-fits layout view by (commands.Load thread slot line) banks j begun rest = access-fits rest tt begun
-begins-fits layout view by (commands.Fetch thread slot line) banks j begun rest = access-fits rest tt begun
-begins-fits layout view by (commands.KLoad thread slot line) banks j begun rest = access-fits rest tt begun
-begins-fits layout view by (commands.Store thread slot line word) banks j begun rest = access-fits rest tt begun
-begins-fits layout view by (commands.Free slot) banks j begun rest = eviction-fits rest begun.1
-begins-fits layout view by (commands.Drop page) banks j begun rest = eviction-fits rest begun
-begins-fits layout view by (commands.Sync page) banks j begun rest = eviction-fits rest begun
-begins-fits layout view by (commands.Out page) banks j begun rest = eviction-fits rest begun
-begins-fits layout view by (commands.Fsync file) banks j begun rest = subst (Fits layout view) (sym begun.1) (record { on_turn = rest.on_turn; hand_is = rest.hand_is; file = begun.0; made_none = rest.made; at = tt })
-begins-fits layout view by (commands.Prctl thread args) banks j begun rest = prctl-fits rest begun
-begins-fits layout view by (commands.Bad frame line) banks j begun rest = spoil-fits rest begun
-begins-fits layout view by (commands.Weak frame line) banks j begun rest = spoil-fits rest begun
-begins-fits layout view by (commands.Log status addr misc) banks j begun rest = log-fits rest begun
-begins-fits layout view by (commands.RaiseUser thread ripv eipv) banks j begun rest = raise-user-fits rest begun
-begins-fits layout view by (commands.RaiseKernel ripv eipv) banks j begun rest = raise-kernel-fits rest begun
-begins-fits layout view by (commands.Inject frame) banks j begun rest = inject-fits rest begun
-begins-fits layout view by commands.RaiseNested banks j begun rest = subst (Fits layout view) (sym begun) (record { on_turn = rest.on_turn; hand_is = rest.hand_is; made = rest.made; at = tt })
-begins-fits layout view by _ banks j begun rest = absurd begun
+  soft-fits : {frame : Frame} → BeginsSoft layout who frame j → Fits layout view j
+  soft-fits begun = subst (Fits layout view) (sym begun.job_is) (record { on_turn = rest.on_turn; frame = begun.within; at = (rest.hand_is, rest.made) })
+
+pub begins-fits : (layout : Layout) (view : View) (who : Who) (command : Command) (banks : Banks) (j : Job) → Begins layout who command banks j → AreBanks banks → AtRest view who → Fits layout view j
+begins-fits layout view by (commands.Load thread slot line) banks j begun free rest = access-fits rest tt begun
+begins-fits layout view by (commands.Fetch thread slot line) banks j begun free rest = access-fits rest tt begun
+begins-fits layout view by (commands.KLoad thread slot line) banks j begun free rest = access-fits rest tt begun
+begins-fits layout view by (commands.Store thread slot line word) banks j begun free rest = access-fits rest tt begun
+begins-fits layout view by (commands.Free slot) banks j begun free rest = eviction-fits rest begun.1
+begins-fits layout view by (commands.Drop page) banks j begun free rest = eviction-fits rest begun
+begins-fits layout view by (commands.Sync page) banks j begun free rest = eviction-fits rest begun
+begins-fits layout view by (commands.Out page) banks j begun free rest = eviction-fits rest begun
+begins-fits layout view by (commands.Fsync file) banks j begun free rest = subst (Fits layout view) (sym begun.1) (record { on_turn = rest.on_turn; hand_is = rest.hand_is; file = begun.0; made_none = rest.made; at = tt })
+begins-fits layout view by (commands.Prctl thread args) banks j begun free rest = prctl-fits rest begun
+begins-fits layout view by (commands.Bad frame line) banks j begun free rest = spoil-fits rest begun
+begins-fits layout view by (commands.Weak frame line) banks j begun free rest = spoil-fits rest begun
+begins-fits layout view by (commands.Scrub first last) banks j begun free rest = scrub-fits rest begun free
+begins-fits layout view by (commands.Log status addr misc) banks j begun free rest = log-fits rest begun
+begins-fits layout view by (commands.RaiseUser thread ripv eipv) banks j begun free rest = raise-user-fits rest begun
+begins-fits layout view by (commands.RaiseKernel ripv eipv) banks j begun free rest = raise-kernel-fits rest begun
+begins-fits layout view by (commands.Inject frame) banks j begun free rest = inject-fits rest begun
+begins-fits layout view by (commands.Soft frame) banks j begun free rest = soft-fits rest begun
+begins-fits layout view by commands.RaiseNested banks j begun free rest = subst (Fits layout view) (sym begun) (record { on_turn = rest.on_turn; hand_is = rest.hand_is; made = rest.made; at = tt })
+begins-fits layout view by _ banks j begun free rest = absurd begun

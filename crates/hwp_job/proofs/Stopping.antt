@@ -97,14 +97,29 @@ use Rattle.hwp_raise.specs.declared.raise.RaiseAt.TheVariants as raise_at
 use Rattle.hwp_raise.specs.Fits as raise_fits
 use Rattle.hwp_raise.specs.Logs as logs
 use Rattle.hwp_raise.specs.Raises as raises
+use Rattle.hwp_scrub.specs.declared.Scrub.{Scrub}
+use Rattle.hwp_scrub.specs.declared.ScrubAnswer.{ScrubAnswer}
+use Rattle.hwp_scrub.specs.declared.ScrubAnswer.TheVariants as scrub_answers
+use Rattle.hwp_scrub.specs.declared.scrub.ScrubAt.{ScrubAt}
+use Rattle.hwp_scrub.specs.declared.scrub.ScrubAt.TheVariants as scrub_at
+use Rattle.hwp_scrub.specs.Fits as scrub_fits
+use Rattle.hwp_scrub.specs.Scrubs as scrubs
+use Rattle.hwp_soft.specs.declared.Soft.{Soft}
+use Rattle.hwp_soft.specs.declared.SoftAnswer.{SoftAnswer}
+use Rattle.hwp_soft.specs.declared.SoftAnswer.TheVariants as soft_answers
+use Rattle.hwp_soft.specs.declared.soft.SoftAt.{SoftAt}
+use Rattle.hwp_soft.specs.declared.soft.SoftAt.TheVariants as soft_at
+use Rattle.hwp_soft.specs.Offline as offline
+use Rattle.hwp_soft.specs.Softs as softs
+use Rattle.hwp_move.specs.Seizes as seizes
 use Rattle.hwp_job.specs.declared.job.Job.{Job}
 use Rattle.hwp_job.specs.declared.job.Job.TheVariants as jobs
-use Rattle.hwp_job.specs.Answers.{evict_answer, fail_answer, fsync_answer, instruction_answer, nested_answer, prctl_answer, raise_answer, read_stop_answer, refusal_answer, spoil_answer}
+use Rattle.hwp_job.specs.Answers.{evict_answer, fail_answer, fsync_answer, instruction_answer, nested_answer, prctl_answer, raise_answer, read_stop_answer, refusal_answer, scrub_answer, soft_answer, spoil_answer}
 use Rattle.hwp_job.specs.Begins.{Begins}
 use Rattle.hwp_job.specs.Jobs.{Fits, answer, who}
 use Rattle.hwp_job.specs.Stays.{EndsStopped, HasSpoiled, HasStopped, IsAtStop, IsHalted, IsStopping, Stepped, StopsItself}
-use Rattle.hwp_job.proofs.Ending.{InjectEnded, answered-over, inject-ended, instruction-ended, mapped, raise-ended}
-use Rattle.hwp_job.proofs.Resting.{StopsLeft, evict-left, fsync-left, inject-left, instruction-left, log-left, nested-left, prctl-left, raise-left, spoil-left}
+use Rattle.hwp_job.proofs.Ending.{InjectEnded, answered-over, inject-ended, instruction-ended, mapped, raise-ended, scrub-ended, soft-ended}
+use Rattle.hwp_job.proofs.Resting.{StopsLeft, evict-left, fsync-left, inject-left, instruction-left, log-left, nested-left, prctl-left, raise-left, scrub-left, soft-left, spoil-left}
 use Rattle.hwp_job.proofs.Running.{has-begun}
 
 -- ---- answers
@@ -124,14 +139,17 @@ unanswered (jobs.Fsync f) is = ap (λ (x : FsyncAt). option_map fsync_answer (fs
 unanswered (jobs.Prctl p) is = ap (λ (x : PrctlAt). option_map prctl_answer (prctls.answer_at x)) is
 unanswered (jobs.Log l) is = ap (λ (x : ReadStopAt). option_map read_stop_answer (read_stops.answer_at x)) is
 unanswered (jobs.Raise r) is = ap (λ (x : RaiseAt). option_map (raise_answer (length r.lines.told)) (raises.answer_at x)) is.0
+unanswered (jobs.Scrub c) is = ap (λ (x : ScrubAt). option_map (scrub_answer (length c.lines.told)) (scrubs.answer_at x)) is.0
 unanswered (jobs.Spoil s) is = ap (λ (x : SpoilAt). option_map spoil_answer (spoils.answer_at x)) is
 unanswered (jobs.Nested n) is = ap (λ (x : NestedAt). option_map nested_answer (nesteds.answer_at x)) is
 unanswered (jobs.Inject i) is = ap (λ (x : InjectAt). option_map fail_answer (injects.answer_at x)) is
+unanswered (jobs.Soft s) is = ap (λ (x : SoftAt). option_map soft_answer (softs.answer_at x)) is
 
 -- a command that has stopped the machine is answered `stopped`
 pub has-stopped : (j : Job) → HasStopped j → answer j ≡ Some answers.Stopped
 has-stopped (jobs.Instruction i) has = ap (option_map instruction_answer) has.0
 has-stopped (jobs.Raise r) has = ap (option_map (raise_answer (length r.lines.told))) has.0
+has-stopped (jobs.Scrub c) has = ap (option_map (scrub_answer (length c.lines.told))) has.0
 has-stopped (jobs.Nested n) has = ap (λ (x : NestedAt). option_map nested_answer (nesteds.answer_at x)) has
 has-stopped (jobs.Inject i) has = ap (λ (x : InjectAt). option_map fail_answer (injects.answer_at x)) has.1 ∙ ap (λ (x : FailAt). option_map fail_answer (fails.answer_at x)) has.2
 has-stopped _ has = absurd has
@@ -161,12 +179,18 @@ abbrev starts_raise : RaiseAt → Bool
 starts_raise raise_at.LoadStop = true
 starts_raise _ = false
 
+abbrev starts_scrub : ScrubAt → Bool
+starts_scrub scrub_at.LoadStop = true
+starts_scrub _ = false
+
 -- and it stops the machine no more
 not-stopping : (j : Job) → EndsStopped j → IsStopping j → ⊥
 not-stopping (jobs.Instruction i) (inl (a, start, look, none)) (frame, h, handles, stop) = true≢false (sym (ap starts_access start) ∙ ap starts_access handles)
 not-stopping (jobs.Instruction i) (inr stopped) (frame, h, handles, stop) = none-some answers.Stopped (sym (ap (λ (x : InstructionAt). option_map instruction_answer (instructions.answer_at x)) handles) ∙ stopped)
 not-stopping (jobs.Raise r) (inl (start, none)) (h, handles, stop) = true≢false (sym (ap starts_raise start) ∙ ap starts_raise handles)
 not-stopping (jobs.Raise r) (inr stopped) (h, handles, stop) = none-some answers.Stopped (sym (ap (λ (x : RaiseAt). option_map (raise_answer (length r.lines.told)) (raises.answer_at x)) handles) ∙ stopped)
+not-stopping (jobs.Scrub c) (inl (start, none)) (frame, h, handles, stop) = true≢false (sym (ap starts_scrub start) ∙ ap starts_scrub handles)
+not-stopping (jobs.Scrub c) (inr stopped) (frame, h, handles, stop) = none-some answers.Stopped (sym (ap (λ (x : ScrubAt). option_map (scrub_answer (length c.lines.told)) (scrubs.answer_at x)) handles) ∙ stopped)
 not-stopping (jobs.Nested n) (inl start) stopping = true≢false (sym (ap starts start) ∙ ap starts stopping)
 not-stopping (jobs.Nested n) (inr stopped) stopping = none-some answers.Stopped (sym (ap (λ (x : NestedAt). option_map nested_answer (nesteds.answer_at x)) stopping) ∙ stopped)
 not-stopping (jobs.Inject i) (inl start) (f, c, at, is, stop) = true≢false (sym (ap starts_inject start) ∙ ap starts_inject at)
@@ -211,9 +235,11 @@ stops-after {j = jobs.Fsync f} s = inl (fsync-left s).2
 stops-after {j = jobs.Prctl p} s = inl (prctl-left s).2
 stops-after {j = jobs.Log l} s = (log-left s).stops
 stops-after {j = jobs.Raise r} s = (raise-left s).stops
+stops-after {j = jobs.Scrub c} s = (scrub-left s).stops
 stops-after {j = jobs.Spoil p} s = inl (spoil-left s).2
 stops-after {j = jobs.Nested n} s = (nested-left s).stops
 stops-after {j = jobs.Inject i} s = (inject-left s).stops
+stops-after {j = jobs.Soft o} s = (soft-left s).stops
 
 -- the damage that a view lists stays, or is made by the command
 pub spoils-after : {layout : Layout} {old new : View} {j after : Job} → Stepped layout old new j after → (new.spoiled ≡ old.spoiled) ⊎ ((x : Spoiled) × (new.spoiled ≡ old.spoiled ++ x ∷ []) × HasSpoiled after x)
@@ -223,6 +249,7 @@ spoils-after {j = jobs.Fsync f} s = inl (fsync-left s).1
 spoils-after {j = jobs.Prctl p} s = inl (prctl-left s).1
 spoils-after {j = jobs.Log l} s = inl (log-left s).rest.spoiled
 spoils-after {j = jobs.Raise r} s = inl (raise-left s).rest.spoiled
+spoils-after {j = jobs.Scrub c} s = inl (scrub-left s).rest.spoiled
 spoils-after {old = old} {new = new} {j = jobs.Spoil p} {after = after} s = which p.at refl s.planned
   where
     which : (x : SpoilAt) → p.at ≡ x → spoils.plan_at p.frame p.line p.damage x ≡ Some s.step → (new.spoiled ≡ old.spoiled) ⊎ ((y : Spoiled) × (new.spoiled ≡ old.spoiled ++ y ∷ []) × HasSpoiled after y)
@@ -235,6 +262,7 @@ spoils-after {old = old} {new = new} {j = jobs.Spoil p} {after = after} s = whic
     which (spoil_at.Over answer) at e = absurd (none-some s.step e)
 spoils-after {j = jobs.Nested n} s = inl (nested-left s).rest.spoiled
 spoils-after {j = jobs.Inject i} s = inl (inject-left s).rest.spoiled
+spoils-after {j = jobs.Soft o} s = inl (soft-left s).rest.spoiled
 
 -- a command that damaged a line is answered so
 pub has-spoiled : (j : Job) (x : Spoiled) → HasSpoiled j x → answer j ≡ Some answers.Done
@@ -290,6 +318,11 @@ looks {layout} (jobs.Raise r) after s halted (start, none) =
     let stepped = subst (λ (x : RaiseAt). raises.FollowsAt layout (raises.bare r) (raises.bare_at x) s.found s.got s.follows.0 s.turn) start s.follows.2 in
     let next = subst (λ (b : Bool). raises.AfterStopBy layout (raises.bare r) b r.raiser s.follows.0) word stepped.0 in
     ap answer s.follows.1 ∙ ap (λ (k : Raise). option_map (raise_answer (length k.lines.told)) (raises.answer k)) next
+looks {layout} (jobs.Scrub c) after s halted (start, none) =
+    let word : is_stopped s.found ≡ true = stop-word (steps-planned {other = steps.Load places.Stop} (sym (ap scrubs.plan_at start) ∙ s.planned) s.made) halted in
+    let stepped = subst (λ (x : ScrubAt). scrubs.FollowsAt layout (scrubs.bare c) (scrubs.bare_at x) s.found s.got s.follows.0 s.turn) start s.follows.2 in
+    ap answer s.follows.1 ∙ ap (λ (k : Scrub). option_map (scrub_answer (length k.lines.told)) (scrubs.answer k)) stepped.0
+    ∙ ap (λ (b : Bool). option_map (scrub_answer (length c.lines.told)) (scrubs.answer_at (cond b (scrub_at.Over (Some scrub_answers.Stopped)) (scrub_at.LoadBad c.first)))) word
 looks (jobs.Spoil p) after s halted start =
     let word : is_stopped s.found ≡ true = stop-word (steps-planned {other = steps.Load places.Stop} (sym (ap (spoils.plan_at p.frame p.line p.damage) start) ∙ s.planned) s.made) halted in
     ap answer s.follows.0 ∙ ap (λ (x : SpoilAt). option_map spoil_answer (spoils.answer_at (spoils.next_at x s.found))) start
@@ -303,6 +336,11 @@ looks {layout} (jobs.Inject i) after s halted start =
     let at = subst (λ (x : InjectAt). injects.FollowsAt layout i.alloc i.who i.frame (injects.bare_at x) s.found s.got s.follows.0.at s.turn) start s.follows.2.1 in
     ap answer s.follows.1 ∙ ap (λ (x : InjectAt). option_map fail_answer (injects.answer_at x)) at.0
     ∙ ap (λ (b : Bool). option_map fail_answer (injects.answer_at (cond b inject_at.Stopped (inject_at.Fail (fails.begin i.alloc i.who i.frame None false layout.recovery))))) word
+looks {layout} (jobs.Soft o) after s halted start =
+    let word : is_stopped s.found ≡ true = stop-word (steps-planned {other = steps.Load places.Stop} (sym (ap (softs.plan_at o.frame) start) ∙ s.planned) s.made) halted in
+    let at = subst (λ (x : SoftAt). softs.FollowsAt layout o.who o.frame (softs.bare_at x) s.found s.got s.follows.0.at s.turn) start s.follows.2.1 in
+    ap answer s.follows.1 ∙ ap (λ (x : SoftAt). option_map soft_answer (softs.answer_at x)) at.0
+    ∙ ap (λ (b : Bool). option_map soft_answer (softs.answer_at (cond b (soft_at.Over soft_answers.Stopped) (soft_at.Seize (seizes.begin o.who o.frame))))) word
 
 -- on a machine that has stopped, a command that comes to `stopped` alone still does after its step
 pub halted-stays : {layout : Layout} {old new : View} {j after : Job} → Stepped layout old new j after → IsHalted old → EndsStopped j → IsHalted new × EndsStopped after
@@ -353,6 +391,11 @@ module _ (layout : Layout) (view : View) where
   raise-halts r raise_answers.Raised ended is = absurd (other _ refl (ap (λ (y : Answer). Some y) is))
   raise-halts r (raise_answers.Gone page) ended is = absurd (other _ refl (ap (λ (y : Answer). Some y) is))
 
+  scrub-halts : (c : Scrub) (x : ScrubAnswer) → scrub_fits.IsEnd layout view c x → scrub_answer (length c.lines.told) x ≡ answers.Stopped → IsHalted view
+  scrub-halts c scrub_answers.Stopped (inl unbegun) is = halts unbegun.1
+  scrub-halts c scrub_answers.Stopped (inr halted) is = stops halted.1.stops
+  scrub-halts c scrub_answers.Scrubbed ended is = absurd (other _ refl (ap (λ (y : Answer). Some y) is))
+
   spoil-halts : (s : Spoil) (x : SpoilAt) → spoils.FitsAt view s.who s.frame s.line s.damage x → option_map spoil_answer (spoils.answer_at x) ≡ Some answers.Stopped → IsHalted view
   spoil-halts s (spoil_at.Over spoil_answers.Stopped) fits is = halts fits
   spoil-halts s (spoil_at.Over spoil_answers.Done) fits is = absurd (other _ refl is)
@@ -396,6 +439,15 @@ module _ (layout : Layout) (view : View) where
   inject-halts i fail_answers.Already ended is = absurd (other _ refl (ap (λ (a : Answer). Some a) is))
   inject-halts i (fail_answers.Done situation cycle at signalled) ended is = absurd (other _ (came (outcome_of situation)) (ap (λ (a : Answer). Some a) is))
 
+  soft-halts : (s : Soft) (x : SoftAnswer) → offline.IsCaused layout view s.who s.frame x → soft_answer x ≡ answers.Stopped → IsHalted view
+  soft-halts s soft_answers.Stopped caused is = halts caused.1
+  soft-halts s soft_answers.Kernel caused is = absurd (other _ refl (ap (λ (y : Answer). Some y) is))
+  soft-halts s soft_answers.Already caused is = absurd (other _ refl (ap (λ (y : Answer). Some y) is))
+  soft-halts s (soft_answers.HasBad mask) caused is = absurd (other _ refl (ap (λ (y : Answer). Some y) is))
+  soft-halts s soft_answers.NoFrame caused is = absurd (other _ refl (ap (λ (y : Answer). Some y) is))
+  soft-halts s (soft_answers.TakenFree cycle) caused is = absurd (other _ refl (ap (λ (y : Answer). Some y) is))
+  soft-halts s (soft_answers.Moved to place cycle) caused is = absurd (other _ refl (ap (λ (y : Answer). Some y) is))
+
 -- a command that is answered `stopped` shows that the machine has stopped
 pub stopped-halts : (layout : Layout) (view : View) (j : Job) → Fits layout view j → answer j ≡ Some answers.Stopped → IsHalted view
 stopped-halts layout view (jobs.Instruction i) fits is = let own = mapped _ (instructions.answer i) is in instruction-halts layout view i.request i.lines.told own.0 (instruction-ended i fits own.1).ended own.2
@@ -404,6 +456,8 @@ stopped-halts layout view (jobs.Fsync f) fits is = fsync-halts layout view f f.a
 stopped-halts layout view (jobs.Prctl p) fits is = prctl-halts layout view p p.at fits.at is
 stopped-halts layout view (jobs.Log l) fits is = read-halts layout view l.read l.read.at fits.read.at is
 stopped-halts layout view (jobs.Raise r) fits is = let own = mapped _ (raises.answer r) is in raise-halts layout view r own.0 (raise-ended r fits own.1).1 own.2
+stopped-halts layout view (jobs.Scrub c) fits is = let own = mapped _ (scrubs.answer c) is in scrub-halts layout view c own.0 (scrub-ended c fits own.1) own.2
 stopped-halts layout view (jobs.Spoil s) fits is = spoil-halts layout view s s.at fits.at is
 stopped-halts layout view (jobs.Nested n) fits is = nested-halts layout view n n.at fits.at is
 stopped-halts layout view (jobs.Inject i) fits is = let own = mapped _ (injects.answer i) is in inject-halts layout view i own.0 (inject-ended i fits own.1) own.2
+stopped-halts layout view (jobs.Soft s) fits is = let own = mapped _ (softs.answer s) is in soft-halts layout view s own.0 (soft-ended s fits own.1).1 own.2

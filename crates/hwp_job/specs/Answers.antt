@@ -26,6 +26,10 @@ use Rattle.hwp_instr.specs.declared.InstructionAnswer.{InstructionAnswer}
 use Rattle.hwp_instr.specs.declared.InstructionAnswer.TheVariants as instruction
 use Rattle.hwp_raise.specs.declared.RaiseAnswer.{RaiseAnswer}
 use Rattle.hwp_raise.specs.declared.RaiseAnswer.TheVariants as raise
+use Rattle.hwp_scrub.specs.declared.ScrubAnswer.{ScrubAnswer}
+use Rattle.hwp_scrub.specs.declared.ScrubAnswer.TheVariants as scrub
+use Rattle.hwp_soft.specs.declared.SoftAnswer.{SoftAnswer}
+use Rattle.hwp_soft.specs.declared.SoftAnswer.TheVariants as soft
 
 abbrev pub instruction_answer : InstructionAnswer → Answer
 instruction_answer (instruction.Value word at) = answers.Value word at
@@ -67,6 +71,11 @@ raise_answer lines raise.Raised = answers.Raised lines
 raise_answer lines (raise.Gone page) = answers.Gone page
 raise_answer lines raise.Stopped = answers.Stopped
 
+-- and so does a scrub
+abbrev pub scrub_answer : ℕ → ScrubAnswer → Answer
+scrub_answer lines scrub.Scrubbed = answers.Scrubbed lines
+scrub_answer lines scrub.Stopped = answers.Stopped
+
 abbrev pub spoil_answer : SpoilAnswer → Answer
 spoil_answer spoil.Done = answers.Done
 spoil_answer spoil.Stopped = answers.Stopped
@@ -79,3 +88,12 @@ abbrev pub fail_answer : FailAnswer → Answer
 fail_answer fail.Stopped = answers.Stopped
 fail_answer fail.Already = answers.Already
 fail_answer (fail.Done situation cycle at signalled) = outcome_answer (outcome_of situation)
+
+abbrev pub soft_answer : SoftAnswer → Answer
+soft_answer soft.Stopped = answers.Stopped
+soft_answer soft.Kernel = answers.Kernel
+soft_answer soft.Already = answers.Already
+soft_answer (soft.HasBad mask) = answers.HasBad mask
+soft_answer soft.NoFrame = answers.NoFrame
+soft_answer (soft.TakenFree cycle) = answers.TakenFree
+soft_answer (soft.Moved frame at cycle) = answers.Moved frame at

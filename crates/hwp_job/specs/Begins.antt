@@ -43,13 +43,14 @@ use Rattle.hwp_fail.specs.Injects as injects
 use Rattle.hwp_instr.specs.Instructions as instructions
 use Rattle.hwp_raise.specs.Logs as logs
 use Rattle.hwp_raise.specs.Raises as raises
+use Rattle.hwp_scrub.specs.Fits.{AreFrames}
+use Rattle.hwp_scrub.specs.Scrubs as scrubs
+use Rattle.hwp_soft.specs.Softs as softs
 use Rattle.hwp_job.specs.declared.job.Job.{Job}
 use Rattle.hwp_job.specs.declared.job.Job.TheVariants as jobs
 
--- processors run the command: all but `scrub`, `soft` and `unpoison`
+-- processors run the command: all but `unpoison`
 abbrev pub is_supported : Command → Bool
-is_supported (commands.Scrub first last) = false
-is_supported (commands.Soft frame) = false
 is_supported (commands.Unpoison frame) = false
 is_supported command = true
 
@@ -113,11 +114,23 @@ pub record BeginsRaiseKernel (layout : Layout) (who : Who) (mcg : McgBits) (bank
   pub alloc : Global
   pub job_is : j ≡ jobs.Raise (raises.begin alloc who None mcg banks)
 
+-- a scrub of frames of the layout
+pub record BeginsScrub (layout : Layout) (who : Who) (first last : Frame) (banks : Banks) (j : Job) : Type 0 where
+  pub sound : IsSound layout
+  pub frames : AreFrames layout first last
+  pub alloc : Global
+  pub job_is : j ≡ jobs.Scrub (scrubs.begin alloc who first last banks)
+
 -- damage to a line of a frame of the layout
 pub record BeginsSpoil (layout : Layout) (who : Who) (frame : Frame) (line : ℕ) (damage : Damage) (j : Job) : Type 0 where
   pub within : frame.0 < layout.frames
   pub inside : line < line_limit
   pub job_is : j ≡ jobs.Spoil (spoils.begin who frame line damage)
+
+-- a frame of the layout is taken out of use
+pub record BeginsSoft (layout : Layout) (who : Who) (frame : Frame) (j : Job) : Type 0 where
+  pub within : frame.0 < layout.frames
+  pub job_is : j ≡ jobs.Soft (softs.begin who frame)
 
 -- the task is at the beginning of the command, of a processor whose banks hold this
 abbrev pub Begins : Layout → Who → Command → Banks → Job → Type 0
@@ -133,9 +146,11 @@ Begins layout who (commands.Fsync file) banks j = (file.0 < layout.files) × (j 
 Begins layout who (commands.Prctl thread args) banks j = BeginsPrctl layout who thread args j
 Begins layout who (commands.Bad frame line) banks j = BeginsSpoil layout who frame line damages.Bad j
 Begins layout who (commands.Weak frame line) banks j = BeginsSpoil layout who frame line damages.Weak j
+Begins layout who (commands.Scrub first last) banks j = BeginsScrub layout who first last banks j
 Begins layout who (commands.Log status addr misc) banks j = BeginsLog layout who (raw_event status addr misc) banks j
 Begins layout who (commands.RaiseUser thread ripv eipv) banks j = BeginsRaiseUser layout who thread (arrival_of (commands.RaiseUser thread ripv eipv)).mcg banks j
 Begins layout who (commands.RaiseKernel ripv eipv) banks j = BeginsRaiseKernel layout who (arrival_of (commands.RaiseKernel ripv eipv)).mcg banks j
 Begins layout who commands.RaiseNested banks j = j ≡ jobs.Nested (nesteds.begin who)
 Begins layout who (commands.Inject frame) banks j = BeginsInject layout who frame j
+Begins layout who (commands.Soft frame) banks j = BeginsSoft layout who frame j
 Begins layout who _ banks j = ⊥

@@ -21,6 +21,8 @@ use Rattle.hwp_fail.specs.Done as fail_done
 use Rattle.hwp_instr.specs.Done as instruction_done
 use Rattle.hwp_instr.specs.Done.{FailuresGrow, failures_by}
 use Rattle.hwp_raise.specs.Done as raise_done
+use Rattle.hwp_scrub.specs.Done as scrub_done
+use Rattle.hwp_soft.specs.Done as soft_done
 use Rattle.hwp_job.specs.declared.job.Job.{Job}
 use Rattle.hwp_job.specs.declared.job.Job.TheVariants as jobs
 use Rattle.hwp_job.specs.Settings.{set_at}
@@ -33,7 +35,9 @@ marked_at frame _ = []
 abbrev pub marked_now : Job → List Marking
 marked_now (jobs.Instruction i) = instruction_done.marked_now i
 marked_now (jobs.Raise r) = raise_done.marked_now r
+marked_now (jobs.Scrub s) = scrub_done.marked_now s
 marked_now (jobs.Inject i) = marked_at i.frame i.at
+marked_now (jobs.Soft s) = soft_done.marked_at s.frame s.at
 marked_now _ = []
 
 -- the failures that its entries tell
@@ -44,6 +48,7 @@ failed_at _ = []
 abbrev pub failed_now : Job → List Failed
 failed_now (jobs.Instruction i) = instruction_done.failed_now i
 failed_now (jobs.Raise r) = raise_done.failed_now r
+failed_now (jobs.Scrub s) = scrub_done.failed_now s
 failed_now (jobs.Inject i) = failed_at i.at
 failed_now _ = []
 
@@ -51,6 +56,7 @@ failed_now _ = []
 abbrev pub can_fail : Job → Bool
 can_fail (jobs.Instruction i) = true
 can_fail (jobs.Raise r) = true
+can_fail (jobs.Scrub s) = true
 can_fail (jobs.Inject i) = true
 can_fail _ = false
 
@@ -77,7 +83,9 @@ owed_at _ = 0
 abbrev pub owed_now : Job → ℕ
 owed_now (jobs.Instruction i) = instruction_done.owed_now i
 owed_now (jobs.Raise r) = raise_done.owed_now r
+owed_now (jobs.Scrub s) = scrub_done.owed_now s
 owed_now (jobs.Inject i) = owed_at i.at
+owed_now (jobs.Soft s) = soft_done.owed_at s.at
 owed_now _ = 0
 
 -- the processor owes a count of the frame that its command has just marked, and no other

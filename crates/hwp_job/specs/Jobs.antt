@@ -1,5 +1,5 @@
 -- A command as one task: it is the task of its kind, in all that it plans, shows, comes to and needs.
-use Rattle.std.specs.Prelude.{◌≡◌, ℕ, Bool, false, cond, List, [], Option, Some, None, is_some, length, option_and_then, option_map, unwrap_or}
+use Rattle.std.specs.Prelude.{◌≡◌, ℕ, Bool, true, false, cond, List, [], Option, Some, None, is_some, length, option_and_then, option_map, unwrap_or}
 use Rattle.hwp_geom.specs.declared.Frame.{Frame}
 use Rattle.hwp_geom.specs.declared.Layout.{Layout}
 use Rattle.hwp_geom.specs.declared.Who.{Who}
@@ -21,7 +21,6 @@ use Rattle.hwp_fail.specs.declared.Inject.{Inject}
 use Rattle.hwp_fail.specs.Injects as injects
 use Rattle.hwp_law.specs.Checks.{Banks, empty_banks}
 use Rattle.hwp_handler.specs.declared.Found.{Found}
-use Rattle.hwp_handler.specs.declared.Row.{Row}
 use Rattle.hwp_handler.specs.declared.Told.{Told}
 use Rattle.hwp_handler.specs.Told.{found_by}
 use Rattle.hwp_instr.specs.declared.Instruction.{Instruction}
@@ -33,9 +32,21 @@ use Rattle.hwp_raise.specs.Costs as raise_costs
 use Rattle.hwp_raise.specs.Fits as raise_fits
 use Rattle.hwp_raise.specs.Logs as logs
 use Rattle.hwp_raise.specs.Raises as raises
+use Rattle.hwp_row.specs.declared.Own.{Own}
+use Rattle.hwp_row.specs.declared.Own.TheVariants as owns
+use Rattle.hwp_row.specs.declared.Row.{Row}
+use Rattle.hwp_scrub.specs.declared.Scrub.{Scrub}
+use Rattle.hwp_scrub.specs.Costs as scrub_costs
+use Rattle.hwp_scrub.specs.Fits as scrub_fits
+use Rattle.hwp_scrub.specs.Scrubs as scrubs
+use Rattle.hwp_soft.specs.declared.Soft.{Soft}
+use Rattle.hwp_soft.specs.declared.SoftAnswer.{SoftAnswer}
+use Rattle.hwp_soft.specs.declared.SoftAnswer.TheVariants as soft_answers
+use Rattle.hwp_soft.specs.Offline as offline
+use Rattle.hwp_soft.specs.Softs as softs
 use Rattle.hwp_job.specs.declared.job.Job.{Job}
 use Rattle.hwp_job.specs.declared.job.Job.TheVariants as jobs
-use Rattle.hwp_job.specs.Answers.{evict_answer, fail_answer, fsync_answer, instruction_answer, nested_answer, prctl_answer, raise_answer, read_stop_answer, spoil_answer}
+use Rattle.hwp_job.specs.Answers.{evict_answer, fail_answer, fsync_answer, instruction_answer, nested_answer, prctl_answer, raise_answer, read_stop_answer, scrub_answer, soft_answer, spoil_answer}
 
 abbrev pub who : Job → Who
 who (jobs.Instruction i) = i.request.who
@@ -44,9 +55,11 @@ who (jobs.Fsync f) = f.who
 who (jobs.Prctl p) = p.who
 who (jobs.Log l) = l.read.who
 who (jobs.Raise r) = r.who
+who (jobs.Scrub s) = s.who
 who (jobs.Spoil s) = s.who
 who (jobs.Nested n) = n.who
 who (jobs.Inject i) = i.who
+who (jobs.Soft s) = s.who
 
 abbrev pub plan : Job → Option Step
 plan (jobs.Instruction i) = instructions.plan i
@@ -55,22 +68,28 @@ plan (jobs.Fsync f) = fsyncs.plan f
 plan (jobs.Prctl p) = prctls.plan p
 plan (jobs.Log l) = logs.plan l
 plan (jobs.Raise r) = raises.plan r
+plan (jobs.Scrub s) = scrubs.plan s
 plan (jobs.Spoil s) = spoils.plan s
 plan (jobs.Nested n) = nesteds.plan n
 plan (jobs.Inject i) = injects.plan i
+plan (jobs.Soft s) = softs.plan s
 
 abbrev pub put : Job → Option BodyValue
 put (jobs.Instruction i) = instructions.put i
 put (jobs.Evict e) = evicts.put e
 put (jobs.Raise r) = raises.put r
+put (jobs.Scrub s) = scrubs.put s
 put (jobs.Inject i) = injects.put i
+put (jobs.Soft s) = softs.put s
 put _ = None
 
 abbrev pub bare : Job → Job
 bare (jobs.Instruction i) = jobs.Instruction (instructions.bare i)
 bare (jobs.Evict e) = jobs.Evict (evicts.bare e)
 bare (jobs.Raise r) = jobs.Raise (raises.bare r)
+bare (jobs.Scrub s) = jobs.Scrub (scrubs.bare s)
 bare (jobs.Inject i) = jobs.Inject (injects.bare i)
+bare (jobs.Soft s) = jobs.Soft (softs.bare s)
 bare j = j
 
 abbrev pub Shows : Job → ℕ → Option BodyValue → Type 0
@@ -78,7 +97,9 @@ Shows (jobs.Instruction i) found got = instructions.Shows i found got
 Shows (jobs.Evict e) found got = evicts.Shows e found got
 Shows (jobs.Prctl p) found got = prctls.Shows p found
 Shows (jobs.Raise r) found got = raises.Shows r found got
+Shows (jobs.Scrub s) found got = scrubs.Shows s found got
 Shows (jobs.Inject i) found got = injects.Shows i found got
+Shows (jobs.Soft s) found got = softs.Shows s found got
 Shows _ found got = Unit {0}
 
 abbrev pub Next : Layout → Job → ℕ → Option BodyValue → Job → Turn → Type 0
@@ -88,9 +109,11 @@ Next layout (jobs.Fsync f) found got after turn = (after ≡ jobs.Fsync (fsyncs.
 Next layout (jobs.Prctl p) found got after turn = (after ≡ jobs.Prctl (prctls.next p found)) × (turn ≡ Moved)
 Next layout (jobs.Log l) found got after turn = (after ≡ jobs.Log (logs.next l found)) × (turn ≡ Moved)
 Next layout (jobs.Raise r) found got after turn = (k : Raise) × (after ≡ jobs.Raise k) × raises.Follows layout r found got k turn
+Next layout (jobs.Scrub s) found got after turn = (k : Scrub) × (after ≡ jobs.Scrub k) × scrubs.Follows layout s found got k turn
 Next layout (jobs.Spoil s) found got after turn = (after ≡ jobs.Spoil (spoils.next s found)) × (turn ≡ Moved)
 Next layout (jobs.Nested n) found got after turn = (after ≡ jobs.Nested (nesteds.next n found)) × (turn ≡ nesteds.turn n found)
 Next layout (jobs.Inject i) found got after turn = (k : Inject) × (after ≡ jobs.Inject k) × injects.Follows layout i found got k turn
+Next layout (jobs.Soft s) found got after turn = (k : Soft) × (after ≡ jobs.Soft k) × softs.Follows layout s found got k turn
 
 abbrev pub Fits : Layout → View → Job → Type 0
 Fits layout view (jobs.Instruction i) = instruction_fits.Fits layout view i
@@ -99,15 +122,19 @@ Fits layout view (jobs.Fsync f) = fsyncs.Fits layout view f
 Fits layout view (jobs.Prctl p) = prctls.Fits layout view p
 Fits layout view (jobs.Log l) = logs.Fits layout view l
 Fits layout view (jobs.Raise r) = raise_fits.Fits layout view r
+Fits layout view (jobs.Scrub s) = scrub_fits.Fits layout view s
 Fits layout view (jobs.Spoil s) = spoils.Fits layout view s
 Fits layout view (jobs.Nested n) = nesteds.Fits layout view n
 Fits layout view (jobs.Inject i) = injects.Fits layout view i
+Fits layout view (jobs.Soft s) = offline.Fits layout view s
 
 abbrev pub class : Job → ℕ
 class (jobs.Instruction i) = instruction_costs.class i
 class (jobs.Evict e) = evicts.class e
 class (jobs.Raise r) = raise_costs.class r
+class (jobs.Scrub s) = scrub_costs.class s
 class (jobs.Inject i) = injects.class i
+class (jobs.Soft s) = softs.class s
 class _ = 4
 
 abbrev pub cost : Job → Words → ℕ
@@ -117,20 +144,26 @@ cost (jobs.Fsync f) words = fsyncs.cost f words
 cost (jobs.Prctl p) words = prctls.cost p
 cost (jobs.Log l) words = logs.cost l
 cost (jobs.Raise r) words = raise_costs.cost r words
+cost (jobs.Scrub s) words = scrub_costs.cost s words
 cost (jobs.Spoil s) words = spoils.cost s
 cost (jobs.Nested n) words = nesteds.cost n
 cost (jobs.Inject i) words = injects.cost i words
+cost (jobs.Soft s) words = softs.cost s words
 
 abbrev pub claims : Job → Option (Frame × ℕ)
 claims (jobs.Instruction i) = instruction_costs.claims i
 claims (jobs.Raise r) = raise_costs.claims r
+claims (jobs.Scrub s) = scrub_costs.claims s
 claims (jobs.Inject i) = injects.claims i
+claims (jobs.Soft s) = softs.claims s
 claims _ = None
 
 abbrev pub aborts : Job → Bool
 aborts (jobs.Instruction i) = instruction_costs.aborts i
 aborts (jobs.Raise r) = raise_costs.aborts r
+aborts (jobs.Scrub s) = scrub_costs.aborts s
 aborts (jobs.Inject i) = injects.aborts i
+aborts (jobs.Soft s) = softs.aborts s
 aborts _ = false
 
 -- ---- what it comes to
@@ -139,6 +172,7 @@ aborts _ = false
 abbrev pub told_of : Job → List Told
 told_of (jobs.Instruction i) = i.lines.told
 told_of (jobs.Raise r) = r.lines.told
+told_of (jobs.Scrub s) = s.lines.told
 told_of _ = []
 
 abbrev pub answer : Job → Option Answer
@@ -148,19 +182,29 @@ answer (jobs.Fsync f) = option_map fsync_answer (fsyncs.answer f)
 answer (jobs.Prctl p) = option_map prctl_answer (prctls.answer p)
 answer (jobs.Log l) = option_map read_stop_answer (logs.answer l)
 answer (jobs.Raise r) = option_map (raise_answer (length r.lines.told)) (raises.answer r)
+answer (jobs.Scrub s) = option_map (scrub_answer (length s.lines.told)) (scrubs.answer s)
 answer (jobs.Spoil s) = option_map spoil_answer (spoils.answer s)
 answer (jobs.Nested n) = option_map nested_answer (nesteds.answer n)
 answer (jobs.Inject i) = option_map fail_answer (injects.answer i)
+answer (jobs.Soft s) = option_map soft_answer (softs.answer s)
 
--- the frame that the command itself made fail, with what the failure found where it poisoned the frame
-abbrev pub own_by : Frame → Option FailAnswer → Option (Frame × Found)
-own_by frame answer = option_map (λ (found : Found). (frame, found)) (option_and_then found_by answer)
+-- what a failure found where it poisoned its frame
+abbrev pub own_by : Frame → Option FailAnswer → Option Own
+own_by frame answer = option_map (λ (found : Found). owns.Failed frame found) (option_and_then found_by answer)
 
-abbrev pub own_of : Job → Option (Frame × Found)
+-- a frame that was taken out of use, and whether a page left it
+abbrev pub offlined_by : Frame → SoftAnswer → Option Own
+offlined_by frame (soft_answers.Moved to at cycle) = Some (owns.Offlined frame cycle true)
+offlined_by frame (soft_answers.TakenFree cycle) = Some (owns.Offlined frame cycle false)
+offlined_by frame _ = None
+
+-- what the command did to a frame itself
+abbrev pub own_of : Job → Option Own
 own_of (jobs.Inject i) = own_by i.frame (injects.answer i)
+own_of (jobs.Soft s) = option_and_then (offlined_by s.frame) (softs.answer s)
 own_of _ = None
 
-abbrev pub row : List Told → Option (Frame × Found) → Answer → Row
+abbrev pub row : List Told → Option Own → Answer → Row
 row told own answer = record { told = told; own = own; answer = answer }
 
 abbrev pub row_of : Job → Answer → Row
@@ -173,6 +217,7 @@ abbrev pub own_banks : Job → Option Banks
 own_banks (jobs.Instruction i) = Some i.banks
 own_banks (jobs.Log l) = Some l.banks
 own_banks (jobs.Raise r) = Some r.banks
+own_banks (jobs.Scrub s) = Some s.banks
 own_banks _ = None
 
 -- what the processor keeps in its banks while the command runs, and what they hold after it
@@ -187,4 +232,5 @@ abbrev pub banks_before : Job → Banks → Banks
 banks_before (jobs.Instruction i) kept = i.before.value
 banks_before (jobs.Log l) kept = l.before.value
 banks_before (jobs.Raise r) kept = r.before.value
+banks_before (jobs.Scrub s) kept = s.before.value
 banks_before _ kept = kept

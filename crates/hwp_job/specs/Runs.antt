@@ -19,6 +19,8 @@ use Rattle.hwp_fail.specs.Injects as injects
 use Rattle.hwp_instr.specs.Instructions as instructions
 use Rattle.hwp_raise.specs.Logs as logs
 use Rattle.hwp_raise.specs.Raises as raises
+use Rattle.hwp_scrub.specs.Scrubs as scrubs
+use Rattle.hwp_soft.specs.Softs as softs
 use Rattle.hwp_job.specs.declared.job.Job.{Job}
 use Rattle.hwp_job.specs.declared.job.Job.TheVariants as jobs
 use Rattle.hwp_job.specs.Begins.{Begins}
@@ -32,9 +34,11 @@ anew (jobs.Fsync f) = jobs.Fsync (fsyncs.begin f.who f.file)
 anew (jobs.Prctl p) = jobs.Prctl (prctls.begin p.who p.thread p.process p.arguments)
 anew (jobs.Log l) = jobs.Log (logs.begin l.read.who l.event l.before.value)
 anew (jobs.Raise r) = jobs.Raise (raises.begin r.alloc r.who r.raiser r.mcg r.before.value)
+anew (jobs.Scrub s) = jobs.Scrub (scrubs.begin s.alloc s.who s.first s.last s.before.value)
 anew (jobs.Spoil s) = jobs.Spoil (spoils.begin s.who s.frame s.line s.damage)
 anew (jobs.Nested n) = jobs.Nested (nesteds.begin n.who)
 anew (jobs.Inject i) = jobs.Inject (injects.begin i.alloc i.who i.frame)
+anew (jobs.Soft s) = jobs.Soft (softs.begin s.who s.frame)
 
 -- the task is of the command: begun anew, it is what the command begins as, where the banks hold what they held then
 abbrev pub Runs : Layout → Who → Command → Job → Type 0

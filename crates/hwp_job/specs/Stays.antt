@@ -49,6 +49,10 @@ use Rattle.hwp_instr.specs.Instructions as instructions
 use Rattle.hwp_raise.specs.declared.RaiseAnswer.TheVariants as raise_answers
 use Rattle.hwp_raise.specs.declared.raise.RaiseAt.TheVariants as raise_at
 use Rattle.hwp_raise.specs.Raises as raises
+use Rattle.hwp_scrub.specs.declared.ScrubAnswer.TheVariants as scrub_answers
+use Rattle.hwp_scrub.specs.declared.scrub.ScrubAt.TheVariants as scrub_at
+use Rattle.hwp_scrub.specs.Scrubs as scrubs
+use Rattle.hwp_soft.specs.declared.soft.SoftAt.TheVariants as soft_at
 use Rattle.hwp_job.specs.declared.job.Job.{Job}
 use Rattle.hwp_job.specs.declared.job.Job.TheVariants as jobs
 use Rattle.hwp_job.specs.Jobs.{Fits, Next, answer, bare, plan, put, who}
@@ -79,9 +83,11 @@ IsAtStop (jobs.Fsync f) = f.at ≡ fsync_at.LoadStop
 IsAtStop (jobs.Prctl p) = p.at ≡ prctl_at.LoadStop
 IsAtStop (jobs.Log l) = l.read.at ≡ read_stop_at.LoadStop
 IsAtStop (jobs.Raise r) = (r.at ≡ raise_at.LoadStop) × (r.lines.told ≡ [])
+IsAtStop (jobs.Scrub s) = (s.at ≡ scrub_at.LoadStop) × (s.lines.told ≡ [])
 IsAtStop (jobs.Spoil s) = s.at ≡ spoil_at.LoadStop
 IsAtStop (jobs.Nested n) = n.at ≡ nested_at.LoadStop
 IsAtStop (jobs.Inject i) = i.at ≡ inject_at.LoadStop
+IsAtStop (jobs.Soft s) = s.at ≡ soft_at.LoadStop
 
 -- on a machine that has stopped the command has no other answer: it has yet to look, or is answered `stopped`
 abbrev pub EndsStopped : Job → Type 0
@@ -92,6 +98,7 @@ EndsStopped j = IsAtStop j ⊎ (answer j ≡ Some answers.Stopped)
 abbrev pub IsStopping : Job → Type 0
 IsStopping (jobs.Instruction i) = (frame : Frame) × (h : Handler) × (i.at ≡ instruction_at.Handle frame h) × (h.at ≡ handler_at.Stop)
 IsStopping (jobs.Raise r) = (h : Handler) × (r.at ≡ raise_at.Handle h) × (h.at ≡ handler_at.Stop)
+IsStopping (jobs.Scrub s) = (frame : Frame) × (h : Handler) × (s.at ≡ scrub_at.Handle frame h) × (h.at ≡ handler_at.Stop)
 IsStopping (jobs.Nested n) = n.at ≡ nested_at.Stop
 IsStopping (jobs.Inject i) = (f : Fail) × (c : Claim) × (i.at ≡ inject_at.Fail f) × (f.at ≡ fail_at.Claim c) × (c.at ≡ claim_at.Stop)
 IsStopping _ = ⊥
@@ -100,6 +107,7 @@ IsStopping _ = ⊥
 abbrev pub HasStopped : Job → Type 0
 HasStopped (jobs.Instruction i) = (instructions.answer i ≡ Some instruction_answers.Stopped) × (halts i.lines.told ≡ true)
 HasStopped (jobs.Raise r) = (raises.answer r ≡ Some raise_answers.Stopped) × (halts r.lines.told ≡ true)
+HasStopped (jobs.Scrub s) = (scrubs.answer s ≡ Some scrub_answers.Stopped) × (halts s.lines.told ≡ true)
 HasStopped (jobs.Nested n) = n.at ≡ nested_at.Over (Some nested_answers.Shutdown)
 HasStopped (jobs.Inject i) = (f : Fail) × (i.at ≡ inject_at.Fail f) × (f.at ≡ fail_at.Over fail_answers.Stopped)
 HasStopped _ = ⊥

@@ -21,18 +21,17 @@ use hwp_geom::{Damage, Layout, Line, Mode, Page, Thread, VSlot, Who};
 use hwp_handler::no_events;
 use hwp_instr::Instruction;
 use hwp_raise::{Log, Raise, Raiser};
+use hwp_scrub::Scrub;
 use hwp_severity::McgBits;
+use hwp_soft::Soft;
 use std::alloc::Global;
 use std::mem;
 
-/// Whether processors run the command yet: all do but `scrub`, `soft` and `unpoison`.
+/// Whether processors run the command yet: all do but `unpoison`.
 pub fn is_supported(command: Command) -> bool
     ensures { result ≡ is_supported command }
 {
-    !matches!(
-        command,
-        Command::Scrub { .. } | Command::Soft { .. } | Command::Unpoison { .. }
-    )
+    !matches!(command, Command::Unpoison { .. })
 }
 
 impl Job {
@@ -87,6 +86,9 @@ impl Job {
             Command::Weak { frame, line } => {
                 Job::Spoil(Spoil::new(who, frame, line, Damage::Weak))
             }
+            Command::Scrub { first, last } => {
+                Job::Scrub(Scrub::new(alloc, who, first, last, taken(banks)))
+            }
             Command::Log { status, addr, misc } => {
                 let event = raw_event(status, addr, misc);
                 Job::Log(Log::new(who, event, taken(banks)))
@@ -100,9 +102,8 @@ impl Job {
             }
             Command::RaiseNested => Job::Nested(Nested::new(who)),
             Command::Inject { frame } => Job::Inject(Inject::new(alloc, who, frame)),
-            Command::Scrub { .. } | Command::Soft { .. } | Command::Unpoison { .. } => {
-                unreachable!()
-            }
+            Command::Soft { frame } => Job::Soft(Soft::new(who, frame)),
+            Command::Unpoison { .. } => unreachable!(),
         }
     }
 }

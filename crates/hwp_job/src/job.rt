@@ -1,17 +1,20 @@
-ghost use Rattle.std.specs.Prelude.{◌≡◌};
+ghost use Rattle.std.specs.Prelude.{◌≡◌, option_and_then};
 
 use hwp_banks::{BANKS, Bank};
 use hwp_control::{Nested, NestedAnswer, Prctl, PrctlAnswer, ReadStopAnswer, Spoil, SpoilAnswer};
 use hwp_evict::{Evict, EvictAnswer, Fsync, FsyncAnswer, Refusal};
 use hwp_fail::{FailAnswer, Inject};
 use hwp_geom::{Frame, Layout, List, Who};
-use hwp_handler::{Found, Row, Told};
+use hwp_handler::{Found, Told};
 use hwp_instr::{Instruction, InstructionAnswer};
 use hwp_kill::Reply;
 use hwp_page::{At, Body, Outcome};
 use hwp_raise::{Log, Raise, RaiseAnswer};
 use hwp_report::Answer;
+use hwp_row::{Own, Row};
 use hwp_rule::Step;
+use hwp_scrub::{Scrub, ScrubAnswer};
+use hwp_soft::{Soft, SoftAnswer};
 use hwp_step::{Machine, Ranked, Scheduled, Turn};
 use std::alloc::Global;
 
@@ -30,12 +33,16 @@ pub enum Job {
     Log(Log),
     /// A machine check is raised.
     Raise(Raise),
+    /// Frames are scrubbed.
+    Scrub(Scrub),
     /// A line of a frame goes bad, or gets weak.
     Spoil(Spoil),
     /// A machine check inside a machine check.
     Nested(Nested),
     /// A failure of a frame.
     Inject(Inject),
+    /// A frame is taken out of use.
+    Soft(Soft),
 }
 
 impl Job {
@@ -59,9 +66,14 @@ impl Job {
                 let lines = raise.told().len();
                 raise.answer().map(|answer| raise_answer(lines, answer))
             }
+            Job::Scrub(scrub) => {
+                let lines = scrub.told().len();
+                scrub.answer().map(|answer| scrub_answer(lines, answer))
+            }
             Job::Spoil(spoil) => spoil.answer().map(|answer| spoil_answer(answer)),
             Job::Nested(nested) => nested.answer().map(|answer| nested_answer(answer)),
             Job::Inject(inject) => inject.answer().map(|answer| fail_answer(answer)),
+            Job::Soft(soft) => soft.answer().map(|answer| soft_answer(answer)),
         }
     }
 
@@ -73,12 +85,17 @@ impl Job {
         match self {
             Job::Instruction(instruction) => row(instruction.finish(banks), None, answer),
             Job::Raise(raise) => row(raise.finish(banks), None, answer),
+            Job::Scrub(scrub) => row(scrub.finish(banks), None, answer),
             Job::Log(log) => {
                 log.finish(banks);
                 row(List::new(alloc), None, answer)
             }
             Job::Inject(inject) => {
                 let own = own_of(inject.frame(), inject.answer());
+                row(List::new(alloc), own, answer)
+            }
+            Job::Soft(soft) => {
+                let own = offlined_of(soft.frame(), soft.answer());
                 row(List::new(alloc), own, answer)
             }
             Job::Evict(_) | Job::Fsync(_) | Job::Prctl(_) | Job::Spoil(_) | Job::Nested(_) => {
@@ -88,13 +105,13 @@ impl Job {
     }
 }
 
-ghost use Rattle.hwp_job.specs.Answers.{evict_answer, fail_answer, fsync_answer, instruction_answer, nested_answer, prctl_answer, raise_answer, read_stop_answer, refusal_answer, spoil_answer};
-ghost use Rattle.hwp_job.specs.Jobs.{own_by, row};
+ghost use Rattle.hwp_job.specs.Answers.{evict_answer, fail_answer, fsync_answer, instruction_answer, nested_answer, prctl_answer, raise_answer, read_stop_answer, refusal_answer, scrub_answer, soft_answer, spoil_answer};
+ghost use Rattle.hwp_job.specs.Jobs.{offlined_by, own_by, row};
 ghost use Rattle.hwp_handler.specs.Told.{found_by};
 ghost use Rattle.hwp_law.specs.Answers.{reply_answer};
 ghost use Rattle.hwp_law.specs.Records.{outcome_answer};
 
-fn row(told: List<Told>, own: Option<(Frame, Found)>, answer: Answer) -> Row
+fn row(told: List<Told>, own: Option<Own>, answer: Answer) -> Row
     ensures { result ≡ row told own answer }
 {
     Row { told, own, answer }
@@ -182,6 +199,16 @@ fn raise_answer(lines: usize, answer: RaiseAnswer) -> Answer
     }
 }
 
+/// What it says of a scrub, which has this many event lines.
+fn scrub_answer(lines: usize, answer: ScrubAnswer) -> Answer
+    ensures { result ≡ scrub_answer lines answer }
+{
+    match answer {
+        ScrubAnswer::Scrubbed => Answer::Scrubbed(lines as u64),
+        ScrubAnswer::Stopped => Answer::Stopped,
+    }
+}
+
 /// What it says of damage to a line.
 fn spoil_answer(answer: SpoilAnswer) -> Answer
     ensures { result ≡ spoil_answer answer }
@@ -222,6 +249,21 @@ fn fail_answer(answer: FailAnswer) -> Answer
     }
 }
 
+/// What it says of a frame that was to be taken out of use.
+fn soft_answer(answer: SoftAnswer) -> Answer
+    ensures { result ≡ soft_answer answer }
+{
+    match answer {
+        SoftAnswer::Stopped => Answer::Stopped,
+        SoftAnswer::Kernel => Answer::Kernel,
+        SoftAnswer::Already => Answer::Already,
+        SoftAnswer::HasBad(mask) => Answer::HasBad(mask),
+        SoftAnswer::NoFrame => Answer::NoFrame,
+        SoftAnswer::TakenFree { .. } => Answer::TakenFree,
+        SoftAnswer::Moved { frame, at, .. } => Answer::Moved(frame, at),
+    }
+}
+
 /// What it says of the outcome of a memory failure.
 fn outcome_answer(outcome: Outcome) -> Answer
     ensures { result ≡ outcome_answer outcome }
@@ -253,12 +295,41 @@ fn found_by(answer: FailAnswer) -> Option<Found>
     }
 }
 
-/// The frame that a command itself made fail, with what its failure found.
-fn own_of(frame: Frame, answer: Option<FailAnswer>) -> Option<(Frame, Found)>
+/// What a failure did to its frame.
+fn own_of(frame: Frame, answer: Option<FailAnswer>) -> Option<Own>
     ensures { result ≡ own_by frame answer }
 {
     let found = found_by(answer?)?;
-    Some((frame, found))
+    Some(Own::Failed { frame, found })
+}
+
+/// What a command that takes a frame out of use did to it.
+fn offlined_by(frame: Frame, answer: SoftAnswer) -> Option<Own>
+    ensures { result ≡ offlined_by frame answer }
+{
+    match answer {
+        SoftAnswer::Stopped
+        | SoftAnswer::Kernel
+        | SoftAnswer::Already
+        | SoftAnswer::HasBad(_)
+        | SoftAnswer::NoFrame => None,
+        SoftAnswer::TakenFree { cycle } => Some(Own::Offlined {
+            frame,
+            cycle,
+            moved: false,
+        }),
+        SoftAnswer::Moved { cycle, .. } => Some(Own::Offlined {
+            frame,
+            cycle,
+            moved: true,
+        }),
+    }
+}
+
+fn offlined_of(frame: Frame, answer: Option<SoftAnswer>) -> Option<Own>
+    ensures { result ≡ option_and_then (offlined_by frame) answer }
+{
+    offlined_by(frame, answer?)
 }
 
 impl Machine for Job {
@@ -287,9 +358,11 @@ impl Machine for Job {
             Job::Prctl(prctl) => prctl.who(),
             Job::Log(log) => log.who(),
             Job::Raise(raise) => raise.who(),
+            Job::Scrub(scrub) => scrub.who(),
             Job::Spoil(spoil) => spoil.who(),
             Job::Nested(nested) => nested.who(),
             Job::Inject(inject) => inject.who(),
+            Job::Soft(soft) => soft.who(),
         }
     }
 
@@ -301,9 +374,11 @@ impl Machine for Job {
             Job::Prctl(prctl) => prctl.plan(),
             Job::Log(log) => log.plan(),
             Job::Raise(raise) => raise.plan(),
+            Job::Scrub(scrub) => scrub.plan(),
             Job::Spoil(spoil) => spoil.plan(),
             Job::Nested(nested) => nested.plan(),
             Job::Inject(inject) => inject.plan(),
+            Job::Soft(soft) => soft.plan(),
         }
     }
 
@@ -315,9 +390,11 @@ impl Machine for Job {
             Job::Prctl(prctl) => prctl.give(),
             Job::Log(log) => log.give(),
             Job::Raise(raise) => raise.give(),
+            Job::Scrub(scrub) => scrub.give(),
             Job::Spoil(spoil) => spoil.give(),
             Job::Nested(nested) => nested.give(),
             Job::Inject(inject) => inject.give(),
+            Job::Soft(soft) => soft.give(),
         }
     }
 
@@ -329,9 +406,11 @@ impl Machine for Job {
             Job::Prctl(prctl) => prctl.settle(layout, found, body),
             Job::Log(log) => log.settle(layout, found, body),
             Job::Raise(raise) => raise.settle(layout, found, body),
+            Job::Scrub(scrub) => scrub.settle(layout, found, body),
             Job::Spoil(spoil) => spoil.settle(layout, found, body),
             Job::Nested(nested) => nested.settle(layout, found, body),
             Job::Inject(inject) => inject.settle(layout, found, body),
+            Job::Soft(soft) => soft.settle(layout, found, body),
         }
     }
 }
@@ -355,9 +434,11 @@ impl Ranked for Job {
             Job::Prctl(prctl) => prctl.class(),
             Job::Log(log) => log.class(),
             Job::Raise(raise) => raise.class(),
+            Job::Scrub(scrub) => scrub.class(),
             Job::Spoil(spoil) => spoil.class(),
             Job::Nested(nested) => nested.class(),
             Job::Inject(inject) => inject.class(),
+            Job::Soft(soft) => soft.class(),
         }
     }
 
@@ -373,9 +454,11 @@ impl Scheduled for Job {
             Job::Prctl(prctl) => prctl.is_over(),
             Job::Log(log) => log.is_over(),
             Job::Raise(raise) => raise.is_over(),
+            Job::Scrub(scrub) => scrub.is_over(),
             Job::Spoil(spoil) => spoil.is_over(),
             Job::Nested(nested) => nested.is_over(),
             Job::Inject(inject) => inject.is_over(),
+            Job::Soft(soft) => soft.is_over(),
         }
     }
 

@@ -23,7 +23,7 @@ use Rattle.hwp_step.specs.Calls.{IsLater, IsOnTurn}
 use Rattle.hwp_step.specs.Hands.{Hand, hand_of, empty}
 use Rattle.hwp_known.specs.Known.{HasMadeNone}
 use Rattle.hwp_known.proofs.Listing.{made-none}
-use Rattle.hwp_handler.specs.declared.Row.{Row}
+use Rattle.hwp_row.specs.declared.Row.{Row}
 use Rattle.hwp_law.specs.Checks.{Banks, empty_banks}
 use Rattle.hwp_job.specs.declared.job.Job.{Job}
 use Rattle.hwp_job.specs.Begins.{Begins}
@@ -39,6 +39,7 @@ use Rattle.hwp_served.specs.Accounts.{IsNote}
 use Rattle.hwp_served.specs.Rows.{notes_from}
 use Rattle.hwp_served.specs.Served.{IsOneOf, IsOwnSpoil, IsOwnStop, IsRowServed}
 use Rattle.hwp_served.proofs.Staying.{made-none-later}
+use Rattle.hwp_served.proofs.lines.ScrubBank.{banks-free, empty-free}
 use Rattle.hwp_caused.proofs.RowServed.{row-served}
 use Rattle.hwp_processor.specs.Processors.{BeginsAt, at_number, left_of}
 use Rattle.hwp_processor.specs.Serving.{FitsAt, HasAccount, HasStopped, HasStoppedIt, IsDone, IsListed, IsRunning, Serves}
@@ -175,7 +176,7 @@ module _ (layout : Layout) (old new : View) (cpu : Cpu) (list : List Command) (r
     command = command;
     there = subst (λ (i : ℕ). slice_get list i ≡ Some command) (sym number) there;
     runs = subst (λ (i : ℕ). Runs layout (at_number cpu i) command b) (sym number) (begins-runs layout (at_number cpu (n + 1)) command after b begins);
-    fits = begins-fits layout new (at_number cpu (n + 1)) command after b begins (record {
+    fits = begins-fits layout new (at_number cpu (n + 1)) command after b begins (banks-free layout list new cpu 0 empty_banks list longer after serves.rows_are empty-free) (record {
       on_turn = next-turn new cpu n (ap (λ (h : Hand). h.bodies) nothing) (subst (IsOnTurn new) named (on-turn layout new k now.fits));
       hand_is = nothing;
       paid = ap (λ (d : Debts). d.losses) unowing;

@@ -15,12 +15,13 @@ use Rattle.hwp_control.specs.Spoils as spoils
 use Rattle.hwp_handler.specs.Told.{halts}
 use Rattle.hwp_instr.specs.declared.Instruction.{Instruction}
 use Rattle.hwp_raise.specs.declared.Raise.{Raise}
+use Rattle.hwp_scrub.specs.declared.Scrub.{Scrub}
 use Rattle.hwp_job.specs.declared.job.Job.{Job}
 use Rattle.hwp_job.specs.declared.job.Job.TheVariants as kinds
 use Rattle.hwp_job.specs.Jobs as jobs
 use Rattle.hwp_job.specs.Runs.{Runs, anew}
 use Rattle.hwp_job.specs.Stays as stays
-use Rattle.hwp_job.proofs.OfKind.{of-evict, of-fsync, of-inject, of-instruction, of-log, of-nested, of-prctl, of-raise, of-spoil}
+use Rattle.hwp_job.proofs.OfKind.{of-evict, of-fsync, of-inject, of-instruction, of-log, of-nested, of-prctl, of-raise, of-scrub, of-soft, of-spoil}
 use Rattle.hwp_job.proofs.Stopping.{unrecovered}
 use Rattle.hwp_served.specs.Served.{CanStop, spoiling}
 
@@ -32,9 +33,11 @@ on-turn layout view (kinds.Fsync f) fits = fits.on_turn
 on-turn layout view (kinds.Prctl p) fits = fits.on_turn
 on-turn layout view (kinds.Log l) fits = fits.read.on_turn
 on-turn layout view (kinds.Raise r) fits = fits.on_turn
+on-turn layout view (kinds.Scrub s) fits = fits.on_turn
 on-turn layout view (kinds.Spoil s) fits = fits.on_turn
 on-turn layout view (kinds.Nested n) fits = fits.on_turn
 on-turn layout view (kinds.Inject i) fits = fits.on_turn
+on-turn layout view (kinds.Soft s) fits = fits.on_turn
 
 -- ---- a command that stops the machine
 
@@ -46,6 +49,9 @@ module _ (j : Job) (has : stays.HasStopped j) where
   raise-halts : {x : Raise} → anew j ≡ kinds.Raise x → halts (jobs.told_of j) ≡ true
   raise-halts is = let task = of-raise j is in ap (λ (k : Job). halts (jobs.told_of k)) task.1 ∙ (subst stays.HasStopped task.1 has).1
 
+  scrub-halts : {x : Scrub} → anew j ≡ kinds.Scrub x → halts (jobs.told_of j) ≡ true
+  scrub-halts is = let task = of-scrub j is in ap (λ (k : Job). halts (jobs.told_of k)) task.1 ∙ (subst stays.HasStopped task.1 has).1
+
 -- is one that can
 pub can-stop : (layout : Layout) (view : View) (who : Who) (command : Command) (j : Job) → Runs layout who command j → jobs.Fits layout view j → stays.HasStopped j → CanStop layout command (jobs.told_of j)
 can-stop layout view who (commands.Load thread slot line) j runs fits has = instruction-halts j has runs.job_is
@@ -54,6 +60,7 @@ can-stop layout view who (commands.KLoad thread slot line) j runs fits has = ins
 can-stop layout view who (commands.Store thread slot line word) j runs fits has = instruction-halts j has runs.job_is
 can-stop layout view who (commands.RaiseUser thread ripv eipv) j runs fits has = raise-halts j has runs.job_is
 can-stop layout view who (commands.RaiseKernel ripv eipv) j runs fits has = raise-halts j has runs.job_is
+can-stop layout view who (commands.Scrub first last) j runs fits has = scrub-halts j has runs.job_is
 can-stop layout view who commands.RaiseNested j runs fits has = tt
 can-stop layout view who (commands.Inject frame) j runs fits has = let task = of-inject j runs.job_is in unrecovered layout view task.0 (subst (jobs.Fits layout view) task.1 fits) (subst stays.HasStopped task.1 has)
 can-stop layout view who (commands.Free slot) j runs fits has = absurd (subst stays.HasStopped (of-evict j runs.1.job_is).1 has)
@@ -65,6 +72,7 @@ can-stop layout view who (commands.Prctl thread args) j runs fits has = absurd (
 can-stop layout view who (commands.Log status addr misc) j runs fits has = absurd (subst stays.HasStopped (of-log j runs.job_is).1 has)
 can-stop layout view who (commands.Bad frame line) j runs fits has = absurd (subst stays.HasStopped (of-spoil j runs.job_is).1 has)
 can-stop layout view who (commands.Weak frame line) j runs fits has = absurd (subst stays.HasStopped (of-spoil j runs.job_is).1 has)
+can-stop layout view who (commands.Soft frame) j runs fits has = absurd (subst stays.HasStopped (of-soft j runs.job_is).1 has)
 can-stop layout view who command j runs fits has = absurd runs
 
 -- ---- a command that spoils a line
@@ -106,6 +114,8 @@ spoils-line layout who (commands.Prctl thread args) j s runs has = absurd (none 
 spoils-line layout who (commands.Log status addr misc) j s runs has = absurd (none j s has (of-log j runs.job_is).1)
 spoils-line layout who (commands.RaiseUser thread ripv eipv) j s runs has = absurd (none j s has (of-raise j runs.job_is).1)
 spoils-line layout who (commands.RaiseKernel ripv eipv) j s runs has = absurd (none j s has (of-raise j runs.job_is).1)
+spoils-line layout who (commands.Scrub first last) j s runs has = absurd (none j s has (of-scrub j runs.job_is).1)
 spoils-line layout who commands.RaiseNested j s runs has = absurd (none j s has (of-nested j runs).1)
 spoils-line layout who (commands.Inject frame) j s runs has = absurd (none j s has (of-inject j runs.job_is).1)
+spoils-line layout who (commands.Soft frame) j s runs has = absurd (none j s has (of-soft j runs.job_is).1)
 spoils-line layout who command j s runs has = absurd runs

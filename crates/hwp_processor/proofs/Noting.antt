@@ -35,10 +35,13 @@ use Rattle.hwp_claim.specs.Done.{Grows, Marking, counts_owed, marking_of, poison
 use Rattle.hwp_form.specs.declared.Command.{Command}
 use Rattle.hwp_report.specs.declared.Answer.{Answer}
 use Rattle.hwp_report.specs.declared.Answer.TheVariants as answers
+use Rattle.hwp_report.specs.declared.How.{How}
 use Rattle.hwp_report.specs.declared.How.TheVariants as hows
 use Rattle.hwp_report.specs.declared.MarkLine.TheVariants as lines
 use Rattle.hwp_handler.specs.declared.Found.{Found}
-use Rattle.hwp_handler.specs.declared.Row.{Row}
+use Rattle.hwp_row.specs.declared.Own.{Own}
+use Rattle.hwp_row.specs.declared.Own.TheVariants as owns
+use Rattle.hwp_row.specs.declared.Row.{Row}
 use Rattle.hwp_handler.specs.declared.Told.{Told}
 use Rattle.hwp_handler.specs.Done.{marked_in}
 use Rattle.hwp_handler.specs.Told.{frame_of}
@@ -52,9 +55,9 @@ use Rattle.hwp_job.proofs.Doing.{done, failures-at-end, grown, none-listed, unfa
 use Rattle.hwp_job.proofs.Ending.{answered-over, paid-at-end}
 use Rattle.hwp_job.proofs.Running.{can-fail-stays}
 use Rattle.hwp_job.proofs.Stopping.{has-spoiled, spoils-after}
-use Rattle.hwp_served.specs.Accounts.{IsNote, failures, is_same, markings_in, own_marking}
+use Rattle.hwp_served.specs.Accounts.{IsHow, IsNote, failures, is_same, marking_by, markings_in, own_marking}
 use Rattle.hwp_served.specs.Owed.{OwesOwn, loss_of, losses_by}
-use Rattle.hwp_served.specs.Rows.{Note, note_of, notes_from, own_note, row_notes, told_note}
+use Rattle.hwp_served.specs.Rows.{Note, note_by, note_of, notes_from, own_note, row_notes, told_note}
 use Rattle.hwp_served.specs.Served.{IsOneOf, IsOwnSpoil, spoiling}
 use Rattle.hwp_served.proofs.Accounting.{marks-own, reported-own, settings-own}
 use Rattle.hwp_served.proofs.Failed.{same-who}
@@ -143,41 +146,50 @@ none-own cpu n l before = nil_from_length (filter (is_own (at_number cpu n)) l) 
 pub unmarked-starts : (view : View) (cpu : Cpu) (n : ℕ) → IsListed view cpu n → HasMarkedNone view (at_number cpu n)
 unmarked-starts view cpu n listed = none-own cpu n view.marks listed.marked
 
--- the note of a failure, if there was one, tells the mark that it made; and those behind tell the others
-first-noted : (who : Who) (hardware : Bool) (frame : Frame) (o : Option Found) (more : List Note) (rest : List Marking) (ms : List Mark) → EachMember (λ (m : Mark). m.stamp.who ≡ who) ms
-    → map marking_of ms ≡ cons_option (option_map (λ (f : Found). poisoning frame hardware f.cycle) o) rest → ((l : List Mark) → EachMember (λ (m : Mark). m.stamp.who ≡ who) l → map marking_of l ≡ rest → Pairs IsNote more l)
-    → Pairs IsNote (cons_option (option_map (note_of who hardware frame) o) more) ms
-first-noted who hardware frame None more rest ms own are tell = tell ms own are
-first-noted who hardware frame (Some f) more rest [] own are tell = let none : 0 ≡ suc (length rest) = ap length are in absurd (omega (arith, none))
-first-noted who hardware frame (Some f) more rest (m ∷ ms) own are tell = (
-  record {
-    hardware = hardware;
-    found = f;
-    frame = sym (ap (λ (x : Marking). x.frame) first);
-    kind = ap (λ (x : Marking). x.kind) first;
-    line = ap (λ (c : ℕ). lines.Poisoned c who (hows.Failure hardware f.situation (outcome_of f.situation))) (sym (ap (λ (x : Marking). x.cycle) first))
-        ∙ ap (λ (w : Who). lines.Poisoned m.cycle w (hows.Failure hardware f.situation (outcome_of f.situation))) (sym (own 0 m refl));
-  },
-  tell ms (λ i x there. own (suc i) x there) (ap (λ (l : List Marking). drop 1 l) are),
+-- the note of a poisoning tells its mark
+note-tells : (who : Who) (hardware : Bool) (how : How) (frame : Frame) (cycle : ℕ) (m : Mark) → IsHow hardware how → m.stamp.who ≡ who → marking_of m ≡ poisoning frame hardware cycle → IsNote (frame, lines.Poisoned cycle who how) m
+note-tells who hardware how frame cycle m is own marked = record {
+  hardware = hardware;
+  how = how;
+  frame = sym (ap (λ (x : Marking). x.frame) marked);
+  kind = ap (λ (x : Marking). x.kind) marked;
+  line = ap (λ (c : ℕ). lines.Poisoned c who how) (sym (ap (λ (x : Marking). x.cycle) marked)) ∙ ap (λ (w : Who). lines.Poisoned m.cycle w how) (sym own);
+  is = is;
+}
+
+-- a failure's, and that of what the command did to a frame itself
+failure-tells : (who : Who) (hardware : Bool) (frame : Frame) (found : Found) (m : Mark) → m.stamp.who ≡ who → marking_of m ≡ poisoning frame hardware found.cycle → IsNote (note_of who hardware frame found) m
+failure-tells who hardware frame found m = note-tells who hardware (hows.Failure hardware found.situation (outcome_of found.situation)) frame found.cycle m (refl, refl)
+
+own-tells : (who : Who) (own : Own) (m : Mark) → m.stamp.who ≡ who → marking_of m ≡ marking_by own → IsNote (note_by who own) m
+own-tells who (owns.Failed frame found) m = failure-tells who false frame found m
+own-tells who (owns.Offlined frame cycle true) m = note-tells who false hows.Moved frame cycle m refl
+own-tells who (owns.Offlined frame cycle false) m = note-tells who false hows.TakenFree frame cycle m refl
+
+-- a note, if there is one, tells the mark that was made; and those behind tell the others
+first-noted : {A : Type 0} (who : Who) (note : A → Note) (marking : A → Marking) → ((x : A) (m : Mark) → m.stamp.who ≡ who → marking_of m ≡ marking x → IsNote (note x) m) → (o : Option A) (more : List Note) (rest : List Marking) (ms : List Mark)
+    → EachMember (λ (m : Mark). m.stamp.who ≡ who) ms → map marking_of ms ≡ cons_option (option_map marking o) rest → ((l : List Mark) → EachMember (λ (m : Mark). m.stamp.who ≡ who) l → map marking_of l ≡ rest → Pairs IsNote more l)
+    → Pairs IsNote (cons_option (option_map note o) more) ms
+first-noted who note marking tells None more rest ms own are tell = tell ms own are
+first-noted who note marking tells (Some x) more rest [] own are tell = let none : 0 ≡ suc (length rest) = ap length are in absurd (omega (arith, none))
+first-noted who note marking tells (Some x) more rest (m ∷ ms) own are tell = (
+  tells x m (own 0 m refl) (same_Some (marking_of m) (marking x) (ap (λ (l : List Marking). slice_get l 0) are)),
+  tell ms (λ i y there. own (suc i) y there) (ap (λ (l : List Marking). drop 1 l) are),
 )
-  where
-    first : marking_of m ≡ poisoning frame hardware f.cycle
-    first = same_Some (marking_of m) (poisoning frame hardware f.cycle) (ap (λ (l : List Marking). slice_get l 0) are)
 
 none-noted : (ms : List Mark) → map marking_of ms ≡ [] → Pairs IsNote [] ms
 none-noted [] none = tt
 none-noted (m ∷ ms) none = let some : suc (length (map marking_of ms)) ≡ 0 = ap length none in absurd (omega (arith, some))
 
-own-noted : (who : Who) (own : Option (Frame × Found)) (ms : List Mark) → EachMember (λ (m : Mark). m.stamp.who ≡ who) ms → map marking_of ms ≡ cons_option (own_marking own) [] → Pairs IsNote (cons_option (own_note who own) []) ms
-own-noted who None ms by are = none-noted ms are
-own-noted who (Some x) ms by are = first-noted who false x.0 (Some x.1) [] [] ms by are (λ l of none. none-noted l none)
+own-noted : (who : Who) (own : Option Own) (ms : List Mark) → EachMember (λ (m : Mark). m.stamp.who ≡ who) ms → map marking_of ms ≡ cons_option (own_marking own) [] → Pairs IsNote (cons_option (own_note who own) []) ms
+own-noted who own ms by are = first-noted who (note_by who) marking_by (own-tells who) own [] [] ms by are (λ l of none. none-noted l none)
 
 -- the notes of a command tell its marks
-row-noted : (who : Who) (told : List Told) (own : Option (Frame × Found)) (ms : List Mark) → EachMember (λ (m : Mark). m.stamp.who ≡ who) ms → map marking_of ms ≡ filter_map marked_in told ++ cons_option (own_marking own) []
+row-noted : (who : Who) (told : List Told) (own : Option Own) (ms : List Mark) → EachMember (λ (m : Mark). m.stamp.who ≡ who) ms → map marking_of ms ≡ filter_map marked_in told ++ cons_option (own_marking own) []
     → Pairs IsNote (filter_map (told_note who) told ++ cons_option (own_note who own) []) ms
 row-noted who [] own ms by are = own-noted who own ms by are
 row-noted who (t ∷ ts) own ms by are = subst (λ (l : List Note). Pairs IsNote l ms) (sym (onto (told_note who t) (filter_map (told_note who) ts) (cons_option (own_note who own) [])))
-    (first-noted who true (frame_of t.held) t.found (filter_map (told_note who) ts ++ cons_option (own_note who own) []) (filter_map marked_in ts ++ cons_option (own_marking own) []) ms by
+    (first-noted who (note_of who true (frame_of t.held)) (λ (found : Found). poisoning (frame_of t.held) true found.cycle) (failure-tells who true (frame_of t.held)) t.found (filter_map (told_note who) ts ++ cons_option (own_note who own) []) (filter_map marked_in ts ++ cons_option (own_marking own) []) ms by
     (are ∙ onto (marked_in t) (filter_map marked_in ts) (cons_option (own_marking own) [])) (row-noted who ts own))
   where
     onto : {A : Type 0} (o : Option A) (xs ys : List A) → cons_option o xs ++ ys ≡ cons_option o (xs ++ ys)

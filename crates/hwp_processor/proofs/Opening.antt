@@ -19,6 +19,7 @@ use Rattle.hwp_job.proofs.Stopping.{begins-stop}
 use Rattle.hwp_law.specs.Checks.{Banks, empty_banks}
 use Rattle.hwp_law.specs.Policies.{settings}
 use Rattle.hwp_served.specs.Served.{AreRowsServed}
+use Rattle.hwp_served.proofs.lines.ScrubBank.{empty-free}
 use Rattle.hwp_processor.specs.Processors.{BeginsAt, at_number, left_of}
 use Rattle.hwp_processor.specs.Serving.{FitsAt, IsDone, IsListed, IsRunning, Serves}
 use Rattle.hwp_processor.proofs.Rows.{past-end}
@@ -61,7 +62,7 @@ module _ (layout : Layout) (cpu : Cpu) (list : List Command) (few : length list 
     command = command;
     there = there;
     runs = begins-runs layout (at_number cpu 0) command empty_banks j begins;
-    fits = begins-fits layout view (at_number cpu 0) command empty_banks j begins (record { on_turn = first-turn; hand_is = refl; paid = refl; made = refl; unmarked = refl; left = left know start (let within : 0 < length list = slice_get_within list 0 command there in omega (arith, few, within)) });
+    fits = begins-fits layout view (at_number cpu 0) command empty_banks j begins empty-free (record { on_turn = first-turn; hand_is = refl; paid = refl; made = refl; unmarked = refl; left = left know start (let within : 0 < length list = slice_get_within list 0 command there in omega (arith, few, within)) });
     policies = know;
     stopped = λ some. inl start;
     stops = λ i who at. absurd (none-some who at);

@@ -9,7 +9,7 @@ use Rattle.hwp_report.specs.declared.Answer.TheVariants as answers
 use Rattle.hwp_rule.specs.declared.Spoiled.{Spoiled}
 use Rattle.hwp_rule.specs.declared.View.{View}
 use Rattle.hwp_rule.proofs.Lists.{at_longer, at_push}
-use Rattle.hwp_handler.specs.declared.Row.{Row}
+use Rattle.hwp_row.specs.declared.Row.{Row}
 use Rattle.hwp_law.specs.Checks.{Banks}
 use Rattle.hwp_served.specs.Rows.{Note, notes_from, row_notes}
 use Rattle.hwp_served.specs.Served.{AreRowsServed, IsOwnSpoil, IsOwnStop, IsRowServed, StaysStopped}

@@ -19,7 +19,7 @@ use Rattle.hwp_job.specs.Jobs.{banks_after}
 use Rattle.hwp_job.specs.Stays.{Stepped}
 use Rattle.hwp_job.proofs.Jobbing as jobbing
 use Rattle.hwp_job.proofs.Running.{runs-who}
-use Rattle.hwp_handler.specs.declared.Row.{Row}
+use Rattle.hwp_row.specs.declared.Row.{Row}
 use Rattle.hwp_law.specs.Checks.{Banks}
 use Rattle.hwp_processor.specs.declared.processor.Processor.{Processor}
 use Rattle.hwp_processor.specs.Processors.{AreCommands, BeginsAt, Follows, IsAnswered, IsReady, Next, NextOf, Shows, ShowsOf, at_number, bare, left_of, plan, plan_of, put, put_of, who, who_of}

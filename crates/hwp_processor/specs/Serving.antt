@@ -18,7 +18,7 @@ use Rattle.hwp_rule.specs.Views.{no_debts}
 use Rattle.hwp_step.specs.Hands.{hand_of, empty}
 use Rattle.hwp_known.specs.Known.{HasMadeNone}
 use Rattle.hwp_claim.specs.Done.{marking_of}
-use Rattle.hwp_handler.specs.declared.Row.{Row}
+use Rattle.hwp_row.specs.declared.Row.{Row}
 use Rattle.hwp_law.specs.Checks.{Banks, empty_banks}
 use Rattle.hwp_law.specs.Policies.{settings}
 use Rattle.hwp_job.specs.declared.job.Job.{Job}

@@ -6,13 +6,15 @@ ghost use Rattle.hwp_processor.specs.Processors.{AreCommands, AtBeginning, Begin
 use hwp_banks::{BANKS, Bank};
 use hwp_form::Command;
 use hwp_geom::{Cpu, Layout, List, OutOfMemory, Who};
-use hwp_handler::{Row, no_events};
+use hwp_handler::no_events;
 use hwp_job::Job;
 use hwp_page::Body;
 use hwp_report::Answer;
+use hwp_row::Row;
 use hwp_rule::Step;
 use hwp_step::{Machine, Ranked, Scheduled, Turn};
 use std::alloc::{AllocError, Global};
+use std::mem;
 use std::sync::Arc;
 
 /// The commands of one processor, which run one after the other. Each comes to a row.
@@ -97,7 +99,7 @@ impl Processor {
         let number = self.rows.len();
         self.rows.push_reserved(row);
         let commands = self.commands.as_slice();
-        self.job = begin(
+        let next = begin(
             self.alloc,
             &self.layout,
             self.cpu,
@@ -105,6 +107,8 @@ impl Processor {
             number + 1,
             &mut self.banks,
         );
+        // in one call, and not part by part
+        drop(mem::replace(&mut self.job, next));
     }
 }
 

@@ -19,6 +19,7 @@ use Rattle.hwp_rule.specs.declared.Step.TheVariants as steps
 use Rattle.hwp_rule.specs.declared.View.{View}
 use Rattle.hwp_rule.specs.Lists.{EachMember}
 use Rattle.hwp_rule.specs.Logs.{state_of}
+use Rattle.hwp_rule.specs.parts.Places.{IsBare}
 use Rattle.hwp_step.specs.Boards.{Played}
 use Rattle.hwp_script.specs.declared.Command.{Command}
 use Rattle.hwp_script.specs.declared.Command.TheVariants as commands
@@ -66,6 +67,11 @@ pub record IsRevivable (word : ℕ) : Type 0 where
 abbrev pub UseShown : Layout → List Played → Who → Frame → ℕ → Type 0
 UseShown layout turns who frame count = Finds layout turns who (places.Frame frame) (λ (word : ℕ). (¬ IsRevivable word) × (count_of word ≡ count))
 
+-- a frame word without owner, lock, reference and handled bit: nobody used the frame
+pub record IsFree (word : ℕ) : Type 0 where
+  pub bare : IsBare word
+  pub uncounted : count_of word ≡ 0
+
 -- so many entries of the page, whose lock and body the seat had
 abbrev pub LengthShown : Layout → List Played → Who → At → Type 0
 LengthShown layout turns who at = SawPage layout turns who at.page (λ (log : Log). length log.entries ≡ at.entry)
@@ -83,7 +89,7 @@ FrameAnswerShown layout turns who frame answers.HardwareSeen = Finds layout turn
 FrameAnswerShown layout turns who frame (answers.HasBad mask) = BadShown layout turns who frame mask.0
 FrameAnswerShown layout turns who frame (answers.InUse count) = UseShown layout turns who frame count
 FrameAnswerShown layout turns who frame answers.Kernel = Finds layout turns who (places.Frame frame) (λ (word : ℕ). is_kernel word ≡ true)
-FrameAnswerShown layout turns who frame (answers.Moved other at) = TurnBy layout turns who (λ (made : Rec) (view : View). made.step ≡ steps.Adopt other)
+FrameAnswerShown layout turns who frame (answers.Moved other at) = Finds layout turns who (places.Frame other) IsFree
 FrameAnswerShown layout turns who frame _ = Unit {0}
 
 -- what an answer of a command with this one rests on

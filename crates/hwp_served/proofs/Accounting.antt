@@ -18,7 +18,7 @@ use Rattle.hwp_known.specs.Known.{deeds}
 use Rattle.hwp_act.specs.Abandoned.{failed_in}
 use Rattle.hwp_claim.specs.Done.{marking_of}
 use Rattle.hwp_script.specs.declared.Command.{Command}
-use Rattle.hwp_handler.specs.declared.Row.{Row}
+use Rattle.hwp_row.specs.declared.Row.{Row}
 use Rattle.hwp_served.specs.Accounts.{IsAccounted, is_same}
 use Rattle.hwp_served.proofs.Adding.{Adds, OneMore, adds-by}
 use Rattle.hwp_served.proofs.Failed.{same-who}

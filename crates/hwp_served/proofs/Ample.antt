@@ -28,7 +28,9 @@ use Rattle.hwp_rule.proofs.MoreEntries.{each-append}
 use Rattle.hwp_claim.specs.Done.{Marking, marking_of, poisoning}
 use Rattle.hwp_law.specs.Places.{command_at}
 use Rattle.hwp_handler.specs.declared.Found.{Found}
-use Rattle.hwp_handler.specs.declared.Row.{Row}
+use Rattle.hwp_row.specs.declared.Own.{Own}
+use Rattle.hwp_row.specs.declared.Own.TheVariants as owns
+use Rattle.hwp_row.specs.declared.Row.{Row}
 use Rattle.hwp_handler.specs.declared.Told.{Told}
 use Rattle.hwp_handler.specs.Done.{marked_in}
 use Rattle.hwp_handler.specs.Told.{frame_of}
@@ -74,7 +76,7 @@ module _ (script : Script) (seat : Cpu → ℕ) (last : State) (report : Report)
   abbrev Such : Marking → Type 0
   Such k = list_any (λ n. n == k.frame.0) (named_frames script) ≡ true
 
-  -- the frame of a failure by an event is named, and that of a command's own
+  -- the frame of a failure by an event is named, and that of what a command did to a frame itself
   picked-named : (row : Row) → AreSuch (IsNamed script seat last report end) row.told → (command : Command) (who : Who) → command_at script who ≡ Some command → IsOwn command row.answer row.own
       → EachMember Such (markings_in row)
   picked-named row told command who at own = each-append Such (filter_map marked_in row.told) (cons_option (own_marking row.own) []) by-told (by-own row.own command at own)
@@ -84,13 +86,14 @@ module _ (script : Script) (seat : Cpu → ℕ) (last : State) (report : Report)
           let of = picked-is marked_in row.told k x there in
           which of.1 of.1.found of.3 (told of.0 of.1 of.2))
         where
-          which : (t : Told) (o : Option Found) → option_map (λ (found : Found). poisoning (frame_of t.held) true found.cycle) o ≡ Some x → IsNamed script seat last report end t.held.event.addr → Such x
+          which : (t : Told) (o : Option Found) → option_map (λ (found : Found). poisoning (frame_of t.held) true found.cycle) o ≡ Some x → ((found : Found) → o ≡ Some found → IsNamed script seat last report end t.held.event.addr) → Such x
           which t None is named = absurd (none-some x is)
-          which t (Some found) is named = subst Such (same_Some (poisoning (frame_of t.held) true found.cycle) x is) named
+          which t (Some found) is named = subst Such (same_Some (poisoning (frame_of t.held) true found.cycle) x is) (named found refl)
 
-      by-own : (o : Option (Frame × Found)) (c : Command) → command_at script who ≡ Some c → IsOwn c row.answer o → EachMember Such (cons_option (own_marking o) [])
+      by-own : (o : Option Own) (c : Command) → command_at script who ≡ Some c → IsOwn c row.answer o → EachMember Such (cons_option (own_marking o) [])
       by-own None c at own = λ i x there. absurd (none-some x there)
-      by-own (Some x) (commands.Inject f) at own = each-cons Such (poisoning x.0 false x.1.cycle) [] (named-at script who (commands.Inject f) x.0.0 at (ap (λ (y : Frame). Some y.0) (sym own.0))) (λ i y there. absurd (none-some y there))
+      by-own (Some (owns.Failed frame found)) (commands.Inject f) at own = each-cons Such (poisoning frame false found.cycle) [] (named-at script who (commands.Inject f) frame.0 at (ap (λ (y : Frame). Some y.0) (sym own.0))) (λ i y there. absurd (none-some y there))
+      by-own (Some (owns.Offlined frame cycle moved)) (commands.Soft f) at own = each-cons Such (poisoning frame false cycle) [] (named-at script who (commands.Soft f) frame.0 at (ap (λ (y : Frame). Some y.0) (sym own.0))) (λ i y there. absurd (none-some y there))
       by-own (Some x) c at own = absurd own
 
   -- a marked frame is named

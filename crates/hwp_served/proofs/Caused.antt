@@ -20,7 +20,7 @@ use Rattle.hwp_law.specs.Commands.{current_thread}
 use Rattle.hwp_law.specs.Halts.{CanStop as CanStopFor, IsStopOf, StopAgrees}
 use Rattle.hwp_law.specs.Places.{command_at}
 use Rattle.hwp_law.specs.Stops.{StaysStopped}
-use Rattle.hwp_handler.specs.declared.Row.{Row}
+use Rattle.hwp_row.specs.declared.Row.{Row}
 use Rattle.hwp_handler.specs.declared.Told.{Told}
 use Rattle.hwp_served.specs.Rows.{event_line, lines_from}
 use Rattle.hwp_served.specs.Runs.{IsCauseOf, IsRunOf, row_at}

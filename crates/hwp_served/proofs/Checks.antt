@@ -99,7 +99,7 @@ module _ (script : Script) (seat : Cpu → ℕ) (last : State) (report : Report)
 
   -- ---- a machine check
 
-  lines-so : (thread : Option Thread) (how : Arrival) (held_back : Bool) (bs : List (ℕ × Event)) (told : List Told) → map (λ (t : Told). t.held) told ≡ map (graded_in how) bs → AreTold script.layout view who thread held_back told → EachMember HasResult told
+  pub lines-so : (thread : Option Thread) (how : Arrival) (held_back : Bool) (bs : List (ℕ × Event)) (told : List Told) → map (λ (t : Told). t.held) told ≡ map (graded_in how) bs → AreTold script.layout view who thread held_back told → EachMember HasResult told
       → AreLinesOf script report who how held_back bs (map (event_at who.seq) told)
   lines-so thread how held_back [] [] same are results = tt
   lines-so thread how held_back [] (t ∷ ts) same are results = absurd (none-some t.held (ap (λ (l : List Held). slice_get l 0) (sym same)))

@@ -24,11 +24,14 @@ use Rattle.hwp_report.specs.declared.Report.{Report}
 use Rattle.hwp_law.specs.Checks.{Banks, empty_banks}
 use Rattle.hwp_runs.proofs.Homes.{there-is}
 use Rattle.hwp_runs.proofs.Reported.{IsLast}
-use Rattle.hwp_handler.specs.declared.Row.{Row}
+use Rattle.hwp_row.specs.declared.Row.{Row}
+use Rattle.hwp_scrub.specs.Visits.{AreBanks}
 use Rattle.hwp_served.specs.Rows.{lines_from}
 use Rattle.hwp_served.specs.Runs.{AreRecords, AreServed, notes_of}
 use Rattle.hwp_served.specs.Served.{AreRowsServed, IsRowServed, IsServed}
 use Rattle.hwp_served.proofs.lines.LowWords.{AreOfLines}
+use Rattle.hwp_served.proofs.lines.ScrubBank.{empty-free, row-free}
+use Rattle.hwp_served.proofs.lines.SightedLines.{AreSights}
 use Rattle.hwp_served.proofs.Spoils.{AreOfParts}
 
 -- the report is that of the last board of a run, where each processor has served its commands
@@ -43,30 +46,34 @@ pub record IsEnd (script : Script) (seat : Cpu → ℕ) (last : State) (report :
   pub records : AreRecords (notes_of 0 rows) report
   pub low : AreOfLines (words_of script.layout last.words)
   pub spoilers : EachMember (AreOfParts last) last.views
+  pub sights : EachMember (AreSights script.layout) last.views
 
--- the row of a command, and what its processor's banks held before it and after it
+-- the row of a command, and what its processor's banks held before it, the scrubber's nothing, and after it
 pub record HasRow (layout : Layout) (all : List Command) (view : View) (who : Who) (command : Command) (there : Option Row) : Type 0 where
   pub row : Row
   pub row_is : there ≡ Some row
   pub before : Banks
+  pub free : AreBanks before
   pub after : Banks
   pub served : IsRowServed layout all view who command before row after
 
 pub row-at : (layout : Layout) (all : List Command) (view : View) (cpu : Cpu) (n : ℕ) (before : Banks) (list : List Command) (rows : List Row) (after : Banks) (k m : ℕ) (command : Command) → AreRowsServed layout all view cpu n before list rows after → length rows ≡ length list → slice_get list k ≡ Some command
-    → m ≡ n + k → HasRow layout all view (record { cpu = cpu; seq = m }) command (slice_get rows k)
-row-at layout all view cpu n before [] rows after k m command are fit there at = absurd (none-some command there)
-row-at layout all view cpu n before (c ∷ cs) [] after k m command are fit there at = absurd (let none : 0 ≡ suc (length cs) = fit in omega arith)
-row-at layout all view cpu n before (c ∷ cs) (row ∷ rows) after zero m command (between, served, rest) fit there at =
+    → m ≡ n + k → AreBanks before → HasRow layout all view (record { cpu = cpu; seq = m }) command (slice_get rows k)
+row-at layout all view cpu n before [] rows after k m command are fit there at free = absurd (none-some command there)
+row-at layout all view cpu n before (c ∷ cs) [] after k m command are fit there at free = absurd (let none : 0 ≡ suc (length cs) = fit in omega arith)
+row-at layout all view cpu n before (c ∷ cs) (row ∷ rows) after zero m command (between, served, rest) fit there at free =
     let same : n ≡ m = omega arith in
     record {
       row = row;
       row_is = refl;
       before = before;
+      free = free;
       after = between;
       served = subst (λ (x : Command). IsRowServed layout all view (record { cpu = cpu; seq = m }) x before row between) (same_Some c command there) (subst (λ (i : ℕ). IsRowServed layout all view (record { cpu = cpu; seq = i }) c before row between) same served);
     }
-row-at layout all view cpu n before (c ∷ cs) (row ∷ rows) after (suc k) m command (between, served, rest) fit there at =
+row-at layout all view cpu n before (c ∷ cs) (row ∷ rows) after (suc k) m command (between, served, rest) fit there at free =
     row-at layout all view cpu (n + 1) between cs rows after k m command rest (let one : suc (length rows) ≡ suc (length cs) = fit in let same : length rows ≡ length cs = omega arith in same) there (omega arith)
+    (row-free layout view (record { cpu = cpu; seq = n }) c row.answer before row.told between served.told free)
 
 -- a member that passes the test is one of those that do
 pub filter-has : {A : Type 0} (test : A → Bool) (l : List A) (j : ℕ) (x : A) → slice_get l j ≡ Some x → test x ≡ true → (k : ℕ) × (slice_get (filter test l) k ≡ Some x)
@@ -97,6 +104,7 @@ pub record IsOf (script : Script) (rows : List (List Row)) (view : View) (who : 
   pub row : Row
   pub row_is : slice_get own who.seq ≡ Some row
   pub before : Banks
+  pub free : AreBanks before
   pub after : Banks
   pub served : IsRowServed script.layout list view who command before row after
 
@@ -175,7 +183,7 @@ module _ (script : Script) (seat : Cpu → ℕ) (last : State) (report : Report)
       let inside : who.cpu.0 < script.layout.cpus = subst (λ (n : ℕ). who.cpu.0 < n) end.lists_fit (slice_get_within script.lists who.cpu.0 list list_is) in
       let own = rows-of who.cpu inside in
       let served = (served-of who.cpu list own.0 list_is own.1).0 in
-      let has = row-at script.layout list (view_of last (seat who.cpu)) who.cpu 0 empty_banks list own.0 served.banks who.seq who.seq command served.rows_are served.count command_is (omega arith) in
+      let has = row-at script.layout list (view_of last (seat who.cpu)) who.cpu 0 empty_banks list own.0 served.banks who.seq who.seq command served.rows_are served.count command_is (omega arith) empty-free in
       record {
         inside = inside;
         list = list;
@@ -187,6 +195,7 @@ module _ (script : Script) (seat : Cpu → ℕ) (last : State) (report : Report)
         row = has.row;
         row_is = has.row_is;
         before = has.before;
+        free = has.free;
         after = has.after;
         served = has.served;
       }

@@ -1,5 +1,5 @@
 -- The event lines of each processor are those of its commands, whose rows lead from what the banks held before to what they hold after.
-use Rattle.std.proofs.Common.{◌≡◌, ℕ, zero, suc, ◌+◌, ◌-◌, ◌<◌, Bool, true, false, List, [], ◌∷◌, Option, Some, None, MatchBool, length, map, option_and_then, slice_get, refl, sym, ap, ◌∙◌, subst, arith}
+use Rattle.std.proofs.Common.{◌≡◌, ℕ, suc, ◌+◌, ◌-◌, ◌<◌, Bool, true, false, List, [], ◌∷◌, Option, Some, None, MatchBool, length, map, option_and_then, slice_get, refl, sym, ap, ◌∙◌, subst, arith}
 use Rattle.std.proofs.lemmas.List.Sums.{length-filter}
 use Rattle.std.proofs.lemmas.Option.{slice_get_within}
 use Rattle.hwp_geom.specs.declared.Cpu.{Cpu}
@@ -28,22 +28,21 @@ use Rattle.hwp_law.specs.Events.{AreAccessChecks, AreEvents, AreEventsFrom, AreE
 use Rattle.hwp_law.specs.Events as law
 use Rattle.hwp_law.specs.Lines.{EventLine, answer_of, events_of}
 use Rattle.hwp_law.specs.Pairings.{entries_of}
-use Rattle.hwp_law.specs.Places.{command_at}
-use Rattle.hwp_handler.specs.declared.Row.{Row}
+use Rattle.hwp_row.specs.declared.Row.{Row}
 use Rattle.hwp_handler.specs.declared.Told.{Told}
 use Rattle.hwp_handler.specs.Checks.{IsActedOn, SawBad, lines_of, restarting}
 use Rattle.hwp_served.specs.Runs.{IsRunOf, row_at}
 use Rattle.hwp_served.specs.Served.{AreRowsServed}
-use Rattle.hwp_served.specs.Told.{AreToldBy, IsAccessTold, IsRaiseTold, IsUntold, is_raised}
+use Rattle.hwp_scrub.specs.Visits.{scrubbing}
+use Rattle.hwp_served.specs.Told.{AreToldBy, IsAccessTold, IsRaiseTold, IsScrubTold, IsUntold, is_raised}
 use Rattle.hwp_served.proofs.Checks.{HasResult, check-so, checks-so}
 use Rattle.hwp_served.proofs.Ending.{IsEnd, rows-of, served-of}
 use Rattle.hwp_served.proofs.Holding.{ended, seen_marks}
 use Rattle.hwp_served.proofs.RowLines.{answer-told, event_at, events-by-row, told_at}
-use Rattle.hwp_served.proofs.Showing.{answers-of, caused-so}
 use Rattle.hwp_served.proofs.deeds.CountedEntries.{entries-inside}
-use Rattle.hwp_served.proofs.deeds.Made.{command-is}
 use Rattle.hwp_served.proofs.lines.OfRows.{row-of}
 use Rattle.hwp_served.proofs.lines.Records.{result-told}
+use Rattle.hwp_served.proofs.lines.Scrubbed.{scrubbed-so}
 use Rattle.hwp_served.proofs.lines.SpoiledLines.{bad-shown}
 
 -- a `raise` is a machine check by its lines in the report as by its row
@@ -95,61 +94,41 @@ module _ (script : Script) (seat : Cpu → ℕ) (turns : List Played) (last : St
     untold : (before after : Banks) → IsUntold row.told before after → (lines_of_row ≡ []) × (after ≡ before)
     untold before after is = (ap (map (event_at who.seq)) is.0, is.1)
 
-    -- no scrub goes to its end, and none has events
-    of-scrub : (first last_frame : Frame) → command_at script who ≡ Some (commands.Scrub first last_frame) → (how : Arrival) (frame n : ℕ) (before after : Banks) → IsUntold row.told before after → AreScrubbed script report who how frame n before lines_of_row after
-    of-scrub first last_frame at how frame zero before after is = untold before after is
-    of-scrub first last_frame at how frame (suc more) before after is = (
-      [],
-      lines_of_row,
-      before,
-      refl,
-      record {
-        bad = None;
-        weak = None;
-        bad_lines = [];
-        weak_lines = [];
-        between = before;
-        all = refl;
-        bad_found = (refl, refl);
-        weak_found = (refl, refl);
-        met_bad = λ n line earlier answer before_ marked. absurd (caused-so script seat turns last report run (answers-of script seat turns last report run who (commands.Scrub first last_frame) (answers.Scrubbed n) at answer));
-        met_weak = λ n line earlier answer before_ marked. absurd (caused-so script seat turns last report run (answers-of script seat turns last report run who (commands.Scrub first last_frame) (answers.Scrubbed n) at answer));
-      },
-      of-scrub first last_frame at how (frame + 1) more before after is,
-    )
+    of-scrub : (first last_frame : Frame) (before after : Banks) → IsScrubTold script.layout view who first last_frame row.answer before row.told after → AreScrubbed script report who scrubbing first.0 (last_frame.0 + 1 - first.0) before lines_of_row after
+    of-scrub first last_frame before after told =
+        let r = row-of script seat last report end who row row_is in
+        scrubbed-so script seat last report end (seen_marks script seat turns last report run) who r.of first last_frame row.answer before row.told after told answered results
 
-    of-command : (command : Command) (before after : Banks) → command_at script who ≡ Some command → AreToldBy script.layout view who command row.answer before row.told after → AreEventsOf script report who (arrival_of command) command before lines_of_row after
-    of-command (commands.Load thread slot line) before after at told = of-access thread line origins.Access modes.User (λ frame saw. bad-shown script seat last report end who.cpu inside who line frame saw) before after told
-    of-command (commands.Fetch thread slot line) before after at told = of-access thread line origins.Fetch modes.User (λ frame saw. bad-shown script seat last report end who.cpu inside who line frame saw) before after told
-    of-command (commands.KLoad thread slot line) before after at told = of-access thread line origins.Access modes.Kernel (λ frame saw. bad-shown script seat last report end who.cpu inside who line frame saw) before after told
-    of-command (commands.Store thread slot line word) before after at told = of-access thread line origins.Access modes.User (λ frame saw. bad-shown script seat last report end who.cpu inside who line frame saw) before after told
-    of-command (commands.Scrub first last_frame) before after at told = of-scrub first last_frame at (arrival_of (commands.Scrub first last_frame)) first.0 (last_frame.0 + 1 - first.0) before after told
-    of-command (commands.RaiseUser thread ripv eipv) before after at told = of-raise (Some thread) (arrival_of (commands.RaiseUser thread ripv eipv)) before after told
-    of-command (commands.RaiseKernel ripv eipv) before after at told = of-raise None (arrival_of (commands.RaiseKernel ripv eipv)) before after told
-    of-command (commands.Log status addr misc) before after at told =
+    of-command : (command : Command) (before after : Banks) → AreToldBy script.layout view who command row.answer before row.told after → AreEventsOf script report who (arrival_of command) command before lines_of_row after
+    of-command (commands.Load thread slot line) before after told = of-access thread line origins.Access modes.User (λ frame saw. bad-shown script seat last report end who.cpu inside who line frame saw) before after told
+    of-command (commands.Fetch thread slot line) before after told = of-access thread line origins.Fetch modes.User (λ frame saw. bad-shown script seat last report end who.cpu inside who line frame saw) before after told
+    of-command (commands.KLoad thread slot line) before after told = of-access thread line origins.Access modes.Kernel (λ frame saw. bad-shown script seat last report end who.cpu inside who line frame saw) before after told
+    of-command (commands.Store thread slot line word) before after told = of-access thread line origins.Access modes.User (λ frame saw. bad-shown script seat last report end who.cpu inside who line frame saw) before after told
+    of-command (commands.Scrub first last_frame) before after told = of-scrub first last_frame before after told
+    of-command (commands.RaiseUser thread ripv eipv) before after told = of-raise (Some thread) (arrival_of (commands.RaiseUser thread ripv eipv)) before after told
+    of-command (commands.RaiseKernel ripv eipv) before after told = of-raise None (arrival_of (commands.RaiseKernel ripv eipv)) before after told
+    of-command (commands.Log status addr misc) before after told =
         (ap (map (event_at who.seq)) told.0, told.1 ∙ ap (λ (o : Option Answer). logged_if_done o (raw_event status addr misc) before) (sym answered))
-    of-command command before after at told = untold before after told
+    of-command command before after told = untold before after told
 
-  module _ (cpu : Cpu) (inside : cpu.0 < script.layout.cpus) (all : List Command) (all_is : slice_get script.lists cpu.0 ≡ Some all) (own : List Row) (own_is : slice_get end.rows cpu.0 ≡ Some own) where
+  module _ (cpu : Cpu) (inside : cpu.0 < script.layout.cpus) (all : List Command) (own : List Row) (own_is : slice_get end.rows cpu.0 ≡ Some own) where
     -- what begins at the n-th member of a list
     abbrev StandsFrom : {A : Type 0} → ℕ → List A → List A → Type 0
     StandsFrom {A} n list whole = (i : ℕ) (x : A) → slice_get list i ≡ Some x → slice_get whole (n + i) ≡ Some x
 
     -- the commands from number n on
-    events-from : (n : ℕ) (before : Banks) (list : List Command) (rows : List Row) (after : Banks) → AreRowsServed script.layout all (view_of last (seat cpu)) cpu n before list rows after → length rows ≡ length list → StandsFrom n list all → StandsFrom n rows own
+    events-from : (n : ℕ) (before : Banks) (list : List Command) (rows : List Row) (after : Banks) → AreRowsServed script.layout all (view_of last (seat cpu)) cpu n before list rows after → length rows ≡ length list → StandsFrom n rows own
         → AreEventsFrom script report cpu n list before
-    events-from n before [] rows after are fit of_list of_rows = tt
-    events-from n before (c ∷ cs) [] after are fit of_list of_rows = absurd (let none : 0 ≡ suc (length cs) = fit in omega arith)
-    events-from n before (c ∷ cs) (row ∷ rows) after (between, served, rest) fit of_list of_rows =
+    events-from n before [] rows after are fit of_rows = tt
+    events-from n before (c ∷ cs) [] after are fit of_rows = absurd (let none : 0 ≡ suc (length cs) = fit in omega arith)
+    events-from n before (c ∷ cs) (row ∷ rows) after (between, served, rest) fit of_rows =
         let who : Who = record { cpu = cpu; seq = n } in
         let same : n + 0 ≡ n = omega arith in
-        let at : command_at script who ≡ Some c = command-is script who all c all_is (subst (λ (k : ℕ). slice_get all k ≡ Some c) same (of_list 0 c refl)) in
         let row_is : row_at end.rows who ≡ Some row = ap (λ (o : Option (List Row)). option_and_then (λ (l : List Row). slice_get l n) o) own_is ∙ subst (λ (k : ℕ). slice_get own k ≡ Some row) same (of_rows 0 row refl) in
         let told : events_of report who ≡ map (event_at n) row.told = events-by-row script seat last report end who ∙ ap (λ (o : Option Row). map (event_at n) (told_at o)) row_is in (
           between,
-          subst (λ (es : List EventLine). AreEventsOf script report who (arrival_of c) c before es between) (sym told) (of-command who inside row row_is c before between at served.told),
+          subst (λ (es : List EventLine). AreEventsOf script report who (arrival_of c) c before es between) (sym told) (of-command who inside row row_is c before between served.told),
           events-from (n + 1) between cs rows after rest (let one : suc (length rows) ≡ suc (length cs) = fit in let less : length rows ≡ length cs = omega arith in less)
-              (λ i d there. let more : n + suc i ≡ (n + 1) + i = omega arith in subst (λ (k : ℕ). slice_get all k ≡ Some d) more (of_list (suc i) d there))
               (λ i r there. let more : n + suc i ≡ (n + 1) + i = omega arith in subst (λ (k : ℕ). slice_get own k ≡ Some r) more (of_rows (suc i) r there)),
         )
 
@@ -158,5 +137,5 @@ module _ (script : Script) (seat : Cpu → ℕ) (turns : List Played) (last : St
       let inside : cpu.0 < script.layout.cpus = subst (λ (n : ℕ). cpu.0 < n) end.lists_fit (slice_get_within script.lists cpu.0 list list_is) in
       let own = rows-of script seat last report end cpu inside in
       let served = (served-of script seat last report end cpu list own.0 list_is own.1).0 in
-      events-from cpu inside list list_is own.0 own.1 0 empty_banks list own.0 served.banks served.rows_are served.count (λ i c there. let same : i ≡ 0 + i = omega arith in subst (λ (k : ℕ). slice_get list k ≡ Some c) same there)
+      events-from cpu inside list own.0 own.1 0 empty_banks list own.0 served.banks served.rows_are served.count
       (λ i r there. let same : i ≡ 0 + i = omega arith in subst (λ (k : ℕ). slice_get own.0 k ≡ Some r) same there)

@@ -3,7 +3,6 @@ use Rattle.std.proofs.Common.{◌≡◌, ◌⊎◌, ℕ, ◌<◌, ◌≤◌, Lis
 use Rattle.std.proofs.lemmas.Bool.{cases_lt}
 use Rattle.std.proofs.lemmas.Option.{none-some, same_Some}
 use Rattle.hwp_geom.specs.declared.Cpu.{Cpu}
-use Rattle.hwp_geom.specs.declared.Frame.{Frame}
 use Rattle.hwp_geom.specs.declared.Layout.{Layout}
 use Rattle.hwp_geom.specs.declared.Thread.{Thread}
 use Rattle.hwp_geom.specs.declared.VSlot.{VSlot}
@@ -26,8 +25,8 @@ use Rattle.hwp_runs.proofs.Homes.{there-is}
 use Rattle.hwp_runs.proofs.Leading.{leads-hold}
 use Rattle.hwp_runs.proofs.Legal.{run-legal}
 use Rattle.hwp_runs.proofs.Rising.{run-rises}
-use Rattle.hwp_handler.specs.declared.Found.{Found}
-use Rattle.hwp_handler.specs.declared.Row.{Row}
+use Rattle.hwp_row.specs.declared.Own.{Own}
+use Rattle.hwp_row.specs.declared.Row.{Row}
 use Rattle.hwp_handler.specs.declared.Told.{Told}
 use Rattle.hwp_served.specs.Causes.{FoundNoFrame, IsAnswerCaused}
 use Rattle.hwp_served.specs.Runs.{IsRunOf}
@@ -36,13 +35,14 @@ use Rattle.hwp_served.proofs.Answered.{had}
 use Rattle.hwp_served.proofs.Ending.{IsEnd, nothing-held}
 use Rattle.hwp_served.proofs.marks.PoisonSeen.{AreMarkedBy, marked-kept}
 use Rattle.hwp_served.proofs.lines.LowWords.{run-low}
+use Rattle.hwp_served.proofs.lines.SightedLines.{AreSights, sights-kept}
 use Rattle.hwp_served.proofs.Seen.{saw-at}
 use Rattle.hwp_served.proofs.Spoils.{AreOfParts, parts-kept}
 use Rattle.hwp_served.proofs.Stops.{stopper}
 use Rattle.hwp_served.proofs.Windows.{in-window, line-answers}
 
 -- an access that answers `noframe`, of a thread and of the translation that it names
-no-frame-of : (layout : Layout) (list : List Command) (view : View) (who : Who) (command : Command) (told : List Told) (own : Option (Frame × Found)) (slot : VSlot) → slot_of command ≡ Some slot → IsAnswerCaused layout list view who command told own answers.NoFrame → (thread : Thread) × (line : ℕ) × FoundNoFrame layout view who thread slot line
+no-frame-of : (layout : Layout) (list : List Command) (view : View) (who : Who) (command : Command) (told : List Told) (own : Option Own) (slot : VSlot) → slot_of command ≡ Some slot → IsAnswerCaused layout list view who command told own answers.NoFrame → (thread : Thread) × (line : ℕ) × FoundNoFrame layout view who thread slot line
 no-frame-of layout list view who (commands.Load thread s line) told own slot is caused = (thread, line, subst (λ (t : VSlot). FoundNoFrame layout view who thread t line) (same_Some s slot is) caused)
 no-frame-of layout list view who (commands.Fetch thread s line) told own slot is caused = (thread, line, subst (λ (t : VSlot). FoundNoFrame layout view who thread t line) (same_Some s slot is) caused)
 no-frame-of layout list view who (commands.KLoad thread s line) told own slot is caused = (thread, line, subst (λ (t : VSlot). FoundNoFrame layout view who thread t line) (same_Some s slot is) caused)
@@ -85,6 +85,7 @@ module _ (script : Script) (seat : Cpu → ℕ) (turns : List Played) (last : St
     records = run.records;
     low = run-low script.layout turns last run.rule run.moves;
     spoilers = run-keeps script.layout AreOfParts (parts-kept script.layout) turns last run.rule run.moves;
+    sights = run-keeps script.layout (λ (s : State) (v : View). AreSights script.layout v) (sights-kept script.layout) turns last run.rule run.moves;
   }
 
   -- its rows are those of the run

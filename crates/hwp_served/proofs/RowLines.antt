@@ -15,7 +15,7 @@ use Rattle.hwp_report.specs.declared.CpuLine.TheVariants as lines
 use Rattle.hwp_report.specs.declared.Report.{Report}
 use Rattle.hwp_law.proofs.Rows.{same_answer}
 use Rattle.hwp_law.specs.Lines.{AnswerLine, EventLine, answer_among, answer_in, answer_of, event_in, events_among, events_of}
-use Rattle.hwp_handler.specs.declared.Row.{Row}
+use Rattle.hwp_row.specs.declared.Row.{Row}
 use Rattle.hwp_handler.specs.declared.Told.{Told}
 use Rattle.hwp_served.specs.Rows.{event_line, lines_from, row_lines}
 use Rattle.hwp_served.specs.Runs.{row_at}

@@ -36,13 +36,14 @@ use Rattle.hwp_law.specs.Commands.{Access, access_of, current_thread}
 use Rattle.hwp_law.specs.Policies.{arguments, last_policy, settings}
 use Rattle.hwp_law.specs.States.{place_named, state_named}
 use Rattle.hwp_handler.specs.declared.Found.{Found}
-use Rattle.hwp_handler.specs.declared.Row.{Row}
+use Rattle.hwp_row.specs.declared.Own.{Own}
+use Rattle.hwp_row.specs.declared.Row.{Row}
 use Rattle.hwp_handler.specs.declared.Told.{Told}
 use Rattle.hwp_handler.specs.Done.{entered_by, failed_by}
 use Rattle.hwp_handler.specs.Done as done
 use Rattle.hwp_handler.specs.Told.{first_signal, required_by, signal_of}
 use Rattle.hwp_served.specs.Accounts.{IsAccounted, failures_in, own_failure}
-use Rattle.hwp_served.specs.Causes.{IsAnswerCaused, IsCaused, IsTableCaused, WasSignalled}
+use Rattle.hwp_served.specs.Causes.{IsAnswerCaused, IsCaused, IsOfflineCaused, IsSoftCaused, IsTableCaused, WasSignalled}
 use Rattle.hwp_served.proofs.Picked.{picked-has, picked-is}
 
 -- the command saw the page after as many entries as the place says
@@ -278,18 +279,32 @@ module _ (layout : Layout) (list : List Command) (view : View) (who : Who) where
     either-place at (inl caused) = table-place command (answers.Sigbus at) caused
     either-place at (inr was) = made-one at (signal-place (access_of command) at was)
 
-  answer-place : (command : Command) (told : List Told) (own : Option (Frame × Found)) (answer : Answer)
+  offline-place : (frame : Frame) (own : Option Own) (answer : Answer) → IsOfflineCaused layout view who frame own answer → Names answer
+  offline-place frame own (answers.Moved other bt) caused at is = made-one bt (made-at caused.made.made) at is
+  offline-place frame own answers.TakenFree caused at is = absurd (none-some at is)
+  offline-place frame own answers.Already caused at is = absurd (none-some at is)
+  offline-place frame own (answers.HasBad mask) caused at is = absurd (none-some at is)
+  offline-place frame own answers.NoFrame caused at is = absurd (none-some at is)
+  offline-place frame own answer caused at is = absurd caused
+
+  soft-place : (frame : Frame) (own : Option Own) (answer : Answer) → IsSoftCaused layout view who frame own answer → Names answer
+  soft-place frame own answers.Kernel caused at is = absurd (none-some at is)
+  soft-place frame own answer caused at is = offline-place frame own answer caused.1 at is
+
+  answer-place : (command : Command) (told : List Told) (own : Option Own) (answer : Answer)
       → ((at : At) → IsTableCaused layout list view who command (answers.Sigbus at) ⊎ IsSomeAnd (access_of command) (λ (a : Access). WasSignalled layout view who command a.thread told at) → Names (answers.Sigbus at))
       → IsAnswerCaused layout list view who command told own answer → Names answer
   answer-place command told own answers.Stopped either caused at is = absurd (none-some at is)
   answer-place (commands.RaiseUser thread ripv eipv) told own (answers.Raised n) either caused at is = absurd (none-some at is)
   answer-place (commands.RaiseUser thread ripv eipv) told own (answers.Gone page) either caused at is = absurd (none-some at is)
   answer-place (commands.RaiseKernel ripv eipv) told own (answers.Raised n) either caused at is = absurd (none-some at is)
+  answer-place (commands.Scrub first last) told own (answers.Scrubbed n) either caused at is = absurd (none-some at is)
   answer-place (commands.Inject frame) told own answers.Recovered either caused at is = absurd (none-some at is)
   answer-place (commands.Inject frame) told own answers.Delayed either caused at is = absurd (none-some at is)
   answer-place (commands.Inject frame) told own answers.Ignored either caused at is = absurd (none-some at is)
   answer-place (commands.Inject frame) told own answers.Already either caused at is = absurd (none-some at is)
   answer-place (commands.Inject frame) told own answer either caused at is = absurd caused.1
+  answer-place (commands.Soft frame) told own answer either caused at is = soft-place frame own answer caused at is
   answer-place command told own (answers.Sigbus bt) either caused at is = either bt caused at is
   answer-place command told own answer either caused at is = table-place command answer caused at is
 
@@ -323,16 +338,30 @@ module _ (layout : Layout) (list : List Command) (view : View) (who : Who) where
   table-state command (answers.Eio lost) caused at is = absurd (none-some at is)
   table-state command answer caused at is = absurd caused
 
-  answer-state : (command : Command) (told : List Told) (own : Option (Frame × Found)) (answer : Answer) → IsAnswerCaused layout list view who command told own answer → (at : At) → state_named answer ≡ Some at → SawAt view who at
+  offline-state : (frame : Frame) (own : Option Own) (answer : Answer) → IsOfflineCaused layout view who frame own answer → (at : At) → state_named answer ≡ Some at → SawAt view who at
+  offline-state frame own (answers.Moved other bt) caused at is = absurd (none-some at is)
+  offline-state frame own answers.TakenFree caused at is = absurd (none-some at is)
+  offline-state frame own answers.Already caused at is = absurd (none-some at is)
+  offline-state frame own (answers.HasBad mask) caused at is = absurd (none-some at is)
+  offline-state frame own answers.NoFrame caused at is = absurd (none-some at is)
+  offline-state frame own answer caused at is = absurd caused
+
+  soft-state : (frame : Frame) (own : Option Own) (answer : Answer) → IsSoftCaused layout view who frame own answer → (at : At) → state_named answer ≡ Some at → SawAt view who at
+  soft-state frame own answers.Kernel caused at is = absurd (none-some at is)
+  soft-state frame own answer caused at is = offline-state frame own answer caused.1 at is
+
+  answer-state : (command : Command) (told : List Told) (own : Option Own) (answer : Answer) → IsAnswerCaused layout list view who command told own answer → (at : At) → state_named answer ≡ Some at → SawAt view who at
   answer-state command told own answers.Stopped caused at is = absurd (none-some at is)
   answer-state (commands.RaiseUser thread ripv eipv) told own (answers.Raised n) caused at is = absurd (none-some at is)
   answer-state (commands.RaiseUser thread ripv eipv) told own (answers.Gone page) caused at is = absurd (none-some at is)
   answer-state (commands.RaiseKernel ripv eipv) told own (answers.Raised n) caused at is = absurd (none-some at is)
+  answer-state (commands.Scrub first last) told own (answers.Scrubbed n) caused at is = absurd (none-some at is)
   answer-state (commands.Inject frame) told own answers.Recovered caused at is = absurd (none-some at is)
   answer-state (commands.Inject frame) told own answers.Delayed caused at is = absurd (none-some at is)
   answer-state (commands.Inject frame) told own answers.Ignored caused at is = absurd (none-some at is)
   answer-state (commands.Inject frame) told own answers.Already caused at is = absurd (none-some at is)
   answer-state (commands.Inject frame) told own answer caused at is = absurd caused.1
+  answer-state (commands.Soft frame) told own answer caused at is = soft-state frame own answer caused at is
   answer-state command told own (answers.Sigbus bt) caused at is = absurd (none-some at is)
   answer-state command told own answer caused at is = table-state command answer caused at is
 

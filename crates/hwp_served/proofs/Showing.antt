@@ -2,7 +2,6 @@
 use Rattle.std.proofs.Common.{◌≡◌, ℕ, ◌<◌, Bool, true, false, cond, nat_le, List, Option, Some, None, map, slice_get, option_and_then, sym, ap, ◌∙◌, subst, refl, true≢false}
 use Rattle.std.proofs.lemmas.Option.{none-some, same_Some}
 use Rattle.hwp_geom.specs.declared.Cpu.{Cpu}
-use Rattle.hwp_geom.specs.declared.Frame.{Frame}
 use Rattle.hwp_geom.specs.declared.Layout.{Layout}
 use Rattle.hwp_geom.specs.declared.Proc.{Proc}
 use Rattle.hwp_geom.specs.declared.Thread.{Thread}
@@ -29,11 +28,11 @@ use Rattle.hwp_report.specs.declared.Answer.TheVariants as answers
 use Rattle.hwp_report.specs.declared.Report.{Report}
 use Rattle.hwp_law.specs.Checks.{Banks}
 use Rattle.hwp_law.specs.Commands.{current_thread, process_at, process_of_thread, thread_of}
-use Rattle.hwp_law.specs.Lines.{EventLine, answer_of, events_of}
+use Rattle.hwp_law.specs.Lines.{answer_of, events_of}
 use Rattle.hwp_law.specs.Places.{command_at}
 use Rattle.hwp_law.specs.Records.{outcome_act}
 use Rattle.hwp_handler.specs.declared.Found.{Found}
-use Rattle.hwp_handler.specs.declared.Row.{Row}
+use Rattle.hwp_row.specs.declared.Row.{Row}
 use Rattle.hwp_handler.specs.declared.Told.{Told}
 use Rattle.hwp_handler.specs.Fits.{IsDone, IsFailed}
 use Rattle.hwp_handler.specs.Told.{at_once, frame_of, is_already, required_by, severity_at_once}
@@ -41,13 +40,16 @@ use Rattle.hwp_runs.specs.Scrubs.{ScrubsShown}
 use Rattle.hwp_runs.specs.Shown.{AlreadyShown, IsShown}
 use Rattle.hwp_runs.proofs.Knowing.{Said}
 use Rattle.hwp_runs.proofs.Telling.{all-told, told}
+use Rattle.hwp_scrub.specs.Visits.{AreBanks}
 use Rattle.hwp_served.specs.Causes.{IsAnswerCaused}
 use Rattle.hwp_served.specs.Runs.{IsRunOf, row_at}
 use Rattle.hwp_served.specs.Served.{IsRowServed}
+use Rattle.hwp_served.specs.Told.{IsScrubTold}
 use Rattle.hwp_served.proofs.Ending.{command-of}
 use Rattle.hwp_served.proofs.Holding.{ended}
 use Rattle.hwp_served.proofs.RowLines.{answer-told, event_at, events-by-row, events-told, told_at}
 use Rattle.hwp_served.proofs.lines.OfRows.{row-of}
+use Rattle.hwp_served.proofs.lines.ScrubShown.{bad-shown, looked-at, weak-shown}
 use Rattle.hwp_served.proofs.RowTold.{IsToldRight, told-so}
 use Rattle.hwp_served.proofs.Shown.{already-shown, answer-shown, goes-shown}
 
@@ -118,6 +120,7 @@ module _ (script : Script) (seat : Cpu → ℕ) (turns : List Played) (last : St
     pub inside : who.cpu.0 < script.layout.cpus
     pub row : Row
     pub before : Banks
+    pub free : AreBanks before
     pub after : Banks
     pub served : IsRowServed script.layout list (view_of last (seat who.cpu)) who command before row after
     pub answered : answer_of report who ≡ Some row.answer
@@ -134,6 +137,7 @@ module _ (script : Script) (seat : Cpu → ℕ) (turns : List Played) (last : St
         inside = of.inside;
         row = of.row;
         before = of.before;
+        free = of.free;
         after = of.after;
         served = subst (λ (c : Command). IsRowServed script.layout of.list (view_of last (seat who.cpu)) who c of.before of.row of.after) same_command of.served;
         answered = answer-told script seat last report end (view_of last (seat who.cpu)) who of;
@@ -186,15 +190,18 @@ module _ (script : Script) (seat : Cpu → ℕ) (turns : List Played) (last : St
     events = λ who. subst (EachMember (AlreadyShown script.layout turns who)) (sym (events-by-row script seat last report (ended script seat turns last report run) who)) (events-shown who (row_at (ended script seat turns last report run).rows who) refl);
   }
 
-  -- no scrub is answered but by `stopped`, and no line tells one
+  -- and so does each line of a scrub
   pub scrubs-shown : ScrubsShown script report turns
   scrubs-shown = record {
-    bad = λ who first last_frame at frame n found. absurd (untold who first last_frame at found.0 found.1 found.2);
-    weak = λ who first last_frame at frame n found. absurd (untold who first last_frame at found.0 found.1 found.2);
-    whole = λ who first last_frame n at is. absurd (caused-so (answers-of who (commands.Scrub first last_frame) (answers.Scrubbed n) at is));
+    bad = λ who first last_frame at.
+        let a = serves who (commands.Scrub first last_frame) at in
+        bad-shown script report turns (view_of last (seat who.cpu)) (said who.cpu a.inside) who first last_frame a.before a.free a.row.told a.after a.events a.row.answer a.served.told;
+    weak = λ who first last_frame at.
+        let a = serves who (commands.Scrub first last_frame) at in
+        weak-shown script report turns (view_of last (seat who.cpu)) (said who.cpu a.inside) who first last_frame a.before a.free a.row.told a.after a.events a.row.answer a.served.told;
+    whole = λ who first last_frame n at is.
+        let a = serves who (commands.Scrub first last_frame) at in
+        let answer : a.row.answer ≡ answers.Scrubbed n = same_Some a.row.answer (answers.Scrubbed n) (sym a.answered ∙ is) in
+        looked-at script report turns (view_of last (seat who.cpu)) (said who.cpu a.inside) who first last_frame a.before a.free a.row.told a.after a.events
+        (subst (λ (x : Answer). IsScrubTold script.layout (view_of last (seat who.cpu)) who first last_frame x a.before a.row.told a.after) answer a.served.told);
   }
-    where
-      untold : (who : Who) (first last_frame : Frame) → command_at script who ≡ Some (commands.Scrub first last_frame) → (i : ℕ) (e : EventLine) → slice_get (events_of report who) i ≡ Some e → ⊥
-      untold who first last_frame at i e there =
-          let a = serves who (commands.Scrub first last_frame) at in
-          none-some e (sym (ap (λ (l : List EventLine). slice_get l i) (a.events ∙ ap (map (event_at who.seq)) a.served.told.0)) ∙ there)

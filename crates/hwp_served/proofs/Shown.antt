@@ -19,7 +19,7 @@ use Rattle.hwp_page.specs.declared.At.{At}
 use Rattle.hwp_page.specs.declared.PageState.{PageState}
 use Rattle.hwp_page.specs.Refusals.{IsAway}
 use Rattle.hwp_page.specs.Step.{IsOf}
-use Rattle.hwp_words.specs.Frames.{is_poisoned}
+use Rattle.hwp_words.specs.Frames.{is_kernel, is_poisoned}
 use Rattle.hwp_words.specs.Stops.{stopper_of}
 use Rattle.hwp_rule.specs.declared.Length.{Length}
 use Rattle.hwp_rule.specs.declared.Log.{Log}
@@ -48,14 +48,14 @@ use Rattle.hwp_law.specs.Commands.{Access, access_of, process_at, process_of_thr
 use Rattle.hwp_law.specs.Places.{command_at}
 use Rattle.hwp_law.specs.Policies.{arguments, last_policy, settings}
 use Rattle.hwp_law.specs.Runs.{slot_of}
-use Rattle.hwp_handler.specs.declared.Found.{Found}
+use Rattle.hwp_row.specs.declared.Own.{Own}
 use Rattle.hwp_handler.specs.declared.Told.{Told}
 use Rattle.hwp_handler.specs.Told.{frame_of}
-use Rattle.hwp_runs.specs.Shown.{AlreadyShown, AnswerShown, GoesOn, GoneShown, LengthShown, NoFrameShown, ProcessShown, StopShown}
+use Rattle.hwp_runs.specs.Shown.{AlreadyShown, AnswerShown, GoesOn, GoneShown, IsFree, LengthShown, NoFrameShown, ProcessShown, StopShown}
 use Rattle.hwp_runs.specs.Turns.{Finds, FindsBad, HasFrameOf, SawPage, SeesPage, TurnBy}
 use Rattle.hwp_runs.proofs.Knowing.{IsUnder, Said}
 use Rattle.hwp_runs.proofs.Telling.{told}
-use Rattle.hwp_served.specs.Causes.{FoundGone, FoundNoFrame, FoundState, FoundStopped, IsAnswerCaused, IsTableCaused, SawBadLines, SawProcess, WasSignalled}
+use Rattle.hwp_served.specs.Causes.{FoundGone, FoundNoFrame, FoundState, FoundStopped, IsAnswerCaused, IsOfflineCaused, IsSoftCaused, IsTableCaused, SawBadLines, SawProcess, WasSignalled}
 use Rattle.hwp_served.proofs.RowLines.{event_at}
 use Rattle.hwp_served.proofs.deeds.Made.{some-so}
 
@@ -222,17 +222,39 @@ module _ (script : Script) (turns : List Played) (view : View) (said : Said (tol
   sigbus-shown (commands.Fsync file) at = tt
   sigbus-shown command at = tt
 
-  pub answer-shown : (command : Command) (told : List Told) (own : Option (Frame × Found)) (answer : Answer) → command_at script who ≡ Some command → IsAnswerCaused script.layout list view who command told own answer → AnswerShown script turns who command answer
+  -- what the answer of a soft offline rests on
+  offline-shown : (frame : Frame) (own : Option Own) (answer : Answer) → IsOfflineCaused script.layout view who frame own answer → AnswerShown script turns who (commands.Soft frame) answer
+  offline-shown frame own (answers.Moved other entry) caused =
+      word-shown script.layout turns view said who IsFree (places.Frame other) caused.word (record { bare = caused.free.bare; uncounted = caused.free.uncounted }) caused.free.saw
+  offline-shown frame own answers.TakenFree caused = tt
+  offline-shown frame own answers.Already caused =
+      word-shown script.layout turns view said who (λ (word : ℕ). is_poisoned word ≡ true) (places.Frame frame) caused.0.word caused.0.poisoned caused.0.saw
+  offline-shown frame own (answers.HasBad mask) caused =
+      word-shown script.layout turns view said who (λ (word : ℕ). word ≡ mask.0) (places.Bad frame) mask.0 refl (caused.0.saw.0, caused.0.saw.1, caused.0.saw.2, caused.0.saw.3.0)
+  offline-shown frame own answers.NoFrame caused = record {
+    available = word-shown script.layout turns view said who (λ (word : ℕ). word ≡ 0) places.Available 0 refl caused.1;
+    out = λ slot page of. absurd (none-some slot of);
+  }
+  offline-shown frame own answer caused = absurd caused
+
+  soft-shown : (frame : Frame) (own : Option Own) (answer : Answer) → IsSoftCaused script.layout view who frame own answer → AnswerShown script turns who (commands.Soft frame) answer
+  soft-shown frame own answers.Kernel caused =
+      word-shown script.layout turns view said who (λ (word : ℕ). is_kernel word ≡ true) (places.Frame frame) caused.0.word caused.0.kernel caused.0.saw
+  soft-shown frame own answer caused = offline-shown frame own answer caused.1
+
+  pub answer-shown : (command : Command) (told : List Told) (own : Option Own) (answer : Answer) → command_at script who ≡ Some command → IsAnswerCaused script.layout list view who command told own answer → AnswerShown script turns who command answer
   answer-shown command told own answers.Stopped at caused = stop-shown script.layout turns view said who command caused
   answer-shown (commands.RaiseUser thread ripv eipv) told own (answers.Raised n) at caused = tt
   answer-shown (commands.RaiseUser thread ripv eipv) told own (answers.Gone page) at caused = gone-shown (commands.RaiseUser thread ripv eipv) thread page at refl caused.0
   answer-shown (commands.RaiseKernel ripv eipv) told own (answers.Raised n) at caused = tt
+  answer-shown (commands.Scrub first last) told own (answers.Scrubbed n) at caused = tt
   answer-shown (commands.Inject frame) told own answers.Recovered at caused = tt
   answer-shown (commands.Inject frame) told own answers.Delayed at caused = tt
   answer-shown (commands.Inject frame) told own answers.Ignored at caused = tt
   answer-shown (commands.Inject frame) told own answers.Already at caused =
       word-shown script.layout turns view said who (λ (word : ℕ). is_poisoned word ≡ true) (places.Frame frame) caused.1.0.word caused.1.0.poisoned caused.1.0.saw
   answer-shown (commands.Inject frame) told own answer at caused = absurd caused.1
+  answer-shown (commands.Soft frame) told own answer at caused = soft-shown frame own answer caused
   answer-shown command told own (answers.Sigbus entry) at caused = sigbus-shown command entry
   answer-shown command told own answer at caused = table-shown command answer at caused
 
@@ -285,16 +307,18 @@ module _ (script : Script) (turns : List Played) (view : View) (said : Said (tol
     goes-sigbus command told at is (inl caused) = goes-table command (answers.Sigbus at) is caused
     goes-sigbus command told at is (inr was) = goes-signalled command told at is was
 
-    goes : (command : Command) (told : List Told) (own : Option (Frame × Found)) (answer : Answer) → option_and_then (process_of_thread script.layout) (thread_of command) ≡ Some process → IsAnswerCaused script.layout list view who command told own answer
+    goes : (command : Command) (told : List Told) (own : Option Own) (answer : Answer) → option_and_then (process_of_thread script.layout) (thread_of command) ≡ Some process → IsAnswerCaused script.layout list view who command told own answer
         → GoesOn script.layout turns who process answer
     goes command told own answers.Stopped is caused = tt
     goes command told own (answers.Gone page) is caused = tt
     goes (commands.RaiseUser thread ripv eipv) told own (answers.Raised n) is caused = runs-on (commands.RaiseUser thread ripv eipv) thread refl is caused.0
     goes (commands.RaiseKernel ripv eipv) told own answer is caused = absurd (none-some process is)
+    goes (commands.Scrub first last) told own answer is caused = absurd (none-some process is)
     goes (commands.Inject frame) told own answer is caused = absurd (none-some process is)
+    goes (commands.Soft frame) told own answer is caused = absurd (none-some process is)
     goes command told own (answers.Sigbus at) is caused = goes-sigbus command told at is caused
     goes command told own answer is caused = goes-table command answer is caused
 
-    pub goes-shown : (command : Command) (told : List Told) (own : Option (Frame × Found)) (answer : Answer) → command_at script who ≡ Some command → process_at script who ≡ Some process → IsAnswerCaused script.layout list view who command told own answer
+    pub goes-shown : (command : Command) (told : List Told) (own : Option Own) (answer : Answer) → command_at script who ≡ Some command → process_at script who ≡ Some process → IsAnswerCaused script.layout list view who command told own answer
         → GoesOn script.layout turns who process answer
     goes-shown command told own answer at is caused = goes command told own answer (sym (process-is script who command at) ∙ is) caused

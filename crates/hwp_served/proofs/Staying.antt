@@ -32,6 +32,8 @@ use Rattle.hwp_step.proofs.Stepping.{content_of}
 use Rattle.hwp_known.specs.Known.{HasMadeNone, SawStop, deeds}
 use Rattle.hwp_known.proofs.Listing.{has-made-stays, has-only-stays}
 use Rattle.hwp_known.proofs.Seeing.{saw-bad-of-stays, saw-state-stays, saw-stays}
+use Rattle.hwp_move.specs.Seizes.{SawKernel}
+use Rattle.hwp_soft.proofs.Spared.{free-stays}
 use Rattle.hwp_script.specs.declared.Command.{Command}
 use Rattle.hwp_script.specs.declared.Command.TheVariants as commands
 use Rattle.hwp_report.specs.declared.Answer.{Answer}
@@ -39,9 +41,10 @@ use Rattle.hwp_report.specs.declared.Answer.TheVariants as answers
 use Rattle.hwp_law.specs.Checks.{Banks}
 use Rattle.hwp_law.specs.Commands.{Access, access_of}
 use Rattle.hwp_handler.specs.declared.Found.{Found}
-use Rattle.hwp_handler.specs.declared.Row.{Row}
+use Rattle.hwp_row.specs.declared.Own.{Own}
+use Rattle.hwp_row.specs.declared.Row.{Row}
 use Rattle.hwp_handler.specs.declared.Told.{Told}
-use Rattle.hwp_served.specs.Causes.{FoundGone, FoundNoFrame, FoundPoisoned, FoundState, FoundStopped, HasCome, HasFailed, HasOnlyBegun, HasOnlyMet, HasSpoiledLine, IsAnswerCaused, IsCaused, IsCopyCaused, IsInjectCaused, IsLoadCaused, IsPageCaused, IsReplied, IsStoreCaused, IsTableCaused, MadeOne, Reached, SawBadLines, SawProcess, WasRaised, WasSignalled}
+use Rattle.hwp_served.specs.Causes.{FoundGone, FoundNoFrame, FoundPoisoned, FoundState, FoundStopped, FoundBadLines, HasCome, HasFailed, HasMoved, HasOnlyBegun, HasOnlyMet, HasSpoiledLine, HasTaken, IsAnswerCaused, IsCaused, IsCopyCaused, IsInjectCaused, IsLoadCaused, IsOfflineCaused, IsPageCaused, IsReplied, IsSoftCaused, IsStoreCaused, IsTableCaused, MadeOne, Reached, SawBadLines, SawProcess, WasRaised, WasSignalled}
 use Rattle.hwp_served.specs.Served.{IsRowServed}
 use Rattle.hwp_served.proofs.Accounting.{account-stays}
 use Rattle.hwp_served.proofs.Adding.{some-more}
@@ -195,18 +198,44 @@ module _ {layout : Layout} {by : Who} {step : Step} {body : Option BodyValue} {o
   failed-stays : (frame : Frame) (f : Found) → HasFailed layout old who frame f → HasFailed layout new who frame f
   failed-stays frame f failed = record { entered = entered-stays can made who other frame None f f.at failed.entered; only = has-only-stays who old new same-deeds failed.only }
 
-  come-stays : (frame : Frame) (own : Option (Frame × Found)) (outcome : Outcome) → HasCome layout old who frame own outcome → HasCome layout new who frame own outcome
+  come-stays : (frame : Frame) (own : Option Own) (outcome : Outcome) → HasCome layout old who frame own outcome → HasCome layout new who frame own outcome
   come-stays frame own outcome come = record { found = come.found; own_is = come.own_is; outcome_is = come.outcome_is; failed = failed-stays frame come.found come.failed }
 
   poisoned-stays : (frame : Frame) → FoundPoisoned old who frame → FoundPoisoned new who frame
   poisoned-stays frame found_ = record { word = found_.word; poisoned = found_.poisoned; saw = saw-stays made found_.saw; made = made-none-later found_.made }
 
-  inject-stays : (frame : Frame) (own : Option (Frame × Found)) (answer : Answer) → IsInjectCaused layout old who frame own answer → IsInjectCaused layout new who frame own answer
+  inject-stays : (frame : Frame) (own : Option Own) (answer : Answer) → IsInjectCaused layout old who frame own answer → IsInjectCaused layout new who frame own answer
   inject-stays frame own answers.Recovered come = come-stays frame own _ come
   inject-stays frame own answers.Delayed come = come-stays frame own _ come
   inject-stays frame own answers.Ignored come = come-stays frame own _ come
   inject-stays frame own answers.Already caused = (poisoned-stays frame caused.0, caused.1)
   inject-stays frame own _ caused = absurd caused
+
+  -- ---- soft offline
+
+  bad-lines-found-stay : (frame : Frame) (mask : Mask) → FoundBadLines old who frame mask → FoundBadLines new who frame mask
+  bad-lines-found-stay frame mask found_ = record { some = found_.some; page = found_.page; saw = saw-bad-of-stays made found_.page found_.saw; made = made-none-later found_.made }
+
+  moved-stays : (frame other : Frame) (own : Option Own) (at : At) → HasMoved old who frame other own at → HasMoved new who frame other own at
+  moved-stays frame other own at moved = record { cycle = moved.cycle; own_is = moved.own_is; word = moved.word; free = free-stays made moved.free; made = one-stays at entries.Soft moved.made }
+
+  taken-stays : (frame : Frame) (own : Option Own) → HasTaken old who frame own → HasTaken new who frame own
+  taken-stays frame own has = record { cycle = has.cycle; own_is = has.own_is; made = made-none-later has.made }
+
+  offline-stays : (frame : Frame) (own : Option Own) (answer : Answer) → IsOfflineCaused layout old who frame own answer → IsOfflineCaused layout new who frame own answer
+  offline-stays frame own (answers.Moved other at) caused = moved-stays frame other own at caused
+  offline-stays frame own answers.TakenFree caused = taken-stays frame own caused
+  offline-stays frame own answers.Already caused = (poisoned-stays frame caused.0, caused.1)
+  offline-stays frame own (answers.HasBad mask) caused = (bad-lines-found-stay frame mask caused.0, caused.1)
+  offline-stays frame own answers.NoFrame caused = (made-none-later caused.0, saw-stays made caused.1, caused.2)
+  offline-stays frame own _ caused = absurd caused
+
+  kernel-stays : (frame : Frame) → SawKernel layout old who frame → SawKernel layout new who frame
+  kernel-stays frame saw = record { word = saw.word; kernel = saw.kernel; saw = saw-stays made saw.saw; declared = saw.declared }
+
+  soft-stays : (frame : Frame) (own : Option Own) (answer : Answer) → IsSoftCaused layout old who frame own answer → IsSoftCaused layout new who frame own answer
+  soft-stays frame own answers.Kernel caused = (kernel-stays frame caused.0, made-none-later caused.1, caused.2)
+  soft-stays frame own answer caused = (caused.0, offline-stays frame own answer caused.1)
 
   -- ---- the cause of another command's answer
 
@@ -249,13 +278,15 @@ module _ {layout : Layout} {by : Who} {step : Step} {body : Option BodyValue} {o
   either-stays list command told at (inl caused) = inl (table-stays list command (answers.Sigbus at) caused)
   either-stays list command told at (inr was) = inr (sigbus-stays command told at (access_of command) was)
 
-  answer-stays : (list : List Command) (command : Command) (told : List Told) (own : Option (Frame × Found)) (answer : Answer) → IsAnswerCaused layout list old who command told own answer
+  answer-stays : (list : List Command) (command : Command) (told : List Told) (own : Option Own) (answer : Answer) → IsAnswerCaused layout list old who command told own answer
       → IsAnswerCaused layout list new who command told own answer
   answer-stays list command told own answers.Stopped caused = stopped-stays command caused
   answer-stays list (commands.RaiseUser thread ripv eipv) told own (answers.Raised n) caused = (saw-process-stays thread 0 caused.0, raised-stays _ told n caused.1)
   answer-stays list (commands.RaiseUser thread ripv eipv) told own (answers.Gone page) caused = (gone-stays thread page caused.0, made-none-later caused.1)
   answer-stays list (commands.RaiseKernel ripv eipv) told own (answers.Raised n) caused = raised-stays _ told n caused
+  answer-stays list (commands.Scrub first last) told own (answers.Scrubbed n) caused = raised-stays _ told n caused
   answer-stays list (commands.Inject frame) told own answer caused = (caused.0, inject-stays frame own answer caused.1)
+  answer-stays list (commands.Soft frame) told own answer caused = soft-stays frame own answer caused
   answer-stays list command told own (answers.Sigbus at) caused = either-stays list command told at caused
   answer-stays list command told own answer caused = table-stays list command answer caused
 

@@ -16,7 +16,7 @@ use Rattle.hwp_script.specs.declared.Command.{Command}
 use Rattle.hwp_script.specs.declared.Script.{Script}
 use Rattle.hwp_report.specs.declared.Report.{Report}
 use Rattle.hwp_report.specs.declared.Stop.{Stop}
-use Rattle.hwp_handler.specs.declared.Row.{Row}
+use Rattle.hwp_row.specs.declared.Row.{Row}
 use Rattle.hwp_runs.specs.Ends.{IsStopOn}
 use Rattle.hwp_served.specs.Causes.{FoundStopped}
 use Rattle.hwp_served.specs.Served.{IsOwnStop}

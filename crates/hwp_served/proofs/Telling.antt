@@ -1,5 +1,5 @@
 -- What a command told of its machine checks stays right over each step of another command.
-use Rattle.std.proofs.Common.{◌≡◌, ◌≢◌, ℕ, ◌||◌, Bool, true, false, List, [], ◌∷◌, Option, Some, None, filter, ap, ◌∙◌, length, MatchBool, sym, subst}
+use Rattle.std.proofs.Common.{◌≡◌, ◌≢◌, ◌⊎◌, inl, inr, ℕ, Bool, true, false, List, [], ◌∷◌, Option, Some, None, filter, ap, ◌∙◌, length, MatchBool, sym, subst}
 use Rattle.hwp_geom.specs.declared.Frame.{Frame}
 use Rattle.hwp_geom.specs.declared.Layout.{Layout}
 use Rattle.hwp_geom.specs.declared.Mode.{Mode}
@@ -21,18 +21,19 @@ use Rattle.hwp_known.proofs.Listing.{deeds-other}
 use Rattle.hwp_known.proofs.Seeing.{saw-stays}
 use Rattle.hwp_script.specs.declared.Command.{Command}
 use Rattle.hwp_script.specs.declared.Command.TheVariants as commands
-use Rattle.hwp_report.specs.declared.Acted.{Acted}
 use Rattle.hwp_report.specs.declared.Answer.{Answer}
-use Rattle.hwp_law.specs.Checks.{Banks, empty_banks, has_stop, is_panic}
+use Rattle.hwp_report.specs.declared.Answer.TheVariants as answers
+use Rattle.hwp_law.specs.Checks.{Banks, empty_banks, has_stop}
 use Rattle.hwp_law.specs.Commands.{Arrival, arrival_of}
 use Rattle.hwp_law.specs.Events.{is_check}
 use Rattle.hwp_handler.specs.declared.Found.{Found}
-use Rattle.hwp_handler.specs.declared.Row.{Row}
+use Rattle.hwp_row.specs.declared.Row.{Row}
 use Rattle.hwp_handler.specs.declared.Told.{Told}
 use Rattle.hwp_handler.specs.Checks.{AreChecks, Check, IsActedOn, IsCheck}
-use Rattle.hwp_handler.specs.Fits.{AreTold, IsDone, IsEntered, IsFailed, IsMark}
-use Rattle.hwp_handler.specs.Told.{at_once, frame_of, required_by}
-use Rattle.hwp_served.specs.Told.{AreToldBy, IsAccessTold, IsRaiseTold, IsRowTold, IsUntold, is_raised}
+use Rattle.hwp_handler.specs.Fits.{IsEntered}
+use Rattle.hwp_handler.proofs.Staying.{Stay, told-stays}
+use Rattle.hwp_scrub.proofs.Visiting.{bad-stays, visits-stay}
+use Rattle.hwp_served.specs.Told.{AreToldBy, IsAccessTold, IsCutShort, IsRaiseTold, IsScrubTold, IsRowTold, IsUntold, is_raised}
 use Rattle.hwp_served.proofs.Accounting.{marks-stay}
 
 module _ {layout : Layout} {by : Who} {step : Step} {body : Option BodyValue} {old new : View} {found : ℕ} {got : Option BodyValue} (can : CanMake layout by step body old) (made : Steps layout by step (logs body) old new found got)
@@ -55,24 +56,16 @@ module _ {layout : Layout} {by : Who} {step : Step} {body : Option BodyValue} {o
     entered.1,
   )
 
-  failed-stays : (frame : Frame) (required : Option Thread) (acted : Acted) (f : Option Found) → IsFailed layout old who frame required acted f → IsFailed layout new who frame required acted f
-  failed-stays frame required acted None failed = (failed.0, record { word = failed.1.word; poisoned = failed.1.poisoned; saw = saw-stays made failed.1.saw })
-  failed-stays frame required acted (Some f) failed =
-      (failed.0, subst (SomeMember (IsMark frame f.cycle)) (sym (marks-stay made who other)) failed.1, entered-stays frame required f f.at failed.2)
-
-  done-stays : (required : Option Thread) (t : Told) (acted : Option Acted) → IsDone layout old who required t acted → IsDone layout new who required t acted
-  done-stays required t (Some acted) done = done
-  done-stays required t None done = failed-stays (frame_of t.held) required t.acted t.found done
-
-  -- ---- of all events of a machine check
-
-  told-stay : (thread : Option Thread) (held_back : Bool) (told : List Told) → AreTold layout old who thread held_back told → AreTold layout new who thread held_back told
-  told-stay thread held_back [] are = tt
-  told-stay thread held_back (t ∷ ts) are =
-      (done-stays (required_by thread t.held.grade.severity) t (at_once layout held_back t.held) are.0, told-stay thread (held_back || is_panic t.acted) ts are.1)
+  -- what the command marked, entered and saw stays
+  stay : Stay who old new
+  stay = record {
+    marks = λ P some. subst (SomeMember P) (sym (marks-stay made who other)) some;
+    deeds = λ P some. subst (SomeMember P) (sym deeds-stay) some;
+    saw = λ frame saw. record { word = saw.word; poisoned = saw.poisoned; saw = saw-stays made saw.saw };
+  }
 
   acted-on-stays : (thread : Option Thread) (how : Arrival) (banks : Banks) (lines : List Told) → IsActedOn layout old who thread how banks lines → IsActedOn layout new who thread how banks lines
-  acted-on-stays thread how banks lines acted = record { events = acted.events; told = told-stay thread (has_stop how banks) lines acted.told }
+  acted-on-stays thread how banks lines acted = record { events = acted.events; told = told-stays layout who thread stay (has_stop how banks) lines acted.told }
 
   -- ---- of a command
 
@@ -106,6 +99,29 @@ module _ {layout : Layout} {by : Who} {step : Step} {body : Option BodyValue} {o
       by-raised true is = (acted-on-stays thread how before told is.0, is.1)
       by-raised false is = is
 
+  cut-stays : (first last : Frame) (before : Banks) (told : List Told) (after : Banks) → IsUntold told before after ⊎ IsCutShort layout old who first last before told after
+      → IsUntold told before after ⊎ IsCutShort layout new who first last before told after
+  cut-stays first last before told after (inl none) = inl none
+  cut-stays first last before told after (inr cut) = inr (record {
+    visits = cut.visits;
+    visited = visits-stay layout who stay (λ place word saw. saw-stays made saw) first.0 before cut.visits cut.visited;
+    inside = cut.inside;
+    bad = cut.bad;
+    found = bad-stays layout who stay (λ place word saw. saw-stays made saw) _ _ cut.bad cut.found;
+    told_is = cut.told_is;
+    after_is = cut.after_is;
+  })
+
+  scrub-stays : (first last : Frame) (answer : Answer) (before : Banks) (told : List Told) (after : Banks) → IsScrubTold layout old who first last answer before told after → IsScrubTold layout new who first last answer before told after
+  scrub-stays first last (answers.Scrubbed n) before told after is = record {
+    visits = is.visits;
+    visited = visits-stay layout who stay (λ place word saw. saw-stays made saw) first.0 before is.visits is.visited;
+    all = is.all;
+    told_is = is.told_is;
+    after_is = is.after_is;
+  }
+  scrub-stays first last answer before told after is = cut-stays first last before told after is
+
   told-by-stays : (command : Command) (answer : Answer) (before : Banks) (told : List Told) (after : Banks) → AreToldBy layout old who command answer before told after → AreToldBy layout new who command answer before told after
   told-by-stays (commands.Load thread slot line) answer before told after is = access-stays thread line origins.Access modes.User before told after is
   told-by-stays (commands.Fetch thread slot line) answer before told after is = access-stays thread line origins.Fetch modes.User before told after is
@@ -113,6 +129,7 @@ module _ {layout : Layout} {by : Who} {step : Step} {body : Option BodyValue} {o
   told-by-stays (commands.Store thread slot line word) answer before told after is = access-stays thread line origins.Access modes.User before told after is
   told-by-stays (commands.RaiseUser thread ripv eipv) answer before told after is = raise-stays (Some thread) (arrival_of (commands.RaiseUser thread ripv eipv)) answer before told after is
   told-by-stays (commands.RaiseKernel ripv eipv) answer before told after is = raise-stays None (arrival_of (commands.RaiseKernel ripv eipv)) answer before told after is
+  told-by-stays (commands.Scrub first last) answer before told after is = scrub-stays first last answer before told after is
   told-by-stays command answer before told after is = is
 
   -- what a row tells of another command stays

@@ -17,7 +17,7 @@ use Rattle.hwp_law.specs.Answers.{AreInWindows}
 use Rattle.hwp_law.specs.States.{place_named, state_named}
 use Rattle.hwp_law.specs.Places.{command_at}
 use Rattle.hwp_law.specs.States.{IsInWindow}
-use Rattle.hwp_handler.specs.declared.Row.{Row}
+use Rattle.hwp_row.specs.declared.Row.{Row}
 use Rattle.hwp_runs.proofs.Homes.{there-is}
 use Rattle.hwp_runs.proofs.Reported.{before-later, listed-entry, not-below-seen, past-earlier}
 use Rattle.hwp_served.specs.Rows.{lines_from}

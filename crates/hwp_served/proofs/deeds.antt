@@ -1,5 +1,5 @@
 pub mod Deeds
 pub mod Made
-pub mod Sound
+pub mod Softs
 pub mod CountedEntries
 pub mod Needed

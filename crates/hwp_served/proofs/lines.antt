@@ -1,4 +1,9 @@
 pub mod LowWords
+pub mod SightedLines
+pub mod ScrubBank
+pub mod Scrubbed
+pub mod ScrubLines
+pub mod ScrubShown
 pub mod NamedEvents
 pub mod OfRows
 pub mod RowEvents

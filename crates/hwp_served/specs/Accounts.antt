@@ -1,6 +1,6 @@
 -- What a command did beside what its answer tells: the frames that it poisoned, the failures that its entries tell, the losses that it
 -- took, and the policy that it set.
-use Rattle.std.specs.Prelude.{◌≡◌, ℕ, ◌==◌, ◌&&◌, Bool, false, List, [], ◌∷◌, ◌++◌, Option, None, Some, option_map, filter, filter_map, map}
+use Rattle.std.specs.Prelude.{◌≡◌, ℕ, ◌==◌, ◌&&◌, Bool, true, false, List, [], ◌∷◌, ◌++◌, Option, None, Some, option_map, option_and_then, filter, filter_map, map}
 use Rattle.std.specs.List.{cons_option}
 use Rattle.hwp_geom.specs.declared.FileNo.{FileNo}
 use Rattle.hwp_geom.specs.declared.Frame.{Frame}
@@ -22,13 +22,16 @@ use Rattle.hwp_script.specs.declared.Command.{Command}
 use Rattle.hwp_script.specs.declared.Command.TheVariants as commands
 use Rattle.hwp_report.specs.declared.Answer.{Answer}
 use Rattle.hwp_report.specs.declared.Answer.TheVariants as answers
+use Rattle.hwp_report.specs.declared.How.{How}
 use Rattle.hwp_report.specs.declared.How.TheVariants as hows
 use Rattle.hwp_report.specs.declared.MarkLine.TheVariants as marks
 use Rattle.hwp_law.specs.Commands.{current_thread}
 use Rattle.hwp_law.specs.Policies.{arguments}
-use Rattle.hwp_law.specs.Records.{outcome_answer}
+use Rattle.hwp_law.specs.Records.{is_moved, outcome_answer}
 use Rattle.hwp_handler.specs.declared.Found.{Found}
-use Rattle.hwp_handler.specs.declared.Row.{Row}
+use Rattle.hwp_row.specs.declared.Own.{Own}
+use Rattle.hwp_row.specs.declared.Own.TheVariants as owns
+use Rattle.hwp_row.specs.declared.Row.{Row}
 use Rattle.hwp_handler.specs.Done.{failed_by, failed_in, marked_in}
 use Rattle.hwp_served.specs.Rows.{Note}
 
@@ -54,15 +57,23 @@ policies_set who view = map (λ (s : Setting). (s.thread, s.policy)) (filter (λ
 -- ---- by the command's row
 
 -- the poisonings: those that its events told, and its own
-abbrev pub own_marking : Option (Frame × Found) → Option Marking
-own_marking own = option_map (λ (x : Frame × Found). poisoning x.0 false x.1.cycle) own
+abbrev pub marking_by : Own → Marking
+marking_by (owns.Failed frame found) = poisoning frame false found.cycle
+marking_by (owns.Offlined frame cycle moved) = poisoning frame false cycle
+
+abbrev pub own_marking : Option Own → Option Marking
+own_marking own = option_map marking_by own
 
 abbrev pub markings_in : Row → List Marking
 markings_in row = filter_map marked_in row.told ++ cons_option (own_marking row.own) []
 
 -- the failures, where a page was in the frame
-abbrev pub own_failure : Option (Frame × Found) → Option Failed
-own_failure own = failed_by None (option_map (λ (x : Frame × Found). x.1) own)
+abbrev pub found_in : Own → Option Found
+found_in (owns.Failed frame found) = Some found
+found_in (owns.Offlined frame cycle moved) = None
+
+abbrev pub own_failure : Option Own → Option Failed
+own_failure own = failed_by None (option_and_then found_in own)
 
 abbrev pub failures_in : Command → Row → List Failed
 failures_in command row = filter_map (failed_in (current_thread command)) row.told ++ cons_option (own_failure row.own) []
@@ -82,10 +93,16 @@ abbrev pub set_by : Command → Answer → List (Thread × Policy)
 set_by (commands.Prctl thread args) answers.Done = set_for thread (policy_set (arguments args))
 set_by _ _ = []
 
--- only a command that makes a frame fail has a failure of its own: of that frame, and its answer is what came of it
-abbrev pub IsOwn : Command → Answer → Option (Frame × Found) → Type 0
+-- the answer says whether a page left the frame that was taken out of use
+abbrev pub IsOfflined : Bool → Answer → Type 0
+IsOfflined true answer = is_moved (Some answer) ≡ true
+IsOfflined false answer = answer ≡ answers.TakenFree
+
+-- only a command that makes its frame fail, or takes it out of use, did something to a frame itself, and its answer is what came of it
+abbrev pub IsOwn : Command → Answer → Option Own → Type 0
 IsOwn command answer None = Unit {0}
-IsOwn (commands.Inject frame) answer (Some own) = (own.0 ≡ frame) × (answer ≡ outcome_answer (outcome_of own.1.situation))
+IsOwn (commands.Inject frame) answer (Some (owns.Failed own found)) = (own ≡ frame) × (answer ≡ outcome_answer (outcome_of found.situation))
+IsOwn (commands.Soft frame) answer (Some (owns.Offlined own cycle moved)) = (own ≡ frame) × IsOfflined moved answer
 IsOwn command answer (Some own) = ⊥
 
 -- the command did what its row says
@@ -96,10 +113,17 @@ pub record IsAccounted (view : View) (who : Who) (command : Command) (row : Row)
   pub set : policies_set who view ≡ set_by command row.answer
   pub own : IsOwn command row.answer row.own
 
+-- a poisoning that the hardware reported, or not, came about so
+abbrev pub IsHow : Bool → How → Type 0
+IsHow hardware (hows.Failure reported situation outcome) = (reported ≡ hardware) × (outcome ≡ outcome_of situation)
+IsHow hardware hows.Moved = hardware ≡ false
+IsHow hardware hows.TakenFree = hardware ≡ false
+
 -- the note tells the mark
 pub record IsNote (note : Note) (m : Mark) : Type 0 where
   pub hardware : Bool
-  pub found : Found
+  pub how : How
   pub frame : note.0 ≡ m.frame
   pub kind : m.kind ≡ mark_kinds.Poisoned hardware
-  pub line : note.1 ≡ marks.Poisoned m.cycle m.stamp.who (hows.Failure hardware found.situation (outcome_of found.situation))
+  pub line : note.1 ≡ marks.Poisoned m.cycle m.stamp.who how
+  pub is : IsHow hardware how

@@ -1,6 +1,6 @@
 -- Why a command was answered so: by what a processor knows of it, of the words that its steps showed, of the histories that it
 -- saw and of the entries that it made.
-use Rattle.std.specs.Prelude.{◌≡◌, ◌≢◌, ◌⊎◌, ℕ, ◌+◌, ◌<◌, true, List, Option, None, Some, length, take, IsSomeAnd}
+use Rattle.std.specs.Prelude.{◌≡◌, ◌≢◌, ◌⊎◌, ℕ, ◌+◌, ◌<◌, true, false, List, Option, None, Some, length, take, IsSomeAnd}
 use Rattle.hwp_geom.specs.declared.Damage.{Damage}
 use Rattle.hwp_geom.specs.declared.Damage.TheVariants as damages
 use Rattle.hwp_geom.specs.declared.Frame.{Frame}
@@ -39,7 +39,11 @@ use Rattle.hwp_law.specs.Answers.{reply_answer}
 use Rattle.hwp_law.specs.Commands.{Access, access_of, can_fail, process_of_thread}
 use Rattle.hwp_law.specs.Policies.{arguments, last_policy, settings}
 use Rattle.hwp_handler.specs.declared.Found.{Found}
-use Rattle.hwp_handler.specs.declared.Row.{Row}
+use Rattle.hwp_claim.specs.Grabs.{WasFree}
+use Rattle.hwp_move.specs.Seizes.{IsUsers, SawKernel}
+use Rattle.hwp_row.specs.declared.Own.{Own}
+use Rattle.hwp_row.specs.declared.Own.TheVariants as owns
+use Rattle.hwp_row.specs.declared.Row.{Row}
 use Rattle.hwp_handler.specs.declared.Told.{Told}
 use Rattle.hwp_handler.specs.Fits.{IsEntered}
 use Rattle.hwp_handler.specs.Told.{first_signal}
@@ -158,9 +162,9 @@ pub record HasFailed (layout : Layout) (view : View) (who : Who) (frame : Frame)
   pub only : HasOnly (λ (m : Made). is_failure m.entry.what ≡ true) view who
 
 -- the failure came to this
-pub record HasCome (layout : Layout) (view : View) (who : Who) (frame : Frame) (own : Option (Frame × Found)) (outcome : Outcome) : Type 0 where
+pub record HasCome (layout : Layout) (view : View) (who : Who) (frame : Frame) (own : Option Own) (outcome : Outcome) : Type 0 where
   pub found : Found
-  pub own_is : own ≡ Some (frame, found)
+  pub own_is : own ≡ Some (owns.Failed frame found)
   pub outcome_is : outcome_of found.situation ≡ outcome
   pub failed : HasFailed layout view who frame found
 
@@ -171,12 +175,48 @@ pub record FoundPoisoned (view : View) (who : Who) (frame : Frame) : Type 0 wher
   pub saw : Saw view who (places.Frame frame) word
   pub made : HasMadeNone view who
 
-abbrev pub IsInjectCaused : Layout → View → Who → Frame → Option (Frame × Found) → Answer → Type 0
+abbrev pub IsInjectCaused : Layout → View → Who → Frame → Option Own → Answer → Type 0
 IsInjectCaused layout view who frame own answers.Recovered = HasCome layout view who frame own outcomes.Recovered
 IsInjectCaused layout view who frame own answers.Delayed = HasCome layout view who frame own outcomes.Delayed
 IsInjectCaused layout view who frame own answers.Ignored = HasCome layout view who frame own outcomes.Ignored
 IsInjectCaused layout view who frame own answers.Already = FoundPoisoned view who frame × (own ≡ None)
 IsInjectCaused layout view who frame own _ = ⊥
+
+-- ---- soft offline
+
+-- a step of the command, under the frame's lock, showed that these lines of it were bad, and it made no entry
+pub record FoundBadLines (view : View) (who : Who) (frame : Frame) (mask : Mask) : Type 0 where
+  pub some : mask.0 ≢ 0
+  pub page : Page
+  pub saw : SawBadOf view who page frame mask.0
+  pub made : HasMadeNone view who
+
+-- the command moved the page in the frame to another one, which it had seen free, by this entry
+pub record HasMoved (view : View) (who : Who) (frame other : Frame) (own : Option Own) (at : At) : Type 0 where
+  pub cycle : ℕ
+  pub own_is : own ≡ Some (owns.Offlined frame cycle true)
+  pub word : ℕ
+  pub free : WasFree view who other word
+  pub made : MadeOne view who at entries.Soft
+
+-- the frame had no page, and the command put it out of use
+pub record HasTaken (view : View) (who : Who) (frame : Frame) (own : Option Own) : Type 0 where
+  pub cycle : ℕ
+  pub own_is : own ≡ Some (owns.Offlined frame cycle false)
+  pub made : HasMadeNone view who
+
+-- of a frame that isn't the kernel's
+abbrev pub IsOfflineCaused : Layout → View → Who → Frame → Option Own → Answer → Type 0
+IsOfflineCaused layout view who frame own (answers.Moved other at) = HasMoved view who frame other own at
+IsOfflineCaused layout view who frame own answers.TakenFree = HasTaken view who frame own
+IsOfflineCaused layout view who frame own answers.Already = FoundPoisoned view who frame × (own ≡ None)
+IsOfflineCaused layout view who frame own (answers.HasBad mask) = FoundBadLines view who frame mask × (own ≡ None)
+IsOfflineCaused layout view who frame own answers.NoFrame = HasMadeNone view who × Saw view who places.Available 0 × (own ≡ None)
+IsOfflineCaused layout view who frame own _ = ⊥
+
+abbrev pub IsSoftCaused : Layout → View → Who → Frame → Option Own → Answer → Type 0
+IsSoftCaused layout view who frame own answers.Kernel = SawKernel layout view who frame × HasMadeNone view who × (own ≡ None)
+IsSoftCaused layout view who frame own answer = IsUsers layout frame × IsOfflineCaused layout view who frame own answer
 
 -- ---- machine checks
 
@@ -186,7 +226,7 @@ pub record WasSignalled (layout : Layout) (view : View) (who : Who) (command : C
   pub first : first_signal told ≡ Some at
   pub only : HasOnlyMet layout view who command
 
--- a command that raised a machine check tells how many lines there are
+-- a command that raised a machine check, or a scrub, tells how many lines there are
 pub record WasRaised (layout : Layout) (view : View) (who : Who) (command : Command) (told : List Told) (n : ℕ) : Type 0 where
   pub count : n ≡ length told
   pub only : HasOnlyMet layout view who command
@@ -214,13 +254,15 @@ IsTableCaused layout list view who (commands.Weak frame line) answers.Done = Has
 IsTableCaused layout list view who _ _ = ⊥
 
 -- the answer of a command among all of its processor's has its cause in what the processor knows of the command: by what the
--- command told of its machine checks, by the failure that it brought about itself, and by its answer
-abbrev pub IsAnswerCaused : Layout → List Command → View → Who → Command → List Told → Option (Frame × Found) → Answer → Type 0
+-- command told of its machine checks, by what it did to a frame itself, and by its answer
+abbrev pub IsAnswerCaused : Layout → List Command → View → Who → Command → List Told → Option Own → Answer → Type 0
 IsAnswerCaused layout list view who command told own answers.Stopped = FoundStopped layout view who command
 IsAnswerCaused layout list view who (commands.RaiseUser thread ripv eipv) told own (answers.Raised n) = SawProcess layout view who thread 0 × WasRaised layout view who (commands.RaiseUser thread ripv eipv) told n
 IsAnswerCaused layout list view who (commands.RaiseUser thread ripv eipv) told own (answers.Gone page) = FoundGone layout view who thread page × HasMadeNone view who
 IsAnswerCaused layout list view who (commands.RaiseKernel ripv eipv) told own (answers.Raised n) = WasRaised layout view who (commands.RaiseKernel ripv eipv) told n
+IsAnswerCaused layout list view who (commands.Scrub first last) told own (answers.Scrubbed n) = WasRaised layout view who (commands.Scrub first last) told n
 IsAnswerCaused layout list view who (commands.Inject frame) told own answer = (layout.recovery ≡ true) × IsInjectCaused layout view who frame own answer
+IsAnswerCaused layout list view who (commands.Soft frame) told own answer = IsSoftCaused layout view who frame own answer
 IsAnswerCaused layout list view who command told own (answers.Sigbus at) =
     IsTableCaused layout list view who command (answers.Sigbus at) ⊎ IsSomeAnd (access_of command) (λ (a : Access). WasSignalled layout view who command a.thread told at)
 IsAnswerCaused layout list view who command told own answer = IsTableCaused layout list view who command answer

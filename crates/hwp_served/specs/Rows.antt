@@ -7,11 +7,14 @@ use Rattle.hwp_geom.specs.declared.Who.{Who}
 use Rattle.hwp_page.specs.Situations.{outcome_of}
 use Rattle.hwp_report.specs.declared.CpuLine.{CpuLine}
 use Rattle.hwp_report.specs.declared.CpuLine.TheVariants as lines
+use Rattle.hwp_report.specs.declared.How.{How}
 use Rattle.hwp_report.specs.declared.How.TheVariants as hows
 use Rattle.hwp_report.specs.declared.MarkLine.{MarkLine}
 use Rattle.hwp_report.specs.declared.MarkLine.TheVariants as marks
 use Rattle.hwp_handler.specs.declared.Found.{Found}
-use Rattle.hwp_handler.specs.declared.Row.{Row}
+use Rattle.hwp_row.specs.declared.Own.{Own}
+use Rattle.hwp_row.specs.declared.Own.TheVariants as owns
+use Rattle.hwp_row.specs.declared.Row.{Row}
 use Rattle.hwp_handler.specs.declared.Told.{Told}
 use Rattle.hwp_handler.specs.Told.{frame_of}
 
@@ -43,8 +46,18 @@ note_of who hardware frame found = (frame, marks.Poisoned found.cycle who (hows.
 abbrev pub told_note : Who → Told → Option Note
 told_note who t = option_map (note_of who true (frame_of t.held)) t.found
 
-abbrev pub own_note : Who → Option (Frame × Found) → Option Note
-own_note who own = option_map (λ (x : Frame × Found). note_of who false x.0 x.1) own
+-- how a soft offline took a frame out of use
+abbrev pub offlined : Bool → How
+offlined true = hows.Moved
+offlined false = hows.TakenFree
+
+-- what the command did to a frame itself
+abbrev pub note_by : Who → Own → Note
+note_by who (owns.Failed frame found) = note_of who false frame found
+note_by who (owns.Offlined frame cycle moved) = (frame, marks.Poisoned cycle who (offlined moved))
+
+abbrev pub own_note : Who → Option Own → Option Note
+own_note who own = option_map (note_by who) own
 
 abbrev pub row_notes : Who → Row → List Note
 row_notes who row = filter_map (told_note who) row.told ++ cons_option (own_note who row.own) []

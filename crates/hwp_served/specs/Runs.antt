@@ -26,7 +26,7 @@ use Rattle.hwp_law.specs.Places.{command_at}
 use Rattle.hwp_law.specs.Records.{cycle_in, is_poisoning}
 use Rattle.hwp_runs.specs.Ends.{EndsWith}
 use Rattle.hwp_runs.specs.Turns.{Leads}
-use Rattle.hwp_handler.specs.declared.Row.{Row}
+use Rattle.hwp_row.specs.declared.Row.{Row}
 use Rattle.hwp_handler.specs.declared.Told.{Told}
 use Rattle.hwp_handler.specs.Told.{frame_of}
 use Rattle.hwp_served.specs.Rows.{Note, lines_from, notes_from}

@@ -22,7 +22,7 @@ use Rattle.hwp_script.specs.declared.Command.TheVariants as commands
 use Rattle.hwp_report.specs.declared.Answer.TheVariants as answers
 use Rattle.hwp_law.specs.Checks.{Banks, empty_banks}
 use Rattle.hwp_law.specs.Policies.{settings}
-use Rattle.hwp_handler.specs.declared.Row.{Row}
+use Rattle.hwp_row.specs.declared.Row.{Row}
 use Rattle.hwp_handler.specs.declared.Told.{Told}
 use Rattle.hwp_handler.specs.Told.{halts}
 use Rattle.hwp_served.specs.Accounts.{IsAccounted, IsNote}

@@ -225,7 +225,7 @@ fn a_refused_script_leaves_nothing_on_out(rt: HostRuntime) {
 }
 
 /// Commands that aren't supported.
-const UNSUPPORTED: &[&str] = &["scrub 0 1", "soft 0", "unpoison 0"];
+const UNSUPPORTED: &[&str] = &["unpoison 0"];
 
 /// The script of the command, behind others that are supported, is refused.
 fn is_not_built(rt: &impl Abort, alloc: Global, command: &str) {

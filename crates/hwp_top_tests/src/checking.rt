@@ -4,7 +4,8 @@ use crate::calls::{PAGES, POLICIES, STOPPED, STORE_AND_LOAD, STORED_AND_LOADED, 
 use crate::contests::{ASKED_FOR, IN_USE};
 use crate::failures::{EARLY_THREAD, EARLY_THREAD_SIGNALLED, FRAMES, KILLED, PANICS, SITUATIONS};
 use crate::helpers::{call, leaves};
-use crate::processors;
+use crate::softs::{SHARED, SHARED_MOVED};
+use crate::{processors, softs};
 use std::alloc::Global;
 use std::process::Abort;
 
@@ -47,6 +48,15 @@ fn reports_of_failures_are_legal(rt: HostRuntime) {
     are_legal(&rt, rt.alloc(), PANICS);
     are_legal(&rt, rt.alloc(), IN_USE);
     are_legal(&rt, rt.alloc(), ASKED_FOR);
+}
+
+#[test]
+fn reports_of_soft_offlines_are_legal(rt: HostRuntime) {
+    are_legal(&rt, rt.alloc(), softs::MOVED);
+    are_legal(&rt, rt.alloc(), softs::ANSWERS);
+    are_legal(&rt, rt.alloc(), softs::STOPPED);
+    are_legal(&rt, rt.alloc(), softs::USED);
+    are_legal(&rt, rt.alloc(), softs::FAILING);
 }
 
 /// The text with this in place of line `number`, counted from 1; where it is empty the line is left out.
@@ -226,6 +236,26 @@ const FORGED: &[Forged] = &[
         script: LOST,
         report: LOST_REPORT,
         lines: &[(4, "file 0 lost 5", "not 4 7\n")],
+    },
+    // a page that was moved
+    Forged {
+        script: SHARED,
+        report: SHARED_MOVED,
+        lines: &[
+            (3, "count 0", "not 3 6\n"),
+            (5, "poisoned 0 0 2 sw moved recovered", "not 5 1\n"),
+            (5, "poisoned 0 0 2 soft free recovered", "not 19 3\n"),
+            (
+                7,
+                "frame 2 handled bad 0 weak 0\npoisoned 0 0 2 soft moved recovered",
+                "not 8 5\n",
+            ),
+            (14, "soft 0 1", "not 14 2\n"),
+            (15, "load 0 3 1 4 0 0", "not 15 2\n"),
+            (19, "2 moved 1 0 4", "not 19 3\n"),
+            (19, "2 takenfree", "not 19 3\n"),
+            (22, "5 hasbad 20", "not 22 3\n"),
+        ],
     },
 ];
 

@@ -99,12 +99,6 @@ const FAILING: &[Race] = &[
 store 0 0 0 7\nload 0 0 0\nschedule",
         head: POISONED,
     },
-    // its page is swapped out, and comes back
-    Race {
-        front: "hwp 1\ncpus 2\nframes 2\nproc 0\nproc 1\nthread 0 0 0 handler\nthread 1 1 1 handler\npage 0 anon\ntrans 0 0 0\n\
-trans 1 1 0\ncpu 0\nstore 0 0 0 7\ninject 0\nload 0 0 0\ncpu 1\nout 0\nload 1 1 0\nschedule 0.",
-        head: POISONED,
-    },
     // a dirty page of a file is stored to, and written back
     Race {
         front: "hwp 1\ncpus 2\nframes 2\nfile 0\nproc 0\nproc 1\nthread 0 0 0 handler\nthread 1 1 1 handler\n\
@@ -152,6 +146,86 @@ schedule 0. 1.",
 #[test]
 fn every_order_of_twelve_turns_of_two_failures_of_one_frame_gives_a_legal_report(rt: HostRuntime) {
     all_legal(&rt, rt.alloc(), BOTH_FAILING, 12, 4096);
+}
+
+/// A frame fails while its page leaves it, or a translation to it goes out of use.
+const LEAVING: &[Race] = &[
+    // its page is swapped out, and comes back
+    Race {
+        front: "hwp 1\ncpus 2\nframes 2\nproc 0\nproc 1\nthread 0 0 0 handler\nthread 1 1 1 handler\npage 0 anon\ntrans 0 0 0\n\
+trans 1 1 0\ncpu 0\nstore 0 0 0 7\ninject 0\nload 0 0 0\ncpu 1\nout 0\nload 1 1 0\nschedule 0.",
+        head: POISONED,
+    },
+    // its translation is freed, and comes into use again
+    Race {
+        front: "hwp 1\ncpus 2\nframes 2\nproc 0\nproc 1\nthread 0 0 0 handler\nthread 1 1 1 handler\npage 0 anon\ntrans 0 0 0\n\
+trans 1 1 0\ncpu 0\nstore 0 0 0 7\nfree 0\nload 0 0 0\ncpu 1\ninject 0\nload 1 1 0\nschedule 0.",
+        head: POISONED,
+    },
+];
+
+#[test]
+fn every_order_of_twelve_turns_beside_a_failure_gives_a_legal_report(rt: HostRuntime) {
+    all_legal(&rt, rt.alloc(), LEAVING, 12, 4096);
+}
+
+/// Two frames are poisoned.
+const BOTH_POISONED: &str = "hwp-report 1\nstop none\ncount 2\n";
+
+/// A frame is taken out of use, and it, or the frame that its page goes to, fails, or is taken out of use once more.
+const OFFLINED: &[Race] = &[
+    // it fails under its page, which both use
+    Race {
+        front: "hwp 1\ncpus 2\nframes 3\nproc 0\nproc 1\nthread 0 0 0 handler\nthread 1 1 1 handler\npage 0 anon\ntrans 0 0 0\n\
+trans 1 1 0\ncpu 0\nstore 0 0 0 7\nsoft 0\nload 0 0 0\ncpu 1\nload 1 1 0\ninject 0\nload 1 1 0\nschedule 0. 1.",
+        head: POISONED,
+    },
+    // it is taken out of use twice
+    Race {
+        front: "hwp 1\ncpus 2\nframes 3\nproc 0\nproc 1\nthread 0 0 0 handler\nthread 1 1 1 handler\npage 0 anon\ntrans 0 0 0\n\
+trans 1 1 0\ncpu 0\nstore 0 0 0 7\nsoft 0\nload 0 0 0\ncpu 1\nsoft 0\nload 1 1 0\nschedule 0.",
+        head: POISONED,
+    },
+    // it fails where it is free
+    Race {
+        front: "hwp 1\ncpus 2\nframes 3\nproc 0\nproc 1\nthread 0 0 0 handler\nthread 1 1 1 handler\npage 0 anon\ntrans 0 0 0\n\
+trans 1 1 0\ncpu 0\nsoft 0\nstore 0 0 0 7\ncpu 1\ninject 0\nload 1 1 0\nschedule",
+        head: POISONED,
+    },
+    // the frame fails to which its page goes
+    Race {
+        front: "hwp 1\ncpus 2\nframes 4\nproc 0\nproc 1\nthread 0 0 0 handler\nthread 1 1 1 handler\npage 0 anon\ntrans 0 0 0\n\
+trans 1 1 0\ncpu 0\nstore 0 0 0 7\nsoft 0\nload 0 0 0\ncpu 1\ninject 1\nload 1 1 0\nschedule 0. 0@load_bad",
+        head: BOTH_POISONED,
+    },
+];
+
+#[test]
+fn every_order_of_twelve_turns_of_a_soft_offline_beside_a_failure_gives_a_legal_report(
+    rt: HostRuntime,
+) {
+    all_legal(&rt, rt.alloc(), OFFLINED, 12, 4096);
+}
+
+/// A frame is taken out of use while another processor uses it.
+const OFFLINED_IN_USE: &[Race] = &[
+    // a page comes into it, or leaves it
+    Race {
+        front: "hwp 1\ncpus 2\nframes 3\nproc 0\nproc 1\nthread 0 0 0 handler\nthread 1 1 1 handler\npage 0 anon\ntrans 0 0 0\n\
+trans 1 1 0\ncpu 0\nsoft 0\nload 0 0 0\ncpu 1\nstore 1 1 0 7\nout 0\nload 1 1 0\nschedule",
+        head: POISONED,
+    },
+    // a line of it goes bad
+    Race {
+        front: "hwp 1\ncpus 2\nframes 3\nproc 0\nproc 1\nthread 0 0 0 handler\nthread 1 1 1 handler\npage 0 anon\ntrans 0 0 0\n\
+trans 1 1 0\ncpu 0\nstore 0 0 0 7\nsoft 0\nload 0 0 0\ncpu 1\nbad 0 0\nload 1 1 0\nschedule 0.",
+        head: POISONED,
+    },
+];
+
+#[test]
+fn every_order_of_twelve_turns_of_a_soft_offline_gives_a_legal_report(rt: HostRuntime) {
+    all_legal(&rt, rt.alloc(), OFFLINED_IN_USE, 12, 4096);
 }
 
 /// A bad line under two processors that both need its page.

@@ -21,4 +21,8 @@ mod many;
 #[cfg(test)]
 mod processors;
 #[cfg(test)]
+mod scrubs;
+#[cfg(test)]
 mod seeds;
+#[cfg(test)]
+mod softs;

@@ -120,6 +120,14 @@ store 0 0 0 7\nload 0 0 0\ncpu 1\nraise nested\nschedule 0@load_stop 1.\nend\n",
         "hwp-report 1\nstop 1 0 shutdown\ncount 0\nframe 0 page 0 bad 0 weak 0\npage 0 3\nin 0 0\nmap 0 0 0\n\
 store 0 0 0 0 0 7\ncpu 0 2\n0 stored 0 2\n1 stopped\ncpu 1 1\n0 stopped\nend\n",
     ),
+    // a command that has a page's lock by then is served, and the next one isn't
+    (
+        "hwp 1\ncpus 2\nframes 4\nproc 0\nproc 1\nthread 0 0 0 handler\nthread 1 1 1 handler\npage 0 anon\ntrans 0 0 0\n\
+trans 1 1 0\ncpu 0\nraise nested\ncpu 1\nstore 1 1 0 7\nload 1 1 0\nschedule 1@lock_page 0. 1.\nend\n",
+        "hwp-report 1\nstop 0 0 shutdown\ncount 0\nframe 0 page 0 bad 0 weak 0\nframe 1 free bad 0 weak 0\n\
+frame 2 free bad 0 weak 0\nframe 3 free bad 0 weak 0\npage 0 3\nin 1 0\nmap 1 0 1\nstore 1 0 1 0 0 7\ncpu 0 1\n0 stopped\n\
+cpu 1 2\n0 stored 0 2\n1 stopped\nend\n",
+    ),
     // two machine checks inside others: the first to stop the machine is on record
     (
         "hwp 1\ncpus 2\nframes 1\ncpu 0\nlog 0x0 0x0 0x0\nraise nested\ncpu 1\nraise nested\n\

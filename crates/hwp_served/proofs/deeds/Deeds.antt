@@ -24,13 +24,12 @@ use Rattle.hwp_law.specs.Answers.{is_answering}
 use Rattle.hwp_law.specs.Commands.{Access, access_of, can_fail}
 use Rattle.hwp_law.specs.Entries.{CanStandIn, IsAccessAt, Makes}
 use Rattle.hwp_law.specs.History.{Fits, Names}
-use Rattle.hwp_law.specs.Pairings.{is_soft}
 use Rattle.hwp_law.specs.States.{entry_named}
-use Rattle.hwp_handler.specs.declared.Found.{Found}
-use Rattle.hwp_handler.specs.declared.Row.{Row}
+use Rattle.hwp_row.specs.declared.Own.{Own}
+use Rattle.hwp_row.specs.declared.Row.{Row}
 use Rattle.hwp_handler.specs.declared.Told.{Told}
 use Rattle.hwp_served.specs.Accounts.{IsAccounted}
-use Rattle.hwp_served.specs.Causes.{HasCome, HasOnlyMet, IsAnswerCaused, IsCaused, IsMet, IsTableCaused, WasSignalled}
+use Rattle.hwp_served.specs.Causes.{HasCome, HasOnlyMet, IsAnswerCaused, IsCaused, IsMet, IsSoftCaused, IsTableCaused, WasSignalled}
 use Rattle.hwp_served.proofs.deeds.Needed.{IsNeeded, needed}
 
 -- ---- what a command makes by itself
@@ -54,10 +53,6 @@ fits-plain command entries.Out is fits = absurd (true≢false is)
 fits-plain (commands.Free slot) what is fits = fits
 fits-plain command what is fits = fits
 
-not-soft : (command : Command) (what : What) → Fits command what → is_soft what ≡ false
-not-soft command entries.Soft fits = absurd (fits-plain command entries.Soft refl fits)
-not-soft command what fits = refl
-
 makes-so : (command : Command) (what : What) → Fits command what → Makes command what
 makes-so command (entries.Mce slot line mask) fits = absurd (fits-plain command (entries.Mce slot line mask) refl fits)
 makes-so command (entries.Fail situation required seen signals) fits = absurd (fits-plain command (entries.Fail situation required seen signals) refl fits)
@@ -71,27 +66,25 @@ stands-so layout command page what names = names
 
 -- ---- one entry
 
--- the entry is of the command's kind and in a page where it can stand, it is no soft offline, and where it answers the command the
--- answer names it
+-- the entry is of the command's kind and in a page where it can stand, and where it answers the command the answer names it
 pub record IsDeed (layout : Layout) (command : Command) (answer : Answer) (m : Made) : Type 0 where
   pub makes : Makes command m.entry.what
   pub stands : CanStandIn layout command m.page m.entry.what
-  pub mild : is_soft m.entry.what ≡ false
   pub named : IsTrue (is_answering m.entry.what) → entry_named answer ≡ Some (record { page = m.page; entry = m.place })
 
 -- the entry that answers a command
-answered : (layout : Layout) (command : Command) (answer : Answer) (page : Page) (place : ℕ) (what : What) (m : Made) → Fits command what → Names layout command page → entry_named answer ≡ Some (record { page = page; entry = place }) → IsAt page place what m → IsDeed layout command answer m
-answered layout command answer page place what m fits names named (page_is, place_is, what_is) = record {
-  makes = makes-so command m.entry.what (subst (Fits command) (sym what_is) fits);
-  stands = stands-so layout command m.page m.entry.what (subst (Names layout command) (sym page_is) names);
-  mild = not-soft command m.entry.what (subst (Fits command) (sym what_is) fits);
+answered : (layout : Layout) (command : Command) (answer : Answer) (page : Page) (place : ℕ) (what : What) (m : Made) → Makes command what → CanStandIn layout command page what → entry_named answer ≡ Some (record { page = page; entry = place }) → IsAt page place what m
+    → IsDeed layout command answer m
+answered layout command answer page place what m makes stands named (page_is, place_is, what_is) = record {
+  makes = subst (Makes command) (sym what_is) makes;
+  stands = subst (CanStandIn layout command m.page) (sym what_is) (subst (λ (p : Page). CanStandIn layout command p what) (sym page_is) stands);
   named = λ answers. named ∙ ap (λ (p : Page). Some (record { page = p; entry = place })) (sym page_is) ∙ ap (λ (n : ℕ). Some (record { page = m.page; entry = n })) (sym place_is);
 }
 
 module _ (layout : Layout) (command : Command) (answer : Answer) (m : Made) where
   -- a failure
   failure : can_fail command ≡ true → IsNeeded command m.entry.what → is_failure m.entry.what ≡ true → IsDeed layout command answer m
-  failure can need fails = record { makes = makes m.entry.what need fails; stands = stands m.entry.what fails; mild = mild m.entry.what fails; named = λ answers. absurd (true≢false (sym answers ∙ unanswering m.entry.what fails)) }
+  failure can need fails = record { makes = makes m.entry.what need fails; stands = stands m.entry.what fails; named = λ answers. absurd (true≢false (sym answers ∙ unanswering m.entry.what fails)) }
     where
       makes : (what : What) → IsNeeded command what → is_failure what ≡ true → Makes command what
       makes (entries.Fail situation required seen signals) need fails = (can, need)
@@ -100,10 +93,6 @@ module _ (layout : Layout) (command : Command) (answer : Answer) (m : Made) wher
       stands : (what : What) → is_failure what ≡ true → CanStandIn layout command m.page what
       stands (entries.Fail situation required seen signals) fails = tt
       stands what fails = absurd (true≢false (sym fails))
-
-      mild : (what : What) → is_failure what ≡ true → is_soft what ≡ false
-      mild (entries.Fail situation required seen signals) fails = refl
-      mild what fails = absurd (true≢false (sym fails))
 
       unanswering : (what : What) → is_failure what ≡ true → is_answering what ≡ false
       unanswering (entries.Fail situation required seen signals) fails = refl
@@ -114,7 +103,6 @@ module _ (layout : Layout) (command : Command) (answer : Answer) (m : Made) wher
   way slot line fault map here names on = record {
     makes = makes m.entry.what on;
     stands = stands-so layout command m.page m.entry.what names;
-    mild = mild m.entry.what on;
     named = λ answers. absurd (true≢false (sym answers ∙ unanswering m.entry.what on));
   }
     where
@@ -124,12 +112,6 @@ module _ (layout : Layout) (command : Command) (answer : Answer) (m : Made) wher
       makes (entries.Mce other bad mask) on =
           subst (λ (n : ℕ). IsSomeAnd (access_of command) (IsAccessAt other n)) (sym on.1) (subst (λ (s : VSlot). IsSomeAnd (access_of command) (IsAccessAt s line)) (sym on.0) here)
       makes what on = absurd on
-
-      mild : (what : What) → IsOnTheWay slot line what → is_soft what ≡ false
-      mild entries.FaultIn on = refl
-      mild (entries.Map other) on = refl
-      mild (entries.Mce other bad mask) on = refl
-      mild what on = absurd on
 
       unanswering : (what : What) → IsOnTheWay slot line what → is_answering what ≡ false
       unanswering entries.FaultIn on = refl
@@ -173,11 +155,11 @@ module _ (layout : Layout) (list : List Command) (view : View) (who : Who) where
 
   module _ (command : Command) (need : EachMember (λ (m : Made). IsNeeded command m.entry.what) (deeds who view)) where
     -- an access that came to its entry
-    reached : (answer : Answer) (slot : VSlot) (line : ℕ) (at : At) (what : What) → ((m : Made) → IsMetAt layout slot line m → IsMet layout command m) → Fits command what → ((page : Page) → IsOf layout page slot → Names layout command page) → entry_named answer ≡ Some at
+    reached : (answer : Answer) (slot : VSlot) (line : ℕ) (at : At) (what : What) → ((m : Made) → IsMetAt layout slot line m → IsMet layout command m) → Makes command what → ((page : Page) → IsOf layout page slot → CanStandIn layout command page what) → entry_named answer ≡ Some at
         → IsOf layout at.page slot → HasMade (Precedes at.page slot line) view who at.page at.entry what → Are command answer
-    reached answer slot line at what same fits names named page made =
+    reached answer slot line at what same makes stands named page made =
         made-so view who (IsDeed layout command answer) made need (λ m needed in_. met layout command answer m needed (same m (preceding layout at.page slot line m page in_)))
-        (λ m is. answered layout command answer at.page at.entry what m fits (names at.page page) named is)
+        (λ m is. answered layout command answer at.page at.entry what m makes (stands at.page page) named is)
 
     -- an access that came to none
     brings : (answer : Answer) (slot : VSlot) (line : ℕ) (page : Page) → ((m : Made) → IsMetAt layout slot line m → IsMet layout command m) → IsOf layout page slot → HasOnly (Precedes page slot line) view who → Are command answer
@@ -188,8 +170,8 @@ module _ (layout : Layout) (list : List Command) (view : View) (who : Who) where
     only-met answer only i m there = met layout command answer m (need i m there) (only i m there)
 
     -- a command that made its entry alone
-    one : (answer : Answer) (at : At) (what : What) → Fits command what → Names layout command at.page → entry_named answer ≡ Some at → HasMade (λ m. ⊥) view who at.page at.entry what → Are command answer
-    one answer at what fits names named made = made-so view who (IsDeed layout command answer) {Other = λ m. Unit {0}} made (λ i m there. tt) (λ m other no_. absurd no_) (λ m is. answered layout command answer at.page at.entry what m fits names named is)
+    one : (answer : Answer) (at : At) (what : What) → Makes command what → CanStandIn layout command at.page what → entry_named answer ≡ Some at → HasMade (λ m. ⊥) view who at.page at.entry what → Are command answer
+    one answer at what makes stands named made = made-so view who (IsDeed layout command answer) {Other = λ m. Unit {0}} made (λ i m there. tt) (λ m other no_. absurd no_) (λ m is. answered layout command answer at.page at.entry what m makes stands named is)
 
   table-deeds : (command : Command) (answer : Answer) → EachMember (λ (m : Made). IsNeeded command m.entry.what) (deeds who view) → IsTableCaused layout list view who command answer → Are command answer
   table-deeds (commands.Load thread slot line) (answers.Value word at) need caused = reached _ need _ slot line at _ (λ m x. x) (refl, refl, tt) (λ page is. is) refl caused.1.page caused.1.made
@@ -230,8 +212,18 @@ module _ (layout : Layout) (list : List Command) (view : View) (who : Who) where
   table-deeds command answer need caused = absurd caused
 
   -- a failure that the command brought about
-  come : (frame : Frame) (own : Option (Frame × Found)) (answer : Answer) (outcome : Outcome) → EachMember (λ (m : Made). IsNeeded (commands.Inject frame) m.entry.what) (deeds who view) → HasCome layout view who frame own outcome → Are (commands.Inject frame) answer
+  come : (frame : Frame) (own : Option Own) (answer : Answer) (outcome : Outcome) → EachMember (λ (m : Made). IsNeeded (commands.Inject frame) m.entry.what) (deeds who view) → HasCome layout view who frame own outcome → Are (commands.Inject frame) answer
   come frame own answer outcome need has i m there = failure layout (commands.Inject frame) answer m refl (need i m there) (has.failed.only i m there)
+
+  -- a soft offline
+  offline : (frame : Frame) (own : Option Own) (answer : Answer) → EachMember (λ (m : Made). IsNeeded (commands.Soft frame) m.entry.what) (deeds who view) → IsSoftCaused layout view who frame own answer → Are (commands.Soft frame) answer
+  offline frame own answers.Kernel need caused = none view who _ caused.1
+  offline frame own (answers.Moved other at) need caused = one (commands.Soft frame) need _ at entries.Soft tt tt refl caused.1.made.made
+  offline frame own answers.TakenFree need caused = none view who _ caused.1.made
+  offline frame own answers.Already need caused = none view who _ caused.1.0.made
+  offline frame own (answers.HasBad mask) need caused = none view who _ caused.1.0.made
+  offline frame own answers.NoFrame need caused = none view who _ caused.1.0
+  offline frame own answer need caused = absurd caused.1
 
   -- a failure of its machine checks
   signalled : (command : Command) (told : List Told) (at : At) (answer : Answer) (o : Option Access) → EachMember (λ (m : Made). IsNeeded command m.entry.what) (deeds who view) → IsSomeAnd o (λ (a : Access). WasSignalled layout view who command a.thread told at) → Are command answer
@@ -243,16 +235,18 @@ module _ (layout : Layout) (list : List Command) (view : View) (who : Who) where
   either command told at need (inl caused) = table-deeds command (answers.Sigbus at) need caused
   either command told at need (inr was) = signalled command told at (answers.Sigbus at) (access_of command) need was
 
-  answer-deeds : (command : Command) (told : List Told) (own : Option (Frame × Found)) (answer : Answer) → EachMember (λ (m : Made). IsNeeded command m.entry.what) (deeds who view) → IsAnswerCaused layout list view who command told own answer → Are command answer
+  answer-deeds : (command : Command) (told : List Told) (own : Option Own) (answer : Answer) → EachMember (λ (m : Made). IsNeeded command m.entry.what) (deeds who view) → IsAnswerCaused layout list view who command told own answer → Are command answer
   answer-deeds command told own answers.Stopped need caused = only-met command need _ caused.only
   answer-deeds (commands.RaiseUser thread ripv eipv) told own (answers.Raised n) need caused = only-met _ need _ caused.1.only
   answer-deeds (commands.RaiseUser thread ripv eipv) told own (answers.Gone page) need caused = none view who _ caused.1
   answer-deeds (commands.RaiseKernel ripv eipv) told own (answers.Raised n) need caused = only-met _ need _ caused.only
+  answer-deeds (commands.Scrub first last) told own (answers.Scrubbed n) need caused = only-met _ need _ caused.only
   answer-deeds (commands.Inject frame) told own answers.Recovered need caused = come frame own _ _ need caused.1
   answer-deeds (commands.Inject frame) told own answers.Delayed need caused = come frame own _ _ need caused.1
   answer-deeds (commands.Inject frame) told own answers.Ignored need caused = come frame own _ _ need caused.1
   answer-deeds (commands.Inject frame) told own answers.Already need caused = none view who _ caused.1.0.made
   answer-deeds (commands.Inject frame) told own answer need caused = absurd caused.1
+  answer-deeds (commands.Soft frame) told own answer need caused = offline frame own answer need caused
   answer-deeds command told own (answers.Sigbus at) need caused = either command told at need caused
   answer-deeds command told own answer need caused = table-deeds command answer need caused
 

@@ -1,5 +1,5 @@
 -- Each entry of the report is one that its command makes, and the one that answers it is named.
-use Rattle.std.proofs.Common.{◌≡◌, ℕ, false, List, Option, Some, IsTrue, slice_get, option_and_then, sym, ap, ◌∙◌, subst, arith}
+use Rattle.std.proofs.Common.{◌≡◌, ℕ, List, Option, Some, IsTrue, slice_get, option_and_then, sym, ap, ◌∙◌, subst, arith}
 use Rattle.std.specs.Prelude.{IsSomeAnd}
 use Rattle.hwp_geom.specs.declared.Cpu.{Cpu}
 use Rattle.hwp_geom.specs.declared.Page.{Page}
@@ -15,11 +15,10 @@ use Rattle.hwp_report.specs.declared.CpuLine.TheVariants as lines
 use Rattle.hwp_report.specs.declared.Report.{Report}
 use Rattle.hwp_law.specs.Answers.{AreNamed, is_answering}
 use Rattle.hwp_law.specs.Entries.{AreMadeBy, CanStandIn, Makes}
-use Rattle.hwp_law.specs.Pairings.{is_soft}
 use Rattle.hwp_law.specs.Places.{command_at, entry_at}
 use Rattle.hwp_law.specs.States.{entry_named}
 use Rattle.hwp_runs.proofs.Reported.{entry-listed}
-use Rattle.hwp_handler.specs.declared.Row.{Row}
+use Rattle.hwp_row.specs.declared.Row.{Row}
 use Rattle.hwp_served.specs.Rows.{lines_from}
 use Rattle.hwp_served.proofs.deeds.Deeds.{IsDeed, are-deeds}
 use Rattle.hwp_served.proofs.Ending.{IsEnd, IsOf, of-deeds, of-made, served-of}
@@ -38,7 +37,6 @@ pub record Does (script : Script) (rows : List (List Row)) (at : At) (e : Entry)
   pub of : IsOf script rows view e.who
   pub makes : Makes of.command e.what
   pub stands : CanStandIn script.layout of.command at.page e.what
-  pub mild : is_soft e.what ≡ false
   pub named : IsTrue (is_answering e.what) → entry_named of.row.answer ≡ Some at
 
 module _ (script : Script) (seat : Cpu → ℕ) (last : State) (report : Report) (end : IsEnd script seat last report) where
@@ -54,7 +52,6 @@ module _ (script : Script) (seat : Cpu → ℕ) (last : State) (report : Report)
         of = of;
         makes = subst (λ (x : Entry). Makes of.command x.what) that.entry_is deed.makes;
         stands = subst (λ (x : Entry). CanStandIn script.layout of.command at.page x.what) that.entry_is (subst (λ (p : Page). CanStandIn script.layout of.command p made.1.entry.what) that.page_is deed.stands);
-        mild = subst (λ (x : Entry). is_soft x.what ≡ false) that.entry_is deed.mild;
         named = λ answers. deed.named (subst (λ (x : Entry). IsTrue (is_answering x.what)) (sym that.entry_is) answers)
             ∙ ap (λ (p : Page). Some (record { page = p; entry = made.1.place })) that.page_is ∙ ap (λ (n : ℕ). Some (record { page = at.page; entry = n })) that.place_is;
       }

@@ -1,8 +1,7 @@
 -- The thread that needs the page of a failure, where one does, is the command's own.
-use Rattle.std.proofs.Common.{◌≡◌, inl, inr, zero, suc, List, [], Option, Some, None, filter_map, option_map, slice_get, refl, sym, ap, ◌∙◌, subst}
+use Rattle.std.proofs.Common.{◌≡◌, inl, inr, zero, suc, List, [], Option, Some, None, filter_map, option_and_then, slice_get, refl, sym, ap, ◌∙◌, subst}
 use Rattle.std.specs.List.{cons_option}
 use Rattle.std.proofs.lemmas.Option.{none-some, same_Some}
-use Rattle.hwp_geom.specs.declared.Frame.{Frame}
 use Rattle.hwp_geom.specs.declared.Thread.{Thread}
 use Rattle.hwp_geom.specs.declared.Who.{Who}
 use Rattle.hwp_page.specs.declared.At.{At}
@@ -23,11 +22,11 @@ use Rattle.hwp_script.specs.declared.Command.{Command}
 use Rattle.hwp_law.specs.Commands.{current_thread}
 use Rattle.hwp_law.specs.Entries.{IsRequiredBy}
 use Rattle.hwp_handler.specs.declared.Found.{Found}
-use Rattle.hwp_handler.specs.declared.Row.{Row}
+use Rattle.hwp_row.specs.declared.Row.{Row}
 use Rattle.hwp_handler.specs.declared.Told.{Told}
 use Rattle.hwp_handler.specs.Done.{entered_by, failed_by, failed_in}
 use Rattle.hwp_handler.specs.Told.{required_by}
-use Rattle.hwp_served.specs.Accounts.{IsAccounted, failures_in, own_failure}
+use Rattle.hwp_served.specs.Accounts.{IsAccounted, failures_in, found_in, own_failure}
 use Rattle.hwp_served.proofs.Picked.{picked-has, picked-is}
 
 -- where the entry is of a failure, the thread that needs the page may be one of the command
@@ -64,7 +63,7 @@ module _ (command : Command) where
   told-right : (row : Row) → EachMember Right (failures_in command row)
   told-right row = each-append Right (filter_map (failed_in (current_thread command)) row.told) (cons_option (own_failure row.own) [])
       (λ i failed there. let picked = picked-is (failed_in (current_thread command)) row.told i failed there in by-event picked.1 failed picked.3)
-      (by-own (own_failure row.own) (λ failed is. inl (required-is None (option_map (λ (x : Frame × Found). x.1) row.own) failed is)))
+      (by-own (own_failure row.own) (λ failed is. inl (required-is None (option_and_then found_in row.own) failed is)))
 
 -- and so of the entries
 pub needed : (view : View) (who : Who) (command : Command) (row : Row) → IsAccounted view who command row → EachMember (λ (m : Made). IsNeeded command m.entry.what) (deeds who view)

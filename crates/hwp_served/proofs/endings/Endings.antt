@@ -3,7 +3,6 @@
 use Rattle.std.proofs.Common.{◌≡◌, ◌≢◌, ◌⊎◌, ℕ, inl, inr, ◌+◌, ◌<◌, true, List, Option, Some, None, IsSomeAnd, slice_get, option_and_then, option_map, refl, sym, ap, ◌∙◌, subst, arith}
 use Rattle.std.proofs.lemmas.Option.{none-some, same_Some}
 use Rattle.hwp_geom.specs.declared.Cpu.{Cpu}
-use Rattle.hwp_geom.specs.declared.Frame.{Frame}
 use Rattle.hwp_geom.specs.declared.Layout.{Layout}
 use Rattle.hwp_geom.specs.declared.Page.{Page}
 use Rattle.hwp_geom.specs.declared.Proc.{Proc}
@@ -28,7 +27,7 @@ use Rattle.hwp_report.specs.declared.Report.{Report}
 use Rattle.hwp_law.specs.Commands.{Access, access_of, process_of_thread, thread_of}
 use Rattle.hwp_law.specs.Endings.{EndingsStay, HasEnded, IsOver, WasGone}
 use Rattle.hwp_runs.proofs.Reported.{entry-listed}
-use Rattle.hwp_handler.specs.declared.Found.{Found}
+use Rattle.hwp_row.specs.declared.Own.{Own}
 use Rattle.hwp_handler.specs.declared.Told.{Told}
 use Rattle.hwp_served.specs.Causes.{IsAnswerCaused, IsTableCaused, SawProcess, WasSignalled}
 use Rattle.hwp_served.specs.Runs.{IsRunOf}
@@ -91,12 +90,14 @@ module _ (layout : Layout) (list : List Command) (view : View) (who : Who) (proc
   either-going command told at is (inl caused) = table-going command (answers.Sigbus at) is caused
   either-going command told at is (inr was) = inr (signalled-going command told at (access_of command) refl is was)
 
-  going : (command : Command) (told : List Told) (own : Option (Frame × Found)) (answer : Answer) → IsProcess command → IsAnswerCaused layout list view who command told own answer → IsOver answer ⊎ Saw view who (places.Process process) 0
+  going : (command : Command) (told : List Told) (own : Option Own) (answer : Answer) → IsProcess command → IsAnswerCaused layout list view who command told own answer → IsOver answer ⊎ Saw view who (places.Process process) 0
   going command told own answers.Stopped is caused = inl tt
   going (commands.RaiseUser thread ripv eipv) told own (answers.Raised n) is caused = inr (saw-process thread 0 is caused.0)
   going (commands.RaiseUser thread ripv eipv) told own (answers.Gone page) is caused = inl tt
   going (commands.RaiseKernel ripv eipv) told own (answers.Raised n) is caused = absurd (none-some process is)
+  going (commands.Scrub first last) told own (answers.Scrubbed n) is caused = absurd (none-some process is)
   going (commands.Inject frame) told own answer is caused = absurd (none-some process is)
+  going (commands.Soft frame) told own answer is caused = absurd (none-some process is)
   going command told own (answers.Sigbus at) is caused = either-going command told at is caused
   going command told own answer is caused = table-going command answer is caused
 
@@ -109,9 +110,10 @@ module _ (layout : Layout) (list : List Command) (view : View) (who : Who) (proc
   table-gone (commands.Prctl thread args) page is caused = saw-process thread _ is caused.0.ended
   table-gone command page is caused = absurd caused
 
-  gone : (command : Command) (told : List Told) (own : Option (Frame × Found)) (page : Page) → IsProcess command → IsAnswerCaused layout list view who command told own (answers.Gone page) → Saw view who (places.Process process) (page.0 + 1)
+  gone : (command : Command) (told : List Told) (own : Option Own) (page : Page) → IsProcess command → IsAnswerCaused layout list view who command told own (answers.Gone page) → Saw view who (places.Process process) (page.0 + 1)
   gone (commands.RaiseUser thread ripv eipv) told own page is caused = saw-process thread _ is caused.0.ended
   gone (commands.Inject frame) told own page is caused = absurd caused.1
+  gone (commands.Soft frame) told own page is caused = absurd (none-some process is)
   gone command told own page is caused = table-gone command page is caused
 
 module _ (script : Script) (seat : Cpu → ℕ) (turns : List Played) (last : State) (report : Report) (run : IsRunOf script seat turns last report) where

@@ -3,6 +3,7 @@ use Rattle.std.proofs.Common.{◌≡◌, ◌≢◌, ℕ, zero, suc, ◌+◌, ◌
 use Rattle.std.proofs.lemmas.Bool.{eq-eqb, eqb-false, eqb-true, ne_eqb}
 use Rattle.std.proofs.lemmas.Option.{get_or_from_slice_get, none-some, slice_get_within}
 use Rattle.hwp_geom.specs.declared.Cpu.{Cpu}
+use Rattle.hwp_geom.specs.declared.Damage.TheVariants as damages
 use Rattle.hwp_geom.specs.declared.Frame.{Frame}
 use Rattle.hwp_geom.specs.declared.Page.{Page}
 use Rattle.hwp_words.specs.Frames.{cycle_of, handled_of, is_handled, is_kernel, is_poisoned, owner_of, poison_of}
@@ -24,7 +25,7 @@ use Rattle.hwp_law.specs.Records.{ends_poisoned, is_poisoning}
 use Rattle.hwp_runs.specs.Ends.{IsFrameOn, place_in, place_owned}
 use Rattle.hwp_runs.proofs.Placed.{owned-named}
 use Rattle.hwp_served.specs.Runs.{IsRunOf}
-use Rattle.hwp_served.proofs.lines.SpoiledLines.{bad-so, weak-so}
+use Rattle.hwp_served.proofs.lines.SpoiledLines.{spoiled-so}
 use Rattle.hwp_served.proofs.Ending.{IsEnd}
 use Rattle.hwp_served.proofs.Holding.{ended}
 use Rattle.hwp_served.proofs.marks.MarkWords.{mark-poisons}
@@ -114,8 +115,8 @@ module _ (script : Script) (seat : Cpu → ℕ) (turns : List Played) (last : St
         place = subst (λ (b : Bool). IsPlaced script.layout kernel b line.place) (sym (ends-are frame line line_is))
             (subst (IsPlaced script.layout kernel (is_poisoned o.word)) (sym o.place)
             (subst (λ (k : Bool). IsPlaced script.layout k (is_poisoned o.word) (place_in o.word)) own (placed-so frame line line_is (is_kernel o.word) (is_handled o.word) refl refl)));
-        bad = λ n. bad-so script seat last report end frame line.bad.0 n o.bad;
-        weak = λ n. weak-so script seat last report end frame line.weak.0 n o.weak;
+        bad = λ n. spoiled-so script seat last report end frame damages.Bad n line.bad.0 o.bad;
+        weak = λ n. spoiled-so script seat last report end frame damages.Weak n line.weak.0 o.weak;
         kept = record-so script seat last report end frame kernel kernel_is line line_is;
       }
 

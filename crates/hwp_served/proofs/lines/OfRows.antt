@@ -1,6 +1,6 @@
--- What a row says of its command at the end of a run: what the command told is right, and a failure that it brought about itself has its
--- entry and is the command's answer.
-use Rattle.std.proofs.Common.{◌≡◌, ℕ, ◌<◌, true, false, List, Option, Some, None, option_and_then, slice_get, refl, sym, ap, ◌∙◌, subst}
+-- What a row says of its command at the end of a run: what the command told is right, and so is what it did to a frame itself: a failure
+-- has its entry and is the command's answer, and a frame that was taken out of use isn't the kernel's, and the answer says so.
+use Rattle.std.proofs.Common.{◌≡◌, ℕ, ◌<◌, Bool, true, false, List, Option, Some, None, option_and_then, slice_get, refl, sym, ap, ◌∙◌, subst, true≢false}
 use Rattle.std.proofs.lemmas.Option.{none-some, same_Some, slice_get_within}
 use Rattle.hwp_geom.specs.declared.Cpu.{Cpu}
 use Rattle.hwp_geom.specs.declared.Frame.{Frame}
@@ -23,15 +23,18 @@ use Rattle.hwp_script.specs.declared.Command.{Command}
 use Rattle.hwp_script.specs.declared.Command.TheVariants as commands
 use Rattle.hwp_script.specs.declared.Script.{Script}
 use Rattle.hwp_report.specs.declared.Answer.{Answer}
+use Rattle.hwp_report.specs.declared.Answer.TheVariants as answers
 use Rattle.hwp_report.specs.declared.Report.{Report}
 use Rattle.hwp_law.specs.Commands.{current_thread}
-use Rattle.hwp_law.specs.Records.{is_kernel_found, outcome_answer}
+use Rattle.hwp_law.specs.Records.{is_kernel_found, is_moved, outcome_answer}
 use Rattle.hwp_runs.proofs.Homes.{there-is}
 use Rattle.hwp_handler.specs.declared.Found.{Found}
-use Rattle.hwp_handler.specs.declared.Row.{Row}
+use Rattle.hwp_row.specs.declared.Own.{Own}
+use Rattle.hwp_row.specs.declared.Own.TheVariants as owns
+use Rattle.hwp_row.specs.declared.Row.{Row}
 use Rattle.hwp_handler.specs.declared.Told.{Told}
 use Rattle.hwp_handler.specs.Fits.{IsEntered}
-use Rattle.hwp_served.specs.Accounts.{IsOwn}
+use Rattle.hwp_served.specs.Accounts.{IsOfflined, IsOwn}
 use Rattle.hwp_served.specs.Causes.{HasCome, HasFailed, IsAnswerCaused}
 use Rattle.hwp_served.specs.Runs.{row_at}
 use Rattle.hwp_served.proofs.Ending.{IsEnd, IsOf, command-of, list-of, same-row, served-of}
@@ -57,30 +60,60 @@ kernel-found layout view who frame required kernel found is entered = which foun
     which None (pageless, unsignalled) = pageless-found layout frame kernel found.situation is pageless
     which (Some place) (made, other) = page-sound found.situation made.paged ∙ same_Some false kernel (sym other ∙ is)
 
--- ---- a failure of a command's own
+-- ---- what a command did to a frame itself
 
 pub record IsOwnFailure (layout : Layout) (view : View) (who : Who) (command : Command) (answer : Answer) (frame : Frame) (found : Found) : Type 0 where
   pub command_is : command ≡ commands.Inject frame
   pub answer_is : answer ≡ outcome_answer (outcome_of found.situation)
   pub failed : HasFailed layout view who frame found
 
-come-so : (layout : Layout) (view : View) (who : Who) (frame : Frame) (found : Found) (outcome : Outcome) → HasCome layout view who frame (Some (frame, found)) outcome → HasFailed layout view who frame found
-come-so layout view who frame found outcome come = subst (HasFailed layout view who frame) (ap (λ (x : Frame × Found). x.1) (same_Some (frame, come.found) (frame, found) (sym come.own_is))) come.failed
+pub record IsOwnOffline (layout : Layout) (command : Command) (answer : Answer) (frame : Frame) (moved : Bool) : Type 0 where
+  pub command_is : command ≡ commands.Soft frame
+  pub answer_is : IsOfflined moved answer
+  pub users : slice_get layout.kernel frame.0 ≡ Some false
 
-pub own-so : (layout : Layout) (list : List Command) (view : View) (who : Who) (command : Command) (told : List Told) (answer : Answer) (frame : Frame) (found : Found) → IsOwn command answer (Some (frame, found)) → IsAnswerCaused layout list view who command told (Some (frame, found)) answer
-    → IsOwnFailure layout view who command answer frame found
-own-so layout list view who (commands.Inject f) told answer frame found (same, came) caused = record {
-  command_is = ap commands.Inject (sym same);
-  answer_is = came;
-  failed = subst (λ (x : Frame). HasFailed layout view who x found) (sym same)
-      (which (outcome_of found.situation) (subst (λ (x : Frame). IsAnswerCaused layout list view who (commands.Inject f) told (Some (x, found)) (outcome_answer (outcome_of found.situation))) same (subst (IsAnswerCaused layout list view who (commands.Inject f) told (Some (frame, found))) came caused)));
-}
-  where
-    which : (o : Outcome) → IsAnswerCaused layout list view who (commands.Inject f) told (Some (f, found)) (outcome_answer o) → HasFailed layout view who f found
-    which outcomes.Recovered (recovers, come) = come-so layout view who f found outcomes.Recovered come
-    which outcomes.Delayed (recovers, come) = come-so layout view who f found outcomes.Delayed come
-    which outcomes.Ignored (recovers, come) = come-so layout view who f found outcomes.Ignored come
-own-so layout list view who command told answer frame found own caused = absurd own
+abbrev pub IsOwnRight : Layout → View → Who → Command → Answer → Own → Type 0
+IsOwnRight layout view who command answer (owns.Failed frame found) = IsOwnFailure layout view who command answer frame found
+IsOwnRight layout view who command answer (owns.Offlined frame cycle moved) = IsOwnOffline layout command answer frame moved
+
+-- what a failure found, and else this
+abbrev found_or : Found → Own → Found
+found_or other (owns.Failed frame found) = found
+found_or other (owns.Offlined frame cycle moved) = other
+
+module _ (layout : Layout) (list : List Command) (view : View) (who : Who) (told : List Told) where
+  -- the failure is the one that the answer came from
+  come-so : (frame : Frame) (found : Found) (outcome : Outcome) → HasCome layout view who frame (Some (owns.Failed frame found)) outcome → HasFailed layout view who frame found
+  come-so frame found outcome come = subst (HasFailed layout view who frame) (ap (found_or found) (same_Some (owns.Failed frame come.found) (owns.Failed frame found) (sym come.own_is))) come.failed
+
+  failed-so : (frame : Frame) (found : Found) (outcome : Outcome) → IsAnswerCaused layout list view who (commands.Inject frame) told (Some (owns.Failed frame found)) (outcome_answer outcome) → HasFailed layout view who frame found
+  failed-so frame found outcomes.Recovered caused = come-so frame found outcomes.Recovered caused.1
+  failed-so frame found outcomes.Delayed caused = come-so frame found outcomes.Delayed caused.1
+  failed-so frame found outcomes.Ignored caused = come-so frame found outcomes.Ignored caused.1
+
+  -- the kernel's frames aren't taken out of use
+  users-so : (frame : Frame) (own : Option Own) (moved : Bool) (answer : Answer) → IsOfflined moved answer → IsAnswerCaused layout list view who (commands.Soft frame) told own answer → slice_get layout.kernel frame.0 ≡ Some false
+  users-so frame own false answer is caused = (subst (IsAnswerCaused layout list view who (commands.Soft frame) told own) is caused).0
+  users-so frame own true answer is caused = which answer is caused
+    where
+      which : (a : Answer) → is_moved (Some a) ≡ true → IsAnswerCaused layout list view who (commands.Soft frame) told own a → slice_get layout.kernel frame.0 ≡ Some false
+      which (answers.Moved other at) is caused = caused.0
+      which a is caused = absurd (true≢false (sym is))
+
+  pub own-so : (command : Command) (answer : Answer) (own : Own) → IsOwn command answer (Some own) → IsAnswerCaused layout list view who command told (Some own) answer → IsOwnRight layout view who command answer own
+  own-so (commands.Inject f) answer (owns.Failed frame found) (same, came) caused = record {
+    command_is = ap commands.Inject (sym same);
+    answer_is = came;
+    failed = failed-so frame found (outcome_of found.situation)
+        (subst (λ (x : Frame). IsAnswerCaused layout list view who (commands.Inject x) told (Some (owns.Failed frame found)) (outcome_answer (outcome_of found.situation))) (sym same)
+        (subst (IsAnswerCaused layout list view who (commands.Inject f) told (Some (owns.Failed frame found))) came caused));
+  }
+  own-so (commands.Soft f) answer (owns.Offlined frame cycle moved) (same, is) caused = record {
+    command_is = ap commands.Soft (sym same);
+    answer_is = is;
+    users = subst (λ (x : Frame). slice_get layout.kernel x.0 ≡ Some false) (sym same) (users-so f (Some (owns.Offlined frame cycle moved)) moved answer is caused);
+  }
+  own-so command answer own is caused = absurd is
 
 -- ---- at the end
 
@@ -109,9 +142,9 @@ module _ (script : Script) (seat : Cpu → ℕ) (last : State) (report : Report)
       subst (λ (x : Row). EachMember (IsRight script.layout (view_of last (seat who.cpu)) who (current_thread r.of.command)) x.told) r.same
       (told-right script.layout (view_of last (seat who.cpu)) who r.of.command r.of.row.answer r.of.before r.of.row.told r.of.after r.of.served.told)
 
-  -- and so is its own failure
-  pub own-of : (who : Who) (row : Row) (r : OfRow who row) (frame : Frame) (found : Found) → row.own ≡ Some (frame, found) → IsOwnFailure script.layout (view_of last (seat who.cpu)) who r.of.command r.of.row.answer frame found
-  own-of who row r frame found own =
-      let is : r.of.row.own ≡ Some (frame, found) = ap (λ (x : Row). x.own) r.same ∙ own in
-      own-so script.layout r.of.list (view_of last (seat who.cpu)) who r.of.command r.of.row.told r.of.row.answer frame found (subst (IsOwn r.of.command r.of.row.answer) is r.of.served.accounted.own)
-      (subst (λ (o : Option (Frame × Found)). IsAnswerCaused script.layout r.of.list (view_of last (seat who.cpu)) who r.of.command r.of.row.told o r.of.row.answer) is r.of.served.caused)
+  -- and so is what it did to a frame itself
+  pub own-of : (who : Who) (row : Row) (r : OfRow who row) (own : Own) → row.own ≡ Some own → IsOwnRight script.layout (view_of last (seat who.cpu)) who r.of.command r.of.row.answer own
+  own-of who row r own own_is =
+      let is : r.of.row.own ≡ Some own = ap (λ (x : Row). x.own) r.same ∙ own_is in
+      own-so script.layout r.of.list (view_of last (seat who.cpu)) who r.of.row.told r.of.command r.of.row.answer own (subst (IsOwn r.of.command r.of.row.answer) is r.of.served.accounted.own)
+      (subst (λ (o : Option Own). IsAnswerCaused script.layout r.of.list (view_of last (seat who.cpu)) who r.of.command r.of.row.told o r.of.row.answer) is r.of.served.caused)

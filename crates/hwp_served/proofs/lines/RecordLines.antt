@@ -1,5 +1,5 @@
--- The record of a frame is what is gathered of the notes of all processors: each of its lines tells a failure of the frame, that of an
--- event which a command told, or that which the command brought about itself.
+-- The record of a frame is what is gathered of the notes of all processors: each of its lines tells a failure of the frame by an event
+-- which a command told, or what the command did to the frame itself.
 use Rattle.std.proofs.Common.{◌≡◌, ◌⊎◌, inl, inr, ℕ, zero, suc, ◌+◌, ◌<◌, ◌≤◌, ◌==◌, ◌&&◌, not, Bool, true, false, cond, List, [], ◌∷◌, Option, Some, None, filter, length, slice_get, refl, sym, ap, ◌∙◌, subst, arith, true≢false}
 use Rattle.std.specs.List.{count_by}
 use Rattle.std.proofs.lemmas.Bool.{and_from, and_parts, eq-eqb, eqb-true}
@@ -15,12 +15,12 @@ use Rattle.hwp_page.specs.declared.Situation.{Situation}
 use Rattle.hwp_page.specs.declared.Situation.TheVariants as situations
 use Rattle.hwp_page.specs.Situations.{outcome_of}
 use Rattle.hwp_rule.specs.declared.State.{State}
-use Rattle.hwp_rule.specs.Lists.{EachMember}
 use Rattle.hwp_rule.proofs.Counting.{sum-ones}
 use Rattle.hwp_rule.proofs.Lists.{map-was}
 use Rattle.hwp_step.specs.Boards.{view_of}
 use Rattle.hwp_script.specs.declared.Script.{Script}
 use Rattle.hwp_report.specs.declared.FrameLine.{FrameLine}
+use Rattle.hwp_report.specs.declared.How.{How}
 use Rattle.hwp_report.specs.declared.How.TheVariants as hows
 use Rattle.hwp_report.specs.declared.MarkLine.{MarkLine}
 use Rattle.hwp_report.specs.declared.MarkLine.TheVariants as marks
@@ -28,11 +28,12 @@ use Rattle.hwp_report.specs.declared.Report.{Report}
 use Rattle.hwp_law.specs.Pairings.{situation_number}
 use Rattle.hwp_law.specs.Records.{who_in}
 use Rattle.hwp_handler.specs.declared.Found.{Found}
-use Rattle.hwp_handler.specs.declared.Row.{Row}
+use Rattle.hwp_row.specs.declared.Own.{Own}
+use Rattle.hwp_row.specs.declared.Row.{Row}
 use Rattle.hwp_handler.specs.declared.Told.{Told}
 use Rattle.hwp_handler.specs.Told.{frame_of}
 use Rattle.hwp_served.specs.Accounts.{IsNote, is_same}
-use Rattle.hwp_served.specs.Rows.{Note, notes_from, record_of}
+use Rattle.hwp_served.specs.Rows.{Note, note_by, notes_from, record_of}
 use Rattle.hwp_served.specs.Runs.{notes_of, row_at}
 use Rattle.hwp_served.proofs.Ending.{IsEnd, filter-has, list-of, rows-of, served-of}
 use Rattle.hwp_served.proofs.Failed.{same-who}
@@ -79,10 +80,7 @@ at-outcome outcomes.Recovered = refl
 at-outcome outcomes.Delayed = refl
 at-outcome outcomes.Ignored = refl
 
--- ---- a line that tells a failure
-
-abbrev pub failure_line : Who → Bool → Found → MarkLine
-failure_line who hardware found = marks.Poisoned found.cycle who (hows.Failure hardware found.situation (outcome_of found.situation))
+-- ---- a line is another one
 
 abbrev same_flag : Bool → Bool → Bool
 same_flag true b = b
@@ -97,43 +95,52 @@ self-flag : (a : Bool) → same_flag a a ≡ true
 self-flag true = refl
 self-flag false = refl
 
-abbrev is_line : Who → Bool → Found → MarkLine → Bool
-is_line who hardware found (marks.Poisoned cycle by (hows.Failure other situation outcome)) =
-    (cycle == found.cycle) && (is_same who by && (same_flag hardware other && ((situation_number situation == situation_number found.situation) && (number_of outcome == number_of (outcome_of found.situation)))))
-is_line who hardware found x = false
+abbrev same_how : How → How → Bool
+same_how (hows.Failure hardware situation outcome) (hows.Failure other t came) = same_flag hardware other && ((situation_number t == situation_number situation) && (number_of came == number_of outcome))
+same_how hows.Moved hows.Moved = true
+same_how hows.TakenFree hows.TakenFree = true
+same_how how other = false
 
-is-line : (who : Who) (hardware : Bool) (found : Found) (x : MarkLine) → is_line who hardware found x ≡ true → x ≡ failure_line who hardware found
-is-line who hardware found (marks.Poisoned cycle by (hows.Failure other situation outcome)) is =
-    let one = and_parts (cycle == found.cycle) _ is in
+is-how : (a b : How) → same_how a b ≡ true → b ≡ a
+is-how (hows.Failure hardware situation outcome) (hows.Failure other t came) is =
+    let one = and_parts (same_flag hardware other) _ is in
+    let two = and_parts (situation_number t == situation_number situation) _ one.1 in
+    ap (λ (b : Bool). hows.Failure b t came) (is-flag hardware other one.0)
+    ∙ ap (λ (s : Situation). hows.Failure hardware s came) (same-situation t situation two.0)
+    ∙ ap (λ (o : Outcome). hows.Failure hardware situation o) (sym (at-outcome came) ∙ ap outcome_at (eqb-true (number_of came) (number_of outcome) two.1) ∙ at-outcome outcome)
+is-how hows.Moved hows.Moved is = refl
+is-how hows.TakenFree hows.TakenFree is = refl
+is-how a b is = absurd (true≢false (sym is))
+
+self-how : (a : How) → same_how a a ≡ true
+self-how (hows.Failure hardware situation outcome) =
+    and_from (same_flag hardware hardware) _ (self-flag hardware)
+    (and_from (situation_number situation == situation_number situation) _ (eq-eqb (situation_number situation) (situation_number situation) refl) (eq-eqb (number_of outcome) (number_of outcome) refl))
+self-how hows.Moved = refl
+self-how hows.TakenFree = refl
+
+abbrev same_line : MarkLine → MarkLine → Bool
+same_line (marks.Poisoned cycle who how) (marks.Poisoned c by h) = (c == cycle) && (is_same who by && same_how how h)
+same_line (marks.Unpoisoned cycle who) (marks.Unpoisoned c by) = (c == cycle) && is_same who by
+same_line x y = false
+
+is-line : (x y : MarkLine) → same_line x y ≡ true → y ≡ x
+is-line (marks.Poisoned cycle who how) (marks.Poisoned c by h) is =
+    let one = and_parts (c == cycle) _ is in
     let two = and_parts (is_same who by) _ one.1 in
-    let three = and_parts (same_flag hardware other) _ two.1 in
-    let four = and_parts (situation_number situation == situation_number found.situation) _ three.1 in
-    let came : outcome ≡ outcome_of found.situation = sym (at-outcome outcome) ∙ ap outcome_at (eqb-true (number_of outcome) (number_of (outcome_of found.situation)) four.1) ∙ at-outcome (outcome_of found.situation) in
-    ap (λ (c : ℕ). marks.Poisoned c by (hows.Failure other situation outcome)) (eqb-true cycle found.cycle one.0)
-    ∙ ap (λ (w : Who). marks.Poisoned found.cycle w (hows.Failure other situation outcome)) (same-who who by two.0)
-    ∙ ap (λ (b : Bool). marks.Poisoned found.cycle who (hows.Failure b situation outcome)) (is-flag hardware other three.0)
-    ∙ ap (λ (s : Situation). marks.Poisoned found.cycle who (hows.Failure hardware s outcome)) (same-situation situation found.situation four.0)
-    ∙ ap (λ (o : Outcome). marks.Poisoned found.cycle who (hows.Failure hardware found.situation o)) came
-is-line who hardware found (marks.Poisoned cycle by hows.Moved) is = absurd (true≢false (sym is))
-is-line who hardware found (marks.Poisoned cycle by hows.TakenFree) is = absurd (true≢false (sym is))
-is-line who hardware found (marks.Unpoisoned cycle by) is = absurd (true≢false (sym is))
+    ap (λ (n : ℕ). marks.Poisoned n by h) (eqb-true c cycle one.0) ∙ ap (λ (w : Who). marks.Poisoned cycle w h) (same-who who by two.0) ∙ ap (marks.Poisoned cycle who) (is-how how h two.1)
+is-line (marks.Unpoisoned cycle who) (marks.Unpoisoned c by) is =
+    let one = and_parts (c == cycle) _ is in
+    ap (λ (n : ℕ). marks.Unpoisoned n by) (eqb-true c cycle one.0) ∙ ap (marks.Unpoisoned cycle) (same-who who by one.1)
+is-line x y is = absurd (true≢false (sym is))
 
-self-line : (who : Who) (hardware : Bool) (found : Found) → is_line who hardware found (failure_line who hardware found) ≡ true
-self-line who hardware found =
-    and_from (found.cycle == found.cycle) _ (eq-eqb found.cycle found.cycle refl) (and_from (is_same who who) _ (same-self who who refl) (and_from (same_flag hardware hardware) _ (self-flag hardware)
-    (and_from (situation_number found.situation == situation_number found.situation) _ (eq-eqb (situation_number found.situation) (situation_number found.situation) refl)
-    (eq-eqb (number_of (outcome_of found.situation)) (number_of (outcome_of found.situation)) refl))))
+self-line : (x : MarkLine) → same_line x x ≡ true
+self-line (marks.Poisoned cycle who how) = and_from (cycle == cycle) _ (eq-eqb cycle cycle refl) (and_from (is_same who who) _ (same-self who who refl) (self-how how))
+self-line (marks.Unpoisoned cycle who) = and_from (cycle == cycle) _ (eq-eqb cycle cycle refl) (same-self who who refl)
 
--- a line that tells some failure
-pub record IsFailureLine (x : MarkLine) : Type 0 where
-  pub who : Who
-  pub hardware : Bool
-  pub found : Found
-  pub is : x ≡ failure_line who hardware found
-
--- two lists that count the same, of which one has one such line at most
-same-few : (l g : List MarkLine) → ((test : MarkLine → Bool) → count_by test l ≡ count_by test g) → length g ≤ 1 → EachMember IsFailureLine g → l ≡ g
-same-few l g same few each = which l g (sym (sum-ones l) ∙ same (λ x. true) ∙ sum-ones g) same few each
+-- two lists that count the same, of which one has one line at most
+same-few : (l g : List MarkLine) → ((test : MarkLine → Bool) → count_by test l ≡ count_by test g) → length g ≤ 1 → l ≡ g
+same-few l g same few = which l g (sym (sum-ones l) ∙ same (λ x. true) ∙ sum-ones g) same few
   where
     one : (test : MarkLine → Bool) (x : MarkLine) → count_by test (x ∷ []) ≡ cond (test x) 1 0
     one test x = let all : count_by test (x ∷ []) ≡ cond (test x) 1 0 + 0 = sum_by-cons (λ (y : MarkLine). cond (test y) 1 0) x [] in omega (arith, all)
@@ -142,23 +149,23 @@ same-few l g same few each = which l g (sym (sum-ones l) ∙ same (λ x. true) �
     passed true is = refl
     passed false is = absurd (omega (arith, is))
 
-    which : (l g : List MarkLine) → length l ≡ length g → ((test : MarkLine → Bool) → count_by test l ≡ count_by test g) → length g ≤ 1 → EachMember IsFailureLine g → l ≡ g
-    which [] [] fit same few each = refl
-    which [] (x ∷ xs) fit same few each = absurd (let no_ : 0 ≡ suc (length xs) = fit in omega arith)
-    which (y ∷ ys) [] fit same few each = absurd (let no_ : suc (length ys) ≡ 0 = fit in omega arith)
-    which (y ∷ ys) (x ∷ z ∷ zs) fit same few each = absurd (let no_ : suc (suc (length zs)) ≤ 1 = few in omega arith)
-    which (y ∷ z ∷ zs) (x ∷ []) fit same few each = absurd (let no_ : suc (suc (length zs)) ≡ 1 = fit in omega arith)
-    which (y ∷ []) (x ∷ []) fit same few each =
-        let of = each 0 x refl in
-        let test : MarkLine → Bool = is_line of.who of.hardware of.found in
-        let mine : test x ≡ true = ap test of.is ∙ self-line of.who of.hardware of.found in
-        let counted : cond (test y) 1 0 ≡ cond (test x) 1 0 = sym (one test y) ∙ same test ∙ one test x in
-        let passes : cond (test y) 1 0 ≡ 1 = counted ∙ ap (λ (b : Bool). cond b 1 0) mine in
-        ap (λ (w : MarkLine). w ∷ []) (is-line of.who of.hardware of.found y (passed (test y) passes) ∙ sym of.is)
+    which : (l g : List MarkLine) → length l ≡ length g → ((test : MarkLine → Bool) → count_by test l ≡ count_by test g) → length g ≤ 1 → l ≡ g
+    which [] [] fit same few = refl
+    which [] (x ∷ xs) fit same few = absurd (let no_ : 0 ≡ suc (length xs) = fit in omega arith)
+    which (y ∷ ys) [] fit same few = absurd (let no_ : suc (length ys) ≡ 0 = fit in omega arith)
+    which (y ∷ ys) (x ∷ z ∷ zs) fit same few = absurd (let no_ : suc (suc (length zs)) ≤ 1 = few in omega arith)
+    which (y ∷ z ∷ zs) (x ∷ []) fit same few = absurd (let no_ : suc (suc (length zs)) ≡ 1 = fit in omega arith)
+    which (y ∷ []) (x ∷ []) fit same few =
+        let counted : cond (same_line x y) 1 0 ≡ cond (same_line x x) 1 0 = sym (one (same_line x) y) ∙ same (same_line x) ∙ one (same_line x) x in
+        let passes : cond (same_line x y) 1 0 ≡ 1 = counted ∙ ap (λ (b : Bool). cond b 1 0) (self-line x) in
+        ap (λ (w : MarkLine). w ∷ []) (is-line x y (passed (same_line x y) passes))
 
 -- ---- the lines of a record
 
--- a line of a frame's record by a command with this row: of an event, or of the command's own failure
+abbrev pub failure_line : Who → Bool → Found → MarkLine
+failure_line who hardware found = marks.Poisoned found.cycle who (hows.Failure hardware found.situation (outcome_of found.situation))
+
+-- a line of a frame's record by a command with this row: of an event, or of what the command did to a frame itself
 pub record IsOfTold (who : Who) (row : Row) (frame : Frame) (x : MarkLine) : Type 0 where
   pub i : ℕ
   pub t : Told
@@ -169,16 +176,13 @@ pub record IsOfTold (who : Who) (row : Row) (frame : Frame) (x : MarkLine) : Typ
   pub line_is : x ≡ failure_line who true found
 
 pub record IsOfOwn (who : Who) (row : Row) (frame : Frame) (x : MarkLine) : Type 0 where
-  pub found : Found
-  pub own_is : row.own ≡ Some (frame, found)
-  pub line_is : x ≡ failure_line who false found
+  pub own : Own
+  pub own_is : row.own ≡ Some own
+  pub frame_is : (note_by who own).0 ≡ frame
+  pub line_is : x ≡ (note_by who own).1
 
 abbrev pub IsOfRow : Who → Row → Frame → MarkLine → Type 0
 IsOfRow who row frame x = IsOfTold who row frame x ⊎ IsOfOwn who row frame x
-
-failure-so : (who : Who) (row : Row) (frame : Frame) (x : MarkLine) → IsOfRow who row frame x → IsFailureLine x
-failure-so who row frame x (inl of) = record { who = who; hardware = true; found = of.found; is = of.line_is }
-failure-so who row frame x (inr of) = record { who = who; hardware = false; found = of.found; is = of.line_is }
 
 pub record OfItsRow (rows : List (List Row)) (frame : Frame) (x : MarkLine) : Type 0 where
   pub row : Row
@@ -198,7 +202,7 @@ note-row rows j n there =
       row = row;
       row_is = is;
       of = each-note (λ (x : Note). IsOfRow (who_in n.1) row x.0 x.1) (who_in n.1) row (λ i t found there some. inl (record { i = i; t = t; there = there; found = found; found_is = some; frame_is = refl; line_is = refl }))
-          (λ frame found own. inr (record { found = found; own_is = own; line_is = refl })) k n at;
+          (λ own is. inr (record { own = own; own_is = is; frame_is = refl; line_is = refl })) k n at;
     }
 
 -- and so is each line that is gathered
@@ -236,7 +240,6 @@ module _ (script : Script) (seat : Cpu → ℕ) (last : State) (report : Report)
       let notes : List (List Note) = notes_of 0 end.rows in
       same-few line.marks (record_of frame notes) (λ test. (end.records frame line line_is).same test ∙ sym (gathered-same frame test notes))
       (gathered-few script.layout seat last end.board.holds end.seated notes all-noted frame on.word on.there)
-      (λ k x there. let of = line-row end.rows frame k x there in failure-so (who_in x) of.row frame x of.of)
 
   -- so that each of its lines is of a row
   pub of-row : (frame : Frame) (line : FrameLine) → slice_get report.frames frame.0 ≡ Some line → (k : ℕ) (x : MarkLine) → slice_get line.marks k ≡ Some x → OfItsRow end.rows frame x

@@ -1,5 +1,5 @@
 -- What the marks of a command have in the histories: an entry for each failure that found a page in its frame, with a thread that needed
--- the page exactly where row S9 graded the event; and its answer for one at most.
+-- the page exactly where row S9 graded the event, and one for each soft offline that moved a page; and its answer for one at most.
 use Rattle.std.proofs.Common.{◌≡◌, inl, inr, ℕ, suc, ◌+◌, ◌<◌, ◌≤◌, ◌==◌, ◌&&◌, not, Bool, true, false, cond, List, [], ◌∷◌, ◌++◌, Option, Some, None, is_some, filter_map, length, map, option_and_then, option_map, slice_get, refl, sym, ap, ◌∙◌, subst, arith, true≢false}
 use Rattle.std.specs.List.{cons_option, count_by, sum_by, zip}
 use Rattle.std.proofs.lemmas.Bool.{and_left, and_right, cases_lt, false_from_ne_true}
@@ -34,17 +34,19 @@ use Rattle.hwp_report.specs.declared.MarkLine.{MarkLine}
 use Rattle.hwp_report.specs.declared.Report.{Report}
 use Rattle.hwp_law.specs.Commands.{current_thread}
 use Rattle.hwp_law.specs.Lines.{EventLine, is_same_command}
-use Rattle.hwp_law.specs.Pairings.{AreRecorded, entries_of, finds, has_page, is_commands, is_failure, is_failure_mark, is_move, is_move_mark, is_required, is_urgent, marks_in, situation_number, urgent_from}
+use Rattle.hwp_law.specs.Pairings.{AreRecorded, entries_of, finds, has_page, is_commands, is_failure, is_failure_mark, is_move, is_move_mark, is_required, is_soft, is_urgent, marks_in, situation_number, urgent_from}
 use Rattle.hwp_law.specs.Records.{hardware_marks, how_in, is_by_hardware, result_lines, who_in}
 use Rattle.hwp_runs.proofs.Homes.{there-is}
 use Rattle.hwp_handler.specs.declared.Found.{Found}
-use Rattle.hwp_handler.specs.declared.Row.{Row}
+use Rattle.hwp_row.specs.declared.Own.{Own}
+use Rattle.hwp_row.specs.declared.Own.TheVariants as owns
+use Rattle.hwp_row.specs.declared.Row.{Row}
 use Rattle.hwp_handler.specs.declared.Told.{Told}
 use Rattle.hwp_handler.specs.Done.{entered_by, failed_by, failed_in}
 use Rattle.hwp_handler.specs.Fits.{IsEntered}
 use Rattle.hwp_handler.specs.Told.{frame_of, required_by}
 use Rattle.hwp_served.specs.Accounts.{failures_in, own_failure}
-use Rattle.hwp_served.specs.Rows.{Note, note_of, own_note, told_note}
+use Rattle.hwp_served.specs.Rows.{Note, note_by, note_of, own_note, told_note}
 use Rattle.hwp_served.specs.Runs.{row_at}
 use Rattle.hwp_served.proofs.Ending.{IsEnd, list-of, rows-of, served-of}
 use Rattle.hwp_served.proofs.Failed.{same-who}
@@ -52,7 +54,7 @@ use Rattle.hwp_served.proofs.RowLines.{told_at}
 use Rattle.hwp_served.proofs.Seen.{filter-is}
 use Rattle.hwp_served.proofs.Sums.{below-front, below-same, sum-same}
 use Rattle.hwp_served.proofs.deeds.CountedEntries.{entries-inside, entries-outside}
-use Rattle.hwp_served.proofs.deeds.Sound.{soft-none}
+use Rattle.hwp_served.proofs.deeds.Softs.{moves_by, softs-counted}
 use Rattle.hwp_served.proofs.marks.CountedMarks.{marks-of-command}
 use Rattle.hwp_served.proofs.marks.RowNotes.{notes_at}
 use Rattle.hwp_served.proofs.lines.OfRows.{OfRow, own-of, right-of, row-of}
@@ -160,15 +162,18 @@ module _ (layout : Layout) (view : View) (who : Who) (situation : Situation) (pa
           required-counts (frame_of t.held) (required_by thread t.held.grade.severity) found (entered found refl)
           ∙ ap (λ (b : Bool). flag ((situation_number found.situation == situation_number situation) && b)) (sym right.urgent)
 
-  -- of a command's own failure
-  own-counts : (own : Option (Frame × Found)) → ((frame : Frame) (found : Found) → own ≡ Some (frame, found) → IsEntered layout view who frame None found found.at)
+  -- of what a command did to a frame itself
+  own-counts : (own : Option Own) → ((frame : Frame) (found : Found) → own ≡ Some (owns.Failed frame found) → IsEntered layout view who frame None found found.at)
       → counts (is_in situation) (own_failure own) ≡ counts (λ (n : Note). finds situation (how_in n.1)) (own_note who own)
   own-counts None entered = refl
-  own-counts (Some x) entered = entry-counts x.0 None x.1 (entered x.0 x.1 refl)
+  own-counts (Some (owns.Failed frame found)) entered = entry-counts frame None found (entered frame found refl)
+  own-counts (Some (owns.Offlined frame cycle true)) entered = refl
+  own-counts (Some (owns.Offlined frame cycle false)) entered = refl
 
-  own-needed : (own : Option (Frame × Found)) → ((frame : Frame) (found : Found) → own ≡ Some (frame, found) → IsEntered layout view who frame None found found.at) → counts (is_needed situation) (own_failure own) ≡ 0
+  own-needed : (own : Option Own) → ((frame : Frame) (found : Found) → own ≡ Some (owns.Failed frame found) → IsEntered layout view who frame None found found.at) → counts (is_needed situation) (own_failure own) ≡ 0
   own-needed None entered = refl
-  own-needed (Some x) entered = required-counts x.0 None x.1 (entered x.0 x.1 refl) ∙ ap flag (and_right (situation_number x.1.situation == situation_number situation) false refl)
+  own-needed (Some (owns.Failed frame found)) entered = required-counts frame None found (entered frame found refl) ∙ ap flag (and_right (situation_number found.situation == situation_number situation) false refl)
+  own-needed (Some (owns.Offlined frame cycle moved)) entered = refl
 
 -- ---- marks beside event lines
 
@@ -236,8 +241,8 @@ module _ (script : Script) (seat : Cpu → ℕ) (last : State) (report : Report)
         marks-of-command script seat last report end who test ∙ ap (λ (o : Option Row). count_by (λ (n : Note). test n.1) (notes_at who o)) row_is
         ∙ count-more (told_note who) (λ (n : Note). test n.1) row.told (own_note who row.own)
 
-    own-entered : (frame : Frame) (found : Found) → row.own ≡ Some (frame, found) → IsEntered script.layout view who frame None found found.at
-    own-entered frame found is = (own-of script seat last report end who row of frame found is).failed.entered
+    own-entered : (frame : Frame) (found : Found) → row.own ≡ Some (owns.Failed frame found) → IsEntered script.layout view who frame None found found.at
+    own-entered frame found is = (own-of script seat last report end who row of (owns.Failed frame found) is).failed.entered
 
     failures-with : (situation : Situation) → has_page situation ≡ true → entries_of report who (is_failure situation) ≡ marks_in report (is_failure_mark who situation)
     failures-with situation page =
@@ -257,20 +262,25 @@ module _ (script : Script) (seat : Cpu → ℕ) (last : State) (report : Report)
         let own : counts (is_needed situation) (own_failure row.own) ≡ 0 = own-needed script.layout view who situation page row.own own-entered in
         omega (arith, entries, told, own)
 
-    no-moves-with : marks_in report (is_move_mark who) ≡ 0
-    no-moves-with =
+    moves-with : entries_of report who is_soft ≡ marks_in report (is_move_mark who)
+    moves-with =
+        let entries : entries_of report who is_soft ≡ moves_by of.of.row.own
+        = entries-inside script seat last report end who is_soft of.of.inside ∙ softs-counted script.layout of.of.list view who of.of.command of.of.row of.of.served.caused of.of.served.accounted in
+        let same : moves_by of.of.row.own ≡ moves_by row.own = ap (λ (r : Row). moves_by r.own) of.same in
         let all : marks_in report (is_move_mark who) ≡ sum_by (λ (t : Told). counts (λ (n : Note). is_move (how_in n.1)) (told_note who t)) row.told + counts (λ (n : Note). is_move (how_in n.1)) (own_note who row.own) = marks-are (λ (x : MarkLine). is_move (how_in x)) in
         let told : sum_by (λ (t : Told). counts (λ (n : Note). is_move (how_in n.1)) (told_note who t)) row.told ≡ 0 = sum-zero (λ (t : Told). counts (λ (n : Note). is_move (how_in n.1)) (told_note who t)) row.told (λ i t there. still t.found t) in
-        let own : counts (λ (n : Note). is_move (how_in n.1)) (own_note who row.own) ≡ 0 = unmoved row.own in
-        omega (arith, all, told, own)
+        let own : counts (λ (n : Note). is_move (how_in n.1)) (own_note who row.own) ≡ moves_by row.own = moves row.own in
+        omega (arith, entries, same, all, told, own)
       where
         still : (o : Option Found) (t : Told) → counts (λ (n : Note). is_move (how_in n.1)) (option_map (note_of who true (frame_of t.held)) o) ≡ 0
         still None t = refl
         still (Some found) t = refl
 
-        unmoved : (o : Option (Frame × Found)) → counts (λ (n : Note). is_move (how_in n.1)) (own_note who o) ≡ 0
-        unmoved None = refl
-        unmoved (Some x) = refl
+        moves : (o : Option Own) → counts (λ (n : Note). is_move (how_in n.1)) (own_note who o) ≡ moves_by o
+        moves None = refl
+        moves (Some (owns.Failed frame found)) = refl
+        moves (Some (owns.Offlined frame cycle true)) = refl
+        moves (Some (owns.Offlined frame cycle false)) = refl
 
     one-with : marks_in report (is_commands who) ≤ 1
     one-with =
@@ -283,9 +293,13 @@ module _ (script : Script) (seat : Cpu → ℕ) (last : State) (report : Report)
         still None t = refl
         still (Some found) t = refl
 
-        one : (o : Option (Frame × Found)) → counts (λ (n : Note). not (is_by_hardware n.1)) (own_note who o) ≤ 1
+        one : (o : Option Own) → counts (λ (n : Note). not (is_by_hardware n.1)) (own_note who o) ≤ 1
         one None = omega arith
-        one (Some x) = omega arith
+        one (Some own) = few (is_by_hardware (note_by who own).1)
+          where
+            few : (b : Bool) → flag (not b) ≤ 1
+            few true = omega arith
+            few false = omega arith
 
     within : EachMember (λ (t : Told). (found : Found) → t.found ≡ Some found → frame_at t.held.event.addr < length report.frames) row.told
     within i t there found some = let line = told-line script seat last report end who row row_is i t found there some in slice_get_within report.frames (frame_at t.held.event.addr) line.0 line.1
@@ -315,13 +329,13 @@ module _ (script : Script) (seat : Cpu → ℕ) (last : State) (report : Report)
         failures = λ situation page. entries-without (is_failure situation) none ∙ sym (marks-without (λ (x : MarkLine). finds situation (how_in x)) none);
         required = λ situation page. entries-without (is_required situation) none ∙ sym (all-urgent situation ∙ ap (λ (o : Option Row). sum_below (λ i. sum_by (urgent_weight situation) (found_on i (told_at o))) (length report.frames)) none
             ∙ on-frames (urgent_weight situation) (length report.frames) [] (λ i t there. absurd (none-some t there)));
-        moves = soft-none script seat last report end who ∙ sym (marks-without (λ (x : MarkLine). is_move (how_in x)) none);
+        moves = entries-without is_soft none ∙ sym (marks-without (λ (x : MarkLine). is_move (how_in x)) none);
         one = (let few : marks_in report (is_commands who) ≡ 0 = marks-without (λ (x : MarkLine). not (is_by_hardware x)) none in omega (arith, few));
       }
       which (Some row) some = record {
         failures = failures-with row some;
         required = λ situation page. required-with row some situation page
             ∙ sym (all-urgent situation ∙ ap (λ (o : Option Row). sum_below (λ i. sum_by (urgent_weight situation) (found_on i (told_at o))) (length report.frames)) some ∙ on-frames (urgent_weight situation) (length report.frames) row.told (within row some));
-        moves = soft-none script seat last report end who ∙ sym (no-moves-with row some);
+        moves = moves-with row some;
         one = one-with row some;
       }

@@ -1,5 +1,5 @@
--- The record of a frame: each line is of a failure of the frame, with what it found and its result; a command's own is its answer, and
--- those of its events stand beside the event lines that tell them.
+-- The record of a frame: each line is of a failure of the frame, with what it found and its result, or of a soft offline; a command's
+-- own is its answer, and those of its events stand beside the event lines that tell them.
 use Rattle.std.proofs.Common.{◌≡◌, inl, inr, ℕ, zero, suc, ◌==◌, ◌&&◌, Bool, true, false, cond, List, [], ◌∷◌, ◌++◌, Option, Some, None, filter, filter_map, is_some, length, map, option_map, slice_get, unwrap_or, refl, sym, ap, ◌∙◌, subst}
 use Rattle.std.specs.List.{cons_option}
 use Rattle.std.proofs.lemmas.Bool.{eq-eqb}
@@ -16,8 +16,9 @@ use Rattle.hwp_rule.specs.Lists.{EachMember}
 use Rattle.hwp_rule.proofs.Lists.{at_last, at_map}
 use Rattle.hwp_step.specs.Boards.{view_of}
 use Rattle.hwp_claim.specs.Claims.{is_own}
-use Rattle.hwp_claim.specs.Done.{Marking, poisoning}
+use Rattle.hwp_claim.specs.Done.{Marking}
 use Rattle.hwp_script.specs.declared.Command.{Command}
+use Rattle.hwp_script.specs.declared.Command.TheVariants as commands
 use Rattle.hwp_script.specs.declared.Script.{Script}
 use Rattle.hwp_report.specs.declared.Acted.{Acted}
 use Rattle.hwp_report.specs.declared.Acted.TheVariants as acts
@@ -27,32 +28,35 @@ use Rattle.hwp_report.specs.declared.How.{How}
 use Rattle.hwp_report.specs.declared.How.TheVariants as hows
 use Rattle.hwp_report.specs.declared.MarkLine.{MarkLine}
 use Rattle.hwp_report.specs.declared.Report.{Report}
-use Rattle.hwp_law.specs.Causes.{ComesTo, HasMark}
+use Rattle.hwp_law.specs.Causes.{HasMark}
 use Rattle.hwp_law.specs.Checks.{IsResult}
 use Rattle.hwp_law.specs.Commands.{current_thread}
-use Rattle.hwp_law.specs.Lines.{EventLine, marks_of}
-use Rattle.hwp_law.specs.Records.{HaveEvents, is_kernel_found, IsAnswered, IsFound, IsFrameRecord, IsMarkAt, hardware_marks, how_in, is_by_hardware, line_results, mark_results, result_lines, result_of, who_in}
+use Rattle.hwp_law.specs.Lines.{EventLine, answer_of, marks_of}
+use Rattle.hwp_law.specs.Places.{command_at}
+use Rattle.hwp_law.specs.Records.{HaveEvents, is_kernel_found, IsAnswered, IsFound, IsFrameRecord, IsMarkAt, hardware_marks, how_in, is_by_hardware, is_moved, line_results, mark_results, result_lines, result_of, who_in}
 use Rattle.hwp_handler.specs.declared.Found.{Found}
-use Rattle.hwp_handler.specs.declared.Row.{Row}
+use Rattle.hwp_row.specs.declared.Own.{Own}
+use Rattle.hwp_row.specs.declared.Own.TheVariants as owns
+use Rattle.hwp_row.specs.declared.Row.{Row}
 use Rattle.hwp_handler.specs.declared.Told.{Told}
 use Rattle.hwp_handler.specs.Done.{marked_in}
 use Rattle.hwp_handler.specs.Fits.{IsEntered}
 use Rattle.hwp_handler.specs.Told.{required_by}
-use Rattle.hwp_served.specs.Accounts.{markings, markings_in, own_marking}
-use Rattle.hwp_served.specs.Rows.{Note, lines_of, note_of, own_note, record_of, told_note}
+use Rattle.hwp_served.specs.Accounts.{marking_by, markings, markings_in, own_marking}
+use Rattle.hwp_served.specs.Rows.{Note, lines_of, note_by, offlined, own_note, record_of, told_note}
 use Rattle.hwp_served.specs.Runs.{notes_of, row_at}
 use Rattle.hwp_served.proofs.Ending.{IsEnd, filter-has}
 use Rattle.hwp_served.proofs.Failed.{HasMarked, has-marked}
 use Rattle.hwp_served.proofs.RowLines.{answer-told, events-by-row, told_at}
 use Rattle.hwp_served.proofs.Seen.{filter-is}
 use Rattle.hwp_served.proofs.deeds.Made.{command-is}
-use Rattle.hwp_served.proofs.lines.OfRows.{kernel-found, own-of, right-of, row-of}
+use Rattle.hwp_served.proofs.lines.OfRows.{IsOwnRight, kernel-found, own-of, right-of, row-of}
 use Rattle.hwp_served.proofs.lines.RecordLines.{IsOfRow, OfItsRow, failure_line, of-row, record-is}
 use Rattle.hwp_served.proofs.lines.RowEvents.{Came, TellsResult, came_line, found_in, found_on, hardware_line, results-are, row-lines, row-results, same-results}
 use Rattle.hwp_served.proofs.lines.ToldRight.{found_act}
 use Rattle.hwp_served.proofs.marks.Marked.{any-of, line-of}
 use Rattle.hwp_served.proofs.marks.Poisoned.{one-line}
-use Rattle.hwp_served.proofs.marks.RowNotes.{all_notes, hardware-of, is_noted, notes-of-command, notes_at, record-flat}
+use Rattle.hwp_served.proofs.marks.RowNotes.{all_notes, hardware-of, is_noted, notes-of-command, notes_at, own-by, record-flat}
 
 -- what an event tells is its result where it tells one
 result-is : (a b : Acted) → result_of a ≡ Some b → a ≡ b
@@ -119,6 +123,18 @@ module _ (script : Script) (seat : Cpu → ℕ) (last : State) (report : Report)
     line-found who hardware found x how line_is_ right is =
         subst (IsFound kernel) (same_Some (hows.Failure hardware found.situation (outcome_of found.situation)) how (sym (ap how_in line_is_) ∙ is)) (right, refl)
 
+    own-found : (who : Who) (command : Command) (answer : Answer) (x : MarkLine) (how : How) (own : Own) → IsOwnRight script.layout (view_of last (seat who.cpu)) who command answer own → (note_by who own).0 ≡ frame → x ≡ (note_by who own).1 → how_in x ≡ Some how → IsFound kernel how
+    own-found who command answer x how (owns.Failed f found) right frame_is line_is_ is =
+        let entered = subst (λ (y : Frame). IsEntered script.layout (view_of last (seat who.cpu)) who y None found found.at) frame_is right.failed.entered in
+        line-found who false found x how line_is_ (kernel-found script.layout (view_of last (seat who.cpu)) who frame None kernel found kernel_is entered) is
+    own-found who command answer x how (owns.Offlined f cycle moved) right frame_is line_is_ is =
+        let users : slice_get script.layout.kernel frame.0 ≡ Some false = subst (λ (y : Frame). slice_get script.layout.kernel y.0 ≡ Some false) frame_is right.users in
+        subst (IsFound kernel) (same_Some (offlined moved) how (sym (ap how_in line_is_) ∙ is)) (which moved (same_Some kernel false (sym kernel_is ∙ users)))
+      where
+        which : (b : Bool) → kernel ≡ false → IsFound kernel (offlined b)
+        which true none = none
+        which false none = none
+
     found-so : (k : ℕ) (x : MarkLine) (how : How) → slice_get (marks_of report frame.0) k ≡ Some x → how_in x ≡ Some how → IsFound kernel how
     found-so k x how there is = let o = of k x there in which o.row o.row_is o.of
       where
@@ -131,8 +147,16 @@ module _ (script : Script) (seat : Cpu → ℕ) (last : State) (report : Report)
             line-found (who_in x) true o.found x how o.line_is (kernel-found script.layout (view_of last (seat (who_in x).cpu)) (who_in x) frame required kernel o.found kernel_is entered) is
         which row row_is (inr o) =
             let r = row-of script seat last report end (who_in x) row row_is in
-            let own = own-of script seat last report end (who_in x) row r frame o.found o.own_is in
-            line-found (who_in x) false o.found x how o.line_is (kernel-found script.layout (view_of last (seat (who_in x).cpu)) (who_in x) frame None kernel o.found kernel_is own.failed.entered) is
+            own-found (who_in x) r.of.command r.of.row.answer x how o.own (own-of script seat last report end (who_in x) row r o.own o.own_is) o.frame_is o.line_is is
+
+    own-answered : (who : Who) (command : Command) (answer : Answer) (own : Own) → IsOwnRight script.layout (view_of last (seat who.cpu)) who command answer own → (note_by who own).0 ≡ frame → command_at script who ≡ Some command → answer_of report who ≡ Some answer
+        → IsAnswered script report frame (note_by who own).1
+    own-answered who command answer (owns.Failed f found) right frame_is at told =
+        (at ∙ ap (λ (c : Command). Some c) right.command_is ∙ ap (λ (y : Frame). Some (commands.Inject y)) frame_is, told ∙ ap (λ (a : Answer). Some a) right.answer_is)
+    own-answered who command answer (owns.Offlined f cycle true) right frame_is at told =
+        (at ∙ ap (λ (c : Command). Some c) right.command_is ∙ ap (λ (y : Frame). Some (commands.Soft y)) frame_is, ap is_moved told ∙ right.answer_is)
+    own-answered who command answer (owns.Offlined f cycle false) right frame_is at told =
+        (at ∙ ap (λ (c : Command). Some c) right.command_is ∙ ap (λ (y : Frame). Some (commands.Soft y)) frame_is, told ∙ ap (λ (a : Answer). Some a) right.answer_is)
 
     answered-so : (k : ℕ) (x : MarkLine) → slice_get (marks_of report frame.0) k ≡ Some x → IsAnswered script report frame x
     answered-so k x there = let o = of k x there in which o.row o.row_is o.of
@@ -142,11 +166,9 @@ module _ (script : Script) (seat : Cpu → ℕ) (last : State) (report : Report)
         which row row_is (inr o) =
             let who : Who = who_in x in
             let r = row-of script seat last report end who row row_is in
-            let own = own-of script seat last report end who row r frame o.found o.own_is in
-            subst (IsAnswered script report frame) (sym o.line_is) (
-              command-is script who r.of.list r.of.command r.of.list_is r.of.command_is ∙ ap (λ (c : Command). Some c) own.command_is,
-              answer-told script seat last report end (view_of last (seat who.cpu)) who r.of ∙ ap (λ (a : Answer). Some a) own.answer_is,
-            )
+            subst (IsAnswered script report frame) (sym o.line_is)
+            (own-answered who r.of.command r.of.row.answer o.own (own-of script seat last report end who row r o.own o.own_is) o.frame_is (command-is script who r.of.list r.of.command r.of.list_is r.of.command_is)
+            (answer-told script seat last report end (view_of last (seat who.cpu)) who r.of))
 
     mark-at : (k : ℕ) (x : MarkLine) → slice_get (marks_of report frame.0) k ≡ Some x → IsMarkAt k x
     mark-at k x there =
@@ -191,27 +213,32 @@ module _ (script : Script) (seat : Cpu → ℕ) (last : State) (report : Report)
       = ap (λ (l : List Acted). slice_get l has.0) all ∙ at_map (λ (c : Came). found_act c.1) (found_on f row.told) has.0 (t, found) has.1 ∙ ap (λ (a : Acted). Some a) (sym acted) in
       (has.0, slice_get_within _ has.0 t.acted at, get_or_from_slice_get _ has.0 t.acted t.acted at)
 
-  -- and so is a failure of a command's own
-  pub own-mark : (who : Who) (row : Row) → row_at end.rows who ≡ Some row → (frame : Frame) (found : Found) → row.own ≡ Some (frame, found) → HasMark report who frame (ComesTo (outcome_of found.situation))
-  own-mark who row row_is frame found own =
+  -- and so is what the command did to a frame itself
+  pub own-mark : (who : Who) (row : Row) → row_at end.rows who ≡ Some row → (own : Own) → row.own ≡ Some own → (Such : MarkLine → Type 0) → Such (note_by who own).1 → HasMark report who (marking_by own).frame Such
+  own-mark who row row_is own own_is Such such =
       let view : View = view_of last (seat who.cpu) in
       let r = row-of script seat last report end who row row_is in
-      let note : Note = note_of who false frame found in
+      let note : Note = note_by who own in
+      let frame : Frame = (marking_by own).frame in
       let told : List Note = filter_map (told_note who) row.told in
       -- the mark, and so the frame's line
       let marked : List Marking = filter_map marked_in row.told in
-      let marking_at : slice_get (markings who view) (length marked) ≡ Some (poisoning frame false found.cycle)
-      = ap (λ (l : List Marking). slice_get l (length marked)) (r.of.served.accounted.marked ∙ ap markings_in r.same ∙ ap (λ (o : Option (Frame × Found)). marked ++ cons_option (own_marking o) []) own) ∙ at_last marked (poisoning frame false found.cycle) in
-      let has : HasMarked view who (poisoning frame false found.cycle) = has-marked view who (poisoning frame false found.cycle) (length marked) marking_at in
+      let marking_at : slice_get (markings who view) (length marked) ≡ Some (marking_by own)
+      = ap (λ (l : List Marking). slice_get l (length marked)) (r.of.served.accounted.marked ∙ ap markings_in r.same ∙ ap (λ (o : Option Own). marked ++ cons_option (own_marking o) []) own_is) ∙ at_last marked (marking_by own) in
+      let has : HasMarked view who (marking_by own) = has-marked view who (marking_by own) (length marked) marking_at in
       let line = line-of script seat last report end (seat who.cpu) has.j view has.mark (end.seated.there who.cpu r.of.inside) has.there in
-      let line_is : slice_get report.frames frame.0 ≡ Some line.0 = ap (λ (x : Marking). slice_get report.frames x.frame.0) (sym has.marking_is) ∙ line.1 in
+      let line_is : slice_get report.frames frame.0 ≡ Some line.0 = ap (λ (x : Frame). slice_get report.frames x.0) (sym (ap (λ (x : Marking). x.frame) has.marking_is)) ∙ line.1 in
       -- the note, and so the line of the record
       let note_at : slice_get (notes_at who (row_at end.rows who)) (length told) ≡ Some note
-      = ap (λ (o : Option Row). slice_get (notes_at who o) (length told)) row_is ∙ ap (λ (o : Option (Frame × Found)). slice_get (told ++ cons_option (own_note who o) []) (length told)) own ∙ at_last told note in
+      = ap (λ (o : Option Row). slice_get (notes_at who o) (length told)) row_is ∙ ap (λ (o : Option Own). slice_get (told ++ cons_option (own_note who o) []) (length told)) own_is ∙ at_last told note in
       let among = filter-is (is_noted who) (all_notes (notes_of 0 end.rows)) (length told) note (ap (λ (l : List Note). slice_get l (length told)) (notes-of-command who end.rows) ∙ note_at) in
-      let on = filter-has (λ (n : Note). n.0.0 == frame.0) (all_notes (notes_of 0 end.rows)) among.0 note among.1 (eq-eqb frame.0 frame.0 refl) in
+      let on = filter-has (λ (n : Note). n.0.0 == frame.0) (all_notes (notes_of 0 end.rows)) among.0 note among.1 (eq-eqb note.0.0 frame.0 (ap (λ (x : Frame). x.0) (own-frame who own))) in
       let in_record : slice_get (record_of frame (notes_of 0 end.rows)) on.0 ≡ Some note.1
       = ap (λ (l : List MarkLine). slice_get l on.0) (record-flat frame (notes_of 0 end.rows)) ∙ at_map (λ (n : Note). n.1) (filter (λ (n : Note). n.0.0 == frame.0) (all_notes (notes_of 0 end.rows))) on.0 note on.1 in
       let at : slice_get (marks_of report frame.0) on.0 ≡ Some note.1
       = ap (λ (l : List MarkLine). slice_get l on.0) (marks-are frame line.0 line_is ∙ record-is script seat last report end frame line.0 line_is) ∙ in_record in
-      any-of (λ (y : MarkLine). (who_in y ≡ who) × ComesTo (outcome_of found.situation) y) (marks_of report frame.0) (on.0, note.1, at, (refl, refl))
+      any-of (λ (y : MarkLine). (who_in y ≡ who) × Such y) (marks_of report frame.0) (on.0, note.1, at, (own-by who own, such))
+    where
+      own-frame : (who : Who) (own : Own) → (note_by who own).0 ≡ (marking_by own).frame
+      own-frame who (owns.Failed f found) = refl
+      own-frame who (owns.Offlined f cycle moved) = refl

@@ -23,10 +23,12 @@ use Rattle.hwp_law.specs.Lines.{EventLine}
 use Rattle.hwp_law.specs.Pairings.{is_urgent, situation_number}
 use Rattle.hwp_law.specs.Records.{is_by_hardware, line_results, mark_results, result_of}
 use Rattle.hwp_handler.specs.declared.Found.{Found}
-use Rattle.hwp_handler.specs.declared.Row.{Row}
+use Rattle.hwp_row.specs.declared.Own.{Own}
+use Rattle.hwp_row.specs.declared.Own.TheVariants as owns
+use Rattle.hwp_row.specs.declared.Row.{Row}
 use Rattle.hwp_handler.specs.declared.Told.{Told}
 use Rattle.hwp_handler.specs.Told.{frame_of}
-use Rattle.hwp_served.specs.Rows.{Note, lines_of, note_of, own_note, row_notes, told_note}
+use Rattle.hwp_served.specs.Rows.{Note, lines_of, note_by, note_of, own_note, row_notes, told_note}
 use Rattle.hwp_served.proofs.RowLines.{event_at}
 use Rattle.hwp_served.proofs.Sums.{below-one, sum-same}
 use Rattle.hwp_served.proofs.lines.ToldRight.{found_act}
@@ -87,13 +89,15 @@ told-lines frame who (t ∷ ts) = which t.found (told-lines frame who ts)
         ∙ ap (λ (l : List MarkLine). cond here (hardware_line who (t, found) ∷ l) l) same
         ∙ sym (map-cond (hardware_line who) (t, found) (found_on frame.0 ts) here)
 
-own-lines : (frame : Frame) (who : Who) (own : Option (Frame × Found)) → filter is_by_hardware (lines_of frame (cons_option (own_note who own) [])) ≡ []
+own-lines : (frame : Frame) (who : Who) (own : Option Own) → filter is_by_hardware (lines_of frame (cons_option (own_note who own) [])) ≡ []
 own-lines frame who None = refl
-own-lines frame who (Some x) = which (x.0.0 == frame.0)
+own-lines frame who (Some own) = which own ((note_by who own).0.0 == frame.0)
   where
-    which : (b : Bool) → filter is_by_hardware (map (λ (n : Note). n.1) (cond b (note_of who false x.0 x.1 ∷ []) [])) ≡ []
-    which true = refl
-    which false = refl
+    which : (o : Own) (b : Bool) → filter is_by_hardware (map (λ (n : Note). n.1) (cond b (note_by who o ∷ []) [])) ≡ []
+    which o false = refl
+    which (owns.Failed f found) true = refl
+    which (owns.Offlined f cycle true) true = refl
+    which (owns.Offlined f cycle false) true = refl
 
 pub row-lines : (frame : Frame) (who : Who) (row : Row) → filter is_by_hardware (lines_of frame (row_notes who row)) ≡ map (hardware_line who) (found_on frame.0 row.told)
 row-lines frame who row =

@@ -2,7 +2,7 @@
 use Rattle.std.proofs.Common.{◌≡◌, ◌↔◌, ◌⊎◌, inl, inr, ℕ, ◌^◌, ◌<◌, ◌≤◌, ◌==◌, ◌&&◌, min, not, Bool, true, false, List, Option, Some, length, map, option_map, unwrap_or, slice_get, refl, sym, ap, ◌∙◌, subst, arith, true≢false}
 use Rattle.std.specs.Int.{IsBitSet, bit_at, from_bool}
 use Rattle.std.specs.List.{sum_by}
-use Rattle.std.proofs.lemmas.Bool.{and_from, and_parts, cases_lt, eq-eqb, eqb-true}
+use Rattle.std.proofs.lemmas.Bool.{and_parts, cases_lt, eqb-true}
 use Rattle.std.proofs.lemmas.Nat.{bit_set_by_shift}
 use Rattle.std.proofs.lemmas.Nat.Bits.{bit_at-lt, bit_at_above, shr_and_one}
 use Rattle.std.proofs.lemmas.Option.{option_and_then_some, same_Some}
@@ -12,24 +12,28 @@ use Rattle.hwp_geom.specs.declared.Damage.TheVariants as damages
 use Rattle.hwp_geom.specs.declared.Frame.{Frame}
 use Rattle.hwp_geom.specs.declared.Layout.{Layout}
 use Rattle.hwp_geom.specs.declared.Who.{Who}
+use Rattle.hwp_geom.specs.Limits.{line_limit}
+use Rattle.hwp_page.specs.Orders.{IsEarlier}
 use Rattle.hwp_rule.specs.declared.Spoiled.{Spoiled}
 use Rattle.hwp_rule.specs.declared.State.{State}
 use Rattle.hwp_rule.specs.declared.View.{View}
-use Rattle.hwp_rule.specs.Words.{words_of}
-use Rattle.hwp_rule.specs.parts.Damage.{HasSpoiled, is_bad, is_spoil}
+use Rattle.hwp_rule.specs.Steps.{damage_place}
+use Rattle.hwp_rule.specs.Words.{IsPlace, Words, words_of}
+use Rattle.hwp_rule.specs.parts.Damage.{is_bad, is_spoil}
 use Rattle.hwp_rule.proofs.Counting.{some-term}
-use Rattle.hwp_rule.proofs.Lists.{at_map, map-was, term-le}
+use Rattle.hwp_rule.proofs.Lists.{at_map, map-was}
 use Rattle.hwp_step.specs.Boards.{view_of}
+use Rattle.hwp_known.specs.Known.{Saw}
 use Rattle.hwp_script.specs.declared.Command.{Command}
 use Rattle.hwp_script.specs.declared.Script.{Script}
 use Rattle.hwp_report.specs.declared.Answer.TheVariants as answers
 use Rattle.hwp_report.specs.declared.Answer.{Answer}
 use Rattle.hwp_report.specs.declared.FrameLine.{FrameLine}
 use Rattle.hwp_report.specs.declared.Report.{Report}
-use Rattle.hwp_law.specs.Lines.{answer_of, bad_lines_of}
+use Rattle.hwp_law.specs.Lines.{answer_of, bad_lines_of, weak_lines_of}
 use Rattle.hwp_law.specs.Places.{command_at}
-use Rattle.hwp_handler.specs.declared.Found.{Found}
-use Rattle.hwp_handler.specs.declared.Row.{Row}
+use Rattle.hwp_row.specs.declared.Own.{Own}
+use Rattle.hwp_row.specs.declared.Row.{Row}
 use Rattle.hwp_handler.specs.declared.Told.{Told}
 use Rattle.hwp_handler.specs.Checks.{SawBad}
 use Rattle.hwp_runs.proofs.Homes.{there-is}
@@ -39,11 +43,12 @@ use Rattle.hwp_served.specs.Causes.{HasSpoiledLine, IsAnswerCaused}
 use Rattle.hwp_served.specs.Served.{spoiling}
 use Rattle.hwp_served.proofs.Ending.{IsEnd, command-of, list-of, rows-of, seat-view, served-of}
 use Rattle.hwp_served.proofs.RowLines.{answer-told}
+use Rattle.hwp_served.proofs.lines.SightedLines.{bits-stay, has-spoiled, listed-bit, words_at}
 use Rattle.hwp_served.proofs.deeds.Made.{command-is}
 
 -- ---- bits
 
-set-at : (w n : ℕ) → IsBitSet w n → bit_at w n ≡ 1
+pub set-at : (w n : ℕ) → IsBitSet w n → bit_at w n ≡ 1
 set-at w n is = sym (shr_and_one w n) ∙ (bit_set_by_shift w n).1 is
 
 at-set : (w n : ℕ) → bit_at w n ≡ 1 → IsBitSet w n
@@ -61,11 +66,6 @@ low-bit w n low is = which (cases_lt n 64)
 
 -- ---- what is listed of a line
 
--- bad (true) or weak (false)
-abbrev pub damage_of : Bool → Damage
-damage_of true = damages.Bad
-damage_of false = damages.Weak
-
 some-more : (b : Bool) → 0 < from_bool b → b ≡ true
 some-more true more = refl
 some-more false more = absurd (omega (arith, more))
@@ -79,31 +79,25 @@ is-weak damages.Bad is = absurd (true≢false (sym is))
 is-weak damages.Weak is = refl
 
 -- what a member that counts says
-record IsSpoil (frame : Frame) (n : ℕ) (bad : Bool) (s : Spoiled) : Type 0 where
+record IsSpoil (frame : Frame) (n : ℕ) (damage : Damage) (s : Spoiled) : Type 0 where
   frame_is : s.frame ≡ frame
   line_is : s.line ≡ n
-  damage_is : s.damage ≡ damage_of bad
+  damage_is : s.damage ≡ damage
 
-spoil-is : (frame : Frame) (n : ℕ) (bad : Bool) (s : Spoiled) → is_spoil frame.0 n bad s ≡ true → IsSpoil frame n bad s
-spoil-is frame n true s is =
+spoil-is : (frame : Frame) (n : ℕ) (damage : Damage) (s : Spoiled) → is_spoil frame.0 n (is_bad damage) s ≡ true → IsSpoil frame n damage s
+spoil-is frame n damages.Bad s is =
     let one = and_parts (s.frame.0 == frame.0) ((s.line == n) && is_bad s.damage) is in
     let two = and_parts (s.line == n) (is_bad s.damage) one.1 in
     record { frame_is = ap (λ (i : ℕ). record { 0 = i }) (eqb-true s.frame.0 frame.0 one.0); line_is = eqb-true s.line n two.0; damage_is = is-bad s.damage two.1 }
-spoil-is frame n false s is =
+spoil-is frame n damages.Weak s is =
     let one = and_parts (s.frame.0 == frame.0) ((s.line == n) && not (is_bad s.damage)) is in
     let two = and_parts (s.line == n) (not (is_bad s.damage)) one.1 in
     record { frame_is = ap (λ (i : ℕ). record { 0 = i }) (eqb-true s.frame.0 frame.0 one.0); line_is = eqb-true s.line n two.0; damage_is = is-weak s.damage two.1 }
 
-spoil-so : (frame : Frame) (n : ℕ) (bad : Bool) (s : Spoiled) → s.frame ≡ frame → s.line ≡ n → s.damage ≡ damage_of bad → is_spoil frame.0 n bad s ≡ true
-spoil-so frame n true s frame_is line_is damage_is =
-    and_from (s.frame.0 == frame.0) _ (eq-eqb s.frame.0 frame.0 (ap (λ (f : Frame). f.0) frame_is)) (and_from (s.line == n) _ (eq-eqb s.line n line_is) (ap is_bad damage_is))
-spoil-so frame n false s frame_is line_is damage_is =
-    and_from (s.frame.0 == frame.0) _ (eq-eqb s.frame.0 frame.0 (ap (λ (f : Frame). f.0) frame_is)) (and_from (s.line == n) _ (eq-eqb s.line n line_is) (ap (λ (d : Damage). not (is_bad d)) damage_is))
-
-spoil-cause : (layout : Layout) (list : List Command) (view : View) (who : Who) (frame : Frame) (n : ℕ) (bad : Bool) (told : List Told) (own : Option (Frame × Found)) → IsAnswerCaused layout list view who (spoiling (damage_of bad) frame n) told own answers.Done
-    → HasSpoiledLine view who frame n (damage_of bad)
-spoil-cause layout list view who frame n true told own caused = caused
-spoil-cause layout list view who frame n false told own caused = caused
+spoil-cause : (layout : Layout) (list : List Command) (view : View) (who : Who) (frame : Frame) (n : ℕ) (damage : Damage) (told : List Told) (own : Option Own) → IsAnswerCaused layout list view who (spoiling damage frame n) told own answers.Done
+    → HasSpoiledLine view who frame n damage
+spoil-cause layout list view who frame n damages.Bad told own caused = caused
+spoil-cause layout list view who frame n damages.Weak told own caused = caused
 
 -- ---- the lines
 
@@ -130,95 +124,122 @@ module _ (script : Script) (seat : Cpu → ℕ) (last : State) (report : Report)
       }
 
   -- a command that was answered so spoiled the line
-  spoiled-by : (who : Who) (frame : Frame) (n : ℕ) (bad : Bool) → command_at script who ≡ Some (spoiling (damage_of bad) frame n) → answer_of report who ≡ Some answers.Done → (who.cpu.0 < script.layout.cpus) × HasSpoiledLine (view_of last (seat who.cpu)) who frame n (damage_of bad)
-  spoiled-by who frame n bad made answered =
-      option_and_then_some (λ (l : List Command). slice_get l who.seq) (slice_get script.lists who.cpu.0) (spoiling (damage_of bad) frame n) made (λ list list_is there. (
-      let of = command-of script seat last report end who list (spoiling (damage_of bad) frame n) list_is there in
+  spoiled-by : (who : Who) (frame : Frame) (n : ℕ) (damage : Damage) → command_at script who ≡ Some (spoiling damage frame n) → answer_of report who ≡ Some answers.Done → (who.cpu.0 < script.layout.cpus) × HasSpoiledLine (view_of last (seat who.cpu)) who frame n damage
+  spoiled-by who frame n damage made answered =
+      option_and_then_some (λ (l : List Command). slice_get l who.seq) (slice_get script.lists who.cpu.0) (spoiling damage frame n) made (λ list list_is there. (
+      let of = command-of script seat last report end who list (spoiling damage frame n) list_is there in
       let lists_same : of.list ≡ list = same_Some of.list list (sym of.list_is ∙ list_is) in
-      let command : of.command ≡ spoiling (damage_of bad) frame n = same_Some of.command (spoiling (damage_of bad) frame n) (sym of.command_is ∙ ap (λ (l : List Command). slice_get l who.seq) lists_same ∙ there) in
+      let command : of.command ≡ spoiling damage frame n = same_Some of.command (spoiling damage frame n) (sym of.command_is ∙ ap (λ (l : List Command). slice_get l who.seq) lists_same ∙ there) in
       let answer : of.row.answer ≡ answers.Done = same_Some of.row.answer answers.Done (sym (answer-told script seat last report end (view_of last (seat who.cpu)) who of) ∙ answered) in (
         of.inside,
-        spoil-cause script.layout of.list (view_of last (seat who.cpu)) who frame n bad of.row.told of.row.own
+        spoil-cause script.layout of.list (view_of last (seat who.cpu)) who frame n damage of.row.told of.row.own
             (subst (λ (c : Command). IsAnswerCaused script.layout of.list (view_of last (seat who.cpu)) who c of.row.told of.row.own answers.Done) command
             (subst (IsAnswerCaused script.layout of.list (view_of last (seat who.cpu)) who of.command of.row.told of.row.own) answer of.served.caused)),
       )))
 
-  module _ (frame : Frame) (bad : Bool) (n w : ℕ) (low : w < 2 ^ 64) (are : HasSpoiled frame.0 w bad all_spoiled) where
-    abbrev counts : Spoiled → ℕ
-    counts s = from_bool (is_spoil frame.0 n bad s)
+  abbrev words : Words
+  words = words_of script.layout last.words
 
-    done : IsBitSet w n → WasDone script report (spoiling (damage_of bad) frame n)
+  low-at : (damage : Damage) (frame : Frame) (w : ℕ) → slice_get (words_at damage words) frame.0 ≡ Some w → w < 2 ^ 64
+  low-at damages.Bad frame w there = end.low.bads frame.0 w there
+  low-at damages.Weak frame w there = end.low.weaks frame.0 w there
+
+  module _ (frame : Frame) (damage : Damage) (n w : ℕ) (there : slice_get (words_at damage words) frame.0 ≡ Some w) where
+    done : IsBitSet w n → WasDone script report (spoiling damage frame n)
     done is =
+        let counts : Spoiled → ℕ = λ (s : Spoiled). from_bool (is_spoil frame.0 n (is_bad damage) s) in
         let one : bit_at w n ≡ 1 = set-at w n is in
-        let listed : bit_at w n ≡ min (sum_by (sum_by counts) all_spoiled) 1 = are n (low-bit w n low is) in
+        let listed : bit_at w n ≡ min (sum_by (sum_by counts) all_spoiled) 1 = has-spoiled script.layout last end.board.holds damage frame w there n (low-bit w n (low-at damage frame w there) is) in
         let list = some-term (sum_by counts) all_spoiled (omega (arith, one, listed)) in
         let member = some-term counts list.1 list.3 in
         let was = map-was (λ (v : View). v.spoiled) last.views list.0 list.1 list.2 in
         let s : Spoiled = member.1 in
-        let its = spoil-is frame n bad s (some-more (is_spoil frame.0 n bad s) member.3) in
+        let its = spoil-is frame n damage s (some-more (is_spoil frame.0 n (is_bad damage) s) member.3) in
         let by : WasDone script report (spoiling s.damage s.frame s.line) = done-of list.0 member.0 was.0 s was.1 (ap (λ (l : List Spoiled). slice_get l member.0) was.2 ∙ member.2) in
         subst (λ (d : Damage). WasDone script report (spoiling d frame n)) its.damage_is
         (subst (λ (f : Frame). WasDone script report (spoiling s.damage f n)) its.frame_is (subst (λ (l : ℕ). WasDone script report (spoiling s.damage s.frame l)) its.line_is by))
 
-    marked : WasDone script report (spoiling (damage_of bad) frame n) → IsBitSet w n
+    marked : WasDone script report (spoiling damage frame n) → IsBitSet w n
     marked was =
         let view : View = view_of last (seat was.who.cpu) in
-        let by = spoiled-by was.who frame n bad was.made was.answered in
+        let by = spoiled-by was.who frame n damage was.made was.answered in
         let has = by.1 in
-        let some = has.spoiled in
-        let counted : counts some.1 ≡ 1 = ap from_bool (spoil-so frame n bad some.1 some.3.1 some.3.2 some.3.3) in
-        let mine : counts some.1 ≤ sum_by counts view.spoiled = term-le counts view.spoiled some.0 some.1 some.2 in
-        let all : sum_by counts view.spoiled ≤ sum_by (sum_by counts) all_spoiled
-        = term-le (sum_by counts) all_spoiled (seat was.who.cpu) view.spoiled (at_map (λ (v : View). v.spoiled) last.views (seat was.who.cpu) view (end.seated.there was.who.cpu by.0)) in
-        let listed : bit_at w n ≡ min (sum_by (sum_by counts) all_spoiled) 1 = are n has.within in
-        at-set w n (omega (arith, counted, mine, all, listed))
+        let d : Spoiled = has.spoiled.1 in
+        let its = has.spoiled.3 in
+        let within : d.line < line_limit = subst (λ (l : ℕ). l < line_limit) (sym its.2) has.within in
+        let standing : slice_get (words_at d.damage words) d.frame.0 ≡ Some w
+        = subst (λ (x : Damage). slice_get (words_at x words) d.frame.0 ≡ Some w) (sym its.3) (subst (λ (f : Frame). slice_get (words_at damage words) f.0 ≡ Some w) (sym its.1) there) in
+        at-set w n (ap (λ (l : ℕ). bit_at w l) (sym its.2) ∙ listed-bit script.layout last end.board.holds (seat was.who.cpu) has.spoiled.0 view d (end.seated.there was.who.cpu by.0) has.spoiled.2 within w standing)
 
-  -- a line of a frame is bad at the end exactly where a command made it bad
-  pub bad-so : (frame : Frame) (w n : ℕ) → slice_get (words_of script.layout last.words).bads frame.0 ≡ Some w → IsBitSet w n ↔ WasDone script report (spoiling damages.Bad frame n)
-  bad-so frame w n there =
-      let low : w < 2 ^ 64 = end.low.bads frame.0 w there in
-      let are : HasSpoiled frame.0 w true all_spoiled = end.board.holds.rule.failures.damage.bad frame.0 w there in
-      (done frame true n w low are, marked frame true n w low are)
-
-  -- and weak where one made it weak
-  pub weak-so : (frame : Frame) (w n : ℕ) → slice_get (words_of script.layout last.words).weaks frame.0 ≡ Some w → IsBitSet w n ↔ WasDone script report (spoiling damages.Weak frame n)
-  weak-so frame w n there =
-      let low : w < 2 ^ 64 = end.low.weaks frame.0 w there in
-      let are : HasSpoiled frame.0 w false all_spoiled = end.board.holds.rule.failures.damage.weak frame.0 w there in
-      (done frame false n w low are, marked frame false n w low are)
+  -- a line of a frame is bad, or weak, at the end exactly where a command made it so
+  pub spoiled-so : (frame : Frame) (damage : Damage) (n w : ℕ) → slice_get (words_at damage words) frame.0 ≡ Some w → IsBitSet w n ↔ WasDone script report (spoiling damage frame n)
+  spoiled-so frame damage n w there = (done frame damage n w there, marked frame damage n w there)
 
   -- ---- what a command saw
 
-  -- a line that a command saw bad in a frame: it is bad at the end, and one of the frame's lines
-  pub record IsBadAtEnd (frame : Frame) (line : ℕ) : Type 0 where
+  -- a line that a command saw spoiled in a frame: it is so at the end, and one of the frame's lines
+  pub record IsSpoiledAtEnd (frame : Frame) (damage : Damage) (line : ℕ) : Type 0 where
+    pub inside : frame.0 < script.layout.frames
     pub word : ℕ
-    pub there : slice_get (words_of script.layout last.words).bads frame.0 ≡ Some word
-    pub bad : IsBitSet word line
+    pub there : slice_get (words_at damage words) frame.0 ≡ Some word
+    pub set : IsBitSet word line
     pub few : line < 64
 
-  pub bad-at-end : (cpu : Cpu) → cpu.0 < script.layout.cpus → (who : Who) (line : ℕ) (frame : Frame) → SawBad script.layout (view_of last (seat cpu)) who line frame → IsBadAtEnd frame line
-  bad-at-end cpu inside who line frame saw =
-      let bads : List ℕ = (words_of script.layout last.words).bads in
-      let many : length bads ≡ script.layout.frames = (shaped script.layout last end.board.holds).bads in
-      let word = there-is bads frame.0 (subst (λ (n : ℕ). frame.0 < n) (sym many) saw.within) in
-      let low : word.0 < 2 ^ 64 = end.low.bads frame.0 word.0 word.1 in
+  damage-inside : (damage : Damage) (frame : Frame) → IsPlace script.layout (damage_place frame damage) → frame.0 < script.layout.frames
+  damage-inside damages.Bad frame inside = inside
+  damage-inside damages.Weak frame inside = inside
+
+  many : (damage : Damage) → length (words_at damage words) ≡ script.layout.frames
+  many damages.Bad = (shaped script.layout last end.board.holds).bads
+  many damages.Weak = (shaped script.layout last end.board.holds).weaks
+
+  pub spoiled-at-end : (cpu : Cpu) → cpu.0 < script.layout.cpus → (who : Who) (frame : Frame) (damage : Damage) (line mask : ℕ) → bit_at mask line ≡ 1 → Saw (view_of last (seat cpu)) who (damage_place frame damage) mask → IsSpoiledAtEnd frame damage line
+  spoiled-at-end cpu inside who frame damage line mask one saw =
       let view : View = view_of last (seat cpu) in
-      let sight = saw.saw in
-      let one : bit_at saw.mask line ≡ 1 = set-at saw.mask line saw.bad in
-      let same : bit_at sight.1.word line ≡ bit_at saw.mask line = ap (λ (w : ℕ). bit_at w line) sight.3.2 in
-      let stays : bit_at sight.1.word line ≤ bit_at word.0 line
-      = end.board.holds.rule.failures.damage.bad_stays frame word.0 word.1 (seat cpu) view.sights (at_map (λ (v : View). v.sights) last.views (seat cpu) view (end.seated.there cpu inside)) sight.0 sight.1 sight.2 sight.3.1 line in
+      let its = end.sights (seat cpu) view (end.seated.there cpu inside) saw.0 saw.1 saw.2 in
+      let within : frame.0 < script.layout.frames = damage-inside damage frame (subst (IsPlace script.layout) saw.3.1 its.inside) in
+      let word = there-is (words_at damage words) frame.0 (subst (λ (n : ℕ). frame.0 < n) (sym (many damage)) within) in
+      let same : bit_at saw.1.word line ≡ bit_at mask line = ap (λ (w : ℕ). bit_at w line) saw.3.2 in
+      let stays : bit_at saw.1.word line ≤ bit_at word.0 line
+      = bits-stay script.layout last end.board.holds damage frame word.0 word.1 (seat cpu) view.sights (at_map (λ (v : View). v.sights) last.views (seat cpu) view (end.seated.there cpu inside)) saw.0 saw.1 saw.2 saw.3.1 line in
       let bit : bit_at word.0 line < 2 = bit_at-lt word.0 line in
       let set_ : IsBitSet word.0 line = at-set word.0 line (omega (arith, one, same, stays, bit)) in
-      record { word = word.0; there = word.1; bad = set_; few = low-bit word.0 line low set_ }
+      record { inside = within; word = word.0; there = word.1; set = set_; few = low-bit word.0 line (low-at damage frame word.0 word.1) set_ }
 
-  -- so that the report tells it
+  -- what the report tells of the frame's bad lines, or of its weak ones
+  abbrev pub lines_told : Damage → ℕ → ℕ
+  lines_told damages.Bad frame = bad_lines_of report frame
+  lines_told damages.Weak frame = weak_lines_of report frame
+
+  told-at-end : (damage : Damage) (frame : Frame) (word : ℕ) → frame.0 < script.layout.frames → slice_get (words_at damage words) frame.0 ≡ Some word → lines_told damage frame.0 ≡ word
+  told-at-end damage frame word within there = which damage there
+    where
+      l : (x : FrameLine) × (slice_get report.frames frame.0 ≡ Some x)
+      l = there-is report.frames frame.0 (subst (λ (n : ℕ). frame.0 < n) (sym end.board.frames_fit) within)
+
+      which : (damage : Damage) → slice_get (words_at damage words) frame.0 ≡ Some word → lines_told damage frame.0 ≡ word
+      which damages.Bad there = ap (λ (o : Option FrameLine). unwrap_or (option_map (λ (x : FrameLine). x.bad.0) o) 0) l.1 ∙ same_Some l.0.bad.0 word (sym (end.board.ends.frames frame l.0 l.1).bad ∙ there)
+      which damages.Weak there = ap (λ (o : Option FrameLine). unwrap_or (option_map (λ (x : FrameLine). x.weak.0) o) 0) l.1 ∙ same_Some l.0.weak.0 word (sym (end.board.ends.frames frame l.0 l.1).weak ∙ there)
+
+  -- so that the report tells the line
+  pub spoil-shown : (cpu : Cpu) → cpu.0 < script.layout.cpus → (who : Who) (frame : Frame) (damage : Damage) (line mask : ℕ) → bit_at mask line ≡ 1 → Saw (view_of last (seat cpu)) who (damage_place frame damage) mask → IsBitSet (lines_told damage frame.0) line
+  spoil-shown cpu inside who frame damage line mask one saw =
+      let is = spoiled-at-end cpu inside who frame damage line mask one saw in
+      subst (λ (w : ℕ). IsBitSet w line) (sym (told-at-end damage frame is.word is.inside is.there)) is.set
+
   pub bad-shown : (cpu : Cpu) → cpu.0 < script.layout.cpus → (who : Who) (line : ℕ) (frame : Frame) → SawBad script.layout (view_of last (seat cpu)) who line frame → IsBitSet (bad_lines_of report frame.0) line
-  bad-shown cpu inside who line frame saw =
-      let is = bad-at-end cpu inside who line frame saw in
-      let lines : length report.frames ≡ script.layout.frames = end.board.frames_fit in
-      let l = there-is report.frames frame.0 (subst (λ (n : ℕ). frame.0 < n) (sym lines) saw.within) in
-      let on = end.board.ends.frames frame l.0 l.1 in
-      let same : l.0.bad.0 ≡ is.word = same_Some l.0.bad.0 is.word (sym on.bad ∙ is.there) in
-      let told : bad_lines_of report frame.0 ≡ is.word = ap (λ (o : Option FrameLine). unwrap_or (option_map (λ (x : FrameLine). x.bad.0) o) 0) l.1 ∙ same in
-      subst (λ (w : ℕ). IsBitSet w line) (sym told) is.bad
+  bad-shown cpu inside who line frame saw = spoil-shown cpu inside who frame damages.Bad line saw.mask (set-at saw.mask line saw.bad) saw.saw
+
+  -- ---- what an earlier command spoiled
+
+  -- a later command of the processor that looks at the frame sees the line
+  pub seen-after : (cpu : Cpu) → cpu.0 < script.layout.cpus → (earlier who : Who) → IsEarlier earlier who → (frame : Frame) (damage : Damage) (line mask : ℕ) → HasSpoiledLine (view_of last (seat cpu)) earlier frame line damage
+      → Saw (view_of last (seat cpu)) who (damage_place frame damage) mask → bit_at mask line ≡ 1
+  seen-after cpu inside earlier who before frame damage line mask has saw =
+      let view : View = view_of last (seat cpu) in
+      let d : Spoiled = has.spoiled.1 in
+      let its = has.spoiled.3 in
+      let within : d.line < line_limit = subst (λ (l : ℕ). l < line_limit) (sym its.2) has.within in
+      let place : saw.1.place ≡ damage_place d.frame d.damage = saw.3.1 ∙ ap (λ (f : Frame). damage_place f damage) (sym its.1) ∙ ap (damage_place d.frame) (sym its.3) in
+      let seen = (end.sights (seat cpu) view (end.seated.there cpu inside) saw.0 saw.1 saw.2).seen has.spoiled.0 d has.spoiled.2 in
+      ap (λ (w : ℕ). bit_at w line) (sym saw.3.2) ∙ ap (bit_at saw.1.word) (sym its.2) ∙ seen (subst (IsEarlier d.stamp.who) (sym saw.3.0) (subst (λ (w : Who). IsEarlier w who) (sym its.0) before)) within place

@@ -1,11 +1,12 @@
 -- What a command told of its events is right: it tells a result exactly where a failure came to one, of which there are the mark and the
 -- entry, and a thread needed the page exactly where row S9 graded the event.
-use Rattle.std.proofs.Common.{◌≡◌, ℕ, ◌==◌, ◌&&◌, Bool, true, false, cond, nat_le, List, [], ◌∷◌, Option, Some, None, is_some, option_and_then, option_map, slice_get, refl, sym, ap, ◌∙◌, subst, true≢false}
+use Rattle.std.proofs.Common.{◌≡◌, ℕ, ◌==◌, ◌&&◌, Bool, true, false, cond, nat_le, List, [], ◌∷◌, Option, Some, None, is_some, map, option_and_then, option_map, slice_get, refl, sym, ap, ◌∙◌, subst, true≢false}
 use Rattle.std.proofs.lemmas.Option.{none-some, same_Some}
 use Rattle.hwp_geom.specs.declared.Layout.{Layout}
 use Rattle.hwp_geom.specs.declared.Mode.{Mode}
 use Rattle.hwp_geom.specs.declared.Thread.{Thread}
 use Rattle.hwp_geom.specs.declared.Who.{Who}
+use Rattle.hwp_banks.specs.declared.Event.{Event}
 use Rattle.hwp_banks.specs.declared.Status.{Status}
 use Rattle.hwp_banks.specs.Status.{is_action_required}
 use Rattle.hwp_page.specs.declared.Outcome.{Outcome}
@@ -24,15 +25,14 @@ use Rattle.hwp_script.specs.declared.Command.{Command}
 use Rattle.hwp_report.specs.declared.Acted.{Acted}
 use Rattle.hwp_report.specs.declared.Acted.TheVariants as acts
 use Rattle.hwp_report.specs.declared.Answer.{Answer}
-use Rattle.hwp_law.specs.Checks.{Banks, held_from}
+use Rattle.hwp_law.specs.Checks.{Banks}
 use Rattle.hwp_law.specs.Commands.{Arrival, current_thread}
 use Rattle.hwp_law.specs.Records.{outcome_act, result_of}
 use Rattle.hwp_handler.specs.declared.Found.{Found}
 use Rattle.hwp_handler.specs.declared.Held.{Held}
 use Rattle.hwp_handler.specs.declared.Told.{Told}
-use Rattle.hwp_handler.specs.Checks.{IsActedOn}
 use Rattle.hwp_handler.specs.Events.{graded_in}
-use Rattle.hwp_handler.specs.Fits.{HasPoisoned, IsDone, IsEntered, IsFailed, IsTold}
+use Rattle.hwp_handler.specs.Fits.{AreTold, HasPoisoned, IsDone, IsEntered, IsFailed, IsTold}
 use Rattle.hwp_handler.specs.Told.{at_once, frame_of, required_by, severity_at_once}
 use Rattle.hwp_served.specs.Told.{AreToldBy}
 use Rattle.hwp_served.proofs.RowTold.{IsToldRight, told-by, told-each}
@@ -130,12 +130,13 @@ module _ (layout : Layout) (view : View) (who : Who) where
         urgent = urgent;
       }
 
-  acted-right : (thread : Option Thread) (how : Arrival) (banks : Banks) (lines : List Told) → (is_user how.mode ≡ true → is_some thread ≡ true) → IsActedOn layout view who thread how banks lines → EachMember (IsRight layout view who thread) lines
-  acted-right thread how banks lines user acted i t there =
-      let told = told-each layout view who thread _ lines acted.told i t there in
-      let was = map-was (graded_in how) (held_from 0 banks) i t.held (sym (ap (λ (l : List Held). slice_get l i) acted.events) ∙ at_map (λ (x : Told). x.held) lines i t there) in
+  events-right : (thread : Option Thread) (how : Arrival) (events : List (ℕ × Event)) (held_back : Bool) (lines : List Told) → (is_user how.mode ≡ true → is_some thread ≡ true)
+      → map (λ (t : Told). t.held) lines ≡ map (graded_in how) events → AreTold layout view who thread held_back lines → EachMember (IsRight layout view who thread) lines
+  events-right thread how events held_back lines user held are i t there =
+      let told = told-each layout view who thread held_back lines are i t there in
+      let was = map-was (graded_in how) events i t.held (sym (ap (λ (l : List Held). slice_get l i) held) ∙ at_map (λ (x : Told). x.held) lines i t there) in
       right-so thread told.0 t (subst (λ (h : Held). IsUrgent thread h.grade) was.2 (urgent-so thread was.0.1.status how.mcg how.mode user)) told.1
 
   -- of each command
   pub told-right : (command : Command) (answer : Answer) (before : Banks) (told : List Told) (after : Banks) → AreToldBy layout view who command answer before told after → EachMember (IsRight layout view who (current_thread command)) told
-  told-right = told-by layout view who (IsRight layout view who) acted-right
+  told-right = told-by layout view who (IsRight layout view who) events-right

@@ -18,7 +18,7 @@ use Rattle.hwp_report.specs.declared.Answer.TheVariants as answers
 use Rattle.hwp_law.specs.Checks.{Banks, empty_banks}
 use Rattle.hwp_law.specs.Lines.{AnswerLine, answer_in}
 use Rattle.hwp_law.specs.Losses.{told, told_by}
-use Rattle.hwp_handler.specs.declared.Row.{Row}
+use Rattle.hwp_row.specs.declared.Row.{Row}
 use Rattle.hwp_served.specs.Accounts.{is_same, taken_by}
 use Rattle.hwp_served.specs.Rows.{lines_from}
 use Rattle.hwp_served.specs.Served.{AreRowsServed}

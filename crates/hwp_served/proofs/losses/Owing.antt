@@ -38,7 +38,7 @@ use Rattle.hwp_known.proofs.Listing.{PutsNone}
 use Rattle.hwp_script.specs.declared.Command.{Command}
 use Rattle.hwp_law.specs.Commands.{can_fail}
 use Rattle.hwp_law.specs.Entries.{Makes}
-use Rattle.hwp_handler.specs.declared.Row.{Row}
+use Rattle.hwp_row.specs.declared.Row.{Row}
 use Rattle.hwp_served.specs.Accounts.{IsAccounted}
 use Rattle.hwp_served.specs.Causes.{IsCaused}
 use Rattle.hwp_served.specs.Owed.{OwesOwn, loss_of, losses_by}

@@ -14,10 +14,12 @@ use Rattle.hwp_report.specs.declared.MarkLine.{MarkLine}
 use Rattle.hwp_law.specs.Lines.{is_same_command}
 use Rattle.hwp_law.specs.Records.{hardware_marks, is_by_hardware, who_in}
 use Rattle.hwp_handler.specs.declared.Found.{Found}
-use Rattle.hwp_handler.specs.declared.Row.{Row}
+use Rattle.hwp_row.specs.declared.Own.{Own}
+use Rattle.hwp_row.specs.declared.Own.TheVariants as owns
+use Rattle.hwp_row.specs.declared.Row.{Row}
 use Rattle.hwp_handler.specs.declared.Told.{Told}
 use Rattle.hwp_handler.specs.Told.{frame_of}
-use Rattle.hwp_served.specs.Rows.{Note, lines_of, note_of, notes_from, own_note, record_of, row_notes, told_note}
+use Rattle.hwp_served.specs.Rows.{Note, lines_of, note_by, note_of, notes_from, own_note, record_of, row_notes, told_note}
 use Rattle.hwp_served.specs.Runs.{notes_of, row_at}
 
 -- ---- lists
@@ -47,7 +49,7 @@ is_noted who n = is_same_command who (who_in n.1)
 
 -- what holds of the notes of its events and of its own holds of all
 pub each-note : (Q : Note → Type 0) (who : Who) (row : Row) → ((i : ℕ) (t : Told) (found : Found) → slice_get row.told i ≡ Some t → t.found ≡ Some found → Q (note_of who true (frame_of t.held) found))
-    → ((frame : Frame) (found : Found) → row.own ≡ Some (frame, found) → Q (note_of who false frame found)) → EachMember Q (row_notes who row)
+    → ((own : Own) → row.own ≡ Some own → Q (note_by who own)) → EachMember Q (row_notes who row)
 each-note Q who row told own = each-append Q (filter_map (told_note who) row.told) (cons_option (own_note who row.own) []) (by-told row.told told) (by-own row.own refl)
   where
     by-told : (ts : List Told) → ((i : ℕ) (t : Told) (found : Found) → slice_get ts i ≡ Some t → t.found ≡ Some found → Q (note_of who true (frame_of t.held) found)) → EachMember Q (filter_map (told_note who) ts)
@@ -58,13 +60,17 @@ each-note Q who row told own = each-append Q (filter_map (told_note who) row.tol
         which None is rest = rest
         which (Some found) is rest = each-cons Q (note_of who true (frame_of t.held) found) (filter_map (told_note who) ts) (each 0 t found refl is) rest
 
-    by-own : (o : Option (Frame × Found)) → row.own ≡ o → EachMember Q (cons_option (own_note who o) [])
+    by-own : (o : Option Own) → row.own ≡ o → EachMember Q (cons_option (own_note who o) [])
     by-own None is = λ i n there. absurd (none-some n there)
-    by-own (Some x) is = each-cons Q (note_of who false x.0 x.1) [] (own x.0 x.1 is) (λ i n there. absurd (none-some n there))
+    by-own (Some x) is = each-cons Q (note_by who x) [] (own x is) (λ i n there. absurd (none-some n there))
 
 -- they are of its command
+pub own-by : (who : Who) (own : Own) → who_in (note_by who own).1 ≡ who
+own-by who (owns.Failed frame found) = refl
+own-by who (owns.Offlined frame cycle moved) = refl
+
 noted-by : (who : Who) (row : Row) → EachMember (λ (n : Note). who_in n.1 ≡ who) (row_notes who row)
-noted-by who row = each-note (λ (n : Note). who_in n.1 ≡ who) who row (λ i t found at is. refl) (λ frame found is. refl)
+noted-by who row = each-note (λ (n : Note). who_in n.1 ≡ who) who row (λ i t found at is. refl) (λ own is. own-by who own)
 
 -- of another command none
 others-none : (who : Who) (cpu : Cpu) (n : ℕ) (rows : List Row) → ((m : ℕ) → n ≤ m → is_same_command who (record { cpu = cpu; seq = m }) ≡ false) → filter (is_noted who) (notes_from cpu n rows) ≡ []

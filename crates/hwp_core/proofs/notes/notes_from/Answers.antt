@@ -1,7 +1,7 @@
 use Rattle.std.proofs.Common.{List, ◌∙◌, ap, sym, subst}
 use Rattle.std.specs.Prelude.{filter_map, ◌++◌}
 use Rattle.hwp_rule.specs.Lists.{EachMember}
-use Rattle.hwp_handler.specs.declared.Row.{Row}
+use Rattle.hwp_row.specs.declared.Row.{Row}
 use Rattle.hwp_handler.specs.declared.Told.{Told}
 use Rattle.hwp_served.specs.Rows.{told_note}
 use Rattle.hwp_processor.specs.Processors.{at_number}

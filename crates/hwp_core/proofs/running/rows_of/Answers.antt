@@ -1,6 +1,6 @@
 use Rattle.std.proofs.Common.{◌≡◌, [], ◌∷◌, ◌++◌, None, List, sym, subst}
 use Rattle.hwp_form.proofs.PairsLaws.{Pairs-push}
-use Rattle.hwp_handler.specs.declared.Row.{Row}
+use Rattle.hwp_row.specs.declared.Row.{Row}
 use Rattle.hwp_processor.specs.declared.Processor.{Processor}
 use Rattle.hwp_core.specs.Runs.{AreFinished}
 use Rattle.hwp_core.proofs.running.rows_of.Goals as goal

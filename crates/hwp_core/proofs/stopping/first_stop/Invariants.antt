@@ -1,6 +1,6 @@
 use Rattle.std.proofs.Common.{◌≡◌, ℕ, ◌<◌, Some, slice_get}
 use Rattle.hwp_report.specs.declared.Answer.TheVariants as answers
-use Rattle.hwp_handler.specs.declared.Row.{Row}
+use Rattle.hwp_row.specs.declared.Row.{Row}
 use Rattle.hwp_core.proofs.stopping.first_stop.Given as goal
 
 abbrev pub invariant-loop-number : goal.invariant-loop-number

@@ -19,6 +19,9 @@ returns-in-Log-clause-law c = record { can = can; stays = stays }
 pub returns-in-Raise-clause-law : goal.returns-in-Raise-clause-law
 returns-in-Raise-clause-law c = record { can = can; stays = stays }
 
+pub returns-in-Scrub-clause-law : goal.returns-in-Scrub-clause-law
+returns-in-Scrub-clause-law c = record { can = can; stays = stays }
+
 pub returns-in-Spoil-clause-law : goal.returns-in-Spoil-clause-law
 returns-in-Spoil-clause-law c = record { can = can; stays = stays }
 
@@ -27,3 +30,6 @@ returns-in-Nested-clause-law c = record { can = can; stays = stays }
 
 pub returns-in-Inject-clause-law : goal.returns-in-Inject-clause-law
 returns-in-Inject-clause-law c = record { can = can; stays = stays }
+
+pub returns-in-Soft-clause-law : goal.returns-in-Soft-clause-law
+returns-in-Soft-clause-law c = record { can = can; stays = stays }

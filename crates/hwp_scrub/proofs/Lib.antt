@@ -1,0 +1,4 @@
+pub mod Visiting
+pub mod Scrubbing
+pub mod ScrubRank
+pub mod Adding

@@ -1,0 +1,5 @@
+pub mod Visits
+pub mod Scrubs
+pub mod Fits
+pub mod Costs
+pub mod Done

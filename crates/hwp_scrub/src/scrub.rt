@@ -1,0 +1,378 @@
+ghost use Rattle.std.specs.Prelude.{◌≡◌, ◌≤◌, length, MatchOption};
+ghost use Rattle.hwp_geom.specs.Bits.{HasNoBitFrom, IsLowestBit};
+ghost use Rattle.hwp_banks.specs.Events.{bank_count};
+ghost use Rattle.hwp_law.specs.Checks.{empty_banks};
+ghost use Rattle.hwp_scrub.specs.Visits.{with_bad};
+ghost use Rattle.hwp_scrub.specs.Scrubs.{AfterBad, AfterWeak, BeginsCheck, MeetsWeak, after_handler, after_stop, answer, begin, gone_on, kept, kept_line};
+
+use hwp_banks::{BANKS, Bank, Event, Origin};
+use hwp_geom::{Frame, Layout, Line, List, Mode, Who, lowest_bit};
+use hwp_handler::{Handler, Held, Told, ToldLines, no_events};
+use hwp_page::Body;
+use hwp_report::Acted;
+use hwp_rule::{Place, Step};
+use hwp_severity::{McgBits, grade};
+use hwp_step::{Machine, Ranked, Scheduled, Turn};
+use hwp_words::is_stopped;
+use std::alloc::Global;
+use std::mem;
+use std::snapshot::Snapshot;
+
+/// The scrubber, which goes over frames in rising order. The lowest bad line of each is a machine check, which is acted on; the
+/// lowest weak line is logged, told and taken out at once (this project's rule).
+#[derive(Drop)]
+pub struct Scrub {
+    alloc: Global,
+    who: Who,
+    first: Frame,
+    last: Frame,
+    /// What the banks held at the beginning.
+    before: Snapshot<[Bank; BANKS]>,
+    banks: [Bank; BANKS],
+    lines: ToldLines,
+    at: ScrubAt,
+}
+
+#[derive(Drop)]
+enum ScrubAt {
+    LoadStop,
+    LoadBad { frame: Frame },
+    /// The machine check of the frame's lowest bad line.
+    Handle { frame: Frame, handler: Handler },
+    LoadWeak { frame: Frame },
+    GiveUp,
+    /// No answer: the command gave up because memory ran out.
+    Over { answer: Option<ScrubAnswer> },
+}
+
+/// What a `Scrub` came to (this project's rule).
+#[derive(Clone, Copy)]
+pub enum ScrubAnswer {
+    /// It went over all its frames.
+    Scrubbed,
+    /// The machine is stopped.
+    Stopped,
+}
+
+/// The scrubber can be started again behind a machine check.
+const RESTARTS: McgBits = McgBits {
+    ripv: true,
+    eipv: true,
+};
+
+impl Scrub {
+    /// The command at its beginning, over the frames from the first to the last, by a processor whose banks hold this.
+    pub fn new(alloc: Global, who: Who, first: Frame, last: Frame, banks: [Bank; BANKS]) -> Scrub
+        ensures { result ≡ begin alloc who first last banks }
+    {
+        Scrub {
+            alloc,
+            who,
+            first,
+            last,
+            before: Snapshot::of(&banks),
+            banks,
+            lines: ToldLines::new(alloc),
+            at: ScrubAt::LoadStop,
+        }
+    }
+
+    /// What it came to; `None` until it is over, and where it gave up because memory ran out.
+    pub fn answer(&self) -> Option<ScrubAnswer>
+        ensures { result ≡ answer self.now }
+    {
+        match self.at {
+            ScrubAt::Over { answer } => answer,
+            ScrubAt::LoadStop
+            | ScrubAt::LoadBad { .. }
+            | ScrubAt::Handle { .. }
+            | ScrubAt::LoadWeak { .. }
+            | ScrubAt::GiveUp => None,
+        }
+    }
+
+    /// What was done about the events that it met, in order.
+    pub fn told(&self) -> &[Told]
+        ensures { result.now ≡ self.now.lines.told }
+    {
+        self.lines.told()
+    }
+
+    /// The same as a list, and its processor's banks are put back, once it is over.
+    pub fn finish(self, banks: &mut [Bank; BANKS]) -> List<Told>
+        ensures told { result ≡ self.lines.told }
+        ensures banks { banks.new ≡ self.banks }
+    {
+        let Scrub {
+            banks: left,
+            lines,
+            ..
+        } = self;
+        *banks = left;
+        lines.into_list()
+    }
+
+    /// What follows the stop word.
+    fn after_stop(&mut self, found: u64)
+        ensures { self.new ≡ after_stop self.old found }
+    {
+        self.at = if is_stopped(found) {
+            ScrubAt::Over {
+                answer: Some(ScrubAnswer::Stopped),
+            }
+        } else {
+            ScrubAt::LoadBad { frame: self.first }
+        };
+    }
+
+    /// What follows the word of the frame's bad lines.
+    fn after_bad(&mut self, layout: &Layout, frame: Frame, found: u64)
+        ensures { AfterBad layout.now self.old frame found self.new }
+    {
+        match lowest_line(found) {
+            Some(line) => self.check(layout, frame, line),
+            None => self.at = ScrubAt::LoadWeak { frame },
+        }
+    }
+
+    /// The machine check of the frame's bad line begins, which leaves the banks empty. Where there is no room for its lines the
+    /// command is given up.
+    fn check(&mut self, layout: &Layout, frame: Frame, line: Line)
+        ensures { BeginsCheck layout.now self.old frame line self.new }
+    {
+        if self.lines.room().is_err() {
+            self.at = ScrubAt::GiveUp;
+            return;
+        }
+        let banks = self.take_banks(frame, line);
+        let handler = Handler::new(
+            self.alloc,
+            layout,
+            self.who,
+            None,
+            RESTARTS,
+            Mode::Kernel,
+            &banks,
+        );
+        self.after_handler(frame, handler);
+    }
+
+    /// The banks with the event of the frame's bad line. They are left empty.
+    fn take_banks(&mut self, frame: Frame, line: Line) -> [Bank; BANKS]
+        ensures found { result ≡ with_bad frame line self.old.banks }
+        ensures left { self.new ≡ record self.old { banks = empty_banks } }
+    {
+        let mut banks = mem::replace(&mut self.banks, no_events());
+        banks[Origin::BadLine.bank()].log(Origin::BadLine.event(frame, line));
+        banks
+    }
+
+    /// The machine check goes on, or is over.
+    fn after_handler(&mut self, frame: Frame, handler: Handler)
+        requires { length handler.events.told ≤ self.old.lines.spare }
+        ensures { self.new ≡ after_handler self.old frame handler }
+    {
+        let Some(stopped) = handler.answer() else {
+            self.at = ScrubAt::Handle { frame, handler };
+            return;
+        };
+        self.lines.append(handler.told());
+        self.at = if stopped {
+            ScrubAt::Over {
+                answer: Some(ScrubAnswer::Stopped),
+            }
+        } else {
+            ScrubAt::LoadWeak { frame }
+        };
+    }
+
+    /// What follows the word of the frame's weak lines.
+    fn after_weak(&mut self, frame: Frame, found: u64)
+        ensures { AfterWeak self.old frame found self.new }
+    {
+        match lowest_line(found) {
+            Some(line) => self.meet_weak(frame, line),
+            None => self.go_on(frame),
+        }
+    }
+
+    /// The frame's weak line is told. Where there is no room for that the command is given up.
+    fn meet_weak(&mut self, frame: Frame, line: Line)
+        ensures { MeetsWeak self.old frame line self.new }
+    {
+        if self.lines.room().is_err() {
+            self.at = ScrubAt::GiveUp;
+            return;
+        }
+        self.keep(frame, line);
+        self.go_on(frame);
+    }
+
+    /// The event of the frame's weak line is logged, and what its bank holds then is told and taken out.
+    fn keep(&mut self, frame: Frame, line: Line)
+        requires { bank_count ≤ self.old.lines.spare }
+        ensures { self.new ≡ kept self.old frame line }
+    {
+        let bank = &mut self.banks[Origin::WeakLine.bank()];
+        bank.log(Origin::WeakLine.event(frame, line));
+        if let Some(event) = bank.take() {
+            self.lines.append(&[kept_line(event)]);
+        }
+    }
+
+    /// The next frame, or the end.
+    fn go_on(&mut self, frame: Frame)
+        ensures { self.new ≡ gone_on self.old frame }
+    {
+        self.at = if frame.0 < self.last.0 {
+            ScrubAt::LoadBad {
+                frame: Frame(frame.0 + 1),
+            }
+        } else {
+            ScrubAt::Over {
+                answer: Some(ScrubAnswer::Scrubbed),
+            }
+        };
+    }
+}
+
+/// The lowest line that the word marks.
+fn lowest_line(word: u64) -> Option<Line>
+    ensures { MatchOption result (HasNoBitFrom word 0) (IsLowestBit word 0) }
+{
+    let Some(bit) = lowest_bit(word, 0) else {
+        return None;
+    };
+    Line::new(bit as u8)
+}
+
+/// What is told of the event that the scrubber's bank holds with a weak line: a corrected error, which is kept on record.
+fn kept_line(event: Event) -> Told
+    ensures { result ≡ kept_line event }
+{
+    Told {
+        held: Held {
+            bank: Origin::WeakLine.bank() as u8,
+            event,
+            grade: grade(event.status, RESTARTS, Mode::Kernel),
+        },
+        acted: Acted::Keep,
+        found: None,
+    }
+}
+
+impl Machine for Scrub {
+    ghost use Rattle.hwp_scrub.specs.Scrubs.{Follows, Shows, bare, plan, put};
+    ghost use Rattle.hwp_scrub.specs.Fits.{Fits};
+
+    ghost who = { λ s. s.who };
+
+    ghost plan = { λ s. plan s };
+
+    ghost put = { λ s. put s };
+
+    ghost bare = { λ s. bare s };
+
+    ghost shows = { λ s found got. Shows s found got };
+
+    ghost next = { λ layout s found got after result. Follows layout s found got after result };
+
+    ghost fits = { λ layout view s. Fits layout view s };
+
+    fn who(&self) -> Who {
+        self.who
+    }
+
+    fn plan(&self) -> Option<Step> {
+        match &self.at {
+            ScrubAt::LoadStop => Some(Step::Load { place: Place::Stop }),
+            ScrubAt::LoadBad { frame } => Some(Step::Load {
+                place: Place::Bad(*frame),
+            }),
+            ScrubAt::Handle { handler, .. } => handler.plan(),
+            ScrubAt::LoadWeak { frame } => Some(Step::Load {
+                place: Place::Weak(*frame),
+            }),
+            ScrubAt::GiveUp => Some(Step::GiveUp),
+            ScrubAt::Over { .. } => None,
+        }
+    }
+
+    fn give(&mut self) -> Option<Body> {
+        match &mut self.at {
+            ScrubAt::Handle { handler, .. } => handler.give(),
+            ScrubAt::LoadStop
+            | ScrubAt::LoadBad { .. }
+            | ScrubAt::LoadWeak { .. }
+            | ScrubAt::GiveUp
+            | ScrubAt::Over { .. } => None,
+        }
+    }
+
+    fn settle(&mut self, layout: &Layout, found: u64, body: Option<Body>) -> Turn {
+        match mem::replace(&mut self.at, ScrubAt::Over { answer: None }) {
+            ScrubAt::LoadStop => {
+                self.after_stop(found);
+                Turn::Moved
+            }
+            ScrubAt::LoadBad { frame } => {
+                self.after_bad(layout, frame, found);
+                Turn::Moved
+            }
+            ScrubAt::Handle { frame, mut handler } => {
+                let turn = handler.settle(layout, found, body);
+                self.after_handler(frame, handler);
+                turn
+            }
+            ScrubAt::LoadWeak { frame } => {
+                self.after_weak(frame, found);
+                Turn::Moved
+            }
+            ScrubAt::GiveUp => Turn::NoMemory,
+            ScrubAt::Over { answer } => {
+                self.at = ScrubAt::Over { answer };
+                Turn::Moved
+            }
+        }
+    }
+}
+
+impl Ranked for Scrub {
+    ghost use Rattle.hwp_scrub.specs.Costs.{aborts, claims, class, cost};
+
+    ghost class_of = { λ s. class s };
+
+    ghost cost = { λ s words. cost s words };
+
+    ghost aborts = { λ s. aborts s };
+
+    ghost claims = { λ s. claims s };
+
+    fn class(&self) -> u8 {
+        match &self.at {
+            ScrubAt::Handle { handler, .. } => handler.class(),
+            ScrubAt::LoadStop
+            | ScrubAt::LoadBad { .. }
+            | ScrubAt::LoadWeak { .. }
+            | ScrubAt::GiveUp
+            | ScrubAt::Over { .. } => 4,
+        }
+    }
+
+    fn ranked(&self) {}
+}
+
+impl Scheduled for Scrub {
+    fn is_over(&self) -> bool {
+        match &self.at {
+            ScrubAt::LoadStop
+            | ScrubAt::LoadBad { .. }
+            | ScrubAt::LoadWeak { .. }
+            | ScrubAt::GiveUp => false,
+            ScrubAt::Handle { handler, .. } => handler.is_over(),
+            ScrubAt::Over { .. } => true,
+        }
+    }
+
+    fn tells(&self) {}
+}

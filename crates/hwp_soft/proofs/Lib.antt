@@ -1,0 +1,9 @@
+pub mod Moving
+pub mod Sparing
+pub mod Offlining
+pub mod Seized
+pub mod Spared
+pub mod Adding
+pub mod Softening
+pub mod SoftRank
+pub mod SoftTells

@@ -1,0 +1,3 @@
+pub mod Softs
+pub mod Offline
+pub mod Done

@@ -1,0 +1,6 @@
+//! Soft offline: a frame is taken out of use while its content is still good. A page in it moves to another frame.
+#![tactic(auto)]
+
+mod soft;
+
+pub use soft::{Soft, SoftAnswer};
