@@ -24,8 +24,7 @@ machine of its own. docs/FORMATS.md has the formats.
   hwp check    reads a script and the report behind it, and writes `legal`, or
                `not PLACE RULE`: the rule that is broken, and where first
   hwp gen N    writes the fault script of seed N, a number below 2^64
-  hwp sum N    runs that script and writes the summary of its report; refused as
-               long as not all its commands are supported
+  hwp sum N    runs that script and writes the summary of its report
   hwp --help   prints this text
   hwp --version
 

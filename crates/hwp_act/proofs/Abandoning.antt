@@ -240,7 +240,7 @@ can layout view a step fits is = which a.at fits.at is
     small = small-frame a fits
 
     which : (x : AbandonAt) → FitsAt layout view a x → plan_at a.page a.frame a.count a.body x ≡ Some step → CanMake layout a.who step (put_at a.body x) view
-    which at.SetCache has e = can-make fits.on_turn e tt fits.page (record {
+    which at.SetCache has e = can-make fits.on_turn e fits.page (record {
       page_held = page-held a.page a.page (Some a.frame) (ap (λ (h : Hand). h.pages) has.hand_is) (ap (λ (h : Hand). h.bodies) has.hand_is) has.carries.in_hand.own refl;
       frames = (
         λ old named. subst (CanFree layout view) (same_Some a.frame old (sym (frame-named a.frame small) ∙ named)) (record {
@@ -250,7 +250,7 @@ can layout view a step fits is = which a.at fits.at is
         λ new none. absurd (none-some new none),
       );
     })
-    which at.SetOwner has e = can-make fits.on_turn e tt fits.frame (
+    which at.SetOwner has e = can-make fits.on_turn e fits.frame (
       fits.page,
       record {
         has = lock-held _ (ap (λ (h : Hand). h.locks) has.hand_is) refl;
@@ -260,7 +260,7 @@ can layout view a step fits is = which a.at fits.at is
         unmapped = names-none a has.carries small;
       },
     )
-    which (at.Lose file) (has, its) e = can-make fits.on_turn (sym (ap (λ (b : Option BodyValue). option_map (λ (b : BodyValue). steps.Lose file (snapshot b)) b) has.carries.given_is) ∙ e) tt (file-within layout a.page file fits.sound fits.page lost.0) (record {
+    which (at.Lose file) (has, its) e = can-make fits.on_turn (sym (ap (λ (b : Option BodyValue). option_map (λ (b : BodyValue). steps.Lose file (snapshot b)) b) has.carries.given_is) ∙ e) (file-within layout a.page file fits.sound fits.page lost.0) (record {
       page_held = page-held a.page has.carries.body.page None (ap (λ (h : Hand). h.pages) has.hand_is) bodies has.carries.in_hand.own (sym (body-page a has.carries));
       extends = has.carries.in_hand.extends;
       behind = ap (file_of layout) (body-page a has.carries) ∙ lost.0;
@@ -273,7 +273,7 @@ can layout view a step fits is = which a.at fits.at is
 
         lost : (file_of layout a.page ≡ Some file) × (is_loss (what_of has.carries.f) ≡ true)
         lost = subst (IsLostFile layout a.page has.carries.f) its has.carries.entry.file_is
-    which (at.Kill number process) (has, its) e = can-make fits.on_turn (sym (ap (λ (b : Option BodyValue). option_map (λ (b : BodyValue). steps.Kill process a.page (snapshot b)) b) has.carries.given_is) ∙ e) tt
+    which (at.Kill number process) (has, its) e = can-make fits.on_turn (sym (ap (λ (b : Option BodyValue). option_map (λ (b : BodyValue). steps.Kill process a.page (snapshot b)) b) has.carries.given_is) ∙ e)
         (subst (λ (p : Proc). p.0 < layout.procs) its.2 (process-within layout its.0.thread its.0.process fits.sound (ending-in a has.carries number its.0 its.1))) (record {
           within = fits.page;
           page_is = body-page a has.carries;
@@ -281,18 +281,18 @@ can layout view a step fits is = which a.at fits.at is
           extends = has.carries.in_hand.extends;
           ending = subst (λ (p : Proc). has_ending layout p has.carries.body.log ≡ true) its.2 (has-ending-of a has.carries number its.0 its.1);
         })
-    which at.PutRef has e = can-make fits.on_turn e tt fits.frame (
+    which at.PutRef has e = can-make fits.on_turn e fits.frame (
       let some : _ = fits.some in omega (arith, some),
       subst (λ (h : Hand). a.count - 1 + locks_on a.frame.0 h.locks ≤ refs_on a.frame.0 h.refs) (sym has.hand_is)
           (let all : _ = refs-are a.frame a.count in let one = lock-one a.frame (record { frame = a.frame; owner = 0; handled = false; poisoned = true }) refl in let some : _ = fits.some in omega (arith, all, one, some)),
     )
-    which at.Retire has e = can-make fits.on_turn e tt fits.frame (record {
+    which at.Retire has e = can-make fits.on_turn e fits.frame (record {
       has = lock-held _ (ap (λ (h : Hand). h.locks) has.hand_is) refl;
       unowned = refl;
       unhandled = refl;
       poisoned = refl;
       empty = refl;
     })
-    which at.UnlockPage has e = can-put fits.on_turn e tt fits.page
+    which at.UnlockPage has e = can-put fits.on_turn e fits.page
         (can-shelve a has.carries (ap (λ (h : Hand). h.bodies) has.hand_is) (ap (λ (h : Hand). h.pages) has.hand_is) (ap (λ (h : Hand). h.locks) has.hand_is) (omega arith)) (body-fits a has.carries) tt
     which at.Over has e = absurd (none-some step e)

@@ -21,7 +21,7 @@ use Rattle.hwp_rule.specs.declared.Step.{Step}
 use Rattle.hwp_rule.specs.declared.Step.TheVariants as steps
 use Rattle.hwp_rule.specs.declared.View.{View}
 use Rattle.hwp_rule.specs.Lists.{EachMember, SomeMember}
-use Rattle.hwp_rule.specs.Served.{IsMild}
+use Rattle.hwp_rule.specs.Lasting.{IsMild}
 use Rattle.hwp_rule.specs.Steps.{policy_at}
 use Rattle.hwp_rule.specs.Views.{noted, stamp_of}
 use Rattle.hwp_rule.specs.parts.Entries.{HasPolicy, Shows as ShowsWord}
@@ -49,7 +49,7 @@ pub can : (layout : Layout) (view : View) (r : ReadPolicies) (step : Step) → F
 can layout view r step fits is = which r.next fits.next is
   where
     which : (n : Option Thread) → IsNextOf r.body r.required r.seen.items n → plan_at n ≡ Some step → CanMake layout r.who step None view
-    which (Some thread) next e = can-make fits.on_turn e tt (subst (λ (l : Layout). thread.0 < length l.threads) (layout-is fits) (within_threads r.body.layout thread next.process next.asked.own)) tt
+    which (Some thread) next e = can-make fits.on_turn e (subst (λ (l : Layout). thread.0 < length l.threads) (layout-is fits) (within_threads r.body.layout thread next.process next.asked.own)) tt
     which None all e = absurd (none-some step e)
 
 -- ---- what follows

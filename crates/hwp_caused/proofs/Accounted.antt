@@ -65,16 +65,20 @@ use Rattle.hwp_soft.specs.declared.SoftAnswer.{SoftAnswer}
 use Rattle.hwp_soft.specs.declared.SoftAnswer.TheVariants as soft_answers
 use Rattle.hwp_soft.specs.Done.{marked_at, marked_of}
 use Rattle.hwp_soft.specs.Softs.{cycle_in}
+use Rattle.hwp_unpoison.specs.declared.Unpoison.{Unpoison}
+use Rattle.hwp_unpoison.specs.declared.UnpoisonAnswer.{UnpoisonAnswer}
+use Rattle.hwp_unpoison.specs.declared.UnpoisonAnswer.TheVariants as unpoison_answers
+use Rattle.hwp_unpoison.specs.Done as unpoison_done
 use Rattle.hwp_row.specs.declared.Own.{Own}
 use Rattle.hwp_job.specs.declared.Job.{Job}
 use Rattle.hwp_job.specs.declared.Job.TheVariants as jobs
-use Rattle.hwp_job.specs.Answers.{fail_answer, fsync_answer, prctl_answer, soft_answer}
+use Rattle.hwp_job.specs.Answers.{fail_answer, fsync_answer, prctl_answer, soft_answer, unpoison_answer}
 use Rattle.hwp_job.specs.Begins.{BeginsPrctl}
 use Rattle.hwp_job.specs.Done.{failed_at, failed_now, marked_now, policies_now, taken_at, taken_now}
-use Rattle.hwp_job.specs.Jobs.{Fits, answer, offlined_by, own_by, own_of, row_of, told_of}
+use Rattle.hwp_job.specs.Jobs.{Fits, answer, offlined_by, own_by, own_of, revived_by, row_of, told_of}
 use Rattle.hwp_job.specs.Runs.{Runs, anew}
 use Rattle.hwp_job.specs.Settings.{set_at}
-use Rattle.hwp_job.proofs.Ending.{fsync-over, instruction-over, mapped, prctl-over, raise-over, scrub-over, soft-over}
+use Rattle.hwp_job.proofs.Ending.{fsync-over, instruction-over, mapped, prctl-over, raise-over, scrub-over, soft-over, unpoison-over}
 use Rattle.hwp_job.proofs.OfKind.{of-evict, of-fsync, of-log, of-nested, of-prctl, of-spoil}
 use Rattle.hwp_job.proofs.Staying.{set-says}
 use Rattle.hwp_caused.proofs.Accessed.{KnowsAccess, knows-access}
@@ -82,6 +86,7 @@ use Rattle.hwp_caused.proofs.Injected.{KnowsFailure, knows-failure}
 use Rattle.hwp_caused.proofs.Offlined.{KnowsSoft, knows-soft}
 use Rattle.hwp_caused.proofs.Raised.{KnowsRaise, knows-kernel-raise, knows-user-raise}
 use Rattle.hwp_caused.proofs.Scrubbed.{KnowsScrub, knows-scrub}
+use Rattle.hwp_caused.proofs.Unpoisoned.{KnowsUnpoison, knows-unpoison}
 use Rattle.hwp_served.specs.Accounts.{IsOwn, failures_in, markings_in, own_failure, own_marking, set_by, set_for, taken_by}
 
 -- ---- the losses of a file
@@ -198,6 +203,34 @@ module _ (frame : Frame) where
   offlined-so (soft_answers.TakenFree cycle) = (refl, refl)
   offlined-so (soft_answers.Moved to place cycle) = (refl, refl)
 
+-- ---- the frame whose poison is taken back
+
+module _ (frame : Frame) where
+  revived-so : (x : UnpoisonAnswer) → unpoison_done.marked_for frame x ≡ cons_option (own_marking (revived_by frame x)) []
+  revived-so (unpoison_answers.Done cycle) = refl
+  revived-so unpoison_answers.Stopped = refl
+  revived-so unpoison_answers.NotPoisoned = refl
+  revived-so unpoison_answers.HardwareSeen = refl
+  revived-so (unpoison_answers.HasBad mask) = refl
+  revived-so (unpoison_answers.InUse count) = refl
+
+  -- nothing fails
+  sound-so : (x : UnpoisonAnswer) → [] ≡ cons_option (own_failure (revived_by frame x)) []
+  sound-so (unpoison_answers.Done cycle) = refl
+  sound-so unpoison_answers.Stopped = refl
+  sound-so unpoison_answers.NotPoisoned = refl
+  sound-so unpoison_answers.HardwareSeen = refl
+  sound-so (unpoison_answers.HasBad mask) = refl
+  sound-so (unpoison_answers.InUse count) = refl
+
+  unpoisoned-so : (x : UnpoisonAnswer) → IsOwn (commands.Unpoison frame) (unpoison_answer x) (revived_by frame x)
+  unpoisoned-so (unpoison_answers.Done cycle) = (refl, refl)
+  unpoisoned-so unpoison_answers.Stopped = tt
+  unpoisoned-so unpoison_answers.NotPoisoned = tt
+  unpoisoned-so unpoison_answers.HardwareSeen = tt
+  unpoisoned-so (unpoison_answers.HasBad mask) = tt
+  unpoisoned-so (unpoison_answers.InUse count) = tt
+
 -- ---- each command
 
 -- what the command has done is what its row says
@@ -224,6 +257,15 @@ soft-does {frame = frame} {j} {a} k = subst (λ (q : Job). DoesSo (commands.Soft
   taken = refl;
   set = refl;
   own = subst (λ (o : Option SoftAnswer). IsOwn (commands.Soft k.task.frame) (soft_answer k.own) (option_and_then (offlined_by k.task.frame) o)) (sym k.said) (offlined-so k.task.frame k.own);
+})))
+
+unpoison-does : {layout : Layout} {view : View} {who : Who} {frame : Frame} {j : Job} {a : Answer} → KnowsUnpoison layout view who frame j a → DoesSo (commands.Unpoison frame) j a
+unpoison-does {frame = frame} {j} {a} k = subst (λ (q : Job). DoesSo (commands.Unpoison frame) q a) (sym k.job_is) (subst (DoesSo (commands.Unpoison frame) (jobs.Unpoison k.task)) k.answer_is (subst (λ (u : Unpoison). DoesSo (commands.Unpoison u.frame) (jobs.Unpoison k.task) (unpoison_answer k.own)) k.begun (record {
+  marked = ap (unpoison_done.marked_at k.task.frame) (unpoison-over k.task k.said) ∙ revived-so k.task.frame k.own ∙ ap (λ (o : Option UnpoisonAnswer). cons_option (own_marking (option_and_then (revived_by k.task.frame) o)) []) (sym k.said);
+  failed = sound-so k.task.frame k.own ∙ ap (λ (o : Option UnpoisonAnswer). cons_option (own_failure (option_and_then (revived_by k.task.frame) o)) []) (sym k.said);
+  taken = refl;
+  set = refl;
+  own = subst (λ (o : Option UnpoisonAnswer). IsOwn (commands.Unpoison k.task.frame) (unpoison_answer k.own) (option_and_then (revived_by k.task.frame) o)) (sym k.said) (unpoisoned-so k.task.frame k.own);
 })))
 
 -- a command whose machine checks have done it all: its task, once it is over, has done what its lines tell
@@ -297,4 +339,4 @@ does layout view who (commands.RaiseKernel ripv eipv) j runs fits is = raise-doe
 does layout view who commands.RaiseNested j runs fits is = let task = (of-nested j runs).1 in by-kind task (refl, refl, refl, refl) (ap taken_now task) (ap policies_now task) tt
 does layout view who (commands.Inject frame) j runs fits is = inject-does (knows-failure j runs fits is)
 does layout view who (commands.Soft frame) j runs fits is = soft-does (knows-soft j runs fits is)
-does layout view who _ j runs fits is = absurd runs
+does layout view who (commands.Unpoison frame) j runs fits is = unpoison-does (knows-unpoison j runs fits is)

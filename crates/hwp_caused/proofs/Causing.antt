@@ -19,6 +19,7 @@ use Rattle.hwp_caused.proofs.Evicted.{drop-caused, free-caused, knows-eviction, 
 use Rattle.hwp_caused.proofs.Offlined.{knows-soft, soft-caused}
 use Rattle.hwp_caused.proofs.Raised.{kernel-caused, knows-kernel-raise, knows-user-raise, user-caused}
 use Rattle.hwp_caused.proofs.Scrubbed.{knows-scrub, scrub-caused}
+use Rattle.hwp_caused.proofs.Unpoisoned.{knows-unpoison, unpoison-caused}
 
 pub caused : (layout : Layout) (list : List Command) (view : View) (who : Who) (command : Command) (j : Job) {a : Answer} → Runs layout who command j → Fits layout view j → answer j ≡ Some a
     → ((thread : Thread) → HasReplied j thread → IsCounted list view who j thread) → IsCaused layout list view who command (row_of j a)
@@ -41,4 +42,4 @@ caused layout list view who (commands.RaiseKernel ripv eipv) j runs fits is coun
 caused layout list view who commands.RaiseNested j runs fits is counted = nested-caused layout list view (told_of j) (own_of j) j runs fits is
 caused layout list view who (commands.Inject frame) j runs fits is counted = inject-caused list (told_of j) j (knows-failure j runs fits is)
 caused layout list view who (commands.Soft frame) j runs fits is counted = soft-caused list (told_of j) j (knows-soft j runs fits is)
-caused layout list view who _ j runs fits is counted = absurd runs
+caused layout list view who (commands.Unpoison frame) j runs fits is counted = unpoison-caused list (told_of j) j (knows-unpoison j runs fits is)

@@ -5,6 +5,7 @@ mod Raised
 mod Scrubbed
 mod Injected
 mod Offlined
+mod Unpoisoned
 mod Unmade
 mod Causing
 mod Accounted

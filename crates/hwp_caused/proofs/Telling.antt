@@ -22,7 +22,7 @@ use Rattle.hwp_job.specs.Begins.{BeginsLog}
 use Rattle.hwp_job.specs.Jobs.{Fits, answer, banks_after, banks_before, told_of}
 use Rattle.hwp_job.specs.Runs.{Runs, anew}
 use Rattle.hwp_job.proofs.Ending.{mapped}
-use Rattle.hwp_job.proofs.OfKind.{of-evict, of-fsync, of-inject, of-log, of-nested, of-prctl, of-soft, of-spoil}
+use Rattle.hwp_job.proofs.OfKind.{of-evict, of-fsync, of-inject, of-log, of-nested, of-prctl, of-soft, of-spoil, of-unpoison}
 use Rattle.hwp_served.specs.Told.{AreToldBy}
 use Rattle.hwp_caused.proofs.Accessed.{access-heeded, access-told, knows-access}
 use Rattle.hwp_caused.proofs.Raised.{knows-kernel-raise, knows-user-raise, raise-heeded, raise-told}
@@ -81,4 +81,4 @@ tells layout view who (commands.RaiseKernel ripv eipv) j kept runs fits is = let
 tells layout view who commands.RaiseNested j kept runs fits is = by-kind kept commands.RaiseNested (of-nested j runs).1 refl (refl, refl)
 tells layout view who (commands.Inject frame) j kept runs fits is = by-kind kept (commands.Inject frame) (of-inject j runs.job_is).1 refl (refl, refl)
 tells layout view who (commands.Soft frame) j kept runs fits is = by-kind kept (commands.Soft frame) (of-soft j runs.job_is).1 refl (refl, refl)
-tells layout view who _ j kept runs fits is = absurd runs
+tells layout view who (commands.Unpoison frame) j kept runs fits is = by-kind kept (commands.Unpoison frame) (of-unpoison j runs.job_is).1 refl (refl, refl)

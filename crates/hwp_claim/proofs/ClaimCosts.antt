@@ -13,6 +13,7 @@ use Rattle.hwp_rule.specs.declared.State.{State}
 use Rattle.hwp_rule.specs.declared.Step.{Step}
 use Rattle.hwp_rule.specs.declared.Step.TheVariants as steps
 use Rattle.hwp_rule.specs.Moves.{Move}
+use Rattle.hwp_rule.specs.Lasting.{LeavesPoison}
 use Rattle.hwp_rule.specs.Steps.{place_of, word_after}
 use Rattle.hwp_rule.specs.Words.{Words, read}
 use Rattle.hwp_step.specs.declared.Turn.{Turn}
@@ -20,10 +21,12 @@ use Rattle.hwp_step.specs.declared.Turn.TheVariants.{Moved, Changed, NoMemory}
 use Rattle.hwp_step.specs.Boards.{view_of}
 use Rattle.hwp_step.specs.Calls.{logs, rec_of}
 use Rattle.hwp_step.specs.Ranks.{Member, member, Made, Quiet, OtherHand, failures_left, is_waits, stale, words_at}
+use Rattle.hwp_step.proofs.Failures.{mild-leaves}
 use Rattle.hwp_step.proofs.Ranking.{met, poison-fails, words-kept}
 use Rattle.hwp_hold.specs.declared.unlock.Unlock.{Unlock}
 use Rattle.hwp_hold.specs.Unlocks as unlocks
 use Rattle.hwp_hold.proofs.Ranking.{met-own}
+use Rattle.hwp_hold.proofs.Unlocking as unlocking
 use Rattle.hwp_hold.proofs.Unlocking.{unlock-class, unlock-falls, unlock-small}
 use Rattle.hwp_rule.proofs.Lists.{same-number}
 use Rattle.hwp_claim.specs.declared.claim.Claim.{Claim}
@@ -40,8 +43,9 @@ use Rattle.hwp_hold.specs.declared.release.ReleaseAt.TheVariants as release_at
 use Rattle.hwp_claim.specs.Grabs as grabs
 use Rattle.hwp_claim.specs.Meets as meets
 use Rattle.hwp_claim.specs.Claims.{plan, plan_at, put, put_at, bare, bare_at, stopped, poisoned, is_done, looked, after_grab, after_grab_by, after_meet, after_unlock, next, next_at, stop_turn, turn, turn_at, IsGrabbing, IsMeeting, Fits, FitsAt, class, class_at, claims, aborts, aborts_at, cost, cost_with}
+use Rattle.hwp_claim.proofs.GrabCosts as grabbing
 use Rattle.hwp_claim.proofs.GrabCosts.{grab-member, grab-falls, grab-leaves, grab-small, grab-waits, class-within}
-use Rattle.hwp_claim.proofs.MeetCosts.{meet-member, meet-class, meet-falls, meet-small, never-waits}
+use Rattle.hwp_claim.proofs.MeetCosts.{meet-member, meet-class, meet-falls, meet-mild, meet-small, never-waits}
 
 abbrev pub claim-member : Member Claim
 claim-member = member (λ c. c.who) plan put bare (λ layout c found got after result. (after ≡ next c found got) × (result ≡ turn c found)) Fits class cost aborts claims
@@ -314,3 +318,23 @@ claim-leaves c found got is = which c.at is
     which (at.Free cycle) is = absurd (both_ways true (sym is) refl)
     which (at.Kernel cycle) is = absurd (both_ways true (sym is) refl)
     which (at.Owned cycle page body) is = absurd (both_ways true (sym is) refl)
+
+-- none of its steps takes a frame's poison back
+pub claim-lasting : (c : Claim) (step : Step) → plan c ≡ Some step → LeavesPoison step
+claim-lasting c step is = which c.at is
+  where
+    which : (x : ClaimAt) → plan_at c.who c.frame c.hardware x ≡ Some step → LeavesPoison step
+    which at.Stop e = subst LeavesPoison (same_Some (steps.Stop c.who.cpu) step e) tt
+    which at.Poison e = subst LeavesPoison (same_Some (steps.Poison c.frame c.hardware) step e) tt
+    which (at.Count cycle) e = subst LeavesPoison (same_Some (steps.CountPoison c.hardware) step e) tt
+    which (at.Look cycle) e = subst LeavesPoison (same_Some (steps.Load (places.Frame c.frame)) step e) tt
+    which (at.Grab cycle g) e = mild-leaves step (grabbing.mild g step e)
+    which (at.Meet cycle m) e = mild-leaves step (meet-mild m step e)
+    which (at.Unlock cycle u) e = mild-leaves step (unlocking.mild u step e)
+    which (at.Retire cycle) e = subst LeavesPoison (same_Some (steps.Retire c.frame) step e) tt
+    which at.GaveUp e = absurd (none-some step e)
+    which at.Stopped e = absurd (none-some step e)
+    which at.Already e = absurd (none-some step e)
+    which (at.Free cycle) e = absurd (none-some step e)
+    which (at.Kernel cycle) e = absurd (none-some step e)
+    which (at.Owned cycle page body) e = absurd (none-some step e)

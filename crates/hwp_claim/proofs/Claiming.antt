@@ -75,14 +75,14 @@ pub can : (layout : Layout) (view : View) (c : Claim) (step : Step) → Fits lay
 can layout view c step fits is = which c.at fits.at is
   where
     which : (x : ClaimAt) → FitsAt layout view c.who c.frame c.hardware x → plan_at c.who c.frame c.hardware x ≡ Some step → CanMake layout c.who step (put_at x) view
-    which at.Stop has e = can-make fits.on_turn e tt tt refl
-    which at.Poison has e = can-make fits.on_turn e tt fits.frame tt
-    which (at.Count cycle) has e = can-make fits.on_turn e tt tt has.2
-    which (at.Look cycle) has e = can-make fits.on_turn e tt fits.frame tt
+    which at.Stop has e = can-make fits.on_turn e tt refl
+    which at.Poison has e = can-make fits.on_turn e fits.frame tt
+    which (at.Count cycle) has e = can-make fits.on_turn e tt has.2
+    which (at.Look cycle) has e = can-make fits.on_turn e fits.frame tt
     which (at.Grab cycle g) has e = subst (λ (w : Who). CanMake layout w step None view) has.0.own (grabbing.can layout view g step has.0.grab e)
     which (at.Meet cycle m) has e = subst (λ (w : Who). CanMake layout w step (meets.put m) view) has.0.own (meeting.can layout view m step has.0.meet e)
     which (at.Unlock cycle u) has e = subst (λ (w : Who). CanMake layout w step (unlocks.put u) view) has.0.own (unlocking.can layout view u step has.0.unlock e)
-    which (at.Retire cycle) has e = can-make fits.on_turn e tt fits.frame (retires view c.frame has.0)
+    which (at.Retire cycle) has e = can-make fits.on_turn e fits.frame (retires view c.frame has.0)
     which at.GaveUp has e = absurd (none-some step e)
     which at.Stopped has e = absurd (none-some step e)
     which at.Already has e = absurd (none-some step e)

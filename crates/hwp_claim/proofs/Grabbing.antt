@@ -42,11 +42,11 @@ pub can : (layout : Layout) (view : View) (g : Grab) (step : Step) → Fits layo
 can layout view g step fits is = which g.at fits.held fits.knows is
   where
     which : (x : GrabAt) → hand_of view ≡ held_at g.frame x → KnowsAt view g.who g.frame x → plan_at g.frame x ≡ Some step → CanMake layout g.who step None view
-    which at.LoadAvailable held knows e = can-make fits.on_turn e tt tt tt
-    which (at.Reserve seen) held knows e = can-make fits.on_turn e tt tt (knows, subst (λ (h : Hand). h.reserved + length h.hands + length h.refs + 1 ≤ 2) (sym held) (omega arith))
-    which at.TakeBit held knows e = can-make fits.on_turn e tt (let inside : g.frame.0 < layout.frames = fits.frame in omega arith) (fits.frame, subst (λ (h : Hand). 0 < h.reserved) (sym held) (omega arith))
-    which at.Unreserve held knows e = can-make fits.on_turn e tt tt (subst (λ (h : Hand). 0 < h.reserved) (sym held) (omega arith))
-    which at.Adopt held knows e = can-make fits.on_turn e tt fits.frame (in-hand view g.frame held, subst (λ (h : Hand). length h.locks < 2) (sym held) (omega arith))
+    which at.LoadAvailable held knows e = can-make fits.on_turn e tt tt
+    which (at.Reserve seen) held knows e = can-make fits.on_turn e tt (knows, subst (λ (h : Hand). h.reserved + length h.hands + length h.refs + 1 ≤ 2) (sym held) (omega arith))
+    which at.TakeBit held knows e = can-make fits.on_turn e (let inside : g.frame.0 < layout.frames = fits.frame in omega arith) (fits.frame, subst (λ (h : Hand). 0 < h.reserved) (sym held) (omega arith))
+    which at.Unreserve held knows e = can-make fits.on_turn e tt (subst (λ (h : Hand). 0 < h.reserved) (sym held) (omega arith))
+    which at.Adopt held knows e = can-make fits.on_turn e fits.frame (in-hand view g.frame held, subst (λ (h : Hand). length h.locks < 2) (sym held) (omega arith))
     which at.LookAgain held knows e = absurd (none-some step e)
     which (at.Grabbed word) held knows e = absurd (none-some step e)
 

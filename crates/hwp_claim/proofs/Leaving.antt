@@ -155,7 +155,7 @@ module _ (layout : Layout) (who : Who) (view : View) (frame : Frame) (found seen
       }
 
       pub can-leave : CanMake layout who (steps.UnlockFrame frame) g view
-      can-leave = can-put on refl tt inside can-free fits tt
+      can-leave = can-put on refl inside can-free fits tt
 
       pub left : hand_after layout (steps.UnlockFrame frame) 0 (logs g) 0 (hand_of view) ≡ held (logs shelf)
       left = ap (λ (h : Hand). record (putting (logs g) h) { locks = without (is_lock_of frame) h.locks }) hand ∙ both-left (logs shelf) (logs g) of other

@@ -17,7 +17,7 @@ use Rattle.hwp_rule.specs.Rule.{Holds}
 use Rattle.hwp_rule.specs.Steps.{place_of, word_after}
 use Rattle.hwp_rule.specs.Words.{Words, index, put, words_of}
 use Rattle.hwp_rule.proofs.Lists.{same-number, set_here}
-use Rattle.hwp_rule.specs.Served.{IsMild}
+use Rattle.hwp_rule.specs.Lasting.{IsMild}
 use Rattle.hwp_rule.proofs.Meeting.{frame-free, frame-word, held-word, page-free}
 use Rattle.hwp_rule.proofs.Moving.{shaped}
 use Rattle.hwp_rule.proofs.bounds.RefBounds.{count-fits}

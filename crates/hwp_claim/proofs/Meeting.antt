@@ -467,15 +467,15 @@ pub can : (layout : Layout) (view : View) (m : Meet) (step : Step) → Fits layo
 can layout view m step fits is = which m.at fits.at is
   where
     which : (x : MeetAt) → FitsAt layout view m.who m.frame m.cycle x → plan_at m.frame x ≡ Some step → CanMake layout m.who step (put_at x) view
-    which (at.GetRef seen) has e = can-make fits.on_turn e tt fits.frame (has.1.counted, omega arith, room layout view m.who m.frame has.0)
-    which at.LockFree has e = can-make fits.on_turn e tt fits.frame (can-lock layout view m.who m.frame (ap (λ (h : Hand). h.refs) has) (ap (λ (h : Hand). h.locks) has))
-    which (at.LockPage page) has e = can-make fits.on_turn e tt has.1 (ap (λ (h : Hand). length h.pages) has.0)
-    which (at.LockOwned page shelf) has e = can-make fits.on_turn e tt fits.frame (can-lock layout view m.who m.frame
+    which (at.GetRef seen) has e = can-make fits.on_turn e fits.frame (has.1.counted, omega arith, room layout view m.who m.frame has.0)
+    which at.LockFree has e = can-make fits.on_turn e fits.frame (can-lock layout view m.who m.frame (ap (λ (h : Hand). h.refs) has) (ap (λ (h : Hand). h.locks) has))
+    which (at.LockPage page) has e = can-make fits.on_turn e has.1 (ap (λ (h : Hand). length h.pages) has.0)
+    which (at.LockOwned page shelf) has e = can-make fits.on_turn e fits.frame (can-lock layout view m.who m.frame
         (ap (λ (h : Hand). h.refs) has.hand_is ∙ paged-refs layout page m.frame has.cache (logs shelf) has.seen)
         (ap (λ (h : Hand). h.locks) has.hand_is ∙ paged-locks layout page m.frame has.cache (logs shelf) has.seen))
     which (at.Unlock body ended) has e = unlocking.can layout view (record { who = m.who; at = unlock_at.UnlockFrame m.frame body }) step (record { on_turn = fits.on_turn; at = has.0 }) e
     which (at.UnlockFrame page shelf body ended) has e = subst (λ (s : Step). CanMake layout m.who s body view) (same_Some (steps.UnlockFrame m.frame) step e) has.can
-    which (at.UnlockPage page shelf ended) has e = can-put fits.on_turn e tt has.inside (can-free-page layout view m.who m.frame page shelf has) (shelf-layout layout view m.who m.frame page shelf has) tt
+    which (at.UnlockPage page shelf ended) has e = can-put fits.on_turn e has.inside (can-free-page layout view m.who m.frame page shelf has) (shelf-layout layout view m.who m.frame page shelf has) tt
     which (at.Release r ended) has e = unlocking.can layout view (record { who = m.who; at = unlock_at.Release r }) step (record { on_turn = fits.on_turn; at = has }) e
     which (at.Back ended) has e = absurd (none-some step e)
     which at.Free has e = absurd (none-some step e)

@@ -26,7 +26,7 @@ use Rattle.hwp_rule.specs.declared.Step.{Step}
 use Rattle.hwp_rule.specs.declared.Step.TheVariants as steps
 use Rattle.hwp_rule.specs.declared.View.{View}
 use Rattle.hwp_rule.specs.Rule.{Holds}
-use Rattle.hwp_rule.specs.Served.{IsMild}
+use Rattle.hwp_rule.specs.Lasting.{IsMild}
 use Rattle.hwp_rule.specs.Steps.{policy_at}
 use Rattle.hwp_rule.specs.Views.{noted, stamp_of}
 use Rattle.hwp_rule.specs.Words.{index, words_of}
@@ -118,10 +118,10 @@ can layout view p step fits is = which p.at fits.at is
     inside = slice_get_within layout.threads p.thread.0 fits.decl fits.declared
 
     which : (x : PrctlAt) → FitsAt view p.who p.thread p.process p.arguments x → plan_at p.thread p.process x ≡ Some step → CanMake layout p.who step None view
-    which at.LoadStop left e = can-make fits.on_turn e tt tt tt
-    which at.LoadProcess left e = can-make fits.on_turn e tt fits.process tt
-    which at.LoadPolicy left e = can-make fits.on_turn e tt inside tt
-    which (at.SetPolicy policy settings) set e = can-make fits.on_turn e tt inside (record { decl = fits.decl; declared = fits.declared; own = fits.own; number = set.0.number; few = subst (λ (n : ℕ). n < command_limit) (sym set.0.number) set.0.few })
+    which at.LoadStop left e = can-make fits.on_turn e tt tt
+    which at.LoadProcess left e = can-make fits.on_turn e fits.process tt
+    which at.LoadPolicy left e = can-make fits.on_turn e inside tt
+    which (at.SetPolicy policy settings) set e = can-make fits.on_turn e inside (record { decl = fits.decl; declared = fits.declared; own = fits.own; number = set.0.number; few = subst (λ (n : ℕ). n < command_limit) (sym set.0.number) set.0.few })
     which (at.Over answer) done e = absurd (none-some step e)
 
 -- ---- what follows

@@ -11,7 +11,7 @@ use Rattle.hwp_rule.specs.declared.Step.{Step}
 use Rattle.hwp_rule.specs.declared.Step.TheVariants as steps
 use Rattle.hwp_rule.specs.declared.View.{View}
 use Rattle.hwp_rule.specs.Lists.{SomeMember}
-use Rattle.hwp_rule.specs.Served.{IsMild}
+use Rattle.hwp_rule.specs.Lasting.{IsMild}
 use Rattle.hwp_rule.specs.Views.{noted, sighted, stamp_of}
 use Rattle.hwp_rule.proofs.Lists.{some-last}
 use Rattle.hwp_step.specs.declared.Turn.{Turn}
@@ -34,8 +34,8 @@ pub can : (layout : Layout) (view : View) (n : Nested) (step : Step) → Fits la
 can layout view n step fits is = which n.at is
   where
     which : (x : NestedAt) → plan_at n.who x ≡ Some step → CanMake layout n.who step None view
-    which at.LoadStop e = can-make fits.on_turn e tt tt tt
-    which at.Stop e = can-make fits.on_turn e tt tt refl
+    which at.LoadStop e = can-make fits.on_turn e tt tt
+    which at.Stop e = can-make fits.on_turn e tt refl
     which (at.Over answer) e = absurd (none-some step e)
 
 -- a stop that met the word 0 is listed, and one that met another shows it

@@ -9,7 +9,7 @@ use Rattle.hwp_rule.specs.declared.Place.TheVariants as places
 use Rattle.hwp_rule.specs.declared.Step.{Step}
 use Rattle.hwp_rule.specs.declared.Step.TheVariants as steps
 use Rattle.hwp_rule.specs.declared.View.{View}
-use Rattle.hwp_rule.specs.Served.{IsMild}
+use Rattle.hwp_rule.specs.Lasting.{IsMild}
 use Rattle.hwp_step.specs.declared.Turn.{Turn}
 use Rattle.hwp_step.specs.declared.Turn.TheVariants.{Moved}
 use Rattle.hwp_step.specs.Calls.{CanMake, Steps}
@@ -29,7 +29,7 @@ pub can : (layout : Layout) (view : View) (r : ReadStop) (step : Step) → Fits 
 can layout view r step fits is = which r.at is
   where
     which : (x : ReadStopAt) → plan_at x ≡ Some step → CanMake layout r.who step None view
-    which at.LoadStop e = can-make fits.on_turn e tt tt tt
+    which at.LoadStop e = can-make fits.on_turn e tt tt
     which (at.Over answer) e = absurd (none-some step e)
 
 pub both : (layout : Layout) (old new : View) (r : ReadStop) (step : Step) (found : ℕ) (got : Option BodyValue) → Fits layout old r → plan r ≡ Some step → Steps layout r.who step None old new found got → Fits layout new (next r found)

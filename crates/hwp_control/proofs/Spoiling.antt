@@ -15,7 +15,7 @@ use Rattle.hwp_rule.specs.declared.Step.{Step}
 use Rattle.hwp_rule.specs.declared.Step.TheVariants as steps
 use Rattle.hwp_rule.specs.declared.View.{View}
 use Rattle.hwp_rule.specs.Lists.{SomeMember}
-use Rattle.hwp_rule.specs.Served.{IsMild}
+use Rattle.hwp_rule.specs.Lasting.{IsMild}
 use Rattle.hwp_rule.specs.Steps.{damage_place}
 use Rattle.hwp_rule.specs.Views.{noted, stamp_of}
 use Rattle.hwp_rule.specs.Words.{IsPlace}
@@ -44,8 +44,8 @@ pub can : (layout : Layout) (view : View) (s : Spoil) (step : Step) → Fits lay
 can layout view s step fits is = which s.at is
   where
     which : (x : SpoilAt) → plan_at s.frame s.line s.damage x ≡ Some step → CanMake layout s.who step None view
-    which at.LoadStop e = can-make fits.on_turn e tt tt tt
-    which at.Spoil e = can-make fits.on_turn e tt (a-place layout s.frame s.damage fits.frame) tt
+    which at.LoadStop e = can-make fits.on_turn e tt tt
+    which at.Spoil e = can-make fits.on_turn e (a-place layout s.frame s.damage fits.frame) tt
     which (at.Over answer) e = absurd (none-some step e)
 
 -- a line that was spoiled is listed

@@ -1,8 +1,7 @@
 -- The processors of a script, at their beginning and when all their turns are made.
-use Rattle.std.proofs.Common.{◌≡◌, ◌⊎◌, ℕ, zero, suc, ◌+◌, ◌<◌, ◌≤◌, inl, inr, true, List, [], ◌∷◌, ◌++◌, Some, None, All, length, get_or, slice_get, refl, sym, ap, ◌∙◌, subst, arith}
+use Rattle.std.proofs.Common.{◌≡◌, ◌⊎◌, ℕ, zero, suc, ◌+◌, ◌<◌, ◌≤◌, inl, inr, List, [], ◌∷◌, ◌++◌, Some, None, All, length, get_or, slice_get, refl, sym, ap, ◌∙◌, subst, arith}
 use Rattle.std.proofs.lemmas.Bool.{cases_lt}
 use Rattle.std.proofs.lemmas.List.{length-append}
-use Rattle.std.proofs.lemmas.List.Elements.{All-get_or}
 use Rattle.std.proofs.lemmas.List.Sums.{get_or-le-sum_by}
 use Rattle.std.proofs.lemmas.Option.{get_or_from_slice_get, none-some, same_Some, slice_get-get_or, slice_get_within}
 use Rattle.hwp_geom.specs.declared.Cpu.{Cpu}
@@ -26,13 +25,12 @@ use Rattle.hwp_row.specs.declared.Row.{Row}
 use Rattle.hwp_served.specs.Rows.{lines_from}
 use Rattle.hwp_served.specs.Runs.{AreServed}
 use Rattle.hwp_served.specs.Served.{IsServed}
-use Rattle.hwp_job.specs.Begins.{is_supported}
 use Rattle.hwp_processor.specs.declared.Processor.{Processor}
 use Rattle.hwp_processor.specs.Processors.{AreCommands, AtBeginning}
 use Rattle.hwp_processor.specs.Serving.{Fits}
 use Rattle.hwp_processor.proofs.Ends.{next-keeps, opening-fits, opening-own, served-of}
 use Rattle.hwp_core.specs.Closing.{lines_of_all}
-use Rattle.hwp_core.specs.Runs.{AreAtBeginning, AreFinished, AreSupported, own_seat, processors}
+use Rattle.hwp_core.specs.Runs.{AreAtBeginning, AreFinished, own_seat, processors}
 
 -- ---- the commands of a processor
 
@@ -41,11 +39,10 @@ lists-at layout cpu [] i k d are inside at = absurd (omega arith)
 lists-at layout cpu (l ∷ ls) zero k d are inside at = subst (λ (c : ℕ). All (IsCommandOf layout c) l) (let same : cpu ≡ k = omega arith in same) are.0
 lists-at layout cpu (l ∷ ls) (suc i) k d are inside at = lists-at layout (cpu + 1) ls i k d are.1 (omega arith) (omega arith)
 
--- the commands of a processor's list name what the layout declares, and are supported
-pub commands-at : (script : Script) (i : ℕ) (d : List Command) → IsValid script → AreSupported script → i < length script.lists → AreCommands script.layout (cpu_of i) (get_or script.lists i d)
-commands-at script i d valid supported inside = record {
+-- the commands of a processor's list name what the layout declares, and are no more than a script has
+pub commands-at : (script : Script) (i : ℕ) (d : List Command) → IsValid script → i < length script.lists → AreCommands script.layout (cpu_of i) (get_or script.lists i d)
+commands-at script i d valid inside = record {
   named = lists-at script.layout 0 script.lists i i d valid.lists inside (omega arith);
-  supported = All-get_or (All (λ (c : Command). is_supported c ≡ true)) script.lists i d inside supported;
   few = omega (arith, get_or-le-sum_by length script.lists i d inside, valid.few);
 }
 

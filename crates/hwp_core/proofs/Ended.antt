@@ -3,7 +3,7 @@ use Rattle.std.proofs.Common.{◌≡◌, ◌≢◌, ◌||◌, ℕ, ◌+◌, ◌^
 use Rattle.std.specs.List.{sum_by}
 use Rattle.std.specs.Option.{option_or}
 use Rattle.std.proofs.lemmas.Bool.{cases_lt}
-use Rattle.std.proofs.lemmas.Option.{none-some, same_Some}
+use Rattle.std.proofs.lemmas.Option.{none-some, same_Some, slice_get_within}
 use Rattle.hwp_geom.specs.declared.Frame.{Frame}
 use Rattle.hwp_geom.specs.declared.Layout.{Layout}
 use Rattle.hwp_geom.specs.declared.Who.{Who}
@@ -39,8 +39,8 @@ use Rattle.hwp_served.specs.Rows.{Note, record_of}
 use Rattle.hwp_served.specs.Runs.{IsCauseOf, notes_of, panic_cause, row_at, severity_cause, told_cause}
 use Rattle.hwp_served.specs.Served.{CanStop, IsFirstStopped}
 use Rattle.hwp_plain.specs.Ends.{AreHistories}
-use Rattle.hwp_core.specs.Closing.{HasStopper, IsClosing, IsEnded, IsHalter, IsStopBy, IsStopCause, IsStopper, cause_in, cause_of, line_by, lines_by, lines_of_all}
-use Rattle.hwp_core.proofs.Tables.{length-made, made-at}
+use Rattle.hwp_core.specs.Closing.{AreLinesBy, HasStopper, IsClosing, IsEnded, IsHalter, IsLineBy, IsStopBy, IsStopCause, IsStopper, cause_in, cause_of, lines_of_all}
+use Rattle.hwp_core.proofs.Noted.{marks-moved}
 
 -- a processor has one first stop
 one-first : (own : List Row) (m n : ℕ) (a b : Row) → IsFirstStopped own m a → IsFirstStopped own n b → m ≡ n
@@ -110,21 +110,18 @@ module _ (layout : Layout) (s : State) (h : Holds layout s) (lists : List (List 
 
   -- ---- the frames
 
-  frame-on : (frame : Frame) (line : FrameLine) → slice_get (lines_by (words_of layout s.words) notes layout.frames) frame.0 ≡ Some line → IsFrameOn (words_of layout s.words) s.views frame line
-  frame-on frame line there =
-      let made = made-at (line_by (words_of layout s.words) notes) layout.frames frame.0 line there in
-      subst (IsFrameOn (words_of layout s.words) s.views frame) (sym made.1) (record {
+  frame-on : (lines : List FrameLine) → AreLinesBy (words_of layout s.words) notes layout.frames lines → (frame : Frame) (line : FrameLine) → slice_get lines frame.0 ≡ Some line → IsFrameOn (words_of layout s.words) s.views frame line
+  frame-on lines are frame line there =
+      let by : IsLineBy (words_of layout s.words) notes frame line = are.each frame line there in
+      let inside : frame.0 < layout.frames = subst (λ (n : ℕ). frame.0 < n) are.count (slice_get_within lines frame.0 line there) in
+      subst (IsFrameOn (words_of layout s.words) s.views frame) (sym by.line_is) (record {
         word = slice_index (words_of layout s.words).frames frame.0;
-        there = word-there (words_of layout s.words).frames frame.0 layout.frames (shaped layout s h).frames made.0;
+        there = word-there (words_of layout s.words).frames frame.0 layout.frames (shaped layout s h).frames inside;
         place = refl;
-        bad = word-there (words_of layout s.words).bads frame.0 layout.frames (shaped layout s h).bads made.0;
-        weak = word-there (words_of layout s.words).weaks frame.0 layout.frames (shaped layout s h).weaks made.0;
-        marks = end.marked frame;
+        bad = word-there (words_of layout s.words).bads frame.0 layout.frames (shaped layout s h).bads inside;
+        weak = word-there (words_of layout s.words).weaks frame.0 layout.frames (shaped layout s h).weaks inside;
+        marks = marks-moved s.views frame (record_of frame notes) line.marks by.marks.moved (end.marked frame);
       })
-
-  -- its record is what processors noted of it
-  marks-are : (frame : Frame) (line : FrameLine) → slice_get (lines_by (words_of layout s.words) notes layout.frames) frame.0 ≡ Some line → line.marks ≡ record_of frame notes
-  marks-are frame line there = ap (λ (l : FrameLine). l.marks) (made-at (line_by (words_of layout s.words) notes) layout.frames frame.0 line there).1
 
   -- ---- the stop
 
@@ -179,21 +176,21 @@ module _ (layout : Layout) (s : State) (h : Holds layout s) (lists : List (List 
 
   -- ---- the report
 
-  pub closes : (report : Report) → report.frames ≡ lines_by (words_of layout s.words) notes layout.frames → report.files ≡ (words_of layout s.words).losses
+  pub closes : (report : Report) → AreLinesBy (words_of layout s.words) notes layout.frames report.frames → report.files ≡ (words_of layout s.words).losses
       → report.count ≡ sum_by poison_of (words_of layout s.words).frames → IsStopBy (words_of layout s.words).stop lists rows report.stop → length report.pages ≡ length layout.pages → AreHistories s.homes report.pages
       → report.cpus ≡ lines_of_all rows → IsClosing layout s lists rows report
   closes report frames files count stop many pages lines_are = record {
     ends = record {
-      frames = λ frame line there. frame-on frame line (sym (ap (λ (l : List FrameLine). slice_get l frame.0) frames) ∙ there);
+      frames = frame-on report.frames frames;
       pages = λ page entries there. record { home = pages page entries there };
       files = files;
       count = count;
       counter = counter-agrees ∙ ap (λ (n : ℕ). 2 ^ 31 + n) (sym count);
       stop = stop-on report.stop stop;
     };
-    frames = ap (λ (l : List FrameLine). length l) frames ∙ length-made (line_by (words_of layout s.words) notes) layout.frames;
+    frames = frames.count;
     pages = many;
     lines = lines_are;
-    marks = λ frame line there. marks-are frame line (sym (ap (λ (l : List FrameLine). slice_get l frame.0) frames) ∙ there);
+    marks = λ frame line there. (frames.each frame line there).marks;
     cause = stop-caused report.stop stop;
   }

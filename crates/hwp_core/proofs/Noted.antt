@@ -1,12 +1,14 @@
 -- The record gathered of a frame has the marks of the frame that the views list.
-use Rattle.std.proofs.Common.{◌≡◌, ◌⊎◌, inl, inr, ℕ, zero, suc, ◌<◌, ◌==◌, Bool, true, List, [], ◌∷◌, ◌++◌, Some, filter, flat_map, length, map, slice_get, refl, sym, ap, ◌∙◌, subst}
+use Rattle.std.proofs.Common.{◌≡◌, ◌⊎◌, inl, inr, ℕ, zero, suc, ◌<◌, ◌==◌, Bool, List, [], ◌∷◌, ◌++◌, Some, filter, flat_map, slice_get, refl, sym, ap, ◌∙◌, subst}
 use Rattle.std.proofs.lemmas.Bool.{eq-eqb, eqb-true}
+use Rattle.std.specs.List.Sorted.{IsPermutation}
+use Rattle.std.proofs.lemmas.List.Sorted.{IsPermutation-sym}
 use Rattle.std.proofs.lemmas.Option.{none-some, same_Some, slice_get_within}
 use Rattle.hwp_geom.specs.declared.Cpu.{Cpu}
 use Rattle.hwp_geom.specs.declared.Frame.{Frame}
 use Rattle.hwp_geom.specs.declared.Layout.{Layout}
-use Rattle.hwp_geom.specs.Pairs.{Pairs}
 use Rattle.hwp_rule.specs.declared.Mark.{Mark}
+use Rattle.hwp_rule.specs.declared.MarkKind.{MarkKind}
 use Rattle.hwp_rule.specs.declared.MarkKind.TheVariants as kinds
 use Rattle.hwp_rule.specs.declared.State.{State}
 use Rattle.hwp_rule.specs.declared.View.{View}
@@ -19,11 +21,12 @@ use Rattle.hwp_report.specs.declared.How.TheVariants as hows
 use Rattle.hwp_report.specs.declared.MarkLine.{MarkLine}
 use Rattle.hwp_runs.specs.Ends.{AreMarks, IsListed, Tells, cause_of}
 use Rattle.hwp_runs.proofs.Homes.{there-is}
-use Rattle.hwp_served.specs.Accounts.{IsHow, IsNote}
+use Rattle.hwp_served.specs.Accounts.{IsHow, IsLineOf, IsNote}
 use Rattle.hwp_served.specs.Rows.{Note, lines_of, record_of}
 use Rattle.hwp_served.proofs.Ending.{filter-has}
-use Rattle.hwp_served.proofs.Failed.{paired}
+use Rattle.hwp_served.proofs.Failed.{paired, partner}
 use Rattle.hwp_served.proofs.lines.Gathering.{AreNoted}
+use Rattle.hwp_served.proofs.marks.Rising.{moved-has}
 use Rattle.hwp_served.proofs.Seats.{seat-place}
 use Rattle.hwp_served.proofs.Seen.{filter-is}
 
@@ -56,13 +59,6 @@ flat-has f [] j k a y at there = absurd (none-some a at)
 flat-has f (x ∷ l) zero k a y at there = (k, at_longer (f x) (flat_map f l) k y (ap (λ b. slice_get (f b) k) (same_Some x a at) ∙ there))
 flat-has f (x ∷ l) (suc j) k a y at there = let rest = flat-has f l j k a y at there in behind (f x) (flat_map f l) rest.0 y rest.1
 
--- the member beside one of a list of pairs
-beside : {A B : Type 0} (R : A → B → Type 0) (xs : List A) (ys : List B) (j : ℕ) (x : A) → Pairs R xs ys → slice_get xs j ≡ Some x → (y : B) × (slice_get ys j ≡ Some y) × R x y
-beside R [] ys j x pairs there = absurd (none-some x there)
-beside R (a ∷ xs) [] j x pairs there = absurd pairs
-beside {A} {B} R (a ∷ xs) (b ∷ ys) zero x pairs there = (b, refl, subst (λ (z : A). R z b) (same_Some a x there) pairs.0)
-beside R (a ∷ xs) (b ∷ ys) (suc j) x pairs there = beside R xs ys j x pairs.1 there
-
 -- a poisoning is by the hardware as its record says
 caused-so : (hardware : Bool) (how : How) → IsHow hardware how → hardware ≡ cause_of how
 caused-so hardware (hows.Failure reported situation outcome) is = sym is.0
@@ -72,7 +68,11 @@ caused-so hardware hows.TakenFree is = is
 module _ (layout : Layout) (seat : Cpu → ℕ) (last : State) (holds : Holds layout last) (seated : AreSeated layout last seat) (notes : List (List Note)) (are : AreNoted layout seat last notes) (frame : Frame) where
   -- a note of the frame tells its mark
   tells : (note : Note) (m : Mark) → IsNote note m → m.frame ≡ frame → Tells frame note.1 m
-  tells note m is of = subst (λ (x : MarkLine). Tells frame x m) (sym is.line) (of, refl, refl, is.kind ∙ ap kinds.Poisoned (caused-so is.hardware is.how is.is))
+  tells note m is of = which is.kind is.kind_is is.line
+    where
+      which : (kind : MarkKind) → m.kind ≡ kind → IsLineOf kind m note.1 → Tells frame note.1 m
+      which (kinds.Poisoned hardware) kind_is (how, is_how, line) = subst (λ (x : MarkLine). Tells frame x m) (sym line) (of, refl, refl, kind_is ∙ ap kinds.Poisoned (caused-so hardware how is_how))
+      which kinds.Revived kind_is line = subst (λ (x : MarkLine). Tells frame x m) (sym line) (of, refl, refl, kind_is)
 
   told : (place : ℕ) (line : MarkLine) → slice_get (record_of frame notes) place ≡ Some line → (mark : Mark) × IsListed last.views mark × Tells frame line mark
   told place line there =
@@ -83,7 +83,7 @@ module _ (layout : Layout) (seat : Cpu → ℕ) (last : State) (holds : Holds la
       let was = map-was (λ (n : Note). n.1) (filter (λ (n : Note). n.0.0 == frame.0) some.1) some.3.0 some.3.1 some.3.2 in
       let note : Note = was.0 in
       let kept = filter-is (λ (n : Note). n.0.0 == frame.0) some.1 some.3.0 note was.1 in
-      let by = beside IsNote some.1 view.marks kept.0 note (are.noted some.0 some.1 some.2) kept.1 in
+      let by = partner IsNote some.1 view.marks kept.0 note (are.noted some.0 some.1 some.2) kept.1 in
       let mark : Mark = by.0 in
       let number : note.0.0 ≡ frame.0 = eqb-true note.0.0 frame.0 kept.2 in
       let of : mark.frame ≡ frame = sym by.2.frame ∙ (λ i. record { 0 = number i }) in
@@ -111,3 +111,17 @@ module _ (layout : Layout) (seat : Cpu → ℕ) (last : State) (holds : Holds la
 
   pub are-marks : AreMarks last.views frame (record_of frame notes)
   are-marks = record { told = told; listed = listed }
+
+-- the marks that a list tells, in another order
+pub marks-moved : (views : List View) (frame : Frame) (lines list : List MarkLine) → IsPermutation lines list → AreMarks views frame lines → AreMarks views frame list
+marks-moved views frame lines list moved are = record { told = told-moved; listed = listed-moved }
+  where
+    told-moved : (place : ℕ) (line : MarkLine) → slice_get list place ≡ Some line → (mark : Mark) × IsListed views mark × Tells frame line mark
+    told-moved place line there = (let was = moved-has list lines (IsPermutation-sym lines list moved) place line there in
+        are.told was.0 line (was.2 ∙ ap (λ (x : MarkLine). Some x) was.3))
+
+    listed-moved : (mark : Mark) → IsListed views mark → mark.frame ≡ frame → SomeMember (λ (line : MarkLine). Tells frame line mark) list
+    listed-moved mark listed of =
+        let was = are.listed mark listed of in
+        let now = moved-has lines list moved was.0 was.1 was.2 in
+        (now.0, was.1, now.2 ∙ ap (λ (x : MarkLine). Some x) now.3, was.3)

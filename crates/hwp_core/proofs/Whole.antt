@@ -17,7 +17,7 @@ use Rattle.hwp_runs.specs.Ends.{EndsWith}
 use Rattle.hwp_runs.specs.Turns.{Leads}
 use Rattle.hwp_row.specs.declared.Row.{Row}
 use Rattle.hwp_served.specs.Rows.{lines_from}
-use Rattle.hwp_served.specs.Runs.{AreServed, HasStopCause, IsRecord, IsRunOf, notes_of}
+use Rattle.hwp_served.specs.Runs.{AreServed, HasStopCause, IsRunOf, notes_of}
 use Rattle.hwp_served.proofs.lines.Gathering.{gathered}
 use Rattle.hwp_served.proofs.Holding.{report-of-run}
 use Rattle.hwp_served.proofs.Lawful.{law-holds}
@@ -49,8 +49,7 @@ module _ (script : Script) (board : Board) (rows : List (List Row)) (valid : IsV
     served = served;
     records = λ frame line there.
         let on = closed.ends.frames frame line there in
-        subst (IsRecord (notes_of 0 rows) frame) (sym (closed.marks frame line there))
-        (gathered script.layout own_seat board.state (board-holds script board rows valid played) played.seated_last (notes_of 0 rows) (board-noted script board rows valid played) frame on.word on.there);
+        gathered script.layout own_seat board.state (board-holds script board rows valid played) played.seated_last (notes_of 0 rows) (board-noted script board rows valid played) frame on.word on.there line.marks (closed.marks frame line there);
     ends = closed.ends;
     lengths = record {
       lists = valid.one_each;

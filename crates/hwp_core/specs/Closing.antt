@@ -8,7 +8,6 @@ use Rattle.hwp_words.specs.Stops.{stopper_of}
 use Rattle.hwp_rule.specs.declared.State.{State}
 use Rattle.hwp_rule.specs.declared.View.{View}
 use Rattle.hwp_rule.specs.Lists.{EachMember}
-use Rattle.hwp_rule.specs.Opening.{below}
 use Rattle.hwp_rule.specs.Words.{Words}
 use Rattle.hwp_rule.specs.parts.Holdings.{HoldsNothing}
 use Rattle.hwp_script.specs.declared.Command.{Command}
@@ -28,7 +27,7 @@ use Rattle.hwp_row.specs.declared.Row.{Row}
 use Rattle.hwp_handler.specs.declared.Told.{Told}
 use Rattle.hwp_handler.specs.Told.{frame_of}
 use Rattle.hwp_served.specs.Rows.{Note, lines_from, record_of}
-use Rattle.hwp_served.specs.Runs.{IsCauseOf, notes_of, row_at, told_cause}
+use Rattle.hwp_served.specs.Runs.{AreSorted, IsCauseOf, notes_of, row_at, told_cause}
 use Rattle.hwp_served.specs.Served.{CanStop, IsFirstStopped}
 
 -- ---- the lines of processors
@@ -60,13 +59,15 @@ line_with words f marks = record {
   marks = marks;
 }
 
--- the line of a frame, with what processors noted of it
-abbrev pub line_by : Words → List (List Note) → ℕ → FrameLine
-line_by words notes f = line_with words f (record_of (record { 0 = f }) notes)
+-- the line of a frame, with what processors noted of it, by its places
+pub record IsLineBy (words : Words) (notes : List (List Note)) (frame : Frame) (line : FrameLine) : Type 0 where
+  pub line_is : line ≡ line_with words frame.0 line.marks
+  pub marks : AreSorted (record_of frame notes) line.marks
 
 -- the lines of the first frames
-abbrev pub lines_by : Words → List (List Note) → ℕ → List FrameLine
-lines_by words notes n = map (line_by words notes) (below n)
+pub record AreLinesBy (words : Words) (notes : List (List Note)) (n : ℕ) (lines : List FrameLine) : Type 0 where
+  pub count : length lines ≡ n
+  pub each : (frame : Frame) (line : FrameLine) → slice_get lines frame.0 ≡ Some line → IsLineBy words notes frame line
 
 -- ---- the stop
 
@@ -140,5 +141,5 @@ pub record IsClosing (layout : Layout) (state : State) (lists : List (List Comma
   pub frames : length report.frames ≡ layout.frames
   pub pages : length report.pages ≡ length layout.pages
   pub lines : report.cpus ≡ lines_of_all rows
-  pub marks : (frame : Frame) (line : FrameLine) → slice_get report.frames frame.0 ≡ Some line → line.marks ≡ record_of frame (notes_of 0 rows)
+  pub marks : (frame : Frame) (line : FrameLine) → slice_get report.frames frame.0 ≡ Some line → AreSorted (record_of frame (notes_of 0 rows)) line.marks
   pub cause : (stop : Stop) → report.stop ≡ Some stop → IsStopCause lists rows stop

@@ -1,5 +1,5 @@
 -- The run of a script: the processors' tasks as they begin, how they end, and the law of the report.
-use Rattle.std.specs.Prelude.{◌≡◌, ℕ, true, List, Some, None, All, length, slice_get}
+use Rattle.std.specs.Prelude.{◌≡◌, ℕ, List, Some, None, length, slice_get}
 use Rattle.hwp_geom.specs.Pairs.{Pairs}
 use Rattle.hwp_geom.specs.declared.Cpu.{Cpu}
 use Rattle.hwp_geom.specs.declared.Frame.{Frame}
@@ -15,15 +15,10 @@ use Rattle.hwp_report.specs.declared.Report.{Report}
 use Rattle.hwp_runs.specs.Run.{CoreRun}
 use Rattle.hwp_row.specs.declared.Row.{Row}
 use Rattle.hwp_served.specs.Runs.{AreServed}
-use Rattle.hwp_job.specs.Begins.{is_supported}
 use Rattle.hwp_processor.specs.declared.Processor.{Processor}
 use Rattle.hwp_processor.specs.Processors.{AtBeginning, Next, aborts, bare, claims, class, cost, plan, put, who}
 use Rattle.hwp_processor.specs.Serving.{Fits}
 use Rattle.hwp_core.specs.Closing.{lines_of_all}
-
--- all commands of all processors are supported
-abbrev pub AreSupported : Script → Type 0
-AreSupported script = All (All (λ (c : Command). is_supported c ≡ true)) script.lists
 
 -- a processor as a task
 abbrev pub processors : Member Processor

@@ -3,9 +3,9 @@ ghost use Rattle.std.specs.List.{sum_by};
 ghost use Rattle.hwp_words.specs.Frames.{poison_of};
 ghost use Rattle.hwp_rule.specs.Words.{words_of};
 ghost use Rattle.hwp_runs.specs.Ends.{place_in};
-ghost use Rattle.hwp_core.specs.Closing.{line_with, lines_by};
+ghost use Rattle.hwp_core.specs.Closing.{AreLinesBy, line_with};
 
-use crate::records::gather;
+use crate::records::{gather, ordered};
 use hwp_geom::{Frame, List, Mask, OutOfMemory};
 use hwp_plain::PlainBoard;
 use hwp_report::{FrameLine, MarkLine, Place};
@@ -20,12 +20,12 @@ pub fn frame_lines(
     board: &PlainBoard,
     notes: &[List<(Frame, MarkLine)>],
 ) -> Result<List<FrameLine>, OutOfMemory>
-    ensures { IfOk result (λ lines. lines ≡ lines_by (words_of board.now.layout board.now.state.words) notes.now board.now.layout.frames) }
+    ensures { IfOk result (λ lines. AreLinesBy (words_of board.now.layout board.now.state.words) notes.now board.now.layout.frames lines) }
 {
     let records = gather(alloc, usize::from(board.layout().frames), notes)?;
     let mut lines = Vec::new(alloc);
     for frame in 0..board.layout().frames {
-        let marks = records[usize::from(frame)].copy(alloc)?;
+        let marks = ordered(alloc, &records[usize::from(frame)])?;
         lines.push(frame_line(board, Frame(frame), marks))?;
     }
     Ok(List::from_vec(lines))

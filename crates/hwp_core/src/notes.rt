@@ -28,7 +28,7 @@ pub fn all_notes(alloc: Global, rows: &[List<Row>]) -> Result<List<List<Note>>, 
     Ok(List::from_vec(notes))
 }
 
-/// What the commands of a processor add: each poisoning of a frame, with what the failure found.
+/// What the commands of a processor add: each poisoning of a frame, with what the failure found, and each unpoisoning.
 fn notes_from(alloc: Global, cpu: Cpu, rows: &[Row]) -> Result<List<Note>, OutOfMemory>
     requires tellable { IsTellable rows.now }
     ensures { IfOk result (λ notes. notes ≡ notes_from cpu 0 rows.now) }
@@ -78,7 +78,7 @@ fn told_note(who: Who, event: &Told) -> Option<Note>
     Some(note_of(who, true, frame_of(&event.held), found))
 }
 
-/// The poisoning of a frame that the command itself brought about.
+/// What the command itself did to a frame.
 fn own_note(who: Who, own: Option<Own>) -> Option<Note>
     ensures { result ≡ own_note who own }
 {
@@ -102,6 +102,7 @@ fn note_by(who: Who, own: Own) -> Note
             let how = offlined(moved);
             (frame, MarkLine::Poisoned { cycle, who, how })
         }
+        Own::Revived { frame, cycle } => (frame, MarkLine::Unpoisoned { cycle, who }),
     }
 }
 

@@ -1,4 +1,5 @@
 ghost use Rattle.std.specs.Prelude.{◌≡◌, [], replicate, IfOk, OnOk};
+ghost use Rattle.hwp_served.specs.Runs.{AreSorted, place_in};
 ghost use Rattle.hwp_core.specs.Records.{AreGathered, GoOn, with_note};
 
 use hwp_geom::{Frame, List, OutOfMemory};
@@ -51,4 +52,24 @@ pub fn gather(
         add_all(&mut records, notes[cpu].as_slice())?;
     }
     Ok(records)
+}
+
+/// The lines of a record in the order of their places.
+pub fn ordered(alloc: Global, gathered: &List<MarkLine>) -> Result<List<MarkLine>, OutOfMemory>
+    ensures { IfOk result (λ list. AreSorted gathered.now list) }
+{
+    let copied = gathered.copy(alloc)?;
+    let mut lines = copied.into_vec();
+    lines.sort_unstable_by_key(|line| place_in(line));
+    Ok(List::from_vec(lines))
+}
+
+/// The place of a line in its frame's record: each cycle begins with a poisoning.
+fn place_in(line: &MarkLine) -> u64
+    ensures { result ≡ place_in line.now }
+{
+    match *line {
+        MarkLine::Poisoned { cycle, .. } => 2 * u64::from(cycle),
+        MarkLine::Unpoisoned { cycle, .. } => 2 * u64::from(cycle) + 1,
+    }
 }

@@ -2,7 +2,7 @@ ghost use Rattle.std.specs.Prelude.{IfOk};
 ghost use Rattle.hwp_law.specs.Law.{IsLawful};
 ghost use Rattle.hwp_law.specs.Runs.{IsOfRun};
 ghost use Rattle.hwp_script.specs.Valid.{IsValid};
-ghost use Rattle.hwp_core.specs.Runs.{AreAtBeginning, AreFinished, AreSupported, IsCoreRun, IsPlayed};
+ghost use Rattle.hwp_core.specs.Runs.{AreAtBeginning, AreFinished, IsCoreRun, IsPlayed};
 
 use crate::closing::report;
 use hwp_geom::{Cpu, List, OutOfMemory};
@@ -20,7 +20,6 @@ type Rows = List<List<Row>>;
 /// A processor for each list of the script, at the beginning of its first command.
 fn crew_of(alloc: Global, script: &Script) -> Result<Vec<Processor>, OutOfMemory>
     requires valid { IsValid script.now }
-    requires supported { AreSupported script.now }
     ensures { IfOk result (λ crew. AreAtBeginning script.now crew.items) }
 {
     let layout = Arc::new(alloc, script.layout.copy(alloc)?)?;
@@ -51,7 +50,6 @@ fn rows_of(alloc: Global, crew: Vec<Processor>) -> Result<Rows, OutOfMemory>
 /// processor.
 fn play(alloc: Global, script: &Script) -> Result<(PlainBoard, Rows), OutOfMemory>
     requires valid { IsValid script.now }
-    requires supported { AreSupported script.now }
     ensures { IfOk result (λ end. IsPlayed script.now end.0 end.1) }
 {
     let mut board = PlainBoard::new(alloc, &script.layout)?;
@@ -67,7 +65,6 @@ fn play(alloc: Global, script: &Script) -> Result<(PlainBoard, Rows), OutOfMemor
 /// each of their commands is answered. The report is of the board to which that leads.
 pub fn run(alloc: Global, script: &Script) -> Result<Report, OutOfMemory>
     requires valid { IsValid script.now }
-    requires supported { AreSupported script.now }
     ensures of_run { IfOk result (IsOfRun script.now) }
     ensures lawful { IfOk result (IsLawful script.now) }
     ensures core { IfOk result (IsCoreRun script.now) }

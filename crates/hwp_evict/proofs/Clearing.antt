@@ -20,7 +20,7 @@ use Rattle.hwp_rule.specs.declared.Step.TheVariants as steps
 use Rattle.hwp_rule.specs.declared.View.{View}
 use Rattle.hwp_rule.specs.Asks.{CanFree, CanSetPte, frame_of}
 use Rattle.hwp_rule.specs.Logs.{state_of}
-use Rattle.hwp_rule.specs.Served.{IsMild}
+use Rattle.hwp_rule.specs.Lasting.{IsMild}
 use Rattle.hwp_rule.specs.Views.{frame_in, is_body_of, less_named, refs_on, with_named}
 use Rattle.hwp_rule.specs.Words.{Words}
 use Rattle.hwp_rule.proofs.Lists.{same-number, same-or, set_here, set_else}
@@ -195,7 +195,7 @@ can layout view c step fits is = which c.next fits.at is
   where
     which : (n : Option VSlot) → IsClearing layout view (record c { next = n }) → plan_at c.barred n ≡ Some step → CanMake layout c.who step None view
     which None has e = absurd (none-some step e)
-    which (Some slot) has e = can-make fits.on_turn e tt (within c slot fits has) (can-write c slot fits has)
+    which (Some slot) has e = can-make fits.on_turn e (within c slot fits has) (can-write c slot fits has)
 
 -- a step shows what is needed, and what follows fits again
 pub both : (layout : Layout) (old new : View) (c : Clear) (step : Step) (found : ℕ) (got : Option BodyValue) → Fits layout old c → plan c ≡ Some step → Steps layout c.who step None old new found got → Shows c × ((after : Clear) → Follows c after → Fits layout new after)

@@ -17,7 +17,7 @@ use Rattle.hwp_rule.specs.declared.State.{State}
 use Rattle.hwp_rule.specs.declared.Step.{Step}
 use Rattle.hwp_rule.specs.declared.Step.TheVariants as steps
 use Rattle.hwp_rule.specs.declared.View.{View}
-use Rattle.hwp_rule.specs.Served.{IsMild}
+use Rattle.hwp_rule.specs.Lasting.{IsMild}
 use Rattle.hwp_rule.specs.Steps.{place_of, word_after}
 use Rattle.hwp_rule.specs.Words.{Words, read}
 use Rattle.hwp_step.specs.declared.Turn.{Turn}
@@ -227,7 +227,7 @@ after-goes (at.Unhold u answer) = refl
 after-goes (at.GiveUp g) = refl
 after-goes (at.Over answer) = refl
 
-abbrev evict-member : Member Evict
+abbrev pub evict-member : Member Evict
 evict-member = member (λ e. e.who) plan put bare (λ layout e found got after result. Follows e found got after result) Fits class cost (λ e. false) (λ e. None)
 
 module _ {layout : Layout} {seat : ℕ} {a b : State} {s t : Evict} {turn : Turn} (made : Made evict-member layout seat a b s t turn) where

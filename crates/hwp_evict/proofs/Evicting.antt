@@ -68,10 +68,10 @@ pub can : (layout : Layout) (view : View) (e : Evict) (step : Step) → Fits lay
 can layout view e step fits is = which e.at fits.at is
   where
     which : (x : EvictAt) → FitsAt layout view e.who e.page e.what x → plan_at x ≡ Some step → CanMake layout e.who step (put_at x) view
-    which at.LoadStop has p = can-make fits.on_turn p tt tt tt
+    which at.LoadStop has p = can-make fits.on_turn p tt tt
     which (at.Hold h) has p = subst (λ (w : Who). CanMake layout w step None view) has.own (holding_laws.can layout view h step has.hold p)
-    which (at.LoadBad frame body) has p = can-make fits.on_turn p tt (has.page_held.within frame refl) tt
-    which (at.SetPte slot frame body done) has p = can-make fits.on_turn p tt (slot-within layout e.page slot own) (can-write (subst (λ (w : Eviction). IsFreeing layout view e.who e.page w frame body done) has.0 has.1) own)
+    which (at.LoadBad frame body) has p = can-make fits.on_turn p (has.page_held.within frame refl) tt
+    which (at.SetPte slot frame body done) has p = can-make fits.on_turn p (slot-within layout e.page slot own) (can-write (subst (λ (w : Eviction). IsFreeing layout view e.who e.page w frame body done) has.0 has.1) own)
       where
         own : IsOf layout e.page slot
         own = subst (IsOfKind layout e.page) has.0 fits.kind

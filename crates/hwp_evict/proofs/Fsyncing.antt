@@ -9,7 +9,7 @@ use Rattle.hwp_rule.specs.declared.Place.TheVariants as places
 use Rattle.hwp_rule.specs.declared.Step.{Step}
 use Rattle.hwp_rule.specs.declared.Step.TheVariants as steps
 use Rattle.hwp_rule.specs.declared.View.{View}
-use Rattle.hwp_rule.specs.Served.{IsMild}
+use Rattle.hwp_rule.specs.Lasting.{IsMild}
 use Rattle.hwp_rule.specs.Words.{Words}
 use Rattle.hwp_step.specs.declared.Turn.{Turn}
 use Rattle.hwp_step.specs.declared.Turn.TheVariants.{Moved, Answered}
@@ -35,8 +35,8 @@ pub can : (layout : Layout) (view : View) (f : Fsync) (step : Step) → Fits lay
 can layout view f step fits is = which f.at is
   where
     which : (x : FsyncAt) → plan_at f.file x ≡ Some step → CanMake layout f.who step None view
-    which at.LoadStop e = can-make fits.on_turn e tt tt tt
-    which at.Report e = can-make fits.on_turn e tt fits.file tt
+    which at.LoadStop e = can-make fits.on_turn e tt tt
+    which at.Report e = can-make fits.on_turn e fits.file tt
     which (at.Over answer) e = absurd (none-some step e)
 
 module _ {layout : Layout} {old new : View} (f : Fsync) {step : Step} {found : ℕ} {got : Option BodyValue} (fits : Fits layout old f) (is : plan f ≡ Some step) (made : Steps layout f.who step None old new found got) where
@@ -72,7 +72,7 @@ stays layout old new f step found got fits is made = (tt, λ after result follow
 
 -- ---- the law of the rank
 
-abbrev fsync-member : Member Fsync
+abbrev pub fsync-member : Member Fsync
 fsync-member = member (λ f. f.who) plan (λ f. None) (λ f. f) (λ layout f found got after result. (after ≡ next f found) × (result ≡ turn f found)) Fits (λ f. 4) cost (λ f. false) (λ f. None)
 
 -- every cost is small

@@ -167,7 +167,7 @@ can layout view v step fits is = which v.at fits.at is
     small = small-frame v fits
 
     which : (x : VacateAt) → FitsAt layout view (record v { at = x }) x → plan_at v.page v.frame x ≡ Some step → CanMake layout v.who step (put_at v.body x) view
-    which at.SetCache has e = can-make fits.on_turn e tt fits.page (record {
+    which at.SetCache has e = can-make fits.on_turn e fits.page (record {
       page_held = page-held (Some v.frame) (ap (λ (h : Hand). h.pages) has.hand_is) (ap (λ (h : Hand). h.bodies) has.hand_is) has.goes.taken_is;
       frames = (
         λ old named. subst (CanFree layout view) (same_Some v.frame old (sym (frame-named v.frame small) ∙ named)) (record {
@@ -177,7 +177,7 @@ can layout view v step fits is = which v.at fits.at is
         λ new none. absurd (none-some new none),
       );
     })
-    which at.SetOwner has e = can-make fits.on_turn e tt fits.frame (
+    which at.SetOwner has e = can-make fits.on_turn e fits.frame (
       fits.page,
       record {
         has = lock-held _ (ap (λ (h : Hand). h.locks) has.hand_is) refl;
@@ -187,14 +187,14 @@ can layout view v step fits is = which v.at fits.at is
         unmapped = names-none has.goes v.frame small;
       },
     )
-    which at.UnlockFrame has e = can-make fits.on_turn e tt fits.frame (record {
+    which at.UnlockFrame has e = can-make fits.on_turn e fits.frame (record {
       has = lock-held _ (ap (λ (h : Hand). h.locks) has.hand_is) refl;
       named = refl;
       cached = λ lock listed owner. absurd (omega (arith, owner));
       put = tt;
     })
     which (at.Release r) has e = subst (λ (w : Who). CanMake layout w step None view) has.own (releasing_laws.can layout view r step has.release e)
-    which at.UnlockPage has e = can-put fits.on_turn e tt fits.page
+    which at.UnlockPage has e = can-put fits.on_turn e fits.page
         (can-shelve has.goes (ap (λ (h : Hand). h.pages) has.hand_is) (ap (λ (h : Hand). h.bodies) has.hand_is) (ap (λ (h : Hand). h.locks) has.hand_is)) (body-fits has.goes) tt
     which at.Over has e = absurd (none-some step e)
 

@@ -12,12 +12,14 @@ use Rattle.hwp_rule.specs.declared.State.{State}
 use Rattle.hwp_rule.specs.declared.Step.{Step}
 use Rattle.hwp_rule.specs.declared.Step.TheVariants as steps
 use Rattle.hwp_rule.specs.Moves.{Move}
+use Rattle.hwp_rule.specs.Lasting.{LeavesPoison}
 use Rattle.hwp_rule.specs.Words.{Words}
 use Rattle.hwp_step.specs.declared.Turn.{Turn}
 use Rattle.hwp_step.specs.Boards.{view_of}
 use Rattle.hwp_step.specs.Calls.{logs, rec_of}
 use Rattle.hwp_step.specs.Hands.{Hand}
 use Rattle.hwp_step.specs.Ranks.{IsRanked, Made, Member, OtherHand, Pending, Quiet, failures_left, is_refused, is_waits, member, words_at}
+use Rattle.hwp_step.proofs.Failures.{mild-leaves}
 use Rattle.hwp_step.proofs.Ranking.{failed, pending-kept, steps-on}
 use Rattle.hwp_hold.specs.declared.give_up.GiveUp.{GiveUp}
 use Rattle.hwp_hold.specs.declared.give_up.GiveUpAt.{GiveUpAt}
@@ -41,7 +43,7 @@ use Rattle.hwp_act.specs.Acts as acts
 use Rattle.hwp_act.proofs.ActCosts.{act-falls, act-goes, act-mild, act-ranked, act-small}
 use Rattle.hwp_claim.specs.declared.claim.Claim.{Claim}
 use Rattle.hwp_claim.specs.Claims as claims
-use Rattle.hwp_claim.proofs.ClaimCosts.{claim-class, claim-falls, claim-leaves, claim-member, claim-small, claim-waits}
+use Rattle.hwp_claim.proofs.ClaimCosts.{claim-class, claim-falls, claim-lasting, claim-leaves, claim-member, claim-small, claim-waits}
 use Rattle.hwp_claim.proofs.ClaimOwns.{claim-ranked}
 use Rattle.hwp_claim.proofs.Retiring.{Keeps, drops-now, owned-by, retired}
 use Rattle.hwp_fail.specs.declared.fail.Fail.{Fail}
@@ -274,3 +276,12 @@ fail-ranked = record {
   leaves = λ layout seat a b s t turn made gives. inr (fail-leaves made gives);
   owns = λ layout seat a b s t turn frame cycle made going pending. fail-owns made frame cycle going pending;
 }
+
+-- none of its steps takes a frame's poison back
+pub fail-lasting : (f : Fail) (step : Step) → plan f ≡ Some step → LeavesPoison step
+fail-lasting f step is = which f.at is
+  where
+    which : (x : FailAt) → plan_at x ≡ Some step → LeavesPoison step
+    which (at.Claim c) e = claim-lasting c step e
+    which (at.Act cycle a) e = mild-leaves step (act-mild a step e)
+    which (at.Over answer) e = absurd (none-some step e)

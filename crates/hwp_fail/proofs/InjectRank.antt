@@ -9,10 +9,11 @@ use Rattle.hwp_geom.specs.declared.Who.{Who}
 use Rattle.hwp_words.specs.Stops.{is_stopped}
 use Rattle.hwp_rule.specs.declared.Place.TheVariants as places
 use Rattle.hwp_rule.specs.declared.State.{State}
+use Rattle.hwp_rule.specs.declared.Step.{Step}
 use Rattle.hwp_rule.specs.declared.Step.TheVariants as steps
 use Rattle.hwp_rule.specs.declared.View.{View}
 use Rattle.hwp_rule.specs.Moves.{Move}
-use Rattle.hwp_rule.specs.Served.{IsMild}
+use Rattle.hwp_rule.specs.Lasting.{IsMild, LeavesPoison}
 use Rattle.hwp_rule.specs.Words.{Words}
 use Rattle.hwp_step.specs.declared.Turn.{Turn}
 use Rattle.hwp_step.specs.declared.Turn.TheVariants.{Moved}
@@ -28,7 +29,7 @@ use Rattle.hwp_fail.specs.declared.inject.InjectAt.{InjectAt}
 use Rattle.hwp_fail.specs.declared.inject.InjectAt.TheVariants as at
 use Rattle.hwp_fail.specs.Fails as fails
 use Rattle.hwp_fail.specs.Injects.{Fits, FitsAt, Follows, FollowsAt, IsFailing, aborts, aborts_at, bare, bare_at, claims, claims_at, class, class_at, cost, cost_at, loaded, plan, plan_at, put, put_at}
-use Rattle.hwp_fail.proofs.FailRank.{fail-member, fail-ranked, fail-small}
+use Rattle.hwp_fail.proofs.FailRank.{fail-lasting, fail-member, fail-ranked, fail-small}
 use Rattle.hwp_fail.proofs.FailTells.{fail-tells-class}
 
 abbrev pub inject-member : Member Inject
@@ -141,6 +142,15 @@ inject-ranked = record {
   leaves = λ layout seat a b s t turn made gives. leaves-at made s.at t.at made.planned made.fits.at made.move made.follows.1 gives;
   owns = λ layout seat a b s t turn frame cycle made going pending. owns-at made s.at t.at frame cycle made.planned made.fits.at made.move made.follows.1 going pending;
 }
+
+-- none of its steps takes a frame's poison back
+pub inject-lasting : (i : Inject) (step : Step) → plan i ≡ Some step → LeavesPoison step
+inject-lasting i step is = which i.at is
+  where
+    which : (x : InjectAt) → plan_at x ≡ Some step → LeavesPoison step
+    which at.LoadStop e = subst LeavesPoison (same_Some (steps.Load places.Stop) step e) tt
+    which (at.Fail f) e = fail-lasting f step e
+    which at.Stopped e = absurd (none-some step e)
 
 -- ---- what is held
 

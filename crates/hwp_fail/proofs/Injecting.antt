@@ -63,7 +63,7 @@ pub can : (layout : Layout) (view : View) (i : Inject) (step : Step) → Fits la
 can layout view i step fits is = which i.at fits.at is
   where
     which : (x : InjectAt) → FitsAt layout view i.who i.frame x → plan_at x ≡ Some step → CanMake layout i.who step (put_at x) view
-    which at.LoadStop has e = can-make fits.on_turn e tt tt tt
+    which at.LoadStop has e = can-make fits.on_turn e tt tt
     which (at.Fail f) has e = subst (λ (w : Who). CanMake layout w step (fails.put f) view) has.own (failing.can layout view f step has.fail e)
     which at.Stopped has e = absurd (none-some step e)
 

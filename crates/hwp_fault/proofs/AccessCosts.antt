@@ -20,7 +20,7 @@ use Rattle.hwp_rule.specs.declared.Step.TheVariants as steps
 use Rattle.hwp_rule.specs.declared.View.{View}
 use Rattle.hwp_rule.specs.Moves.{Move}
 use Rattle.hwp_rule.specs.Rule.{Holds}
-use Rattle.hwp_rule.specs.Served.{IsMild}
+use Rattle.hwp_rule.specs.Lasting.{IsMild}
 use Rattle.hwp_rule.specs.Steps.{place_of, word_after}
 use Rattle.hwp_rule.specs.Views.{frame_in}
 use Rattle.hwp_rule.specs.Words.{Words, read, put as put_word, index, free_words}
@@ -154,7 +154,7 @@ few-frees layout s h =
 abbrev fault-member : Member Fault
 fault-member = member (λ f. f.who) faults.plan faults.put faults.bare (λ layout f found got after result. faults.Follows layout f found got after result) faults.Fits faults.class faults.cost (λ f. false) (λ f. None)
 
-abbrev access-member : Member Access
+abbrev pub access-member : Member Access
 access-member = member (λ a. a.request.who) plan put bare (λ layout a found got after result. Next layout a found got after result) Fits class cost (λ a. false) (λ a. None)
 
 -- ---- words that a step leaves

@@ -117,17 +117,17 @@ pub can : (layout : Layout) (view : View) (a : Access) (step : Step) → Fits la
 can layout view a step fits is = which a.at fits.at is
   where
     which : (x : AccessAt) → FitsAt layout view a.request x → plan_at a.request x ≡ Some step → CanMake layout a.request.who step (put_at x) view
-    which at.LoadStop has e = can-make fits.on_turn e tt tt tt
-    which at.LoadProcess has e = can-make fits.on_turn e tt fits.names.process tt
-    which at.LoadTranslation has e = can-make fits.on_turn e tt (slot-within layout a.request fits.names) tt
+    which at.LoadStop has e = can-make fits.on_turn e tt tt
+    which at.LoadProcess has e = can-make fits.on_turn e fits.names.process tt
+    which at.LoadTranslation has e = can-make fits.on_turn e (slot-within layout a.request fits.names) tt
     which (at.Pin p) has e = subst (λ (w : Who). CanMake layout w step None view) has.own (pinning.can layout view p step has.pin e)
-    which (at.LockFrame frame) has e = can-make fits.on_turn e tt has.within (record {
+    which (at.LockFrame frame) has e = can-make fits.on_turn e has.within (record {
       referenced = subst (λ (h : Hand). 0 < refs_on frame.0 h.refs) (sym has.hand_is) (referenced frame);
       unlisted = ap (λ (h : Hand). locks_on frame.0 h.locks) has.hand_is;
       second = subst (λ (h : Hand). length h.locks < 2) (sym has.hand_is) (omega arith);
     })
-    which (at.LoadAgain frame body) has e = can-make fits.on_turn e tt (slot-within layout a.request fits.names) tt
-    which (at.LoadBad frame body) has e = can-make fits.on_turn e tt has.taken.within tt
+    which (at.LoadAgain frame body) has e = can-make fits.on_turn e (slot-within layout a.request fits.names) tt
+    which (at.LoadBad frame body) has e = can-make fits.on_turn e has.taken.within tt
     which (at.Unlock u then) has e = subst (λ (w : Who). CanMake layout w step (unlocks.put u) view) has.own (unlocking.can layout view u step has.unlock e)
     which (at.Fault f) has e = subst (λ (w : Who). CanMake layout w step (faults.put f) view) has.own (faulting.can layout view f step has.fault e)
     which (at.GiveUp g) has e = subst (λ (w : Who). CanMake layout w step (give_ups.put g) view) has.own (giving_up.can layout view g step has.give_up e)

@@ -97,8 +97,8 @@ can layout view f step fits is = which f.at fits.at is
   where
     which : (x : FaultAt) → FitsAt layout view f.who f.page f.slot f.touch x → plan_at f.page f.slot f.touch x ≡ Some step → CanMake layout f.who step (put_at x) view
     which (at.Hold h) has e = subst (λ (w : Who). CanMake layout w step None view) has.own (holding.can layout view h step has.hold e)
-    which (at.LoadPte frame body) has e = can-make fits.on_turn e tt (inside f.slot has.held fits.slot) tt
-    which (at.Kill frame body place) has e = can-make fits.on_turn e tt fits.touch.process
+    which (at.LoadPte frame body) has e = can-make fits.on_turn e (inside f.slot has.held fits.slot) tt
+    which (at.Kill frame body place) has e = can-make fits.on_turn e fits.touch.process
         (subst (λ (b : BodyValue). CanKill layout f.who view f.touch.process f.page (log_of b)) (sym has.body_is) (can-kill f.who f.slot f.touch has.held has.allowed has.ending fits.page))
     which (at.Fill g) has e = subst (λ (w : Who). CanMake layout w step None view) has.own (filling.can layout view g step has.fill e)
     which (at.MapIn m) has e = subst (λ (w : Who). CanMake layout w step None view) has.own (mapping.can layout view m step has.map_in e)

@@ -107,7 +107,7 @@ can layout view m step fits is = which m.at fits.at is
   where
     which : (x : MapInAt) → FitsAt layout view m.who m.page m.slot m.frame m.body x → plan_at m.slot m.frame x ≡ Some step → CanMake layout m.who step None view
     which (at.Refer r) has e = subst (λ (w : Who). CanMake layout w step None view) has.own (referring.can layout view r step has.refer e)
-    which at.SetPte has e = can-make fits.on_turn e tt (slice_get_within layout.trans m.slot.0 (decl has.ready).0 (decl has.ready).1) (record {
+    which at.SetPte has e = can-make fits.on_turn e (slice_get_within layout.trans m.slot.0 (decl has.ready).0 (decl has.ready).1) (record {
       decl = (decl has.ready).0;
       declared = (decl has.ready).1;
       page_held = page-held has.ready.held (decl has.ready).0.page (sym (decl has.ready).2);

@@ -8,11 +8,12 @@ use Rattle.hwp_geom.specs.declared.Layout.{Layout}
 use Rattle.hwp_geom.specs.declared.Who.{Who}
 use Rattle.hwp_words.specs.Stops.{is_stopped}
 use Rattle.hwp_rule.specs.declared.State.{State}
+use Rattle.hwp_rule.specs.declared.Step.{Step}
 use Rattle.hwp_rule.specs.declared.Step.TheVariants as steps
 use Rattle.hwp_rule.specs.declared.View.{View}
 use Rattle.hwp_rule.specs.Moves.{Move}
 use Rattle.hwp_rule.specs.Rule.{Holds}
-use Rattle.hwp_rule.specs.Served.{IsMild}
+use Rattle.hwp_rule.specs.Lasting.{IsMild, LeavesPoison}
 use Rattle.hwp_rule.specs.Words.{Words}
 use Rattle.hwp_step.specs.declared.Turn.{Turn}
 use Rattle.hwp_step.specs.declared.Turn.TheVariants.{Moved, Changed, NoMemory}
@@ -27,7 +28,7 @@ use Rattle.hwp_fail.specs.declared.fail.FailAt.{FailAt}
 use Rattle.hwp_fail.specs.declared.fail.FailAt.TheVariants as fail_at
 use Rattle.hwp_fail.specs.declared.FailAnswer.{FailAnswer}
 use Rattle.hwp_fail.specs.Fails as fails
-use Rattle.hwp_fail.proofs.FailRank.{fail-member, fail-ranked, fail-small}
+use Rattle.hwp_fail.proofs.FailRank.{fail-lasting, fail-member, fail-ranked, fail-small}
 use Rattle.hwp_fail.proofs.FailTells.{fail-tells-class}
 use Rattle.hwp_claim.specs.Claims.{stop_turn}
 use Rattle.hwp_handler.specs.Fits.{Fits, FitsAt, events_of}
@@ -249,3 +250,13 @@ handler-tells = record {
   page = λ layout view h fits some. page-told layout view h h.at fits.at some;
   claim = λ layout view h frame cycle fits claimed. claim-told layout view h h.at frame cycle fits.at claimed;
 }
+
+-- none of its steps takes a frame's poison back
+pub handler-lasting : (h : Handler) (step : Step) → plan h ≡ Some step → LeavesPoison step
+handler-lasting h step is = which h.at is
+  where
+    which : (x : HandlerAt) → plan_at h.who x ≡ Some step → LeavesPoison step
+    which at.Stop e = subst LeavesPoison (same_Some (steps.Stop h.who.cpu) step e) tt
+    which (at.Fail f) e = fail-lasting f step e
+    which at.GaveUp e = absurd (none-some step e)
+    which (at.Over stopped) e = absurd (none-some step e)

@@ -60,7 +60,7 @@ pub can : (layout : Layout) (view : View) (h : Handler) (step : Step) → Fits l
 can layout view h step fits is = which h.at fits.at is
   where
     which : (x : HandlerAt) → FitsAt layout view h.who h.thread h.stops h.events x → plan_at h.who x ≡ Some step → CanMake layout h.who step (put_at x) view
-    which at.Stop has e = can-make fits.on_turn e tt tt refl
+    which at.Stop has e = can-make fits.on_turn e tt refl
     which (at.Fail f) has e = subst (λ (w : Who). CanMake layout w step (fails.put f) view) has.own (failing.can layout view f step has.fail e)
     which at.GaveUp has e = absurd (none-some step e)
     which (at.Over stopped) has e = absurd (none-some step e)

@@ -140,9 +140,9 @@ can layout view f step fits is = which f.at fits.at is
   where
     which : (x : FillAt) → FitsAt layout view f.who f.page f.body x → plan_at f.page x ≡ Some step → CanMake layout f.who step None view
     which (at.Take t) has e = subst (λ (w : Who). CanMake layout w step None view) has.own (taking.can layout view t step has.take e)
-    which (at.SetOwner frame) has e = can-make fits.on_turn e tt has.within (fits.page, record { has = lock-held has; unowned = refl; unhandled = refl; page_held = page-held has })
+    which (at.SetOwner frame) has e = can-make fits.on_turn e has.within (fits.page, record { has = lock-held has; unowned = refl; unhandled = refl; page_held = page-held has })
     which (at.Refer r) has e = subst (λ (w : Who). CanMake layout w step None view) has.own (referring.can layout view r step has.refer e)
-    which (at.SetCache frame) has e = can-make fits.on_turn e tt fits.page (record {
+    which (at.SetCache frame) has e = can-make fits.on_turn e fits.page (record {
       page_held = page-held has;
       frames = (
         λ old none. absurd (none-some old none),

@@ -32,7 +32,7 @@ can layout view g step fits is = which g.at fits.at is
     which : (x : GiveUpAt) → FitsAt layout view g.who x → plan_at x ≡ Some step → CanMake layout g.who step (put_at x) view
     which (at.Unhold u) has e = subst (λ (w : Who). CanMake layout w step (unholds.put u) view) has.own (unholding_laws.can layout view u step has.unhold e)
     which (at.Unlock u) has e = subst (λ (w : Who). CanMake layout w step (unlocks.put u) view) has.own (unlocking_laws.can layout view u step has.unlock e)
-    which at.GiveUp has e = can-make fits.on_turn e tt tt tt
+    which at.GiveUp has e = can-make fits.on_turn e tt tt
     which at.Over has e = absurd (none-some step e)
 
 -- ---- what follows fits

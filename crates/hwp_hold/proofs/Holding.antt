@@ -276,10 +276,10 @@ pub can : (layout : Layout) (view : View) (h : Hold) (step : Step) → Fits layo
 can layout view h step fits is = which h.at fits.at is
   where
     which : (x : HoldAt) → FitsAt layout view h.who h.page x → plan_at h.page x ≡ Some step → CanMake layout h.who step None view
-    which at.LockPage at e = can-make fits.on_turn e tt fits.page (ap (λ (g : Hand). length g.pages) at)
-    which (at.LoadCache body) at e = can-make fits.on_turn e tt fits.page tt
+    which at.LockPage at e = can-make fits.on_turn e fits.page (ap (λ (g : Hand). length g.pages) at)
+    which (at.LoadCache body) at e = can-make fits.on_turn e fits.page tt
     which (at.Pin p) at e = subst (λ (w : Who). CanMake layout w step None view) at.own (pinning.can layout view p step at.pin e)
-    which (at.LockFrame frame) at e = can-make fits.on_turn e tt at.1 (record {
+    which (at.LockFrame frame) at e = can-make fits.on_turn e at.1 (record {
       referenced = subst (λ (g : Hand). 0 < refs_on frame.0 g.refs) (sym at.0) (referenced frame);
       unlisted = ap (λ (g : Hand). locks_on frame.0 g.locks) at.0;
       second = subst (λ (g : Hand). length g.locks < 2) (sym at.0) (omega arith);

@@ -34,8 +34,8 @@ pub can : (layout : Layout) (view : View) (p : Pin) (step : Step) → Fits layou
 can layout view p step fits is = which p.at fits.at is
   where
     which : (x : PinAt) → FitsAt layout view p.frame x → plan_at p.frame x ≡ Some step → CanMake layout p.who step None view
-    which at.Load room is = can-make fits.on_turn is tt fits.frame tt
-    which (at.Get seen) room is = can-make fits.on_turn is tt fits.frame (counted seen room.0, omega arith, room.1)
+    which at.Load room is = can-make fits.on_turn is fits.frame tt
+    which (at.Get seen) room is = can-make fits.on_turn is fits.frame (counted seen room.0, omega arith, room.1)
     which (at.Held word) room is = absurd (none-some step is)
     which (at.Gone word) room is = absurd (none-some step is)
 

@@ -28,10 +28,10 @@ pub can : (layout : Layout) (view : View) (r : Refer) (step : Step) → Fits lay
 can layout view r step fits is = which r.at fits.at is
   where
     which : (x : ReferAt) → FitsAt layout view r.frame r.count x → plan_at r.frame r.count x ≡ Some step → CanMake layout r.who step None view
-    which at.Load has e = can-make fits.on_turn e tt fits.frame tt
+    which at.Load has e = can-make fits.on_turn e fits.frame tt
     which (at.Get seen) has e =
         let some : 0 < refs_on r.frame.0 view.refs = has.1.some in
-        can-make fits.on_turn e tt fits.frame (has.0, has.1.more, record { shares = has.1.room; first = λ none. absurd (omega (arith, some, none)) })
+        can-make fits.on_turn e fits.frame (has.0, has.1.more, record { shares = has.1.room; first = λ none. absurd (omega (arith, some, none)) })
     which at.Over has e = absurd (none-some step e)
 
 module _ {layout : Layout} {old new : View} {step : Step} {found : ℕ} {got : Option BodyValue} (r : Refer) (is : plan r ≡ Some step) (made : Steps layout r.who step None old new found got) where

@@ -64,9 +64,9 @@ pub can : (layout : Layout) (view : View) (r : Release) (step : Step) → Fits l
 can layout view r step fits is = which r.at fits.at is
   where
     which : (x : ReleaseAt) → FitsAt view r.frame r.count x → plan_at r.frame r.count x ≡ Some step → CanMake layout r.who step None view
-    which at.Put at e = can-make fits.on_turn e tt fits.frame (at.0, at.1)
-    which at.Give at e = can-make fits.on_turn e tt (let inside : r.frame.0 < layout.frames = fits.frame in omega arith) at
-    which at.Unreserve at e = can-make fits.on_turn e tt tt at
-    which at.Adopt at e = can-make fits.on_turn e tt fits.frame ((at.0.0, at.0.1, at.0.2, at.0.3.0), at.1)
-    which at.Retire at e = can-make fits.on_turn e tt fits.frame at
+    which at.Put at e = can-make fits.on_turn e fits.frame (at.0, at.1)
+    which at.Give at e = can-make fits.on_turn e (let inside : r.frame.0 < layout.frames = fits.frame in omega arith) at
+    which at.Unreserve at e = can-make fits.on_turn e tt at
+    which at.Adopt at e = can-make fits.on_turn e fits.frame ((at.0.0, at.0.1, at.0.2, at.0.3.0), at.1)
+    which at.Retire at e = can-make fits.on_turn e fits.frame at
     which at.Back at e = absurd (none-some step e)

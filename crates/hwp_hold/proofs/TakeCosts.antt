@@ -11,7 +11,7 @@ use Rattle.hwp_rule.specs.declared.Step.{Step}
 use Rattle.hwp_rule.specs.declared.Step.TheVariants as steps
 use Rattle.hwp_rule.specs.declared.View.{View}
 use Rattle.hwp_rule.specs.Rule.{Holds}
-use Rattle.hwp_rule.specs.Served.{IsMild}
+use Rattle.hwp_rule.specs.Lasting.{IsMild}
 use Rattle.hwp_rule.specs.Words.{Words, free_words, free_bit}
 use Rattle.hwp_rule.proofs.Lists.{same-number}
 use Rattle.hwp_step.specs.declared.Turn.{Turn}

@@ -47,12 +47,12 @@ pub can : (layout : Layout) (view : View) (t : Take) (step : Step) → Fits layo
 can layout view t step fits is = which t.at fits.at is
   where
     which : (x : TakeAt) → FitsAt layout view t.who x → plan_at x ≡ Some step → CanMake layout t.who step None view
-    which at.LoadAvailable at e = can-make fits.on_turn e tt tt tt
-    which (at.Reserve seen) at e = can-make fits.on_turn e tt tt (at.0, at.1.0)
-    which (at.LoadFree number) at e = can-make fits.on_turn e tt at.0 tt
-    which (at.TakeBit frame) at e = can-make fits.on_turn e tt (let inside : frame.0 < layout.frames = at.0 in omega arith) (at.0, at.1.0)
-    which (at.Adopt frame) at e = can-make fits.on_turn e tt at.0 (at.1.0, at.1.1)
-    which (at.Retire frame) at e = can-make fits.on_turn e tt at.0 at.1.0
+    which at.LoadAvailable at e = can-make fits.on_turn e tt tt
+    which (at.Reserve seen) at e = can-make fits.on_turn e tt (at.0, at.1.0)
+    which (at.LoadFree number) at e = can-make fits.on_turn e at.0 tt
+    which (at.TakeBit frame) at e = can-make fits.on_turn e (let inside : frame.0 < layout.frames = at.0 in omega arith) (at.0, at.1.0)
+    which (at.Adopt frame) at e = can-make fits.on_turn e at.0 (at.1.0, at.1.1)
+    which (at.Retire frame) at e = can-make fits.on_turn e at.0 at.1.0
     which (at.Over frame) at e = absurd (none-some step e)
 
 -- room is read of what is held

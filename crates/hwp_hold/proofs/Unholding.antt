@@ -122,9 +122,9 @@ pub can : (layout : Layout) (view : View) (u : Unhold) (step : Step) → Fits la
 can layout view u step fits is = which u.at fits.at is
   where
     which : (x : UnholdAt) → FitsAt layout view u.who u.page x → plan_at u.page x ≡ Some step → CanMake layout u.who step (put_at x) view
-    which (at.UnlockFrame frame count body) at e = can-put fits.on_turn e tt at.1.1 (can-free-frame frame count body at.0) (body-fits layout u.who view u.page (Some frame) count body at.0) tt
+    which (at.UnlockFrame frame count body) at e = can-put fits.on_turn e at.1.1 (can-free-frame frame count body at.0) (body-fits layout u.who view u.page (Some frame) count body at.0) tt
     which (at.Release r) at e = subst (λ (w : Who). CanMake layout w step None view) at.own (releasing-laws.can layout view r step at.release e)
-    which (at.UnlockPage body) at e = can-put fits.on_turn e tt fits.page (can-free-page body at) (page-fits layout u.who view u.page body at) tt
+    which (at.UnlockPage body) at e = can-put fits.on_turn e fits.page (can-free-page body at) (page-fits layout u.who view u.page body at) tt
     which at.Over at e = absurd (none-some step e)
 
 -- ---- what follows fits

@@ -15,7 +15,7 @@ use Rattle.hwp_rule.specs.declared.Step.{Step}
 use Rattle.hwp_rule.specs.declared.Step.TheVariants as steps
 use Rattle.hwp_rule.specs.declared.View.{View}
 use Rattle.hwp_rule.specs.Asks.{CanUnlockFrame}
-use Rattle.hwp_rule.specs.Served.{IsMild}
+use Rattle.hwp_rule.specs.Lasting.{IsMild}
 use Rattle.hwp_rule.specs.Steps.{is_last}
 use Rattle.hwp_rule.specs.Views.{without, is_lock_of, less_refs, refs_on, locks_on}
 use Rattle.hwp_rule.specs.Words.{Words}
@@ -95,8 +95,8 @@ pub can : (layout : Layout) (view : View) (u : Unlock) (step : Step) → Fits la
 can layout view u step fits is = which u.at fits.at is
   where
     which : (x : UnlockAt) → FitsAt layout view u.who x → plan_at x ≡ Some step → CanMake layout u.who step (put_at x) view
-    which (at.UnlockFrame frame None) has e = can-put fits.on_turn e tt has.within (can-free-empty has) (λ b none. absurd (none-some b none)) tt
-    which (at.UnlockFrame frame (Some body)) has e = can-put fits.on_turn e tt has.within (can-free has) (body-fits has) tt
+    which (at.UnlockFrame frame None) has e = can-put fits.on_turn e has.within (can-free-empty has) (λ b none. absurd (none-some b none)) tt
+    which (at.UnlockFrame frame (Some body)) has e = can-put fits.on_turn e has.within (can-free has) (body-fits has) tt
     which (at.Release r) has e = subst (λ (w : Who). CanMake layout w step None view) has.own (releasing_laws.can layout view r step has.release e)
     which at.Over has e = absurd (none-some step e)
 

@@ -14,7 +14,6 @@ const WHYS: &[&str] = &[
     "WrongPlace",
     "NoEnd",
     "TooLong",
-    "NotBuilt",
 ];
 
 /// Whether the word is the name of a reason.

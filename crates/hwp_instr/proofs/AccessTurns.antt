@@ -43,10 +43,10 @@ use Rattle.hwp_fault.specs.declared.access.AccessAt.TheVariants as at
 use Rattle.hwp_fault.specs.Accesses.{FitsAt, IsUnlocking, LooksOf, Next, NextAt, Prepares, after_fault_at, after_process, answer_at, at_start, bare_at, cost, cost_at, ended, is_bad, is_frame, leading, leads_to, pinned_at, plan_at, reached, reply_by, reply_where, unlocked, word_in}
 use Rattle.hwp_fault.specs.Accesses as accesses
 use Rattle.hwp_fault.specs.Faults as faults
+use Rattle.hwp_fault.proofs.AccessCosts.{access-member}
 use Rattle.hwp_fault.proofs.Accessing.{slot-within}
 use Rattle.hwp_fault.proofs.FaultCosts.{Lowered}
 use Rattle.hwp_instr.specs.Costs.{check_cost, past_cost, word_of}
-use Rattle.hwp_instr.proofs.Costing.{access-member}
 use Rattle.hwp_instr.proofs.FailureWords.{none-past, unlock-past}
 
 -- ---- states that have met no bad line

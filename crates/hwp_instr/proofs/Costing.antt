@@ -13,7 +13,6 @@ use Rattle.hwp_rule.specs.Rule.{Holds}
 use Rattle.hwp_rule.specs.Words.{Words, free_words}
 use Rattle.hwp_rule.proofs.Moving.{shaped}
 use Rattle.hwp_step.specs.Ranks.{Member, member, words_at}
-use Rattle.hwp_fault.specs.declared.Access.{Access}
 use Rattle.hwp_fault.specs.declared.AccessAnswer.TheVariants as access_answers
 use Rattle.hwp_fault.specs.declared.access.AccessAt.{AccessAt}
 use Rattle.hwp_fault.specs.declared.access.AccessAt.TheVariants as access_at
@@ -42,9 +41,6 @@ use Rattle.hwp_instr.proofs.FailureWords.{ended-most, past-most}
 
 abbrev pub instruction-member : Member Instruction
 instruction-member = member (λ i. i.request.who) plan put bare (λ layout i found got after result. Follows layout i found got after result) Fits class cost aborts claims
-
-abbrev pub access-member : Member Access
-access-member = member (λ a. a.request.who) accesses.plan accesses.put accesses.bare (λ layout a found got after result. accesses.Next layout a found got after result) accesses.Fits accesses.class accesses.cost (λ a. false) (λ a. None)
 
 -- the words of free frames of a board
 pub few-frees : (layout : Layout) (s : State) → Holds layout s → length (words_at layout s).frees ≤ 4

@@ -77,9 +77,9 @@ can layout view i step fits is = which i.at fits.at is
     which : (x : InstructionAt) → FitsAt layout view i fits.checks x → plan_at x ≡ Some step → CanMake layout i.request.who step (put_at x) view
     which (at.Access a) has e = subst (λ (r : Request). CanMake layout r.who step (accesses.put a) view) has.own (access-can layout view a step has.access e)
     which (at.Handle frame h) has e = subst (λ (w : Who). CanMake layout w step (handlers.put h) view) has.has.own (handler-can layout view h step has.has.handler e)
-    which (at.LoadFrame frame) has e = can-make fits.on_turn e tt has.within tt
-    which (at.LoadStop frame) has e = can-make fits.on_turn e tt tt tt
-    which at.GiveUp has e = can-make fits.on_turn e tt tt tt
+    which (at.LoadFrame frame) has e = can-make fits.on_turn e has.within tt
+    which (at.LoadStop frame) has e = can-make fits.on_turn e tt tt
+    which at.GiveUp has e = can-make fits.on_turn e tt tt
     which (at.Over answer) has e = absurd (none-some step e)
 
 -- ---- what stays whatever the state

@@ -15,10 +15,11 @@ use Rattle.hwp_words.specs.Stops.{has_no_memory, is_stopped}
 use Rattle.hwp_rule.specs.declared.Place.{Place}
 use Rattle.hwp_rule.specs.declared.Place.TheVariants as places
 use Rattle.hwp_rule.specs.declared.State.{State}
+use Rattle.hwp_rule.specs.declared.Step.{Step}
 use Rattle.hwp_rule.specs.declared.Step.TheVariants as steps
 use Rattle.hwp_rule.specs.declared.View.{View}
 use Rattle.hwp_rule.specs.Moves.{Move}
-use Rattle.hwp_rule.specs.Served.{IsMild}
+use Rattle.hwp_rule.specs.Lasting.{IsMild, LeavesPoison}
 use Rattle.hwp_rule.specs.Views.{view_after}
 use Rattle.hwp_rule.specs.Words.{Words}
 use Rattle.hwp_step.specs.declared.Turn.{Turn}
@@ -27,6 +28,7 @@ use Rattle.hwp_step.specs.Boards.{view_of}
 use Rattle.hwp_step.specs.Calls.{logs, rec_of}
 use Rattle.hwp_step.specs.Classes.{TellsClass}
 use Rattle.hwp_step.specs.Ranks.{CostFalls, HasFailed, HasFrame, HasPage, IsRanked, Made, OtherHand, Pending, Quiet, is_refused, is_waits, words_at}
+use Rattle.hwp_step.proofs.Failures.{mild-leaves}
 use Rattle.hwp_step.proofs.Ranking.{failed, met, pending-kept, steps-on, words-kept}
 use Rattle.hwp_hold.proofs.Ranking.{left-own, met-own}
 use Rattle.hwp_hold.proofs.Telling.{no-frame, no-page}
@@ -37,7 +39,7 @@ use Rattle.hwp_fault.specs.declared.Request.{Request}
 use Rattle.hwp_fault.specs.declared.access.AccessAt.{AccessAt}
 use Rattle.hwp_fault.specs.declared.access.AccessAt.TheVariants as access_at
 use Rattle.hwp_fault.specs.Accesses as accesses
-use Rattle.hwp_fault.proofs.AccessCosts.{access-mild, access-ranked, access-tells}
+use Rattle.hwp_fault.proofs.AccessCosts.{access-member, access-mild, access-ranked, access-tells}
 use Rattle.hwp_fault.proofs.FaultCosts.{Lowered}
 use Rattle.hwp_fault.proofs.Accessing.{answered as access-answered, stays as access-stays}
 use Rattle.hwp_fail.specs.declared.Fail.{Fail}
@@ -51,7 +53,7 @@ use Rattle.hwp_handler.specs.Fits as handler_fits
 use Rattle.hwp_handler.specs.Handlers as handlers
 use Rattle.hwp_handler.specs.Told.{first_signal, was_poisoned}
 use Rattle.hwp_handler.proofs.Grading.{found-in}
-use Rattle.hwp_handler.proofs.HandlerRank.{handler-member, handler-ranked, handler-tells}
+use Rattle.hwp_handler.proofs.HandlerRank.{handler-lasting, handler-member, handler-ranked, handler-tells}
 use Rattle.hwp_handler.proofs.Telling.{tell-cost}
 use Rattle.hwp_handler.specs.Checks.{restarting, with_own}
 use Rattle.hwp_instr.specs.Costs.{aborts, aborts_at, anew, anew_after_wait, check_cost, claims, claims_at, class, class_at, cost, cost_at, ended_cost, held_cost, is_alone, past_cost, rest_at, word_of}
@@ -65,7 +67,7 @@ use Rattle.hwp_instr.specs.declared.instruction.InstructionAt.TheVariants as at
 use Rattle.hwp_instr.proofs.AccessTurns.{access-lowers}
 use Rattle.hwp_instr.proofs.AloneTurns.{alone-goes}
 use Rattle.hwp_instr.proofs.Checking.{hold-nothing}
-use Rattle.hwp_instr.proofs.Costing.{access-member, after-cost, after-same, again-cost, few-frees, instruction-below, instruction-member}
+use Rattle.hwp_instr.proofs.Costing.{after-cost, after-same, again-cost, few-frees, instruction-below, instruction-member}
 use Rattle.hwp_instr.proofs.FailureWords.{pending-now}
 use Rattle.hwp_instr.proofs.Instructing.{left-three, own-three, stays}
 use Rattle.hwp_instr.proofs.OwnEvents.{IsBriefly, own-briefly}
@@ -431,3 +433,15 @@ instruction-tells = record {
   page = λ layout view i fits some. page-told layout view i fits i.at fits.at some;
   claim = λ layout view i frame cycle fits claimed. claim-told layout view i fits i.at frame cycle fits.at claimed;
 }
+
+-- none of its steps takes a frame's poison back
+pub instruction-lasting : (i : Instruction) (step : Step) → plan i ≡ Some step → LeavesPoison step
+instruction-lasting i step is = which i.at is
+  where
+    which : (x : InstructionAt) → plan_at x ≡ Some step → LeavesPoison step
+    which (at.Access a) e = mild-leaves step (access-mild a step e)
+    which (at.Handle frame h) e = handler-lasting h step e
+    which (at.LoadFrame frame) e = subst LeavesPoison (same_Some (steps.Load (places.Frame frame)) step e) tt
+    which (at.LoadStop frame) e = subst LeavesPoison (same_Some (steps.Load places.Stop) step e) tt
+    which at.GiveUp e = subst LeavesPoison (same_Some steps.GiveUp step e) tt
+    which (at.Over answer) e = absurd (none-some step e)

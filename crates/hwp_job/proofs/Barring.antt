@@ -100,6 +100,7 @@ not-replied {j = jobs.Spoil p} s thread ended not_ = subst (HasNotReplied thread
 not-replied {j = jobs.Nested n} s thread ended not_ = subst (HasNotReplied thread) (sym s.follows.0) tt
 not-replied {j = jobs.Inject i} s thread ended not_ = subst (HasNotReplied thread) (sym s.follows.1) tt
 not-replied {j = jobs.Soft o} s thread ended not_ = subst (HasNotReplied thread) (sym s.follows.1) tt
+not-replied {j = jobs.Unpoison u} s thread ended not_ = subst (HasNotReplied thread) (sym s.follows.0) tt
 
 pub barred-stays : {layout : Layout} {old new : View} {j after : Job} → Stepped layout old new j after → (thread : Thread) → CannotReply layout old thread j → CannotReply layout new thread after
 barred-stays s thread (inl (halted, ends)) = inl (halted-stays s halted ends)

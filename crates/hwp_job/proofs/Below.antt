@@ -47,6 +47,8 @@ use Rattle.hwp_raise.specs.Fits as raise_fits
 use Rattle.hwp_scrub.proofs.ScrubRank.{scrub-below}
 use Rattle.hwp_soft.specs.Softs as softs
 use Rattle.hwp_soft.proofs.SoftRank.{soft-small}
+use Rattle.hwp_unpoison.specs.Unpoisons as unpoisons
+use Rattle.hwp_unpoison.proofs.Costs.{small as unpoison-small}
 use Rattle.hwp_job.specs.declared.job.Job.{Job}
 use Rattle.hwp_job.specs.declared.job.Job.TheVariants as jobs
 use Rattle.hwp_job.specs.Begins.{Begins, BeginsAccess, request_of}
@@ -78,23 +80,27 @@ raise-below layout view r w fits = which r.at fits.at
 
 -- ---- a command that runs
 
-pub job-below : (layout : Layout) (a : State) (view : View) (j : Job) → Holds layout a → Fits layout view j → cost j (words_at layout a) < 32768
-job-below layout a view (jobs.Instruction i) rule fits = instruction-below layout a view i rule fits
-job-below layout a view (jobs.Evict e) rule fits = evict-below (words_at layout a) e
+wider : {n : ℕ} → n < 32768 → n < 131072
+wider {n} less = let few : n < 32768 = less in omega (arith, few)
+
+pub job-below : (layout : Layout) (a : State) (view : View) (j : Job) → Holds layout a → Fits layout view j → cost j (words_at layout a) < 131072
+job-below layout a view (jobs.Instruction i) rule fits = wider (instruction-below layout a view i rule fits)
+job-below layout a view (jobs.Evict e) rule fits = wider (evict-below (words_at layout a) e)
 job-below layout a view (jobs.Fsync f) rule fits = let most = fsync-below f (words_at layout a) in omega (arith, most)
 job-below layout a view (jobs.Prctl p) rule fits = let most = calling.small p in omega (arith, most)
 job-below layout a view (jobs.Log l) rule fits = let most = reading.small l.read in omega (arith, most)
-job-below layout a view (jobs.Raise r) rule fits = raise-below layout view r (words_at layout a) fits
-job-below layout a view (jobs.Scrub c) rule fits = scrub-below layout view c (words_at layout a) fits
+job-below layout a view (jobs.Raise r) rule fits = wider (raise-below layout view r (words_at layout a) fits)
+job-below layout a view (jobs.Scrub c) rule fits = wider (scrub-below layout view c (words_at layout a) fits)
 job-below layout a view (jobs.Spoil s) rule fits = let most = spoiling.small s in omega (arith, most)
 job-below layout a view (jobs.Nested n) rule fits = let most = nesting.small n in omega (arith, most)
 job-below layout a view (jobs.Inject i) rule fits = let most = inject-below i (words_at layout a) in omega (arith, most)
 job-below layout a view (jobs.Soft s) rule fits = let most : softs.cost s (words_at layout a) ≤ 9380 = soft-small layout a s rule in omega (arith, most)
+job-below layout a view (jobs.Unpoison u) rule fits = let most : unpoisons.cost u (words_at layout a) ≤ 69640 = unpoison-small u (words_at layout a) in omega (arith, most)
 
 -- ---- and one that begins
 
-access-begins : {layout : Layout} {by : Who} {thread : Thread} {slot : VSlot} {line : ℕ} {kind : AccessKind} {origin : Origin} {mode : Mode} {banks : Banks} {j : Job} (w : Words) → length w.frees ≤ 4 → BeginsAccess layout by thread slot line kind origin mode banks j → cost j w < 32768
-access-begins {layout} {by} {thread} {slot} {line} {kind} {origin} {mode} {banks} {j} w few begun = subst (λ (x : Job). cost x w < 32768) (sym begun.job_is)
+access-begins : {layout : Layout} {by : Who} {thread : Thread} {slot : VSlot} {line : ℕ} {kind : AccessKind} {origin : Origin} {mode : Mode} {banks : Banks} {j : Job} (w : Words) → length w.frees ≤ 4 → BeginsAccess layout by thread slot line kind origin mode banks j → cost j w < 131072
+access-begins {layout} {by} {thread} {slot} {line} {kind} {origin} {mode} {banks} {j} w few begun = subst (λ (x : Job). cost x w < 131072) (sym begun.job_is)
     (let most : accesses.cost (accesses.again i.request) w ≤ 4121 = again-cost i w few in
     let held : instruction_costs.held_cost banks ≤ instruction_costs.anew_after_wait = held-most banks in
     omega (arith, most, held))
@@ -102,24 +108,24 @@ access-begins {layout} {by} {thread} {slot} {line} {kind} {origin} {mode} {banks
     i : Instruction
     i = instructions.begin begun.alloc (request_of by thread slot line kind begun.page begun.process) origin mode banks
 
-pub begins-below : (layout : Layout) (a : State) (by : Who) (command : Command) (banks : Banks) (j : Job) → Holds layout a → Begins layout by command banks j → cost j (words_at layout a) < 32768
+pub begins-below : (layout : Layout) (a : State) (by : Who) (command : Command) (banks : Banks) (j : Job) → Holds layout a → Begins layout by command banks j → cost j (words_at layout a) < 131072
 begins-below layout a by command banks j rule begun = which command begun
   where
     w : Words
     w = words_at layout a
 
-    below : {x : Job} → j ≡ x → cost x w < 32768 → cost j w < 32768
-    below is less = subst (λ (x : Job). cost x w < 32768) (sym is) less
+    below : {x : Job} → j ≡ x → cost x w < 131072 → cost j w < 131072
+    below is less = subst (λ (x : Job). cost x w < 131072) (sym is) less
 
-    which : (c : Command) → Begins layout by c banks j → cost j w < 32768
+    which : (c : Command) → Begins layout by c banks j → cost j w < 131072
     which (commands.Load thread slot line) b = access-begins w (few-frees layout a rule) b
     which (commands.Fetch thread slot line) b = access-begins w (few-frees layout a rule) b
     which (commands.KLoad thread slot line) b = access-begins w (few-frees layout a rule) b
     which (commands.Store thread slot line word) b = access-begins w (few-frees layout a rule) b
-    which (commands.Free slot) b = below b.1.job_is (evict-below w (evicts.begin by b.0 (evictions.Free slot)))
-    which (commands.Drop page) b = below b.job_is (evict-below w (evicts.begin by page evictions.Drop))
-    which (commands.Sync page) b = below b.job_is (evict-below w (evicts.begin by page evictions.Sync))
-    which (commands.Out page) b = below b.job_is (evict-below w (evicts.begin by page evictions.Out))
+    which (commands.Free slot) b = below b.1.job_is (wider (evict-below w (evicts.begin by b.0 (evictions.Free slot))))
+    which (commands.Drop page) b = below b.job_is (wider (evict-below w (evicts.begin by page evictions.Drop)))
+    which (commands.Sync page) b = below b.job_is (wider (evict-below w (evicts.begin by page evictions.Sync)))
+    which (commands.Out page) b = below b.job_is (wider (evict-below w (evicts.begin by page evictions.Out)))
     which (commands.Fsync file) b = below b.1 (let most = fsync-below (fsyncs.begin by file) w in omega (arith, most))
     which (commands.Prctl thread args) b = below b.job_is (omega arith)
     which (commands.Bad frame line) b = below b.job_is (omega arith)
@@ -131,4 +137,4 @@ begins-below layout a by command banks j rule begun = which command begun
     which commands.RaiseNested b = below b (omega arith)
     which (commands.Inject frame) b = below b.job_is (let most = inject-below (injects.begin b.alloc by frame) w in omega (arith, most))
     which (commands.Soft frame) b = below b.job_is (omega arith)
-    which _ b = absurd b
+    which (commands.Unpoison frame) b = below b.job_is (omega arith)

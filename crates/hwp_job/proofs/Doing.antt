@@ -90,6 +90,11 @@ use Rattle.hwp_soft.specs.Done as soft_done
 use Rattle.hwp_soft.specs.Offline as offline
 use Rattle.hwp_soft.specs.Softs as softs
 use Rattle.hwp_soft.proofs.Adding.{soft-adds}
+use Rattle.hwp_unpoison.specs.declared.Unpoison.{Unpoison}
+use Rattle.hwp_unpoison.specs.declared.UnpoisonAnswer.{UnpoisonAnswer}
+use Rattle.hwp_unpoison.specs.Done as unpoison_done
+use Rattle.hwp_unpoison.specs.Unpoisons as unpoisons
+use Rattle.hwp_unpoison.proofs.Adding.{unpoison-adds}
 use Rattle.hwp_job.specs.declared.job.Job.{Job}
 use Rattle.hwp_job.specs.declared.job.Job.TheVariants as jobs
 use Rattle.hwp_job.specs.Answers.{fail_answer}
@@ -97,8 +102,8 @@ use Rattle.hwp_job.specs.Done.{HasDone, can_fail, failed_at, failed_now, marked_
 use Rattle.hwp_job.specs.Jobs.{Fits, answer, who}
 use Rattle.hwp_job.specs.Settings.{set_at}
 use Rattle.hwp_job.specs.Stays.{IsAtStop, Stepped}
-use Rattle.hwp_job.proofs.Ending.{evict-caused, instruction-over, mapped, raise-over, scrub-over, soft-ended, soft-over}
-use Rattle.hwp_job.proofs.Leaving.{Left, Rest, soft-leaves}
+use Rattle.hwp_job.proofs.Ending.{evict-caused, instruction-over, mapped, raise-over, scrub-over, soft-ended, soft-over, unpoison-ended, unpoison-over}
+use Rattle.hwp_job.proofs.Leaving.{Left, Rest, soft-leaves, unpoison-leaves}
 use Rattle.hwp_job.proofs.Quiet.{evict, read}
 use Rattle.hwp_job.proofs.Resting.{inject-left, instruction-left, quiet-step, raise-left, scrub-left}
 use Rattle.hwp_job.proofs.Setting.{ended, replied, stopped}
@@ -355,6 +360,27 @@ module _ {layout : Layout} {old new : View} {o : Soft} {after : Job} (s : Steppe
       counted : counts_owed old ≡ soft_done.owed_at o.at → counts_owed new ≡ soft_done.owed_at softened.at
       counted has = let sum : counts_owed new + soft_done.owed_at o.at ≡ counts_owed old + soft_done.owed_at softened.at = adds.counted in omega (arith, sum, has)
 
+-- ---- a frame whose poison is taken back
+
+module _ {layout : Layout} {old new : View} {u : Unpoison} {after : Job} (s : Stepped layout old new (jobs.Unpoison u) after) where
+  unpoison-done-so : HasDone old new u.who (jobs.Unpoison u) after
+  unpoison-done-so = subst (HasDone old new u.who (jobs.Unpoison u)) (sym s.follows.0) (record {
+    marked = adds.marked;
+    failed = unfailed refl;
+    taken = inl (left.rest.reported, refl);
+    set = inl (left.rest.settings, refl);
+    counted = counted;
+  })
+    where
+      adds : unpoison_done.Adds old new u.who u.frame u.at (unpoisons.next_at u.at s.found)
+      adds = unpoison-adds layout old new u s.step s.found s.got s.fits s.planned s.made
+
+      left : Left old new
+      left = unpoison-leaves u s.planned s.made
+
+      counted : counts_owed old ≡ unpoison_done.owed_at u.at → counts_owed new ≡ unpoison_done.owed_at (unpoisons.next_at u.at s.found)
+      counted has = let sum : counts_owed new + unpoison_done.owed_at u.at ≡ counts_owed old + unpoison_done.owed_at (unpoisons.next_at u.at s.found) = adds.counted in omega (arith, sum, has)
+
 pub done : {layout : Layout} {old new : View} {j after : Job} → Stepped layout old new j after → HasDone old new (who j) j after
 done {j = jobs.Instruction i} s = instruction-done s
 done {j = jobs.Evict e} s = nothing s (leaves s.made (quiet-step (evict e.at) s.planned)) (refl, refl, refl) (subst IsBlank (sym s.follows.1) (refl, refl, refl)) (ap taken_now s.follows.1) (ap policies_now s.follows.1)
@@ -367,6 +393,7 @@ done {j = jobs.Spoil p} s = spoil-done s
 done {j = jobs.Nested n} s = nested-done s
 done {j = jobs.Inject i} s = inject-done s
 done {j = jobs.Soft o} s = soft-done-so s
+done {j = jobs.Unpoison u} s = unpoison-done-so s
 
 -- ---- at its beginning a command has done nothing
 
@@ -384,6 +411,7 @@ unmarked-at-start (jobs.Raise r) start = ap (λ (l : List Told). filter_map mark
 unmarked-at-start (jobs.Scrub c) start = ap (λ (l : List Told). filter_map marked_in l ++ scrub_done.marked_at c.at) start.1 ∙ ap scrub_done.marked_at start.0
 unmarked-at-start (jobs.Inject i) start = ap (marked_at i.frame) start
 unmarked-at-start (jobs.Soft s) start = ap (soft_done.marked_at s.frame) start
+unmarked-at-start (jobs.Unpoison u) start = ap (unpoison_done.marked_at u.frame) start
 unmarked-at-start _ start = refl
 
 pub unfailed-at-start : (j : Job) → IsAtStop j → failed_now j ≡ []
@@ -399,6 +427,7 @@ unowed-at-start (jobs.Raise r) start = ap raise_done.owed_at start.0
 unowed-at-start (jobs.Scrub c) start = ap scrub_done.owed_at start.0
 unowed-at-start (jobs.Inject i) start = ap owed_at start
 unowed-at-start (jobs.Soft s) start = ap soft_done.owed_at start
+unowed-at-start (jobs.Unpoison u) start = ap unpoison_done.owed_at start
 unowed-at-start _ start = refl
 
 -- ---- once it is answered
@@ -409,6 +438,7 @@ unowed-at-end (jobs.Instruction i) is = ap instruction_done.owed_at (instruction
 unowed-at-end (jobs.Raise r) is = ap raise_done.owed_at (raise-over r (mapped _ (raises.answer r) is).1)
 unowed-at-end (jobs.Scrub c) is = ap scrub_done.owed_at (scrub-over c (mapped _ (scrubs.answer c) is).1)
 unowed-at-end (jobs.Soft s) is = ap soft_done.owed_at (soft-over s (mapped _ (softs.answer s) is).1)
+unowed-at-end (jobs.Unpoison u) is = ap unpoison_done.owed_at (unpoison-over u (mapped _ (unpoisons.answer u) is).1)
 unowed-at-end (jobs.Inject i) {a} is = which i.at is
   where
     by : (y : FailAt) → option_map fail_answer (fails.answer_at y) ≡ Some a → fail_done.owed_at y ≡ 0
@@ -466,6 +496,7 @@ failures-at-end layout view (jobs.Log l) fits is has = ap (filter_map failed_in)
 failures-at-end layout view (jobs.Spoil s) fits is has = ap (filter_map failed_in) fits.made
 failures-at-end layout view (jobs.Nested n) fits is has = ap (filter_map failed_in) fits.made
 failures-at-end layout view (jobs.Soft s) fits is has = let own = mapped _ (softs.answer s) is in soft-failures layout view s.who s.frame own.0 (soft-ended s fits own.1).1
+failures-at-end layout view (jobs.Unpoison u) fits is has = ap (filter_map failed_in) fits.made
 
 -- ---- what a view lists of a command
 

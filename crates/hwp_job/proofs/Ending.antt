@@ -75,6 +75,12 @@ use Rattle.hwp_soft.specs.declared.soft.SoftAt.{SoftAt}
 use Rattle.hwp_soft.specs.declared.soft.SoftAt.TheVariants as soft_at
 use Rattle.hwp_soft.specs.Offline as offline
 use Rattle.hwp_soft.specs.Softs as softs
+use Rattle.hwp_unpoison.specs.declared.Unpoison.{Unpoison}
+use Rattle.hwp_unpoison.specs.declared.UnpoisonAnswer.{UnpoisonAnswer}
+use Rattle.hwp_unpoison.specs.declared.unpoison.UnpoisonAt.{UnpoisonAt}
+use Rattle.hwp_unpoison.specs.declared.unpoison.UnpoisonAt.TheVariants as unpoison_at
+use Rattle.hwp_unpoison.specs.Unpoisons as unpoisons
+use Rattle.hwp_unpoison.proofs.Reviving as reviving
 use Rattle.hwp_job.specs.declared.job.Job.{Job}
 use Rattle.hwp_job.specs.declared.job.Job.TheVariants as jobs
 use Rattle.hwp_job.specs.Answers.{fail_answer}
@@ -158,6 +164,13 @@ soft-over s {x} is = which s.at is
     which (soft_at.Over other) some = ap soft_at.Over (same_Some other x some)
     which _ none = absurd (none-some x none)
 
+pub unpoison-over : (u : Unpoison) {x : UnpoisonAnswer} → unpoisons.answer u ≡ Some x → u.at ≡ unpoison_at.Over x
+unpoison-over u {x} is = which u.at is
+  where
+    which : (y : UnpoisonAt) → unpoisons.answer_at y ≡ Some x → y ≡ unpoison_at.Over x
+    which (unpoison_at.Over other) some = ap unpoison_at.Over (same_Some other x some)
+    which _ none = absurd (none-some x none)
+
 -- what a memory failure that is over knows: it holds nothing and owes no loss; its answer has its cause, and says what
 -- it has marked; and but for `stopped` the machine recovers
 pub record InjectEnded (layout : Layout) (view : View) (i : Inject) (x : FailAnswer) : Type 0 where
@@ -216,6 +229,10 @@ evict-caused {layout} {view} e fits is = subst (evicts.FitsAt layout view e.who 
 pub soft-ended : {layout : Layout} {view : View} (s : Soft) {x : SoftAnswer} → offline.Fits layout view s → softs.answer s ≡ Some x → (hand_of view ≡ empty) × offline.IsCaused layout view s.who s.frame x
 soft-ended {layout} {view} s fits is = subst (offline.FitsAt layout view s.who s.frame) (soft-over s is) fits.at
 
+-- a frame whose poison was to be taken back
+pub unpoison-ended : {layout : Layout} {view : View} (u : Unpoison) {x : UnpoisonAnswer} → unpoisons.Fits layout view u → unpoisons.answer u ≡ Some x → (hand_of view ≡ empty) × unpoisons.IsCaused view u.who u.frame x
+unpoison-ended {layout} {view} u {x} fits is = reviving.ended {layout = layout} {view = view} u {x = x} fits is
+
 -- it plans no step
 pub answered-over : {a : Answer} (j : Job) → answer j ≡ Some a → plan j ≡ None
 answered-over (jobs.Instruction i) is = ap instructions.plan_at (instruction-over i (mapped _ (instructions.answer i) is).1)
@@ -227,6 +244,7 @@ answered-over (jobs.Raise r) is = ap raises.plan_at (raise-over r (mapped _ (rai
 answered-over (jobs.Scrub s) is = ap scrubs.plan_at (scrub-over s (mapped _ (scrubs.answer s) is).1)
 answered-over (jobs.Spoil s) is = ap (spoils.plan_at s.frame s.line s.damage) (spoil-over s (mapped _ (spoils.answer s) is).1)
 answered-over (jobs.Nested n) is = ap (nesteds.plan_at n.who) (nested-over n (mapped _ (nesteds.answer n) is).1)
+answered-over (jobs.Unpoison u) is = ap (unpoisons.plan_at u.frame) (unpoison-over u (mapped _ (unpoisons.answer u) is).1)
 answered-over (jobs.Soft s) is = ap (softs.plan_at s.frame) (soft-over s (mapped _ (softs.answer s) is).1)
 answered-over {a} (jobs.Inject i) is = which i.at is
   where
@@ -252,6 +270,7 @@ empty-handed layout view (jobs.Spoil s) fits is = fits.hand_is
 empty-handed layout view (jobs.Nested n) fits is = fits.hand_is
 empty-handed layout view (jobs.Inject i) fits is = (inject-ended i fits (mapped _ (injects.answer i) is).1).hand_is
 empty-handed layout view (jobs.Soft s) fits is = (soft-ended s fits (mapped _ (softs.answer s) is).1).0
+empty-handed layout view (jobs.Unpoison u) fits is = (unpoison-ended u fits (mapped _ (unpoisons.answer u) is).1).0
 
 pub ends : (layout : Layout) (view : View) (j : Job) {a : Answer} → Fits layout view j → answer j ≡ Some a → (hand_of view ≡ empty) × (plan j ≡ None)
 ends layout view j fits is = (empty-handed layout view j fits is, answered-over j is)

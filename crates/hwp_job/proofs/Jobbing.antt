@@ -1,5 +1,5 @@
 -- A command as one task keeps the laws that the task of its kind keeps.
-use Rattle.std.proofs.Common.{◌≡◌, ◌≢◌, ℕ, ◌+◌, ◌<◌, ◌≤◌, ◌⊎◌, inl, inr, Bool, true, false, Option, Some, None, length, option_map, refl, sym, ap, ◌∙◌, subst, arith}
+use Rattle.std.proofs.Common.{◌≡◌, ◌≢◌, ℕ, ◌+◌, ◌*◌, ◌<◌, ◌≤◌, ◌⊎◌, inl, inr, Bool, true, false, Option, Some, None, length, option_map, refl, sym, ap, ◌∙◌, subst, arith}
 use Rattle.std.proofs.lemmas.Bool.{both_ways, false_from_ne_true}
 use Rattle.std.proofs.lemmas.Option.{none-some, same_Some}
 use Rattle.hwp_geom.specs.declared.Frame.{Frame}
@@ -12,14 +12,15 @@ use Rattle.hwp_rule.specs.declared.Step.{Step}
 use Rattle.hwp_rule.specs.declared.Step.TheVariants as steps
 use Rattle.hwp_rule.specs.declared.View.{View}
 use Rattle.hwp_rule.specs.Rule.{Holds}
-use Rattle.hwp_rule.specs.Served.{IsMild}
+use Rattle.hwp_rule.specs.Lasting.{IsMild}
 use Rattle.hwp_rule.specs.Words.{Words}
 use Rattle.hwp_step.specs.declared.Turn.{Turn}
 use Rattle.hwp_step.specs.Boards.{view_of}
 use Rattle.hwp_step.specs.Calls.{CanMake, Steps, logs}
 use Rattle.hwp_step.specs.Classes.{TellsClass}
-use Rattle.hwp_step.specs.Ranks.{Member, member, Made, CostFalls, HasFailed, HasFrame, HasPage, IsRanked, OtherHand, Pending, Quiet, failure_weight, is_refused, is_waits, top, words_at}
-use Rattle.hwp_step.proofs.Ranking.{pending-kept}
+use Rattle.hwp_step.specs.Ranks.{Member, member, Made, CostFalls, HasFailed, HasFrame, HasPage, IsRanked, OtherHand, PaysRevival, Pending, Quiet, failure_weight, failures_left, is_refused, is_waits, top, words_at}
+use Rattle.hwp_step.proofs.Failures.{mild-leaves}
+use Rattle.hwp_step.proofs.Ranking.{failures-kept, pending-kept}
 use Rattle.hwp_control.specs.declared.Nested.{Nested}
 use Rattle.hwp_control.specs.declared.Prctl.{Prctl}
 use Rattle.hwp_control.specs.declared.Spoil.{Spoil}
@@ -31,12 +32,11 @@ use Rattle.hwp_control.proofs.Nesting as nesting
 use Rattle.hwp_control.proofs.Spoiling as spoiling
 use Rattle.hwp_evict.specs.declared.Evict.{Evict}
 use Rattle.hwp_evict.specs.declared.Fsync.{Fsync}
-use Rattle.hwp_evict.specs.Evicts as evicts
 use Rattle.hwp_evict.specs.Fsyncs as fsyncs
 use Rattle.hwp_evict.proofs.Evicting as evicting
-use Rattle.hwp_evict.proofs.EvictCosts.{evict-mild, evict-ranked, evict-tells}
+use Rattle.hwp_evict.proofs.EvictCosts.{evict-member, evict-mild, evict-ranked, evict-tells}
 use Rattle.hwp_evict.proofs.Fsyncing as fsyncing
-use Rattle.hwp_evict.proofs.Fsyncing.{fsync-mild, fsync-ranked, fsync-tells}
+use Rattle.hwp_evict.proofs.Fsyncing.{fsync-member, fsync-mild, fsync-ranked, fsync-tells}
 use Rattle.hwp_fault.proofs.AccessCosts.{access-mild}
 use Rattle.hwp_fail.specs.declared.fail.FailAt.{FailAt}
 use Rattle.hwp_fail.specs.declared.fail.FailAt.TheVariants as fail_at
@@ -47,7 +47,7 @@ use Rattle.hwp_fail.specs.declared.inject.InjectAt.TheVariants as inject_at
 use Rattle.hwp_fail.specs.Fails as fails
 use Rattle.hwp_fail.specs.Injects as injects
 use Rattle.hwp_fail.proofs.Injecting as injecting
-use Rattle.hwp_fail.proofs.InjectRank.{inject-member, inject-ranked, inject-tells}
+use Rattle.hwp_fail.proofs.InjectRank.{inject-lasting, inject-member, inject-ranked, inject-tells}
 use Rattle.hwp_handler.specs.declared.Handler.{Handler}
 use Rattle.hwp_handler.specs.Handlers as handlers
 use Rattle.hwp_instr.specs.declared.Instruction.{Instruction}
@@ -57,7 +57,7 @@ use Rattle.hwp_instr.specs.Costs as instruction_costs
 use Rattle.hwp_instr.specs.Instructions as instructions
 use Rattle.hwp_instr.proofs.Costing.{instruction-member}
 use Rattle.hwp_instr.proofs.Instructing as instructing
-use Rattle.hwp_instr.proofs.InstructionRank.{instruction-ranked, instruction-tells}
+use Rattle.hwp_instr.proofs.InstructionRank.{instruction-lasting, instruction-ranked, instruction-tells}
 use Rattle.hwp_raise.specs.declared.Log.{Log}
 use Rattle.hwp_raise.specs.declared.Raise.{Raise}
 use Rattle.hwp_raise.specs.declared.raise.RaiseAt.{RaiseAt}
@@ -67,13 +67,13 @@ use Rattle.hwp_raise.specs.Logs as logs
 use Rattle.hwp_raise.specs.Raises as raises
 use Rattle.hwp_raise.proofs.Logging as logging
 use Rattle.hwp_raise.proofs.Raising as raising
-use Rattle.hwp_raise.proofs.RaiseRank.{raise-member, raise-ranked, raise-tells}
+use Rattle.hwp_raise.proofs.RaiseRank.{raise-lasting, raise-member, raise-ranked, raise-tells}
 use Rattle.hwp_scrub.specs.declared.Scrub.{Scrub}
 use Rattle.hwp_scrub.specs.declared.scrub.ScrubAt.{ScrubAt}
 use Rattle.hwp_scrub.specs.declared.scrub.ScrubAt.TheVariants as scrub_at
 use Rattle.hwp_scrub.specs.Costs as scrub_costs
 use Rattle.hwp_scrub.specs.Scrubs as scrubs
-use Rattle.hwp_scrub.proofs.ScrubRank.{scrub-member, scrub-ranked, scrub-tells}
+use Rattle.hwp_scrub.proofs.ScrubRank.{scrub-lasting, scrub-member, scrub-ranked, scrub-tells}
 use Rattle.hwp_scrub.proofs.Scrubbing as scrubbing
 use Rattle.hwp_soft.specs.declared.Soft.{Soft}
 use Rattle.hwp_soft.specs.declared.SoftAnswer.{SoftAnswer}
@@ -82,13 +82,17 @@ use Rattle.hwp_soft.specs.declared.soft.SoftAt.TheVariants as soft_at
 use Rattle.hwp_soft.specs.Softs as softs
 use Rattle.hwp_soft.proofs.Offlining as offlining
 use Rattle.hwp_soft.proofs.Softening as softening
+use Rattle.hwp_unpoison.specs.declared.Unpoison.{Unpoison}
+use Rattle.hwp_unpoison.specs.Unpoisons as unpoisons
+use Rattle.hwp_unpoison.proofs.Costs as unpoisoning
+use Rattle.hwp_unpoison.proofs.Reviving as reviving
 use Rattle.hwp_soft.proofs.SoftRank.{soft-member, soft-ranked}
-use Rattle.hwp_soft.proofs.SoftTells.{soft-tells-class}
+use Rattle.hwp_soft.proofs.SoftTells.{soft-lasting, soft-tells-class}
 use Rattle.hwp_job.specs.declared.job.Job.{Job}
 use Rattle.hwp_job.specs.declared.job.Job.TheVariants as jobs
 use Rattle.hwp_job.specs.Answers.{fail_answer, instruction_answer, raise_answer, scrub_answer, soft_answer}
 use Rattle.hwp_job.specs.Jobs.{Fits, Next, Shows, aborts, answer, bare, claims, class, cost, plan, put, who}
-use Rattle.hwp_job.proofs.Refusing.{handler-unanswered, refused-unanswered, soft-unanswered}
+use Rattle.hwp_job.proofs.Refusing.{handler-unanswered, refused-unanswered, soft-unanswered, unpoison-goes}
 
 -- ---- tasks
 
@@ -104,6 +108,7 @@ can layout view (jobs.Spoil x) step fits is = spoiling.can layout view x step fi
 can layout view (jobs.Nested x) step fits is = nesting.can layout view x step fits is
 can layout view (jobs.Inject x) step fits is = injecting.can layout view x step fits is
 can layout view (jobs.Soft x) step fits is = offlining.can layout view x step fits is
+can layout view (jobs.Unpoison x) step fits is = reviving.can layout view x step fits is
 
 -- what follows is of the same kind
 follows-so : {T : Type 0} (of : T → Job) (layout : Layout) (new : View) (j after : Job) (t : T) → after ≡ of t → Fits layout new (of t) × ((who (of t)).cpu ≡ (who j).cpu) → Fits layout new after × ((who after).cpu ≡ (who j).cpu)
@@ -144,17 +149,14 @@ stays layout old new (jobs.Inject x) step found got fits is made =
 stays layout old new (jobs.Soft x) step found got fits is made =
     let s = softening.stays layout old new x step found got fits is made in
     (s.0, λ after turn next. follows-so jobs.Soft layout new (jobs.Soft x) after next.0 next.1 (s.1 next.0 turn next.2))
+stays layout old new (jobs.Unpoison x) step found got fits is made =
+    let s = reviving.stays layout old new x step found got fits is made in
+    (s.0, λ after turn next. follows-so jobs.Unpoison layout new (jobs.Unpoison x) after (unpoisons.next x found) next.0 (s.1 (unpoisons.next x found) turn (refl, next.1)))
 
 -- ---- the rank
 
 abbrev pub job-member : Member Job
 job-member = member who plan put bare Next Fits class cost aborts claims
-
-abbrev evict-member : Member Evict
-evict-member = member (λ e. e.who) evicts.plan evicts.put evicts.bare (λ layout e found got after turn. evicts.Follows e found got after turn) evicts.Fits evicts.class evicts.cost (λ e. false) (λ e. None)
-
-abbrev fsync-member : Member Fsync
-fsync-member = member (λ f. f.who) fsyncs.plan (λ f. None) (λ f. f) (λ layout f found got after turn. (after ≡ fsyncs.next f found) × (turn ≡ fsyncs.turn f found)) fsyncs.Fits (λ f. 4) fsyncs.cost (λ f. false) (λ f. None)
 
 -- a turn of a command is one of the task of its kind
 pub record IsTurnOf {S : Type 0} (m : Member S) (of : S → Job) (layout : Layout) (seat : ℕ) (a b : State) (s : S) (t : Job) (turn : Turn) : Type 0 where
@@ -240,6 +242,13 @@ module _ {layout : Layout} {seat : ℕ} {a b : State} {t : Job} {turn : Turn} wh
     made = record { step = made.step; found = made.found; got = made.got; rule = made.rule; kept = made.kept; fits = made.fits; planned = made.planned; move = made.move; brings = made.brings; follows = made.follows.2 };
   }
 
+  of-unpoison : {x : Unpoison} → Made job-member layout seat a b (jobs.Unpoison x) t turn → IsTurnOf unpoisoning.the-member jobs.Unpoison layout seat a b x t turn
+  of-unpoison {x} made = record {
+    after = unpoisons.next x made.found;
+    after_is = made.follows.0;
+    made = record { step = made.step; found = made.found; got = made.got; rule = made.rule; kept = made.kept; fits = made.fits; planned = made.planned; move = made.move; brings = made.brings; follows = (refl, made.follows.1) };
+  }
+
 -- so its cost falls as that task's does
 module _ {S : Type 0} (m : Member S) (of : S → Job) (same : (s : S) (w : Words) → cost (of s) w ≡ m.cost s w) (alike : (s : S) → aborts (of s) ≡ m.aborts s) {layout : Layout} {seat : ℕ} {a b : State} {s : S} {t : Job} {turn : Turn} where
   falls-so : (made : IsTurnOf m of layout seat a b s t turn) → CostFalls m layout a b s made.after → cost t (words_at layout b) < cost (of s) (words_at layout a)
@@ -273,6 +282,7 @@ falls layout seat a b (jobs.Spoil x) t turn made goes = let m = of-spoil made in
 falls layout seat a b (jobs.Nested x) t turn made goes = let m = of-nested made in lowers-so nesting.the-member jobs.Nested (λ s w. refl) (λ s. refl) m (nesting.ranked.falls layout seat a b x m.after turn m.made goes)
 falls layout seat a b (jobs.Inject x) t turn made goes = let m = of-inject made in lowers-so inject-member jobs.Inject (λ s w. refl) (λ s. refl) m (inject-ranked.falls layout seat a b x m.after turn m.made goes)
 falls layout seat a b (jobs.Soft x) t turn made goes = let m = of-soft made in lowers-so soft-member jobs.Soft (λ s w. refl) (λ s. refl) m (soft-ranked.falls layout seat a b x m.after turn m.made goes)
+falls layout seat a b (jobs.Unpoison x) t turn made goes = let m = of-unpoison made in lowers-so unpoisoning.the-member jobs.Unpoison (λ s w. refl) (λ s. refl) m (unpoisoning.ranked.falls layout seat a b x m.after turn m.made goes)
 
 waits : (layout : Layout) (seat : ℕ) (a b : State) (s t : Job) (turn : Turn) → Made job-member layout seat a b s t turn → is_waits turn ≡ true → Quiet (class s) layout a seat → CostFalls job-member layout a b s t ⊎ ((aborts t ≡ true) × OtherHand a seat)
 waits layout seat a b (jobs.Instruction x) t turn made is quiet = let m = of-instruction made in waits-so instruction-member jobs.Instruction (λ s w. refl) (λ s. refl) m (instruction-ranked.waits layout seat a b x m.after turn m.made is quiet)
@@ -286,6 +296,7 @@ waits layout seat a b (jobs.Spoil x) t turn made is quiet = let m = of-spoil mad
 waits layout seat a b (jobs.Nested x) t turn made is quiet = let m = of-nested made in waits-so nesting.the-member jobs.Nested (λ s w. refl) (λ s. refl) m (nesting.ranked.waits layout seat a b x m.after turn m.made is quiet)
 waits layout seat a b (jobs.Inject x) t turn made is quiet = let m = of-inject made in waits-so inject-member jobs.Inject (λ s w. refl) (λ s. refl) m (inject-ranked.waits layout seat a b x m.after turn m.made is quiet)
 waits layout seat a b (jobs.Soft x) t turn made is quiet = let m = of-soft made in waits-so soft-member jobs.Soft (λ s w. refl) (λ s. refl) m (soft-ranked.waits layout seat a b x m.after turn m.made is quiet)
+waits layout seat a b (jobs.Unpoison x) t turn made is quiet = let m = of-unpoison made in waits-so unpoisoning.the-member jobs.Unpoison (λ s w. refl) (λ s. refl) m (unpoisoning.ranked.waits layout seat a b x m.after turn m.made is quiet)
 
 classes : (j : Job) → (1 ≤ class j) × (class j ≤ 4)
 classes (jobs.Instruction x) = instruction-ranked.classes x
@@ -299,6 +310,7 @@ classes (jobs.Spoil x) = spoiling.ranked.classes x
 classes (jobs.Nested x) = nesting.ranked.classes x
 classes (jobs.Inject x) = inject-ranked.classes x
 classes (jobs.Soft x) = soft-ranked.classes x
+classes (jobs.Unpoison x) = unpoisoning.ranked.classes x
 
 small : (layout : Layout) (a : State) (seat : ℕ) (j : Job) → Holds layout a → Fits layout (view_of a seat) j → cost j (words_at layout a) < top
 small layout a seat (jobs.Instruction x) rule fits = instruction-ranked.small layout a seat x rule fits
@@ -312,6 +324,7 @@ small layout a seat (jobs.Spoil x) rule fits = spoiling.ranked.small layout a se
 small layout a seat (jobs.Nested x) rule fits = nesting.ranked.small layout a seat x rule fits
 small layout a seat (jobs.Inject x) rule fits = inject-ranked.small layout a seat x rule fits
 small layout a seat (jobs.Soft x) rule fits = soft-ranked.small layout a seat x rule fits
+small layout a seat (jobs.Unpoison x) rule fits = unpoisoning.ranked.small layout a seat x rule fits
 
 -- a command that claims a frame alone can give up what it has begun, and then it looks at its frame again
 leaves : (layout : Layout) (seat : ℕ) (a b : State) (s t : Job) (turn : Turn) → Made job-member layout seat a b s t turn → aborts s ≡ true → (plan t ≡ None) ⊎ (1 < class t)
@@ -341,6 +354,8 @@ owns layout seat a b (jobs.Inject x) t turn frame cycle made going pending =
     let m = of-inject made in subst (λ (j : Job). Owns layout a b (jobs.Inject x) j frame cycle) (sym m.after_is) (inject-ranked.owns layout seat a b x m.after turn frame cycle m.made going pending)
 owns layout seat a b (jobs.Soft x) t turn frame cycle made going pending =
     let m = of-soft made in subst (λ (j : Job). Owns layout a b (jobs.Soft x) j frame cycle) (sym m.after_is) (soft-ranked.owns layout seat a b x m.after turn frame cycle m.made going pending)
+owns layout seat a b (jobs.Unpoison x) t turn frame cycle made going pending =
+    let m = of-unpoison made in subst (λ (j : Job). Owns layout a b (jobs.Unpoison x) j frame cycle) (sym m.after_is) (unpoisoning.ranked.owns layout seat a b x m.after turn frame cycle m.made going pending)
 owns layout seat a b (jobs.Evict x) t turn frame cycle made going pending = inr (owns-none frame cycle made (evict-mild x made.step made.planned) refl pending)
 owns layout seat a b (jobs.Fsync x) t turn frame cycle made going pending = inr (owns-none frame cycle made (fsync-mild x made.step made.planned) refl pending)
 owns layout seat a b (jobs.Prctl x) t turn frame cycle made going pending = inr (owns-none frame cycle made (calling.mild x made.step made.planned) refl pending)
@@ -474,6 +489,9 @@ module _ {layout : Layout} {seat : ℕ} {a b : State} {t : Job} {turn : Turn} (f
       refused : is_refused turn ≡ true → answer t ≡ None
       refused no_ = ap answer m.after_is ∙ ap (λ (o : Option SoftAnswer). option_map soft_answer o) (soft-unanswered layout x m.after m.made.found m.made.got turn m.made.follows no_)
 
+  unpoison-settled : (x : Unpoison) → Made job-member layout seat a b (jobs.Unpoison x) t turn → OwnsNone layout a (jobs.Unpoison x) frame cycle
+  unpoison-settled x made = settled frame cycle made is pending (λ no_. absurd (unpoison-goes x made.found (ap is_refused (sym made.follows.1) ∙ no_))) (ap claims made.follows.0)
+
 pub owns-answered : (layout : Layout) (seat : ℕ) (a b : State) (s t : Job) (turn : Turn) (frame : Frame) (cycle : ℕ) {r : Answer} → Made job-member layout seat a b s t turn → answer t ≡ Some r → Pending (words_at layout b) frame cycle
     → Pending (words_at layout a) frame cycle × (claims s ≢ Some (frame, cycle))
 owns-answered layout seat a b (jobs.Instruction x) t turn frame cycle made is pending = instruction-settled frame cycle is pending x made
@@ -481,6 +499,7 @@ owns-answered layout seat a b (jobs.Raise x) t turn frame cycle made is pending 
 owns-answered layout seat a b (jobs.Scrub x) t turn frame cycle made is pending = scrub-settled frame cycle is pending x made
 owns-answered layout seat a b (jobs.Inject x) t turn frame cycle made is pending = inject-settled frame cycle is pending x made
 owns-answered layout seat a b (jobs.Soft x) t turn frame cycle made is pending = soft-settled frame cycle is pending x made
+owns-answered layout seat a b (jobs.Unpoison x) t turn frame cycle made is pending = unpoison-settled frame cycle is pending x made
 owns-answered layout seat a b (jobs.Evict x) t turn frame cycle made is pending = owns-none frame cycle made (evict-mild x made.step made.planned) refl pending
 owns-answered layout seat a b (jobs.Fsync x) t turn frame cycle made is pending = owns-none frame cycle made (fsync-mild x made.step made.planned) refl pending
 owns-answered layout seat a b (jobs.Prctl x) t turn frame cycle made is pending = owns-none frame cycle made (calling.mild x made.step made.planned) refl pending
@@ -490,6 +509,24 @@ owns-answered layout seat a b (jobs.Nested x) t turn frame cycle made is pending
 
 pub ranked : IsRanked job-member
 ranked = record { classes = classes; small = small; falls = falls; waits = waits; leaves = leaves; owns = owns }
+
+-- a turn pays for what it takes back
+pub pays : PaysRevival job-member
+pays layout seat a b (jobs.Instruction x) t turn made = inl (failures-kept made (instruction-lasting x made.step made.planned))
+pays layout seat a b (jobs.Evict x) t turn made = inl (failures-kept made (mild-leaves made.step (evict-mild x made.step made.planned)))
+pays layout seat a b (jobs.Fsync x) t turn made = inl (failures-kept made (mild-leaves made.step (fsync-mild x made.step made.planned)))
+pays layout seat a b (jobs.Prctl x) t turn made = inl (failures-kept made (mild-leaves made.step (calling.mild x made.step made.planned)))
+pays layout seat a b (jobs.Log x) t turn made = inl (failures-kept made (mild-leaves made.step (logging.mild x made.step made.planned)))
+pays layout seat a b (jobs.Raise x) t turn made = inl (failures-kept made (raise-lasting x made.step made.planned))
+pays layout seat a b (jobs.Scrub x) t turn made = inl (failures-kept made (scrub-lasting x made.step made.planned))
+pays layout seat a b (jobs.Spoil x) t turn made = inl (failures-kept made (mild-leaves made.step (spoiling.mild x made.step made.planned)))
+pays layout seat a b (jobs.Nested x) t turn made = inl (failures-kept made (mild-leaves made.step (nesting.mild x made.step made.planned)))
+pays layout seat a b (jobs.Inject x) t turn made = inl (failures-kept made (inject-lasting x made.step made.planned))
+pays layout seat a b (jobs.Soft x) t turn made = inl (failures-kept made (soft-lasting x made.step made.planned))
+pays layout seat a b (jobs.Unpoison x) t turn made =
+    let m = of-unpoison made in
+    subst (λ (j : Job). (failures_left (words_at layout b) ≤ failures_left (words_at layout a)) ⊎ (cost j (words_at layout b) + failure_weight * failures_left (words_at layout b) < cost (jobs.Unpoison x) (words_at layout a) + failure_weight * failures_left (words_at layout a)))
+    (sym m.after_is) (unpoisoning.pays layout seat a b x m.after turn m.made)
 
 -- ---- what the class tells
 
@@ -508,6 +545,7 @@ tells = record { frame = frame; page = page; claim = claim }
     frame layout view (jobs.Nested x) fits has = nesting.tells.frame layout view x fits has
     frame layout view (jobs.Inject x) fits has = inject-tells.frame layout view x fits has
     frame layout view (jobs.Soft x) fits has = soft-tells-class.frame layout view x fits has
+    frame layout view (jobs.Unpoison x) fits has = unpoisoning.tells.frame layout view x fits has
 
     page : (layout : Layout) (view : View) (j : Job) → Fits layout view j → HasPage view → (class j ≤ 2) × (plan j ≢ None)
     page layout view (jobs.Instruction x) fits has = instruction-tells.page layout view x fits has
@@ -521,6 +559,7 @@ tells = record { frame = frame; page = page; claim = claim }
     page layout view (jobs.Nested x) fits has = nesting.tells.page layout view x fits has
     page layout view (jobs.Inject x) fits has = inject-tells.page layout view x fits has
     page layout view (jobs.Soft x) fits has = soft-tells-class.page layout view x fits has
+    page layout view (jobs.Unpoison x) fits has = unpoisoning.tells.page layout view x fits has
 
     claim : (layout : Layout) (view : View) (j : Job) (f : Frame) (cycle : ℕ) → Fits layout view j → claims j ≡ Some (f, cycle) → (class j ≤ 3) × (plan j ≢ None)
     claim layout view (jobs.Instruction x) f cycle fits has = instruction-tells.claim layout view x f cycle fits has

@@ -13,7 +13,7 @@ use Rattle.hwp_rule.specs.declared.Step.{Step}
 use Rattle.hwp_rule.specs.declared.Step.TheVariants as steps
 use Rattle.hwp_rule.specs.declared.View.{View}
 use Rattle.hwp_rule.specs.Steps.{goes}
-use Rattle.hwp_rule.specs.Views.{marked, noted, owing_count, poison_listed, sighted}
+use Rattle.hwp_rule.specs.Views.{marked, noted, owing_count, poison_listed, revived_by, sighted}
 use Rattle.hwp_step.specs.declared.Turn.{Turn}
 use Rattle.hwp_step.specs.Calls.{Steps, logs}
 use Rattle.hwp_step.proofs.Stepping.{steps-planned}
@@ -46,6 +46,10 @@ use Rattle.hwp_soft.specs.declared.soft.SoftAt.{SoftAt}
 use Rattle.hwp_soft.specs.declared.soft.SoftAt.TheVariants as soft_at
 use Rattle.hwp_soft.specs.Softs as softs
 use Rattle.hwp_soft.proofs.Adding.{relocate, take}
+use Rattle.hwp_unpoison.specs.declared.Unpoison.{Unpoison}
+use Rattle.hwp_unpoison.specs.declared.unpoison.UnpoisonAt.{UnpoisonAt}
+use Rattle.hwp_unpoison.specs.declared.unpoison.UnpoisonAt.TheVariants as unpoison_at
+use Rattle.hwp_unpoison.specs.Unpoisons as unpoisons
 use Rattle.hwp_job.proofs.Quiet.{claim, seize}
 
 -- the policies set, the losses taken and the damage stay as they were
@@ -149,6 +153,32 @@ soft-plain s = which s.at
 
 pub soft-leaves : {layout : Layout} {who : Who} {step : Step} {put : Option Log} {old new : View} {found : ℕ} {got : Option BodyValue} (s : Soft) → softs.plan s ≡ Some step → Steps layout who step put old new found got → Left old new
 soft-leaves {step = step} s is made = plain-left step made (subst PlansPlain is (soft-plain s))
+
+-- ---- steps of a command that takes a frame's poison back
+
+pub unpoison-leaves : {layout : Layout} {who : Who} {step : Step} {old new : View} {found : ℕ} {got : Option BodyValue} (u : Unpoison) → unpoisons.plan u ≡ Some step → Steps layout who step None old new found got → Left old new
+unpoison-leaves {layout} {who} {step} {old} {new} {found} {got} u is made = which u.at is
+  where
+    plainly : {other : Step} → Some other ≡ Some step → IsPlain other → Left old new
+    plainly e plain = plain-left step made (subst PlansPlain e plain)
+
+    exchanged : (frame : Frame) (went : Bool) → Left old (cond went (revived_by who frame found (noted who old)) (sighted who (places.Frame frame) found (noted who old)))
+    exchanged frame true = record { rest = record { settings = refl; reported = refl; spoiled = refl }; stops = refl }
+    exchanged frame false = record { rest = record { settings = refl; reported = refl; spoiled = refl }; stops = refl }
+
+    uncounted : Steps layout who steps.Uncount None old new found got → Left old new
+    uncounted own = subst (Left old) (sym own.told.next) (record { rest = record { settings = refl; reported = refl; spoiled = refl }; stops = refl })
+
+    which : (x : UnpoisonAt) → unpoisons.plan_at u.frame x ≡ Some step → Left old new
+    which unpoison_at.LoadStop e = plainly e tt
+    which unpoison_at.LoadFrame e = plainly e tt
+    which (unpoison_at.LoadCount seen) e = plainly e tt
+    which (unpoison_at.LoadBad seen) e = plainly e tt
+    which (unpoison_at.Revive seen) e = subst (Left old) (sym (steps-planned {other = steps.Revive u.frame seen} e made).told.next) (exchanged u.frame (found == seen))
+    which (unpoison_at.Uncount cycle) e = uncounted (steps-planned e made)
+    which (unpoison_at.GiveBit cycle) e = plainly e tt
+    which (unpoison_at.Unreserve cycle) e = plainly e tt
+    which (unpoison_at.Over answer) e = absurd (none-some step e)
 
 -- ---- a stop
 

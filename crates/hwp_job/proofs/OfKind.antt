@@ -12,6 +12,7 @@ use Rattle.hwp_raise.specs.declared.Log.{Log}
 use Rattle.hwp_raise.specs.declared.Raise.{Raise}
 use Rattle.hwp_scrub.specs.declared.Scrub.{Scrub}
 use Rattle.hwp_soft.specs.declared.Soft.{Soft}
+use Rattle.hwp_unpoison.specs.declared.Unpoison.{Unpoison}
 use Rattle.hwp_control.specs.Nesteds as nesteds
 use Rattle.hwp_control.specs.Prctls as prctls
 use Rattle.hwp_control.specs.Spoils as spoils
@@ -23,6 +24,7 @@ use Rattle.hwp_raise.specs.Logs as logs
 use Rattle.hwp_raise.specs.Raises as raises
 use Rattle.hwp_scrub.specs.Scrubs as scrubs
 use Rattle.hwp_soft.specs.Softs as softs
+use Rattle.hwp_unpoison.specs.Unpoisons as unpoisons
 use Rattle.hwp_job.specs.declared.job.Job.{Job}
 use Rattle.hwp_job.specs.declared.job.Job.TheVariants as jobs
 use Rattle.hwp_job.specs.Runs.{anew}
@@ -40,6 +42,7 @@ kind (jobs.Spoil s) = 7
 kind (jobs.Nested n) = 8
 kind (jobs.Inject i) = 9
 kind (jobs.Soft s) = 10
+kind (jobs.Unpoison u) = 11
 
 differ : {j k : Job} → j ≡ k → (kind j == kind k) ≡ false → ⊥
 differ {j} {k} is apart = both_ways (kind j == kind k) apart (eq-eqb (kind j) (kind k) (ap kind is))
@@ -89,6 +92,10 @@ abbrev soft_in : Soft → Job → Soft
 soft_in d (jobs.Soft s) = s
 soft_in d _ = d
 
+abbrev unpoison_in : Unpoison → Job → Unpoison
+unpoison_in d (jobs.Unpoison u) = u
+unpoison_in d _ = d
+
 pub of-instruction : (j : Job) {x : Instruction} → anew j ≡ jobs.Instruction x → (i : Instruction) × (j ≡ jobs.Instruction i) × (instructions.begin i.alloc i.request i.origin i.mode i.before.value ≡ x)
 of-instruction (jobs.Instruction i) {x} is = (i, refl, ap (instruction_in x) is)
 of-instruction _ is = absurd (differ is refl)
@@ -132,3 +139,7 @@ of-inject _ is = absurd (differ is refl)
 pub of-soft : (j : Job) {x : Soft} → anew j ≡ jobs.Soft x → (s : Soft) × (j ≡ jobs.Soft s) × (softs.begin s.who s.frame ≡ x)
 of-soft (jobs.Soft s) {x} is = (s, refl, ap (soft_in x) is)
 of-soft _ is = absurd (differ is refl)
+
+pub of-unpoison : (j : Job) {x : Unpoison} → anew j ≡ jobs.Unpoison x → (u : Unpoison) × (j ≡ jobs.Unpoison u) × (unpoisons.begin u.who u.frame ≡ x)
+of-unpoison (jobs.Unpoison u) {x} is = (u, refl, ap (unpoison_in x) is)
+of-unpoison _ is = absurd (differ is refl)

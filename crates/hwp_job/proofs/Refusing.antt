@@ -46,6 +46,10 @@ use Rattle.hwp_soft.specs.declared.Soft.{Soft}
 use Rattle.hwp_soft.specs.declared.soft.SoftAt.{SoftAt}
 use Rattle.hwp_soft.specs.declared.soft.SoftAt.TheVariants as soft_at
 use Rattle.hwp_soft.specs.Softs as softs
+use Rattle.hwp_unpoison.specs.declared.Unpoison.{Unpoison}
+use Rattle.hwp_unpoison.specs.declared.unpoison.UnpoisonAt.{UnpoisonAt}
+use Rattle.hwp_unpoison.specs.declared.unpoison.UnpoisonAt.TheVariants as unpoison_at
+use Rattle.hwp_unpoison.specs.Unpoisons as unpoisons
 
 -- such a turn is no other
 other : {A : Type 0} (turn : Turn) → is_refused turn ≡ false → is_refused turn ≡ true → A
@@ -148,6 +152,14 @@ soft-unanswered layout s k found got turn follows is = which s.at follows.1
     which (soft_at.Unhold u answer) next = by-end _ turns.Moved next.0 next.1
     which (soft_at.GiveUp g) next = ap softs.answer_at next.0
     which (soft_at.Over answer) next = other turn (ap is_refused next.1) is
+
+-- one that takes a frame's poison back needs no memory
+pub unpoison-goes : (u : Unpoison) (found : ℕ) → is_refused (unpoisons.turn u found) ≡ true → ⊥
+unpoison-goes u found is = true≢false (sym is ∙ which u.at)
+  where
+    which : (x : UnpoisonAt) → is_refused (unpoisons.turn_at x found) ≡ false
+    which (unpoison_at.Revive seen) = either (found == seen) turns.Moved (turns.Changed found) refl refl
+    which _ = refl
 
 pub handler-unanswered : (layout : Layout) (h after : Handler) (found : ℕ) (got : Option BodyValue) (turn : Turn) → handlers.Follows layout (handlers.bare h) found got after turn → is_refused turn ≡ true → handlers.answer after ≡ None
 handler-unanswered layout h after found got turn follows is = which h.at follows

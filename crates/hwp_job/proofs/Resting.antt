@@ -67,7 +67,7 @@ use Rattle.hwp_job.specs.declared.job.Job.{Job}
 use Rattle.hwp_job.specs.declared.job.Job.TheVariants as jobs
 use Rattle.hwp_job.specs.Jobs.{plan}
 use Rattle.hwp_job.specs.Stays.{HasStopped, Stepped, StopsItself}
-use Rattle.hwp_job.proofs.Leaving.{HandlerLeft, HasHalted, Rest, fail-left, handler-left, quiet-rest, soft-leaves, stop-rest, stops-by}
+use Rattle.hwp_job.proofs.Leaving.{HandlerLeft, HasHalted, Rest, fail-left, handler-left, quiet-rest, soft-leaves, stop-rest, stops-by, unpoison-leaves}
 use Rattle.hwp_job.proofs.Quiet.{evict, read}
 
 pub quiet-step : {o : Option Step} {step : Step} → PlansQuiet o → o ≡ Some step → IsQuiet step
@@ -310,3 +310,6 @@ log-left {l = l} s = by-quiet s (read l.read.at)
 
 pub soft-left : {layout : Layout} {old new : View} {o : _} {after : Job} → Stepped layout old new (jobs.Soft o) after → IsLeft (jobs.Soft o) after old new
 soft-left {o = o} s = let left = soft-leaves o s.planned s.made in record { rest = left.rest; stops = inl left.stops }
+
+pub unpoison-left : {layout : Layout} {old new : View} {u : _} {after : Job} → Stepped layout old new (jobs.Unpoison u) after → IsLeft (jobs.Unpoison u) after old new
+unpoison-left {u = u} s = let left = unpoison-leaves u s.planned s.made in record { rest = left.rest; stops = inl left.stops }

@@ -54,7 +54,7 @@ use Rattle.hwp_scrub.proofs.Scrubbing as scrubbing
 use Rattle.hwp_soft.specs.declared.Soft.{Soft}
 use Rattle.hwp_job.specs.declared.job.Job.{Job}
 use Rattle.hwp_job.specs.declared.job.Job.TheVariants as jobs
-use Rattle.hwp_job.specs.Begins.{Begins, BeginsAccess, BeginsEviction, BeginsInject, BeginsLog, BeginsPrctl, BeginsRaiseKernel, BeginsRaiseUser, BeginsScrub, BeginsSoft, BeginsSpoil, request_of}
+use Rattle.hwp_job.specs.Begins.{Begins, BeginsAccess, BeginsEviction, BeginsInject, BeginsLog, BeginsPrctl, BeginsRaiseKernel, BeginsRaiseUser, BeginsScrub, BeginsSoft, BeginsSpoil, BeginsUnpoison, request_of}
 use Rattle.hwp_job.specs.Done.{can_fail}
 use Rattle.hwp_job.specs.Jobs.{Fits, Next, banks_before, bare, claims, class, left_in, who}
 use Rattle.hwp_job.specs.Runs.{AtRest, Runs, anew}
@@ -210,6 +210,7 @@ goes-on layout found got turn (jobs.Log l) after next = subst (GoesOn (jobs.Log 
 goes-on layout found got turn (jobs.Evict e) after next = subst (GoesOn (jobs.Evict e)) (sym next.1) (record { anew_is = ap (λ (x : Evict). anew (jobs.Evict x)) next.2.0; before = λ kept. refl; fails = refl })
 goes-on layout found got turn (jobs.Inject i) after next = subst (GoesOn (jobs.Inject i)) (sym next.1) (record { anew_is = ap (λ (x : Inject). anew (jobs.Inject x)) next.2.0; before = λ kept. refl; fails = refl })
 goes-on layout found got turn (jobs.Soft s) after next = subst (GoesOn (jobs.Soft s)) (sym next.1) (record { anew_is = ap (λ (x : Soft). anew (jobs.Soft x)) next.2.0; before = λ kept. refl; fails = refl })
+goes-on layout found got turn (jobs.Unpoison u) after next = subst (GoesOn (jobs.Unpoison u)) (sym next.0) (record { anew_is = refl; before = λ kept. refl; fails = refl })
 goes-on layout found got turn (jobs.Fsync f) after next = subst (GoesOn (jobs.Fsync f)) (sym next.0) (record { anew_is = refl; before = λ kept. refl; fails = refl })
 goes-on layout found got turn (jobs.Prctl p) after next = subst (GoesOn (jobs.Prctl p)) (sym next.0) (record { anew_is = refl; before = λ kept. refl; fails = refl })
 goes-on layout found got turn (jobs.Spoil s) after next = subst (GoesOn (jobs.Spoil s)) (sym next.0) (record { anew_is = refl; before = λ kept. refl; fails = refl })
@@ -271,7 +272,7 @@ has-begun layout by command banks j begun = which command begun
     which commands.RaiseNested b = from commands.RaiseNested _ b (λ r. record { runs = r; who_is = refl; start = refl; before = refl; idle = (refl, refl); call = refl }) b
     which (commands.Inject frame) b = from (commands.Inject frame) _ b.job_is (λ r. record { runs = r; who_is = refl; start = refl; before = refl; idle = (refl, refl); call = refl }) b
     which (commands.Soft frame) b = from (commands.Soft frame) _ b.job_is (λ r. record { runs = r; who_is = refl; start = refl; before = refl; idle = (refl, refl); call = refl }) b
-    which _ b = absurd b
+    which (commands.Unpoison frame) b = from (commands.Unpoison frame) _ b.job_is (λ r. record { runs = r; who_is = refl; start = refl; before = refl; idle = (refl, refl); call = refl }) b
 
 pub begins-runs : (layout : Layout) (who : Who) (command : Command) (banks : Banks) (j : Job) → Begins layout who command banks j → Runs layout who command j
 begins-runs layout by command banks j begun = (has-begun layout by command banks j begun).runs
@@ -349,6 +350,9 @@ module _ {layout : Layout} {view : View} {who : Who} (rest : AtRest view who) {j
   soft-fits : {frame : Frame} → BeginsSoft layout who frame j → Fits layout view j
   soft-fits begun = subst (Fits layout view) (sym begun.job_is) (record { on_turn = rest.on_turn; frame = begun.within; at = (rest.hand_is, rest.made) })
 
+  unpoison-fits : {frame : Frame} → BeginsUnpoison layout who frame j → Fits layout view j
+  unpoison-fits begun = subst (Fits layout view) (sym begun.job_is) (record { on_turn = rest.on_turn; hand_is = rest.hand_is; made = rest.made; frame = begun.within; at = rest.revivals })
+
 pub begins-fits : (layout : Layout) (view : View) (who : Who) (command : Command) (banks : Banks) (j : Job) → Begins layout who command banks j → AreBanks banks → AtRest view who → Fits layout view j
 begins-fits layout view by (commands.Load thread slot line) banks j begun free rest = access-fits rest tt begun
 begins-fits layout view by (commands.Fetch thread slot line) banks j begun free rest = access-fits rest tt begun
@@ -369,4 +373,4 @@ begins-fits layout view by (commands.RaiseKernel ripv eipv) banks j begun free r
 begins-fits layout view by (commands.Inject frame) banks j begun free rest = inject-fits rest begun
 begins-fits layout view by (commands.Soft frame) banks j begun free rest = soft-fits rest begun
 begins-fits layout view by commands.RaiseNested banks j begun free rest = subst (Fits layout view) (sym begun) (record { on_turn = rest.on_turn; hand_is = rest.hand_is; made = rest.made; at = tt })
-begins-fits layout view by _ banks j begun free rest = absurd begun
+begins-fits layout view by (commands.Unpoison frame) banks j begun free rest = unpoison-fits rest begun

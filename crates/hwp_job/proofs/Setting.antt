@@ -32,7 +32,7 @@ use Rattle.hwp_job.specs.declared.job.Job.TheVariants as jobs
 use Rattle.hwp_job.specs.Jobs.{plan}
 use Rattle.hwp_job.specs.Settings.{policies_in, set_at, set_now}
 use Rattle.hwp_job.specs.Stays.{Stepped}
-use Rattle.hwp_job.proofs.Resting.{evict-left, fsync-left, inject-left, instruction-left, log-left, nested-left, quiet-step, raise-left, scrub-left, soft-left, spoil-left}
+use Rattle.hwp_job.proofs.Resting.{evict-left, fsync-left, inject-left, instruction-left, log-left, nested-left, quiet-step, raise-left, scrub-left, soft-left, spoil-left, unpoison-left}
 
 pub either-same : (b : Bool) (l : List Policy) → cond b l l ≡ l
 either-same true l = refl
@@ -118,3 +118,4 @@ settings-after {old = old} {new = new} {j = jobs.Spoil p} {after = after} s thre
 settings-after {old = old} {new = new} {j = jobs.Nested n} {after = after} s thread = kept thread old new after (nested-left s).rest.settings (ap (set_now thread) s.follows.0)
 settings-after {old = old} {new = new} {j = jobs.Inject i} {after = after} s thread = kept thread old new after (inject-left s).rest.settings (ap (set_now thread) s.follows.1)
 settings-after {old = old} {new = new} {j = jobs.Soft o} {after = after} s thread = kept thread old new after (soft-left s).rest.settings (ap (set_now thread) s.follows.1)
+settings-after {old = old} {new = new} {j = jobs.Unpoison u} {after = after} s thread = kept thread old new after (unpoison-left s).rest.settings (ap (set_now thread) s.follows.0)

@@ -111,15 +111,21 @@ use Rattle.hwp_soft.specs.declared.soft.SoftAt.{SoftAt}
 use Rattle.hwp_soft.specs.declared.soft.SoftAt.TheVariants as soft_at
 use Rattle.hwp_soft.specs.Offline as offline
 use Rattle.hwp_soft.specs.Softs as softs
+use Rattle.hwp_unpoison.specs.declared.Unpoison.{Unpoison}
+use Rattle.hwp_unpoison.specs.declared.UnpoisonAnswer.{UnpoisonAnswer}
+use Rattle.hwp_unpoison.specs.declared.UnpoisonAnswer.TheVariants as unpoison_answers
+use Rattle.hwp_unpoison.specs.declared.unpoison.UnpoisonAt.{UnpoisonAt}
+use Rattle.hwp_unpoison.specs.declared.unpoison.UnpoisonAt.TheVariants as unpoison_at
+use Rattle.hwp_unpoison.specs.Unpoisons as unpoisons
 use Rattle.hwp_move.specs.Seizes as seizes
 use Rattle.hwp_job.specs.declared.job.Job.{Job}
 use Rattle.hwp_job.specs.declared.job.Job.TheVariants as jobs
-use Rattle.hwp_job.specs.Answers.{evict_answer, fail_answer, fsync_answer, instruction_answer, nested_answer, prctl_answer, raise_answer, read_stop_answer, refusal_answer, scrub_answer, soft_answer, spoil_answer}
+use Rattle.hwp_job.specs.Answers.{evict_answer, fail_answer, fsync_answer, instruction_answer, nested_answer, prctl_answer, raise_answer, read_stop_answer, refusal_answer, scrub_answer, soft_answer, spoil_answer, unpoison_answer}
 use Rattle.hwp_job.specs.Begins.{Begins}
 use Rattle.hwp_job.specs.Jobs.{Fits, answer, who}
 use Rattle.hwp_job.specs.Stays.{EndsStopped, HasSpoiled, HasStopped, IsAtStop, IsHalted, IsStopping, Stepped, StopsItself}
-use Rattle.hwp_job.proofs.Ending.{InjectEnded, answered-over, inject-ended, instruction-ended, mapped, raise-ended, scrub-ended, soft-ended}
-use Rattle.hwp_job.proofs.Resting.{StopsLeft, evict-left, fsync-left, inject-left, instruction-left, log-left, nested-left, prctl-left, raise-left, scrub-left, soft-left, spoil-left}
+use Rattle.hwp_job.proofs.Ending.{InjectEnded, answered-over, inject-ended, instruction-ended, mapped, raise-ended, scrub-ended, soft-ended, unpoison-ended}
+use Rattle.hwp_job.proofs.Resting.{StopsLeft, evict-left, fsync-left, inject-left, instruction-left, log-left, nested-left, prctl-left, raise-left, scrub-left, soft-left, spoil-left, unpoison-left}
 use Rattle.hwp_job.proofs.Running.{has-begun}
 
 -- ---- answers
@@ -144,6 +150,7 @@ unanswered (jobs.Spoil s) is = ap (λ (x : SpoilAt). option_map spoil_answer (sp
 unanswered (jobs.Nested n) is = ap (λ (x : NestedAt). option_map nested_answer (nesteds.answer_at x)) is
 unanswered (jobs.Inject i) is = ap (λ (x : InjectAt). option_map fail_answer (injects.answer_at x)) is
 unanswered (jobs.Soft s) is = ap (λ (x : SoftAt). option_map soft_answer (softs.answer_at x)) is
+unanswered (jobs.Unpoison u) is = ap (λ (x : UnpoisonAt). option_map unpoison_answer (unpoisons.answer_at x)) is
 
 -- a command that has stopped the machine is answered `stopped`
 pub has-stopped : (j : Job) → HasStopped j → answer j ≡ Some answers.Stopped
@@ -240,6 +247,7 @@ stops-after {j = jobs.Spoil p} s = inl (spoil-left s).2
 stops-after {j = jobs.Nested n} s = (nested-left s).stops
 stops-after {j = jobs.Inject i} s = (inject-left s).stops
 stops-after {j = jobs.Soft o} s = (soft-left s).stops
+stops-after {j = jobs.Unpoison u} s = (unpoison-left s).stops
 
 -- the damage that a view lists stays, or is made by the command
 pub spoils-after : {layout : Layout} {old new : View} {j after : Job} → Stepped layout old new j after → (new.spoiled ≡ old.spoiled) ⊎ ((x : Spoiled) × (new.spoiled ≡ old.spoiled ++ x ∷ []) × HasSpoiled after x)
@@ -263,6 +271,7 @@ spoils-after {old = old} {new = new} {j = jobs.Spoil p} {after = after} s = whic
 spoils-after {j = jobs.Nested n} s = inl (nested-left s).rest.spoiled
 spoils-after {j = jobs.Inject i} s = inl (inject-left s).rest.spoiled
 spoils-after {j = jobs.Soft o} s = inl (soft-left s).rest.spoiled
+spoils-after {j = jobs.Unpoison u} s = inl (unpoison-left s).rest.spoiled
 
 -- a command that damaged a line is answered so
 pub has-spoiled : (j : Job) (x : Spoiled) → HasSpoiled j x → answer j ≡ Some answers.Done
@@ -341,6 +350,10 @@ looks {layout} (jobs.Soft o) after s halted start =
     let at = subst (λ (x : SoftAt). softs.FollowsAt layout o.who o.frame (softs.bare_at x) s.found s.got s.follows.0.at s.turn) start s.follows.2.1 in
     ap answer s.follows.1 ∙ ap (λ (x : SoftAt). option_map soft_answer (softs.answer_at x)) at.0
     ∙ ap (λ (b : Bool). option_map soft_answer (softs.answer_at (cond b (soft_at.Over soft_answers.Stopped) (soft_at.Seize (seizes.begin o.who o.frame))))) word
+looks (jobs.Unpoison u) after s halted start =
+    let word : is_stopped s.found ≡ true = stop-word (steps-planned {other = steps.Load places.Stop} (sym (ap (unpoisons.plan_at u.frame) start) ∙ s.planned) s.made) halted in
+    ap answer s.follows.0 ∙ ap (λ (x : UnpoisonAt). option_map unpoison_answer (unpoisons.answer_at (unpoisons.next_at x s.found))) start
+    ∙ ap (λ (b : Bool). option_map unpoison_answer (unpoisons.answer_at (cond b (unpoison_at.Over unpoison_answers.Stopped) unpoison_at.LoadFrame))) word
 
 -- on a machine that has stopped, a command that comes to `stopped` alone still does after its step
 pub halted-stays : {layout : Layout} {old new : View} {j after : Job} → Stepped layout old new j after → IsHalted old → EndsStopped j → IsHalted new × EndsStopped after
@@ -448,6 +461,14 @@ module _ (layout : Layout) (view : View) where
   soft-halts s (soft_answers.TakenFree cycle) caused is = absurd (other _ refl (ap (λ (y : Answer). Some y) is))
   soft-halts s (soft_answers.Moved to place cycle) caused is = absurd (other _ refl (ap (λ (y : Answer). Some y) is))
 
+  unpoison-halts : (u : Unpoison) (x : UnpoisonAnswer) → unpoisons.IsCaused view u.who u.frame x → unpoison_answer x ≡ answers.Stopped → IsHalted view
+  unpoison-halts u unpoison_answers.Stopped caused is = halts caused.1
+  unpoison-halts u (unpoison_answers.Done cycle) caused is = absurd (other _ refl (ap (λ (y : Answer). Some y) is))
+  unpoison-halts u unpoison_answers.NotPoisoned caused is = absurd (other _ refl (ap (λ (y : Answer). Some y) is))
+  unpoison-halts u unpoison_answers.HardwareSeen caused is = absurd (other _ refl (ap (λ (y : Answer). Some y) is))
+  unpoison-halts u (unpoison_answers.HasBad mask) caused is = absurd (other _ refl (ap (λ (y : Answer). Some y) is))
+  unpoison-halts u (unpoison_answers.InUse count) caused is = absurd (other _ refl (ap (λ (y : Answer). Some y) is))
+
 -- a command that is answered `stopped` shows that the machine has stopped
 pub stopped-halts : (layout : Layout) (view : View) (j : Job) → Fits layout view j → answer j ≡ Some answers.Stopped → IsHalted view
 stopped-halts layout view (jobs.Instruction i) fits is = let own = mapped _ (instructions.answer i) is in instruction-halts layout view i.request i.lines.told own.0 (instruction-ended i fits own.1).ended own.2
@@ -461,3 +482,4 @@ stopped-halts layout view (jobs.Spoil s) fits is = spoil-halts layout view s s.a
 stopped-halts layout view (jobs.Nested n) fits is = nested-halts layout view n n.at fits.at is
 stopped-halts layout view (jobs.Inject i) fits is = let own = mapped _ (injects.answer i) is in inject-halts layout view i own.0 (inject-ended i fits own.1) own.2
 stopped-halts layout view (jobs.Soft s) fits is = let own = mapped _ (softs.answer s) is in soft-halts layout view s own.0 (soft-ended s fits own.1).1 own.2
+stopped-halts layout view (jobs.Unpoison u) fits is = let own = mapped _ (unpoisons.answer u) is in unpoison-halts layout view u own.0 (unpoison-ended u fits own.1).1 own.2

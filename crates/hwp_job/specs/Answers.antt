@@ -30,6 +30,8 @@ use Rattle.hwp_scrub.specs.declared.ScrubAnswer.{ScrubAnswer}
 use Rattle.hwp_scrub.specs.declared.ScrubAnswer.TheVariants as scrub
 use Rattle.hwp_soft.specs.declared.SoftAnswer.{SoftAnswer}
 use Rattle.hwp_soft.specs.declared.SoftAnswer.TheVariants as soft
+use Rattle.hwp_unpoison.specs.declared.UnpoisonAnswer.{UnpoisonAnswer}
+use Rattle.hwp_unpoison.specs.declared.UnpoisonAnswer.TheVariants as unpoison
 
 abbrev pub instruction_answer : InstructionAnswer → Answer
 instruction_answer (instruction.Value word at) = answers.Value word at
@@ -97,3 +99,11 @@ soft_answer (soft.HasBad mask) = answers.HasBad mask
 soft_answer soft.NoFrame = answers.NoFrame
 soft_answer (soft.TakenFree cycle) = answers.TakenFree
 soft_answer (soft.Moved frame at cycle) = answers.Moved frame at
+
+abbrev pub unpoison_answer : UnpoisonAnswer → Answer
+unpoison_answer (unpoison.Done cycle) = answers.Done
+unpoison_answer unpoison.Stopped = answers.Stopped
+unpoison_answer unpoison.NotPoisoned = answers.NotPoisoned
+unpoison_answer unpoison.HardwareSeen = answers.HardwareSeen
+unpoison_answer (unpoison.HasBad mask) = answers.HasBad mask
+unpoison_answer (unpoison.InUse count) = answers.InUse count

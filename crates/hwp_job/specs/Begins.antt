@@ -1,6 +1,6 @@
 -- The task that a command begins as.
 use Rattle.std.specs.declared.alloc.Global.{Global}
-use Rattle.std.specs.Prelude.{◌≡◌, ℕ, ◌<◌, Bool, true, false, Some, None, length, slice_get}
+use Rattle.std.specs.Prelude.{◌≡◌, ℕ, ◌<◌, Some, None, length, slice_get}
 use Rattle.hwp_geom.specs.declared.Damage.{Damage}
 use Rattle.hwp_geom.specs.declared.Damage.TheVariants as damages
 use Rattle.hwp_geom.specs.declared.Frame.{Frame}
@@ -46,13 +46,9 @@ use Rattle.hwp_raise.specs.Raises as raises
 use Rattle.hwp_scrub.specs.Fits.{AreFrames}
 use Rattle.hwp_scrub.specs.Scrubs as scrubs
 use Rattle.hwp_soft.specs.Softs as softs
+use Rattle.hwp_unpoison.specs.Unpoisons as unpoisons
 use Rattle.hwp_job.specs.declared.job.Job.{Job}
 use Rattle.hwp_job.specs.declared.job.Job.TheVariants as jobs
-
--- processors run the command: all but `unpoison`
-abbrev pub is_supported : Command → Bool
-is_supported (commands.Unpoison frame) = false
-is_supported command = true
 
 abbrev pub request_of : Who → Thread → VSlot → ℕ → AccessKind → Page → Proc → Request
 request_of who thread slot line kind page process = record { who = who; thread = thread; slot = slot; line = line; kind = kind; page = page; process = process }
@@ -132,6 +128,11 @@ pub record BeginsSoft (layout : Layout) (who : Who) (frame : Frame) (j : Job) : 
   pub within : frame.0 < layout.frames
   pub job_is : j ≡ jobs.Soft (softs.begin who frame)
 
+-- the poison of a frame of the layout is taken back
+pub record BeginsUnpoison (layout : Layout) (who : Who) (frame : Frame) (j : Job) : Type 0 where
+  pub within : frame.0 < layout.frames
+  pub job_is : j ≡ jobs.Unpoison (unpoisons.begin who frame)
+
 -- the task is at the beginning of the command, of a processor whose banks hold this
 abbrev pub Begins : Layout → Who → Command → Banks → Job → Type 0
 Begins layout who (commands.Load thread slot line) banks j = BeginsAccess layout who thread slot line kinds.Load origins.Access modes.User banks j
@@ -153,4 +154,4 @@ Begins layout who (commands.RaiseKernel ripv eipv) banks j = BeginsRaiseKernel l
 Begins layout who commands.RaiseNested banks j = j ≡ jobs.Nested (nesteds.begin who)
 Begins layout who (commands.Inject frame) banks j = BeginsInject layout who frame j
 Begins layout who (commands.Soft frame) banks j = BeginsSoft layout who frame j
-Begins layout who _ banks j = ⊥
+Begins layout who (commands.Unpoison frame) banks j = BeginsUnpoison layout who frame j

@@ -1,4 +1,4 @@
--- What a command has done so far beside what it answers: the frames that it poisoned, the failures that its entries tell, the losses
+-- What a command has done so far beside what it answers: the frames that it marked, the failures that its entries tell, the losses
 -- that it took, and the policy that it set.
 use Rattle.std.specs.Prelude.{◌≡◌, ℕ, Bool, true, false, List, [], ◌∷◌, None, map}
 use Rattle.hwp_geom.specs.declared.FileNo.{FileNo}
@@ -23,11 +23,12 @@ use Rattle.hwp_instr.specs.Done.{FailuresGrow, failures_by}
 use Rattle.hwp_raise.specs.Done as raise_done
 use Rattle.hwp_scrub.specs.Done as scrub_done
 use Rattle.hwp_soft.specs.Done as soft_done
+use Rattle.hwp_unpoison.specs.Done as unpoison_done
 use Rattle.hwp_job.specs.declared.job.Job.{Job}
 use Rattle.hwp_job.specs.declared.job.Job.TheVariants as jobs
 use Rattle.hwp_job.specs.Settings.{set_at}
 
--- the poisonings that the command has made, in order
+-- the marks that the command has made, in order
 abbrev pub marked_at : Frame → InjectAt → List Marking
 marked_at frame (inject_at.Fail f) = fail_done.marked_at frame false f.at
 marked_at frame _ = []
@@ -38,6 +39,7 @@ marked_now (jobs.Raise r) = raise_done.marked_now r
 marked_now (jobs.Scrub s) = scrub_done.marked_now s
 marked_now (jobs.Inject i) = marked_at i.frame i.at
 marked_now (jobs.Soft s) = soft_done.marked_at s.frame s.at
+marked_now (jobs.Unpoison u) = unpoison_done.marked_at u.frame u.at
 marked_now _ = []
 
 -- the failures that its entries tell
@@ -75,7 +77,7 @@ abbrev pub policies_now : Job → List (Thread × Policy)
 policies_now (jobs.Prctl p) = map (λ (policy : Policy). (p.thread, policy)) (set_at p.at)
 policies_now _ = []
 
--- the counts that it owes of its poisonings
+-- the counts that it owes of its marks
 abbrev pub owed_at : InjectAt → ℕ
 owed_at (inject_at.Fail f) = fail_done.owed_at f.at
 owed_at _ = 0
@@ -86,6 +88,7 @@ owed_now (jobs.Raise r) = raise_done.owed_now r
 owed_now (jobs.Scrub s) = scrub_done.owed_now s
 owed_now (jobs.Inject i) = owed_at i.at
 owed_now (jobs.Soft s) = soft_done.owed_at s.at
+owed_now (jobs.Unpoison u) = unpoison_done.owed_at u.at
 owed_now _ = 0
 
 -- the processor owes a count of the frame that its command has just marked, and no other

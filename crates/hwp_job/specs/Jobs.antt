@@ -44,9 +44,12 @@ use Rattle.hwp_soft.specs.declared.SoftAnswer.{SoftAnswer}
 use Rattle.hwp_soft.specs.declared.SoftAnswer.TheVariants as soft_answers
 use Rattle.hwp_soft.specs.Offline as offline
 use Rattle.hwp_soft.specs.Softs as softs
+use Rattle.hwp_unpoison.specs.declared.UnpoisonAnswer.{UnpoisonAnswer}
+use Rattle.hwp_unpoison.specs.declared.UnpoisonAnswer.TheVariants as unpoison_answers
+use Rattle.hwp_unpoison.specs.Unpoisons as unpoisons
 use Rattle.hwp_job.specs.declared.job.Job.{Job}
 use Rattle.hwp_job.specs.declared.job.Job.TheVariants as jobs
-use Rattle.hwp_job.specs.Answers.{evict_answer, fail_answer, fsync_answer, instruction_answer, nested_answer, prctl_answer, raise_answer, read_stop_answer, scrub_answer, soft_answer, spoil_answer}
+use Rattle.hwp_job.specs.Answers.{evict_answer, fail_answer, fsync_answer, instruction_answer, nested_answer, prctl_answer, raise_answer, read_stop_answer, scrub_answer, soft_answer, spoil_answer, unpoison_answer}
 
 abbrev pub who : Job → Who
 who (jobs.Instruction i) = i.request.who
@@ -60,6 +63,7 @@ who (jobs.Spoil s) = s.who
 who (jobs.Nested n) = n.who
 who (jobs.Inject i) = i.who
 who (jobs.Soft s) = s.who
+who (jobs.Unpoison u) = u.who
 
 abbrev pub plan : Job → Option Step
 plan (jobs.Instruction i) = instructions.plan i
@@ -73,6 +77,7 @@ plan (jobs.Spoil s) = spoils.plan s
 plan (jobs.Nested n) = nesteds.plan n
 plan (jobs.Inject i) = injects.plan i
 plan (jobs.Soft s) = softs.plan s
+plan (jobs.Unpoison u) = unpoisons.plan u
 
 abbrev pub put : Job → Option BodyValue
 put (jobs.Instruction i) = instructions.put i
@@ -114,6 +119,7 @@ Next layout (jobs.Spoil s) found got after turn = (after ≡ jobs.Spoil (spoils.
 Next layout (jobs.Nested n) found got after turn = (after ≡ jobs.Nested (nesteds.next n found)) × (turn ≡ nesteds.turn n found)
 Next layout (jobs.Inject i) found got after turn = (k : Inject) × (after ≡ jobs.Inject k) × injects.Follows layout i found got k turn
 Next layout (jobs.Soft s) found got after turn = (k : Soft) × (after ≡ jobs.Soft k) × softs.Follows layout s found got k turn
+Next layout (jobs.Unpoison u) found got after turn = (after ≡ jobs.Unpoison (unpoisons.next u found)) × (turn ≡ unpoisons.turn u found)
 
 abbrev pub Fits : Layout → View → Job → Type 0
 Fits layout view (jobs.Instruction i) = instruction_fits.Fits layout view i
@@ -127,6 +133,7 @@ Fits layout view (jobs.Spoil s) = spoils.Fits layout view s
 Fits layout view (jobs.Nested n) = nesteds.Fits layout view n
 Fits layout view (jobs.Inject i) = injects.Fits layout view i
 Fits layout view (jobs.Soft s) = offline.Fits layout view s
+Fits layout view (jobs.Unpoison u) = unpoisons.Fits layout view u
 
 abbrev pub class : Job → ℕ
 class (jobs.Instruction i) = instruction_costs.class i
@@ -135,6 +142,7 @@ class (jobs.Raise r) = raise_costs.class r
 class (jobs.Scrub s) = scrub_costs.class s
 class (jobs.Inject i) = injects.class i
 class (jobs.Soft s) = softs.class s
+class (jobs.Unpoison u) = unpoisons.class u
 class _ = 4
 
 abbrev pub cost : Job → Words → ℕ
@@ -149,6 +157,7 @@ cost (jobs.Spoil s) words = spoils.cost s
 cost (jobs.Nested n) words = nesteds.cost n
 cost (jobs.Inject i) words = injects.cost i words
 cost (jobs.Soft s) words = softs.cost s words
+cost (jobs.Unpoison u) words = unpoisons.cost u words
 
 abbrev pub claims : Job → Option (Frame × ℕ)
 claims (jobs.Instruction i) = instruction_costs.claims i
@@ -187,6 +196,7 @@ answer (jobs.Spoil s) = option_map spoil_answer (spoils.answer s)
 answer (jobs.Nested n) = option_map nested_answer (nesteds.answer n)
 answer (jobs.Inject i) = option_map fail_answer (injects.answer i)
 answer (jobs.Soft s) = option_map soft_answer (softs.answer s)
+answer (jobs.Unpoison u) = option_map unpoison_answer (unpoisons.answer u)
 
 -- what a failure found where it poisoned its frame
 abbrev pub own_by : Frame → Option FailAnswer → Option Own
@@ -198,10 +208,16 @@ offlined_by frame (soft_answers.Moved to at cycle) = Some (owns.Offlined frame c
 offlined_by frame (soft_answers.TakenFree cycle) = Some (owns.Offlined frame cycle false)
 offlined_by frame _ = None
 
+-- a frame whose poison was taken back
+abbrev pub revived_by : Frame → UnpoisonAnswer → Option Own
+revived_by frame (unpoison_answers.Done cycle) = Some (owns.Revived frame cycle)
+revived_by frame _ = None
+
 -- what the command did to a frame itself
 abbrev pub own_of : Job → Option Own
 own_of (jobs.Inject i) = own_by i.frame (injects.answer i)
 own_of (jobs.Soft s) = option_and_then (offlined_by s.frame) (softs.answer s)
+own_of (jobs.Unpoison u) = option_and_then (revived_by u.frame) (unpoisons.answer u)
 own_of _ = None
 
 abbrev pub row : List Told → Option Own → Answer → Row

@@ -21,6 +21,8 @@ use Rattle.hwp_raise.specs.Logs as logs
 use Rattle.hwp_raise.specs.Raises as raises
 use Rattle.hwp_scrub.specs.Scrubs as scrubs
 use Rattle.hwp_soft.specs.Softs as softs
+use Rattle.hwp_unpoison.specs.Unpoisons as unpoisons
+use Rattle.hwp_unpoison.specs.Unpoisons.{HasRevivalLeft}
 use Rattle.hwp_job.specs.declared.job.Job.{Job}
 use Rattle.hwp_job.specs.declared.job.Job.TheVariants as jobs
 use Rattle.hwp_job.specs.Begins.{Begins}
@@ -39,13 +41,14 @@ anew (jobs.Spoil s) = jobs.Spoil (spoils.begin s.who s.frame s.line s.damage)
 anew (jobs.Nested n) = jobs.Nested (nesteds.begin n.who)
 anew (jobs.Inject i) = jobs.Inject (injects.begin i.alloc i.who i.frame)
 anew (jobs.Soft s) = jobs.Soft (softs.begin s.who s.frame)
+anew (jobs.Unpoison u) = jobs.Unpoison (unpoisons.begin u.who u.frame)
 
 -- the task is of the command: begun anew, it is what the command begins as, where the banks hold what they held then
 abbrev pub Runs : Layout → Who → Command → Job → Type 0
 Runs layout who command j = Begins layout who command (banks_before j []) (anew j)
 
 -- the processor holds nothing and owes no loss, and may begin the command, which has made no entry and marked no frame yet; each
--- thread can be set once more
+-- thread can be set once more, and a poison taken back once more
 pub record AtRest (view : View) (who : Who) : Type 0 where
   pub on_turn : IsOnTurn view who
   pub hand_is : hand_of view ≡ empty
@@ -53,3 +56,4 @@ pub record AtRest (view : View) (who : Who) : Type 0 where
   pub made : HasMadeNone view who
   pub unmarked : HasMarkedNone view who
   pub left : (thread : Thread) → HasSettingLeft thread view
+  pub revivals : HasRevivalLeft who.cpu view

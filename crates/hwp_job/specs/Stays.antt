@@ -53,6 +53,7 @@ use Rattle.hwp_scrub.specs.declared.ScrubAnswer.TheVariants as scrub_answers
 use Rattle.hwp_scrub.specs.declared.scrub.ScrubAt.TheVariants as scrub_at
 use Rattle.hwp_scrub.specs.Scrubs as scrubs
 use Rattle.hwp_soft.specs.declared.soft.SoftAt.TheVariants as soft_at
+use Rattle.hwp_unpoison.specs.declared.unpoison.UnpoisonAt.TheVariants as unpoison_at
 use Rattle.hwp_job.specs.declared.job.Job.{Job}
 use Rattle.hwp_job.specs.declared.job.Job.TheVariants as jobs
 use Rattle.hwp_job.specs.Jobs.{Fits, Next, answer, bare, plan, put, who}
@@ -88,6 +89,7 @@ IsAtStop (jobs.Spoil s) = s.at ≡ spoil_at.LoadStop
 IsAtStop (jobs.Nested n) = n.at ≡ nested_at.LoadStop
 IsAtStop (jobs.Inject i) = i.at ≡ inject_at.LoadStop
 IsAtStop (jobs.Soft s) = s.at ≡ soft_at.LoadStop
+IsAtStop (jobs.Unpoison u) = u.at ≡ unpoison_at.LoadStop
 
 -- on a machine that has stopped the command has no other answer: it has yet to look, or is answered `stopped`
 abbrev pub EndsStopped : Job → Type 0

@@ -7,7 +7,7 @@ ghost use Rattle.hwp_script.specs.Valid.{IsAccess, IsCommandOf, IsThreadOf};
 ghost use Rattle.hwp_law.specs.Checks.{empty_banks};
 ghost use Rattle.hwp_law.specs.Events.{raw_event};
 ghost use Rattle.hwp_law.specs.Policies.{arguments};
-ghost use Rattle.hwp_job.specs.Begins.{Begins, BeginsPrctl, BeginsRaiseUser, begun_access, is_supported, request_of};
+ghost use Rattle.hwp_job.specs.Begins.{Begins, BeginsPrctl, BeginsRaiseUser, begun_access, request_of};
 ghost use Rattle.hwp_job.specs.Jobs.{left_in};
 
 use crate::job::Job;
@@ -24,15 +24,9 @@ use hwp_raise::{Log, Raise, Raiser};
 use hwp_scrub::Scrub;
 use hwp_severity::McgBits;
 use hwp_soft::Soft;
+use hwp_unpoison::Unpoison;
 use std::alloc::Global;
 use std::mem;
-
-/// Whether processors run the command yet: all do but `unpoison`.
-pub fn is_supported(command: Command) -> bool
-    ensures { result ≡ is_supported command }
-{
-    !matches!(command, Command::Unpoison { .. })
-}
 
 impl Job {
     /// The command at its beginning. One that can log or raise an event takes what the banks of its processor hold.
@@ -45,7 +39,6 @@ impl Job {
     ) -> Job
         requires sound { IsSound layout.now }
         requires of { IsCommandOf layout.now who.cpu.0 command }
-        requires supported { is_supported command ≡ true }
         ensures begins { Begins layout.now who command banks.old result }
         ensures banks { banks.new ≡ left_in result banks.old }
     {
@@ -103,7 +96,7 @@ impl Job {
             Command::RaiseNested => Job::Nested(Nested::new(who)),
             Command::Inject { frame } => Job::Inject(Inject::new(alloc, who, frame)),
             Command::Soft { frame } => Job::Soft(Soft::new(who, frame)),
-            Command::Unpoison { .. } => unreachable!(),
+            Command::Unpoison { frame } => Job::Unpoison(Unpoison::new(who, frame)),
         }
     }
 }

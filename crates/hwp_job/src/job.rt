@@ -16,6 +16,7 @@ use hwp_rule::Step;
 use hwp_scrub::{Scrub, ScrubAnswer};
 use hwp_soft::{Soft, SoftAnswer};
 use hwp_step::{Machine, Ranked, Scheduled, Turn};
+use hwp_unpoison::{Unpoison, UnpoisonAnswer};
 use std::alloc::Global;
 
 /// A command of a fault script that runs.
@@ -43,6 +44,8 @@ pub enum Job {
     Inject(Inject),
     /// A frame is taken out of use.
     Soft(Soft),
+    /// A frame's poison is taken back.
+    Unpoison(Unpoison),
 }
 
 impl Job {
@@ -74,6 +77,7 @@ impl Job {
             Job::Nested(nested) => nested.answer().map(|answer| nested_answer(answer)),
             Job::Inject(inject) => inject.answer().map(|answer| fail_answer(answer)),
             Job::Soft(soft) => soft.answer().map(|answer| soft_answer(answer)),
+            Job::Unpoison(unpoison) => unpoison.answer().map(|answer| unpoison_answer(answer)),
         }
     }
 
@@ -98,6 +102,10 @@ impl Job {
                 let own = offlined_of(soft.frame(), soft.answer());
                 row(List::new(alloc), own, answer)
             }
+            Job::Unpoison(unpoison) => {
+                let own = revived_of(unpoison.frame(), unpoison.answer());
+                row(List::new(alloc), own, answer)
+            }
             Job::Evict(_) | Job::Fsync(_) | Job::Prctl(_) | Job::Spoil(_) | Job::Nested(_) => {
                 row(List::new(alloc), None, answer)
             }
@@ -105,8 +113,8 @@ impl Job {
     }
 }
 
-ghost use Rattle.hwp_job.specs.Answers.{evict_answer, fail_answer, fsync_answer, instruction_answer, nested_answer, prctl_answer, raise_answer, read_stop_answer, refusal_answer, scrub_answer, soft_answer, spoil_answer};
-ghost use Rattle.hwp_job.specs.Jobs.{offlined_by, own_by, row};
+ghost use Rattle.hwp_job.specs.Answers.{evict_answer, fail_answer, fsync_answer, instruction_answer, nested_answer, prctl_answer, raise_answer, read_stop_answer, refusal_answer, scrub_answer, soft_answer, spoil_answer, unpoison_answer};
+ghost use Rattle.hwp_job.specs.Jobs.{offlined_by, own_by, revived_by, row};
 ghost use Rattle.hwp_handler.specs.Told.{found_by};
 ghost use Rattle.hwp_law.specs.Answers.{reply_answer};
 ghost use Rattle.hwp_law.specs.Records.{outcome_answer};
@@ -264,6 +272,20 @@ fn soft_answer(answer: SoftAnswer) -> Answer
     }
 }
 
+/// What it says of a frame whose poison was to be taken back.
+fn unpoison_answer(answer: UnpoisonAnswer) -> Answer
+    ensures { result ≡ unpoison_answer answer }
+{
+    match answer {
+        UnpoisonAnswer::Done { .. } => Answer::Done,
+        UnpoisonAnswer::Stopped => Answer::Stopped,
+        UnpoisonAnswer::NotPoisoned => Answer::NotPoisoned,
+        UnpoisonAnswer::HardwareSeen => Answer::HardwareSeen,
+        UnpoisonAnswer::HasBad(mask) => Answer::HasBad(mask),
+        UnpoisonAnswer::InUse { count } => Answer::InUse(u64::from(count)),
+    }
+}
+
 /// What it says of the outcome of a memory failure.
 fn outcome_answer(outcome: Outcome) -> Answer
     ensures { result ≡ outcome_answer outcome }
@@ -332,6 +354,26 @@ fn offlined_of(frame: Frame, answer: Option<SoftAnswer>) -> Option<Own>
     offlined_by(frame, answer?)
 }
 
+/// What a command that takes a frame's poison back did to it.
+fn revived_by(frame: Frame, answer: UnpoisonAnswer) -> Option<Own>
+    ensures { result ≡ revived_by frame answer }
+{
+    match answer {
+        UnpoisonAnswer::Done { cycle } => Some(Own::Revived { frame, cycle }),
+        UnpoisonAnswer::Stopped
+        | UnpoisonAnswer::NotPoisoned
+        | UnpoisonAnswer::HardwareSeen
+        | UnpoisonAnswer::HasBad(_)
+        | UnpoisonAnswer::InUse { .. } => None,
+    }
+}
+
+fn revived_of(frame: Frame, answer: Option<UnpoisonAnswer>) -> Option<Own>
+    ensures { result ≡ option_and_then (revived_by frame) answer }
+{
+    revived_by(frame, answer?)
+}
+
 impl Machine for Job {
     ghost use Rattle.std.specs.Prelude.{◌≡◌};
     ghost use Rattle.hwp_job.specs.Jobs.{Fits, Next, Shows, bare, plan, put, who};
@@ -363,6 +405,7 @@ impl Machine for Job {
             Job::Nested(nested) => nested.who(),
             Job::Inject(inject) => inject.who(),
             Job::Soft(soft) => soft.who(),
+            Job::Unpoison(unpoison) => unpoison.who(),
         }
     }
 
@@ -379,6 +422,7 @@ impl Machine for Job {
             Job::Nested(nested) => nested.plan(),
             Job::Inject(inject) => inject.plan(),
             Job::Soft(soft) => soft.plan(),
+            Job::Unpoison(unpoison) => unpoison.plan(),
         }
     }
 
@@ -395,6 +439,7 @@ impl Machine for Job {
             Job::Nested(nested) => nested.give(),
             Job::Inject(inject) => inject.give(),
             Job::Soft(soft) => soft.give(),
+            Job::Unpoison(unpoison) => unpoison.give(),
         }
     }
 
@@ -411,6 +456,7 @@ impl Machine for Job {
             Job::Nested(nested) => nested.settle(layout, found, body),
             Job::Inject(inject) => inject.settle(layout, found, body),
             Job::Soft(soft) => soft.settle(layout, found, body),
+            Job::Unpoison(unpoison) => unpoison.settle(layout, found, body),
         }
     }
 }
@@ -439,6 +485,7 @@ impl Ranked for Job {
             Job::Nested(nested) => nested.class(),
             Job::Inject(inject) => inject.class(),
             Job::Soft(soft) => soft.class(),
+            Job::Unpoison(unpoison) => unpoison.class(),
         }
     }
 
@@ -459,6 +506,7 @@ impl Scheduled for Job {
             Job::Nested(nested) => nested.is_over(),
             Job::Inject(inject) => inject.is_over(),
             Job::Soft(soft) => soft.is_over(),
+            Job::Unpoison(unpoison) => unpoison.is_over(),
         }
     }
 

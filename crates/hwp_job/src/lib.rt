@@ -4,5 +4,4 @@
 mod begin;
 mod job;
 
-pub use begin::is_supported;
 pub use job::Job;

@@ -13,7 +13,7 @@ use Rattle.hwp_rule.specs.declared.State.{State}
 use Rattle.hwp_rule.specs.declared.Step.{Step}
 use Rattle.hwp_rule.specs.declared.Step.TheVariants as steps
 use Rattle.hwp_rule.specs.declared.View.{View}
-use Rattle.hwp_rule.specs.Served.{IsMild}
+use Rattle.hwp_rule.specs.Lasting.{IsMild, LeavesPoison}
 use Rattle.hwp_rule.specs.Views.{is_lock_of, less_refs, without}
 use Rattle.hwp_rule.specs.Words.{Words}
 use Rattle.hwp_rule.proofs.Lists.{same-number}
@@ -23,6 +23,7 @@ use Rattle.hwp_step.specs.Boards.{view_of}
 use Rattle.hwp_step.specs.Calls.{CanMake, IsOnTurn, Steps, logs}
 use Rattle.hwp_step.specs.Hands.{Hand, hand_of, empty}
 use Rattle.hwp_step.specs.Ranks.{IsRanked, Made, Member, Pending, is_waits, member, words_at}
+use Rattle.hwp_step.proofs.Failures.{mild-leaves}
 use Rattle.hwp_step.proofs.Ranking.{pending-kept}
 use Rattle.hwp_step.proofs.Stepping.{on-turn-after, hand-planned, steps-planned, can-make}
 use Rattle.hwp_known.proofs.Seeing.{saw-stays}
@@ -51,9 +52,9 @@ pub can : (layout : Layout) (view : View) (d : Discard) (step : Step) → Fits l
 can layout view d step fits is = which d.at fits.at is
   where
     which : (x : DiscardAt) → FitsAt layout view d.who d.frame x → plan_at d.frame x ≡ Some step → CanMake layout d.who step (put_at x) view
-    which (at.Poison used) has e = can-make fits.on_turn e tt fits.frame tt
-    which (at.Count cycle) has e = can-make fits.on_turn e tt tt has.2
-    which (at.Retire cycle) has e = can-make fits.on_turn e tt fits.frame (retires view d.frame has.0)
+    which (at.Poison used) has e = can-make fits.on_turn e fits.frame tt
+    which (at.Count cycle) has e = can-make fits.on_turn e tt has.2
+    which (at.Retire cycle) has e = can-make fits.on_turn e fits.frame (retires view d.frame has.0)
     which (at.Unlock u) has e = subst (λ (w : Who). CanMake layout w step (unlocks.put u) view) has.0.own (unlocking.can layout view u step has.0.unlock e)
     which (at.Over cycle) has e = absurd (none-some step e)
 
@@ -219,6 +220,17 @@ discard-ranked = record {
 }
 
 -- ---- what the parent gets
+
+-- none of its steps takes a frame's poison back
+pub discard-lasting : (d : Discard) (step : Step) → plan d ≡ Some step → LeavesPoison step
+discard-lasting d step is = which d.at is
+  where
+    which : (x : DiscardAt) → plan_at d.frame x ≡ Some step → LeavesPoison step
+    which (at.Poison used) e = subst LeavesPoison (same_Some (steps.Poison d.frame false) step e) tt
+    which (at.Count cycle) e = subst LeavesPoison (same_Some (steps.CountPoison false) step e) tt
+    which (at.Retire cycle) e = subst LeavesPoison (same_Some (steps.Retire d.frame) step e) tt
+    which (at.Unlock u) e = mild-leaves step (unlocking.mild u step e)
+    which (at.Over cycle) e = absurd (none-some step e)
 
 pub discard-tells : (layout : Layout) (view : View) (d : Discard) → Fits layout view d → is_none (plan d) ≡ false → Tells view (class d)
 discard-tells layout view d fits on = which d.at fits.at on

@@ -104,7 +104,7 @@ module _ {layout : Layout} {view : View} (r : Relocate) (fits : Fits layout view
   some = let is : _ = fits.count_is in omega (arith, is)
 
   can-cache : IsAhead layout view r.transfer r.maps r.done r.body at.SetCache r.transfer.to → {step : Step} → Some (steps.SetCache r.transfer.page (Some r.transfer.to)) ≡ Some step → CanMake layout r.transfer.who step None view
-  can-cache has e = can-make fits.on_turn e tt fits.page (record {
+  can-cache has e = can-make fits.on_turn e fits.page (record {
     page_held = page-held r.transfer.from (ap (λ (h : Hand). h.pages) has.hand_is) (ap (λ (h : Hand). h.bodies) has.hand_is) (taken-page has.carries);
     frames = (
       λ f named_so. subst (CanFree layout view) (same_Some r.transfer.from f (sym (frame-named r.transfer.from small) ∙ named_so)) (record {
@@ -121,7 +121,7 @@ module _ {layout : Layout} {view : View} (r : Relocate) (fits : Fits layout view
   })
 
   can-clear : IsAhead layout view r.transfer r.maps r.done r.body at.ClearOwner r.transfer.to → {step : Step} → Some (steps.SetOwner r.transfer.from r.transfer.page false) ≡ Some step → CanMake layout r.transfer.who step None view
-  can-clear has e = can-make fits.on_turn e tt fits.from (
+  can-clear has e = can-make fits.on_turn e fits.from (
     fits.page,
     record {
       has = lock-one _ _ (ap (λ (h : Hand). h.locks) has.hand_is) refl;
@@ -152,8 +152,8 @@ pub can : (layout : Layout) (view : View) (r : Relocate) (step : Step) → Fits 
 can layout view r step fits is = which r.at fits.at is
   where
     which : (x : RelocateAt) → FitsAt layout view r.transfer r.maps r.done r.body x → plan_at r.transfer x ≡ Some step → CanMake layout r.transfer.who step (put_at r.body x) view
-    which at.Count has e = can-make fits.on_turn e tt tt has.1
-    which at.SetOwner has e = can-make fits.on_turn e tt fits.to (
+    which at.Count has e = can-make fits.on_turn e tt has.1
+    which at.SetOwner has e = can-make fits.on_turn e fits.to (
       fits.page,
       record {
         has = lock-two _ _ (ap (λ (h : Hand). h.locks) has.hand_is) refl;
@@ -166,21 +166,21 @@ can layout view r step fits is = which r.at fits.at is
     which (at.Remap m) has e = subst (λ (w : Who). CanMake layout w step None view) has.own (remapping.can layout view m step has.remap e)
     which at.SetCache has e = can-cache r fits has e
     which at.ClearOwner has e = can-clear r fits has e
-    which at.UnlockFrame has e = can-put fits.on_turn e tt fits.to (can-unlock r fits has) (body-fits r fits has) tt
+    which at.UnlockFrame has e = can-put fits.on_turn e fits.to (can-unlock r fits has) (body-fits r fits has) tt
     which (at.Release l) has e = subst (λ (w : Who). CanMake layout w step None view) has.own (releasing_laws.can layout view l step has.release e)
     which at.PutRef has e =
         let two = some r fits in
         let locks : locks_on r.transfer.from.0 view.locks ≡ 1 = ap (λ (h : Hand). locks_on r.transfer.from.0 h.locks) has.0 ∙ one-lock r.transfer.from 0 in
         let refs : refs_on r.transfer.from.0 view.refs ≡ r.transfer.count = ap (λ (h : Hand). refs_on r.transfer.from.0 h.refs) has.0 ∙ refs-are r.transfer.from r.transfer.count in
-        can-make fits.on_turn e tt fits.from (omega (arith, two), omega (arith, two, locks, refs))
-    which at.Retire has e = can-make fits.on_turn e tt fits.from (record {
+        can-make fits.on_turn e fits.from (omega (arith, two), omega (arith, two, locks, refs))
+    which at.Retire has e = can-make fits.on_turn e fits.from (record {
       has = lock-held _ (ap (λ (h : Hand). h.locks) has.0) refl;
       unowned = refl;
       unhandled = refl;
       poisoned = refl;
       empty = refl;
     })
-    which at.UnlockPage has e = can-make fits.on_turn e tt fits.page (record {
+    which at.UnlockPage has e = can-make fits.on_turn e fits.page (record {
       has = record { lock = page_lock r.transfer.page (Some r.transfer.to) None; listed = ap (λ (h : Hand). slice_get h.pages 0) has.0; page_is = refl };
       named = refl;
       put_away = λ none. ap (λ (h : Hand). find (is_body_of r.transfer.page) h.bodies) has.0;

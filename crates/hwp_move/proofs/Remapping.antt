@@ -21,7 +21,7 @@ use Rattle.hwp_rule.specs.declared.Step.TheVariants as steps
 use Rattle.hwp_rule.specs.declared.View.{View}
 use Rattle.hwp_rule.specs.Asks.{CanFree, CanName, CanSetPte, HasLock}
 use Rattle.hwp_rule.specs.Logs.{state_of}
-use Rattle.hwp_rule.specs.Served.{IsMild}
+use Rattle.hwp_rule.specs.Lasting.{IsMild}
 use Rattle.hwp_rule.specs.Views.{frame_in, is_body_of, less_named, less_refs, refs_on, with_named, with_refs}
 use Rattle.hwp_rule.specs.Words.{Words}
 use Rattle.hwp_rule.proofs.Lists.{same-number, same-or, set_here, set_else}
@@ -224,7 +224,7 @@ can layout view r step fits is = which r.next fits.at is
   where
     which : (n : Option VSlot) → IsRemapping layout view (record r { next = n }) → plan_at r.to n ≡ Some step → CanMake layout r.who step None view
     which None has e = absurd (none-some step e)
-    which (Some slot) has e = can-make fits.on_turn e tt (within r slot fits has) (can-write r slot fits has)
+    which (Some slot) has e = can-make fits.on_turn e (within r slot fits has) (can-write r slot fits has)
 
 -- a step shows what is needed, and what follows fits again
 pub both : (layout : Layout) (old new : View) (r : Remap) (step : Step) (found : ℕ) (got : Option BodyValue) → Fits layout old r → plan r ≡ Some step → Steps layout r.who step None old new found got → Shows r × ((after : Remap) → Follows r after → Fits layout new after)

@@ -11,7 +11,7 @@ use Rattle.hwp_rule.specs.declared.State.{State}
 use Rattle.hwp_rule.specs.declared.Step.{Step}
 use Rattle.hwp_rule.specs.declared.Step.TheVariants as steps
 use Rattle.hwp_rule.specs.Moves.{Move}
-use Rattle.hwp_rule.specs.Served.{IsMild}
+use Rattle.hwp_rule.specs.Lasting.{IsMild}
 use Rattle.hwp_rule.specs.Steps.{word_after}
 use Rattle.hwp_rule.specs.Words.{Words}
 use Rattle.hwp_rule.proofs.Lists.{same-number}

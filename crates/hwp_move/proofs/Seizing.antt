@@ -51,7 +51,7 @@ pub can : (layout : Layout) (view : View) (s : Seize) (step : Step) → Fits lay
 can layout view s step fits is = which s.at fits.at is
   where
     which : (x : SeizeAt) → FitsAt layout view s.who s.frame x → plan_at s.frame x ≡ Some step → CanMake layout s.who step (put_at x) view
-    which at.Look has e = can-make fits.on_turn e tt fits.frame tt
+    which at.Look has e = can-make fits.on_turn e fits.frame tt
     which (at.Grab g) has e = subst (λ (w : Who). CanMake layout w step None view) has.0.own (grabbing.can layout view g step has.0.grab e)
     which (at.Meet m) has e = subst (λ (w : Who). CanMake layout w step (meets.put m) view) has.0.own (meeting.can layout view m step has.0.meet e)
     which at.Kernel has e = absurd (none-some step e)

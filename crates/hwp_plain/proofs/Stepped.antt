@@ -108,7 +108,7 @@ module _ (layout : Layout) (words : List ℕ) (slots : List Slot) (trail : Trail
       unfolding move
       reached turn = record {
         run = (a, kept.reached.run, move);
-        holds = holds-moved layout seat r a b (keeps step) can.served kept.reached.holds move;
+        holds = holds-moved layout seat r a b (keeps step) kept.reached.holds move;
       }
 
       told : Told layout r view (get_or views seat (opening_view seat))

@@ -46,6 +46,7 @@ use Rattle.hwp_processor.specs.Serving.{FitsAt, HasAccount, HasStopped, HasStopp
 use Rattle.hwp_processor.proofs.Carrying.{can, carried, other, own}
 use Rattle.hwp_processor.proofs.EachKind.{can-stop, on-turn}
 use Rattle.hwp_processor.proofs.Noting.{account-starts, failed-end, noted-end, noted-starts, owes-nothing, spoils-end, unmarked-starts}
+use Rattle.hwp_processor.proofs.Revivals.{revival-left}
 use Rattle.hwp_processor.proofs.Rows.{at_front, past-end, rows-more, stays-more, stop-more, stopped-was}
 
 -- ---- the turn
@@ -183,6 +184,7 @@ module _ (layout : Layout) (old new : View) (cpu : Cpu) (list : List Command) (r
       made = later-none (n + 1) (omega arith);
       unmarked = unmarked-starts new cpu (n + 1) now.listed;
       left = left know start (let within : n + 1 < length list = slice_get_within list (n + 1) command there in omega (arith, few, within));
+      revivals = revival-left new cpu longer noting (let within : n + 1 < length list = slice_get_within list (n + 1) command there in omega (arith, few, within, number));
     });
     policies = subst (λ (i : ℕ). KnowsPolicies layout list new (at_number cpu i) b) (sym number) know;
     stopped = λ some. inl start;

@@ -21,7 +21,7 @@ use Rattle.hwp_job.specs.declared.job.Job.TheVariants as kinds
 use Rattle.hwp_job.specs.Jobs as jobs
 use Rattle.hwp_job.specs.Runs.{Runs, anew}
 use Rattle.hwp_job.specs.Stays as stays
-use Rattle.hwp_job.proofs.OfKind.{of-evict, of-fsync, of-inject, of-instruction, of-log, of-nested, of-prctl, of-raise, of-scrub, of-soft, of-spoil}
+use Rattle.hwp_job.proofs.OfKind.{of-evict, of-fsync, of-inject, of-instruction, of-log, of-nested, of-prctl, of-raise, of-scrub, of-soft, of-spoil, of-unpoison}
 use Rattle.hwp_job.proofs.Stopping.{unrecovered}
 use Rattle.hwp_served.specs.Served.{CanStop, spoiling}
 
@@ -38,6 +38,7 @@ on-turn layout view (kinds.Spoil s) fits = fits.on_turn
 on-turn layout view (kinds.Nested n) fits = fits.on_turn
 on-turn layout view (kinds.Inject i) fits = fits.on_turn
 on-turn layout view (kinds.Soft s) fits = fits.on_turn
+on-turn layout view (kinds.Unpoison u) fits = fits.on_turn
 
 -- ---- a command that stops the machine
 
@@ -73,7 +74,7 @@ can-stop layout view who (commands.Log status addr misc) j runs fits has = absur
 can-stop layout view who (commands.Bad frame line) j runs fits has = absurd (subst stays.HasStopped (of-spoil j runs.job_is).1 has)
 can-stop layout view who (commands.Weak frame line) j runs fits has = absurd (subst stays.HasStopped (of-spoil j runs.job_is).1 has)
 can-stop layout view who (commands.Soft frame) j runs fits has = absurd (subst stays.HasStopped (of-soft j runs.job_is).1 has)
-can-stop layout view who command j runs fits has = absurd runs
+can-stop layout view who (commands.Unpoison frame) j runs fits has = absurd (subst stays.HasStopped (of-unpoison j runs.job_is).1 has)
 
 -- ---- a command that spoils a line
 
@@ -118,4 +119,4 @@ spoils-line layout who (commands.Scrub first last) j s runs has = absurd (none j
 spoils-line layout who commands.RaiseNested j s runs has = absurd (none j s has (of-nested j runs).1)
 spoils-line layout who (commands.Inject frame) j s runs has = absurd (none j s has (of-inject j runs.job_is).1)
 spoils-line layout who (commands.Soft frame) j s runs has = absurd (none j s has (of-soft j runs.job_is).1)
-spoils-line layout who command j s runs has = absurd runs
+spoils-line layout who (commands.Unpoison frame) j s runs has = absurd (none j s has (of-unpoison j runs.job_is).1)

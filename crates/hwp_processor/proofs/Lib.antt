@@ -1,6 +1,7 @@
 pub mod Rows
 pub mod EachKind
 pub mod Noting
+pub mod Revivals
 pub mod Carrying
 pub mod Beginning
 pub mod Settling

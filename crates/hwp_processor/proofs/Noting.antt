@@ -19,6 +19,7 @@ use Rattle.hwp_page.specs.Losses.{is_loss}
 use Rattle.hwp_page.specs.Situations.{outcome_of}
 use Rattle.hwp_rule.specs.declared.Made.{Made}
 use Rattle.hwp_rule.specs.declared.Mark.{Mark}
+use Rattle.hwp_rule.specs.declared.MarkKind.TheVariants as mark_kinds
 use Rattle.hwp_rule.specs.declared.Reported.{Reported}
 use Rattle.hwp_rule.specs.declared.Setting.{Setting}
 use Rattle.hwp_rule.specs.declared.Spoiled.{Spoiled}
@@ -149,12 +150,10 @@ unmarked-starts view cpu n listed = none-own cpu n view.marks listed.marked
 -- the note of a poisoning tells its mark
 note-tells : (who : Who) (hardware : Bool) (how : How) (frame : Frame) (cycle : ℕ) (m : Mark) → IsHow hardware how → m.stamp.who ≡ who → marking_of m ≡ poisoning frame hardware cycle → IsNote (frame, lines.Poisoned cycle who how) m
 note-tells who hardware how frame cycle m is own marked = record {
-  hardware = hardware;
-  how = how;
   frame = sym (ap (λ (x : Marking). x.frame) marked);
-  kind = ap (λ (x : Marking). x.kind) marked;
-  line = ap (λ (c : ℕ). lines.Poisoned c who how) (sym (ap (λ (x : Marking). x.cycle) marked)) ∙ ap (λ (w : Who). lines.Poisoned m.cycle w how) (sym own);
-  is = is;
+  kind = mark_kinds.Poisoned hardware;
+  kind_is = ap (λ (x : Marking). x.kind) marked;
+  line = (how, is, ap (λ (c : ℕ). lines.Poisoned c who how) (sym (ap (λ (x : Marking). x.cycle) marked)) ∙ ap (λ (w : Who). lines.Poisoned m.cycle w how) (sym own));
 }
 
 -- a failure's, and that of what the command did to a frame itself
@@ -162,9 +161,15 @@ failure-tells : (who : Who) (hardware : Bool) (frame : Frame) (found : Found) (m
 failure-tells who hardware frame found m = note-tells who hardware (hows.Failure hardware found.situation (outcome_of found.situation)) frame found.cycle m (refl, refl)
 
 own-tells : (who : Who) (own : Own) (m : Mark) → m.stamp.who ≡ who → marking_of m ≡ marking_by own → IsNote (note_by who own) m
-own-tells who (owns.Failed frame found) m = failure-tells who false frame found m
-own-tells who (owns.Offlined frame cycle true) m = note-tells who false hows.Moved frame cycle m refl
-own-tells who (owns.Offlined frame cycle false) m = note-tells who false hows.TakenFree frame cycle m refl
+own-tells who (owns.Failed frame found) m own marked = failure-tells who false frame found m own marked
+own-tells who (owns.Offlined frame cycle true) m own marked = note-tells who false hows.Moved frame cycle m refl own marked
+own-tells who (owns.Offlined frame cycle false) m own marked = note-tells who false hows.TakenFree frame cycle m refl own marked
+own-tells who (owns.Revived frame cycle) m own marked = record {
+  frame = sym (ap (λ (x : Marking). x.frame) marked);
+  kind = mark_kinds.Revived;
+  kind_is = ap (λ (x : Marking). x.kind) marked;
+  line = ap (λ (c : ℕ). lines.Unpoisoned c who) (sym (ap (λ (x : Marking). x.cycle) marked)) ∙ ap (lines.Unpoisoned m.cycle) (sym own);
+}
 
 -- a note, if there is one, tells the mark that was made; and those behind tell the others
 first-noted : {A : Type 0} (who : Who) (note : A → Note) (marking : A → Marking) → ((x : A) (m : Mark) → m.stamp.who ≡ who → marking_of m ≡ marking x → IsNote (note x) m) → (o : Option A) (more : List Note) (rest : List Marking) (ms : List Mark)

@@ -24,6 +24,7 @@ use Rattle.hwp_processor.specs.Processors.{BeginsAt, at_number, left_of}
 use Rattle.hwp_processor.specs.Serving.{FitsAt, IsDone, IsListed, IsRunning, Serves}
 use Rattle.hwp_processor.proofs.Rows.{past-end}
 use Rattle.hwp_processor.proofs.Noting.{account-starts, noted-starts}
+use Rattle.hwp_processor.proofs.Revivals.{revival-left}
 
 module _ (layout : Layout) (cpu : Cpu) (list : List Command) (few : length list ≤ command_limit) where
   abbrev view : View
@@ -62,7 +63,7 @@ module _ (layout : Layout) (cpu : Cpu) (list : List Command) (few : length list 
     command = command;
     there = there;
     runs = begins-runs layout (at_number cpu 0) command empty_banks j begins;
-    fits = begins-fits layout view (at_number cpu 0) command empty_banks j begins empty-free (record { on_turn = first-turn; hand_is = refl; paid = refl; made = refl; unmarked = refl; left = left know start (let within : 0 < length list = slice_get_within list 0 command there in omega (arith, few, within)) });
+    fits = begins-fits layout view (at_number cpu 0) command empty_banks j begins empty-free (record { on_turn = first-turn; hand_is = refl; paid = refl; made = refl; unmarked = refl; left = left know start (let within : 0 < length list = slice_get_within list 0 command there in omega (arith, few, within)); revivals = revival-left view cpu [] tt (omega arith) });
     policies = know;
     stopped = λ some. inl start;
     stops = λ i who at. absurd (none-some who at);

@@ -15,7 +15,7 @@ use Rattle.hwp_rule.specs.Rule.{Holds}
 use Rattle.hwp_step.specs.declared.Turn.{Turn}
 use Rattle.hwp_step.specs.Boards.{view_of}
 use Rattle.hwp_step.specs.Calls.{logs, rec_of}
-use Rattle.hwp_step.specs.Ranks.{Member, member, Made, CostFalls, HasFailed, IsRanked, OtherHand, Pending, Quiet, failure_weight, failures_left, is_refused, is_waits, top, words_at}
+use Rattle.hwp_step.specs.Ranks.{Member, member, Made, CostFalls, HasFailed, IsRanked, OtherHand, PaysRevival, Pending, Quiet, failure_weight, failures_left, is_refused, is_waits, top, words_at}
 use Rattle.hwp_row.specs.declared.Row.{Row}
 use Rattle.hwp_law.specs.Checks.{Banks}
 use Rattle.hwp_job.specs.declared.job.Job.{Job}
@@ -34,7 +34,7 @@ the-member = member who plan put bare Next Fits class cost aborts claims
 -- ---- one command
 
 -- one that begins has few turns, holds nothing and claims nothing
-begun-idle : (layout : Layout) (a : State) → Holds layout a → (by : Who) (c : Option Command) (banks : Banks) (x : Option Job) → BeginsAt layout by c banks x → (cost_of x (words_at layout a) < 32768) × (class_of x ≡ 4) × (claims_of x ≡ None)
+begun-idle : (layout : Layout) (a : State) → Holds layout a → (by : Who) (c : Option Command) (banks : Banks) (x : Option Job) → BeginsAt layout by c banks x → (cost_of x (words_at layout a) < 131072) × (class_of x ≡ 4) × (claims_of x ≡ None)
 begun-idle layout a rule by (Some command) banks (Some j) begins = let idle = (has-begun layout by command banks j begins).idle in (begins-below layout a by command banks j rule begins, idle.0, idle.1)
 begun-idle layout a rule by None banks None begins = (omega arith, refl, refl)
 begun-idle layout a rule by (Some command) banks None begins = absurd begins
@@ -50,18 +50,22 @@ module _ {layout : Layout} {seat : ℕ} {a b : State} {p q : Processor} {turn : 
   abbrev Lowers : ℕ → Type 0
   Lowers before = (cost q (words_at layout b) < before) ⊎ ((failures_left (words_at layout b) < failures_left (words_at layout a)) × (cost q (words_at layout b) < before + failure_weight))
 
+  -- no more frames are left to fail, or the cost falls below this one by more than they may add to it
+  abbrev Pays : ℕ → Type 0
+  Pays before = (failures_left (words_at layout b) ≤ failures_left (words_at layout a)) ⊎ (cost q (words_at layout b) + failure_weight * failures_left (words_at layout b) < before + failure_weight * failures_left (words_at layout a))
+
   -- where the command that ran was answered, the next one is at its beginning, or all are over
-  answered-idle : (k : Job) (answer : Answer) → IsAnswered (bare p) k answer q → (cost_of q.job (words_at layout b) < 32768) × (class q ≡ 4) × (claims q ≡ None)
+  answered-idle : (k : Job) (answer : Answer) → IsAnswered (bare p) k answer q → (cost_of q.job (words_at layout b) < 131072) × (class q ≡ 4) × (claims q ≡ None)
   answered-idle k answer answered = begun-idle layout b made.kept (at_number p.cpu (length rows + 1)) (slice_get p.commands (length rows + 1)) (banks_after k p.banks) q.job
       (subst (λ (l : Layout). BeginsAt l (at_number p.cpu (length rows + 1)) (slice_get p.commands (length rows + 1)) (banks_after k p.banks) q.job) made.fits.layout_is answered.begins)
 
   -- and this is left
-  answered-falls : (j k : Job) (answer : Answer) → IsRunning layout (view_of a seat) p.cpu p.commands rows p.banks j → IsAnswered (bare p) k answer q → cost q (words_at layout b) < 32768 * (length p.commands - length rows)
+  answered-falls : (j k : Job) (answer : Answer) → IsRunning layout (view_of a seat) p.cpu p.commands rows p.banks j → IsAnswered (bare p) k answer q → cost q (words_at layout b) < 131072 * (length p.commands - length rows)
   answered-falls j k answer at answered =
       let within : length rows < length p.commands = slice_get_within p.commands (length rows) at.command at.there in
       let count : length q.commands ≡ length p.commands = ap length answered.commands_are in
       let one : length q.rows.items ≡ length rows + 1 = ap length answered.rows_are ∙ length-append rows (jobs.row_of k answer ∷ []) in
-      let few : cost_of q.job (words_at layout b) < 32768 = (answered-idle k answer answered).0 in
+      let few : cost_of q.job (words_at layout b) < 131072 = (answered-idle k answer answered).0 in
       omega (arith, within, count, one, few)
 
   module _ (j : Job) (at : IsRunning layout (view_of a seat) p.cpu p.commands rows p.banks j) (planned : jobs.plan j ≡ Some made.step)
@@ -71,17 +75,31 @@ module _ {layout : Layout} {seat : ℕ} {a b : State} {p q : Processor} {turn : 
     of-job k t next = record { step = made.step; found = made.found; got = made.got; rule = made.rule; kept = made.kept; fits = at.fits; planned = planned; move = move; brings = made.brings; follows = next }
 
     falls-on : (k : Job) (t : Turn) → jobs.Next layout (jobs.bare j) made.found made.got k t → (o : Option Answer) → Follows (bare p) k o t q turn → is_waits turn ≡ false
-        → Lowers (32768 * (length p.commands - length rows) + jobs.cost j (words_at layout a))
+        → Lowers (131072 * (length p.commands - length rows) + jobs.cost j (words_at layout a))
     falls-on k t next None (after_is, turn_is) goes = elim (jobbing.ranked.falls layout seat a b j k t (of-job k t next) (sym (ap is_waits turn_is) ∙ goes)) [
-      | inl less ↦ inl (subst (λ (x : Processor). cost x (words_at layout b) < 32768 * (length p.commands - length rows) + jobs.cost j (words_at layout a)) (sym after_is) (omega (arith, less)))
-      | inr fails ↦ inr (fails.fewer, subst (λ (x : Processor). cost x (words_at layout b) < 32768 * (length p.commands - length rows) + jobs.cost j (words_at layout a) + failure_weight) (sym after_is) (omega (arith, fails.bounded)))
+      | inl less ↦ inl (subst (λ (x : Processor). cost x (words_at layout b) < 131072 * (length p.commands - length rows) + jobs.cost j (words_at layout a)) (sym after_is) (omega (arith, less)))
+      | inr fails ↦ inr (fails.fewer, subst (λ (x : Processor). cost x (words_at layout b) < 131072 * (length p.commands - length rows) + jobs.cost j (words_at layout a) + failure_weight) (sym after_is) (omega (arith, fails.bounded)))
     ]
-    falls-on k t next (Some answer) (answered, turn_is) goes = inl (let less : cost q (words_at layout b) < 32768 * (length p.commands - length rows) = answered-falls j k answer at answered in omega (arith, less))
+    falls-on k t next (Some answer) (answered, turn_is) goes = inl (let less : cost q (words_at layout b) < 131072 * (length p.commands - length rows) = answered-falls j k answer at answered in omega (arith, less))
+
+    pays-on : (k : Job) (t : Turn) → jobs.Next layout (jobs.bare j) made.found made.got k t → (o : Option Answer) → Follows (bare p) k o t q turn → Pays (131072 * (length p.commands - length rows) + jobs.cost j (words_at layout a))
+    pays-on k t next o follows = elim (jobbing.pays layout seat a b j k t (of-job k t next)) [
+      | inl stay ↦ inl stay
+      | inr paid ↦ inr (less o follows paid)
+    ]
+      where
+        less : (o : Option Answer) → Follows (bare p) k o t q turn
+            → jobs.cost k (words_at layout b) + failure_weight * failures_left (words_at layout b) < jobs.cost j (words_at layout a) + failure_weight * failures_left (words_at layout a)
+            → cost q (words_at layout b) + failure_weight * failures_left (words_at layout b) < 131072 * (length p.commands - length rows) + jobs.cost j (words_at layout a) + failure_weight * failures_left (words_at layout a)
+        less None (after_is, turn_is) paid = subst (λ (x : Processor). cost x (words_at layout b) + failure_weight * failures_left (words_at layout b) < 131072 * (length p.commands - length rows) + jobs.cost j (words_at layout a) + failure_weight * failures_left (words_at layout a)) (sym after_is) (omega (arith, paid))
+        less (Some answer) (answered, turn_is) paid =
+            let below : cost q (words_at layout b) < 131072 * (length p.commands - length rows) = answered-falls j k answer at answered in
+            omega (arith, below, paid)
 
     waits-on : (k : Job) (t : Turn) → jobs.Next layout (jobs.bare j) made.found made.got k t → (o : Option Answer) → Follows (bare p) k o t q turn → is_waits turn ≡ true → Quiet (jobs.class j) layout a seat
-        → (cost q (words_at layout b) < 32768 * (length p.commands - length rows) + jobs.cost j (words_at layout a)) ⊎ ((aborts q ≡ true) × OtherHand a seat)
+        → (cost q (words_at layout b) < 131072 * (length p.commands - length rows) + jobs.cost j (words_at layout a)) ⊎ ((aborts q ≡ true) × OtherHand a seat)
     waits-on k t next None (after_is, turn_is) is quiet = elim (jobbing.ranked.waits layout seat a b j k t (of-job k t next) (sym (ap is_waits turn_is) ∙ is) quiet) [
-      | inl less ↦ inl (subst (λ (x : Processor). cost x (words_at layout b) < 32768 * (length p.commands - length rows) + jobs.cost j (words_at layout a)) (sym after_is) (omega (arith, less)))
+      | inl less ↦ inl (subst (λ (x : Processor). cost x (words_at layout b) < 131072 * (length p.commands - length rows) + jobs.cost j (words_at layout a)) (sym after_is) (omega (arith, less)))
       | inr gives ↦ inr (ap aborts after_is ∙ gives.0, gives.1)
     ]
     waits-on k t next (Some answer) (answered, turn_is) is quiet = absurd (both_ways true (sym is ∙ ap is_waits turn_is) refl)
@@ -106,7 +124,7 @@ falls layout seat a b p q turn made goes = elim (which p.job made.fits.at made.p
   where
     which : (x : Option Job) → FitsAt layout (view_of a seat) p.cpu p.commands p.rows.items p.banks x → plan_of x ≡ Some made.step
         → Move layout seat (rec_of layout (who_of p.cpu x) made.step (logs (put_of x)) made.found made.got) a b → NextOf layout (bare p) (option_map jobs.bare x) made.found made.got q turn
-        → Lowers made (32768 * (length p.commands - length p.rows.items) + cost_of x (words_at layout a))
+        → Lowers made (131072 * (length p.commands - length p.rows.items) + cost_of x (words_at layout a))
     which (Some j) at planned move next = falls-on made j at planned move next.0 next.1 next.2 (jobs.answer next.0) next.3 goes
     which None at planned move next = absurd (none-some made.step planned)
 
@@ -115,9 +133,19 @@ waits layout seat a b p q turn made is quiet = which p.job made.fits.at made.pla
   where
     which : (x : Option Job) → FitsAt layout (view_of a seat) p.cpu p.commands p.rows.items p.banks x → plan_of x ≡ Some made.step
         → Move layout seat (rec_of layout (who_of p.cpu x) made.step (logs (put_of x)) made.found made.got) a b → NextOf layout (bare p) (option_map jobs.bare x) made.found made.got q turn
-        → Quiet (class_of x) layout a seat → (cost q (words_at layout b) < 32768 * (length p.commands - length p.rows.items) + cost_of x (words_at layout a)) ⊎ ((aborts q ≡ true) × OtherHand a seat)
+        → Quiet (class_of x) layout a seat → (cost q (words_at layout b) < 131072 * (length p.commands - length p.rows.items) + cost_of x (words_at layout a)) ⊎ ((aborts q ≡ true) × OtherHand a seat)
     which (Some j) at planned move next others = waits-on made j at planned move next.0 next.1 next.2 (jobs.answer next.0) next.3 is others
     which None at planned move next others = absurd (none-some made.step planned)
+
+-- a turn pays for what its command takes back
+pub pays : PaysRevival the-member
+pays layout seat a b p q turn made = which p.job made.fits.at made.planned made.move made.follows
+  where
+    which : (x : Option Job) → FitsAt layout (view_of a seat) p.cpu p.commands p.rows.items p.banks x → plan_of x ≡ Some made.step
+        → Move layout seat (rec_of layout (who_of p.cpu x) made.step (logs (put_of x)) made.found made.got) a b → NextOf layout (bare p) (option_map jobs.bare x) made.found made.got q turn
+        → Pays made (131072 * (length p.commands - length p.rows.items) + cost_of x (words_at layout a))
+    which (Some j) at planned move next = pays-on made j at planned move next.0 next.1 next.2 (jobs.answer next.0) next.3
+    which None at planned move next = absurd (none-some made.step planned)
 
 classes : (p : Processor) → (1 ≤ class p) × (class p ≤ 4)
 classes p = which p.job
@@ -129,10 +157,10 @@ classes p = which p.job
 small : (layout : Layout) (a : State) (seat : ℕ) (p : Processor) → Holds layout a → Fits layout (view_of a seat) p → cost p (words_at layout a) < top
 small layout a seat p rule fits =
     let few : length p.commands ≤ command_limit = fits.ready.commands.few in
-    let below : cost_of p.job (words_at layout a) < 32768 = which p.job fits.at in
+    let below : cost_of p.job (words_at layout a) < 131072 = which p.job fits.at in
     omega (arith, few, below)
   where
-    which : (x : Option Job) → FitsAt layout (view_of a seat) p.cpu p.commands p.rows.items p.banks x → cost_of x (words_at layout a) < 32768
+    which : (x : Option Job) → FitsAt layout (view_of a seat) p.cpu p.commands p.rows.items p.banks x → cost_of x (words_at layout a) < 131072
     which (Some j) at = job-below layout a (view_of a seat) j rule at.fits
     which None at = omega arith
 

@@ -1,6 +1,6 @@
 -- The commands of one processor as one task: in all that it plans, shows and needs it is the command that runs, until that is
 -- answered; then the next one begins.
-use Rattle.std.specs.Prelude.{◌≡◌, ℕ, ◌+◌, ◌-◌, ◌*◌, ◌<◌, ◌≤◌, Bool, true, false, List, [], ◌∷◌, ◌++◌, Option, Some, None, All, length, option_map, slice_get, vec_capacity}
+use Rattle.std.specs.Prelude.{◌≡◌, ℕ, ◌+◌, ◌-◌, ◌*◌, ◌<◌, ◌≤◌, Bool, false, List, [], ◌∷◌, ◌++◌, Option, Some, None, All, length, option_map, slice_get, vec_capacity}
 use Rattle.std.specs.Arc.{arc_value}
 use Rattle.hwp_geom.specs.declared.Cpu.{Cpu}
 use Rattle.hwp_geom.specs.declared.Frame.{Frame}
@@ -17,7 +17,7 @@ use Rattle.hwp_rule.specs.Words.{Words}
 use Rattle.hwp_step.specs.declared.Turn.{Turn}
 use Rattle.hwp_step.specs.declared.Turn.TheVariants as turns
 use Rattle.hwp_job.specs.declared.Job.{Job}
-use Rattle.hwp_job.specs.Begins.{Begins, is_supported}
+use Rattle.hwp_job.specs.Begins.{Begins}
 use Rattle.hwp_job.specs.Jobs as jobs
 use Rattle.hwp_job.specs.Jobs.{banks_after, left_in, row_of}
 use Rattle.hwp_law.specs.Checks.{Banks, empty_banks}
@@ -27,10 +27,9 @@ use Rattle.hwp_processor.specs.declared.processor.Processor.{Processor}
 abbrev pub at_number : Cpu → ℕ → Who
 at_number cpu n = record { cpu = cpu; seq = n }
 
--- commands of the processor, which name what the layout declares, and which processors run yet
+-- commands of the processor, which name what the layout declares, no more than a script has
 pub record AreCommands (layout : Layout) (cpu : Cpu) (list : List Command) : Type 0 where
   pub named : All (IsCommandOf layout cpu.0) list
-  pub supported : All (λ (c : Command). is_supported c ≡ true) list
   pub few : length list ≤ command_limit
 
 -- the processor can run its commands, and has memory for a row of each
@@ -114,7 +113,7 @@ aborts p = aborts_of p.job
 
 -- each command that isn't answered costs more than all turns of one, and the one that runs its turns beside
 abbrev pub cost : Processor → Words → ℕ
-cost p words = 32768 * (length p.commands - length p.rows.items) + cost_of p.job words
+cost p words = 131072 * (length p.commands - length p.rows.items) + cost_of p.job words
 
 -- ---- what a turn comes to
 

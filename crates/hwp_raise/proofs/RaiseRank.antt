@@ -16,7 +16,7 @@ use Rattle.hwp_rule.specs.declared.Step.TheVariants as steps
 use Rattle.hwp_rule.specs.declared.View.{View}
 use Rattle.hwp_rule.specs.Moves.{Move}
 use Rattle.hwp_rule.specs.Rule.{Holds}
-use Rattle.hwp_rule.specs.Served.{IsMild}
+use Rattle.hwp_rule.specs.Lasting.{IsMild, LeavesPoison}
 use Rattle.hwp_rule.specs.Words.{Words}
 use Rattle.hwp_step.specs.declared.Turn.{Turn}
 use Rattle.hwp_step.specs.Boards.{view_of}
@@ -33,7 +33,7 @@ use Rattle.hwp_handler.specs.declared.handler.HandlerAt.TheVariants as handler_a
 use Rattle.hwp_handler.specs.Events.{held_in}
 use Rattle.hwp_handler.specs.Handlers as handlers
 use Rattle.hwp_handler.proofs.Grading.{found-in}
-use Rattle.hwp_handler.proofs.HandlerRank.{handler-member, handler-ranked, handler-tells}
+use Rattle.hwp_handler.proofs.HandlerRank.{handler-lasting, handler-member, handler-ranked, handler-tells}
 use Rattle.hwp_handler.proofs.Telling.{tell-cost, tell-idle}
 use Rattle.hwp_raise.specs.Costs.{aborts, aborts_at, claims, claims_at, class, class_at, cost, cost_at}
 use Rattle.hwp_raise.specs.Fits.{Fits, FitsAt}
@@ -265,3 +265,14 @@ raise-tells = record {
   page = λ layout view r fits some. page-told layout view r r.at fits.at some;
   claim = λ layout view r frame cycle fits claimed. claim-told layout view r r.at frame cycle fits.at claimed;
 }
+
+-- none of its steps takes a frame's poison back
+pub raise-lasting : (r : Raise) (step : Step) → plan r ≡ Some step → LeavesPoison step
+raise-lasting r step is = which r.at is
+  where
+    which : (x : RaiseAt) → plan_at x ≡ Some step → LeavesPoison step
+    which at.LoadStop e = subst LeavesPoison (same_Some (steps.Load places.Stop) step e) tt
+    which (at.LoadProcess raiser) e = subst LeavesPoison (same_Some (steps.Load (places.Process raiser.process)) step e) tt
+    which (at.Handle h) e = handler-lasting h step e
+    which at.GiveUp e = subst LeavesPoison (same_Some steps.GiveUp step e) tt
+    which (at.Over answer) e = absurd (none-some step e)

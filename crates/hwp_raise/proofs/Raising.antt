@@ -62,10 +62,10 @@ pub can : (layout : Layout) (view : View) (r : Raise) (step : Step) → Fits lay
 can layout view r step fits is = which r.at fits.at is
   where
     which : (x : RaiseAt) → FitsAt layout view r x → plan_at x ≡ Some step → CanMake layout r.who step (put_at x) view
-    which at.LoadStop has e = can-make fits.on_turn e tt tt tt
-    which (at.LoadProcess raiser) has e = can-make fits.on_turn e tt (subst (IsRaiser layout) has.0 fits.raiser).process tt
+    which at.LoadStop has e = can-make fits.on_turn e tt tt
+    which (at.LoadProcess raiser) has e = can-make fits.on_turn e (subst (IsRaiser layout) has.0 fits.raiser).process tt
     which (at.Handle h) has e = subst (λ (w : Who). CanMake layout w step (handlers.put h) view) has.0.own (handler-can layout view h step has.0.handler e)
-    which at.GiveUp has e = can-make fits.on_turn e tt tt tt
+    which at.GiveUp has e = can-make fits.on_turn e tt tt
     which (at.Over answer) has e = absurd (none-some step e)
 
 -- ---- what stays whatever the state

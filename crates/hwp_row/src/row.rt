@@ -17,6 +17,11 @@ pub enum Own {
         cycle: u32,
         moved: bool,
     },
+    /// It took back the frame's poison of this cycle.
+    Revived {
+        frame: Frame,
+        cycle: u32,
+    },
 }
 
 /// What a command came to (this project's rule).

@@ -27,7 +27,6 @@ pub mod ListingHeld
 pub mod GoingHome
 pub mod steps
 pub mod kinds
-pub mod Unrevived
 pub mod Moving
 pub mod AdoptedFrames
 pub mod OpeningWords

@@ -11,17 +11,14 @@ use Rattle.hwp_rule.specs.declared.view.View.{View}
 use Rattle.hwp_rule.specs.Lists.{Homes, SomeMember}
 use Rattle.hwp_rule.specs.Moves.{Move, moved}
 use Rattle.hwp_rule.specs.Rule.{FrameRule, Holds}
-use Rattle.hwp_rule.specs.Served.{IsServed}
 use Rattle.hwp_rule.specs.Slots.{slot_move, homes_moved, homes_after, Meets}
 use Rattle.hwp_rule.specs.Steps.{place_of, word_after}
-use Rattle.hwp_rule.specs.Unrevived.{HasRevivedNone}
 use Rattle.hwp_rule.specs.Views.{noted, view_by, view_after}
 use Rattle.hwp_rule.specs.Words.{Words, words_of, read, put, index, size, segment, free_words, trans_from, caches_from, pages_from, frees_from, bads_from, weaks_from, processes_from, policies_from, losses_from}
 use Rattle.hwp_rule.proofs.AsksNoted.{asks-noted}
 use Rattle.hwp_rule.proofs.Keeps.{Given, IsShaped, Keeps}
 use Rattle.hwp_rule.proofs.Lists.{set_here, set-set, each-set}
 use Rattle.hwp_rule.proofs.Noted.{keeps-noted, past-now, turn-noted}
-use Rattle.hwp_rule.proofs.Unrevived.{unrevived-after}
 use Rattle.hwp_rule.proofs.WordsByKind.{words-read, words-put}
 use Rattle.hwp_rule.specs.declared.slot_move.SlotMove.TheVariants as moves
 use Rattle.hwp_rule.specs.parts.Holdings.{HoldsNothing, HeldByProcessors}
@@ -96,13 +93,12 @@ rule-moved layout seat r a b keeps h m =
     noted-views : List View
     noted-views = set a.views seat (noted r.who m.view)
 
--- a move whose kind of step is served and keeps the rule
-pub holds-moved : (layout : Layout) (seat : ℕ) (r : Rec) (a b : State) → Keeps r.step → IsServed r.step → Holds layout a → Move layout seat r a b → Holds layout b
-holds-moved layout seat r a b keeps served h m = subst (Holds layout) (sym m.next) (record {
+-- a move whose kind of step keeps the rule
+pub holds-moved : (layout : Layout) (seat : ℕ) (r : Rec) (a b : State) → Keeps r.step → Holds layout a → Move layout seat r a b → Holds layout b
+holds-moved layout seat r a b keeps h m = subst (Holds layout) (sym m.next) (record {
   sound = h.sound;
   words = length-set a.words (index layout (place_of r.step)) (word_after r.step r.found) ∙ h.words;
   slots = length-homes layout r.step r.found r.content a.homes ∙ h.slots;
   rule = rule-moved layout seat r a b keeps h m;
   held = held-set a.views seat (view_after layout r m.view) (turn-after layout r m.view r.who refl m.asks.turn).part h.held;
-  unrevived = each-set HasRevivedNone a.views seat (view_after layout r m.view) (unrevived-after layout r m.view served (h.unrevived seat m.view m.me)) h.unrevived;
 })

@@ -38,7 +38,6 @@ use Rattle.hwp_rule.specs.parts.Exhaustion.{usable, is_marked}
 use Rattle.hwp_rule.specs.parts.Stops.{EndingsAndStopsStay}
 use Rattle.hwp_rule.specs.parts.Fits.{PageFits, Fits, KnowsWords, KnowsOwn}
 use Rattle.hwp_rule.specs.parts.Holdings.{IsBounded, ProcessorsApart, AreOwn, IsPast, HoldsNothing}
-use Rattle.hwp_rule.specs.Unrevived.{HasRevivedNone}
 use Rattle.hwp_words.specs.Counters.{hardware_of, biased_poisoned_of}
 use Rattle.hwp_words.specs.Stops.{stopper_of}
 use Rattle.hwp_rule.specs.declared.view.Ref.{Ref}
@@ -396,9 +395,6 @@ module _ (layout : Layout) (sound : IsSound layout) (w : Words) (o : AreOpening 
     stops = each-none (IsPast (opening_view c).parts);
   })
 
-  unrevived-opened : EachMember HasRevivedNone (opening_views layout)
-  unrevived-opened = each-map opening_view HasRevivedNone (below layout.cpus) (λ i c e. record { marks = each-none (λ (m : Mark). is_poisoning m.kind ≡ true) })
-
   rule-opened : FrameRule layout w (opening_homes layout) (opening_views layout)
   rule-opened = record {
     frames = record {
@@ -502,5 +498,4 @@ opening-holds layout sound = record {
   slots = homes-length layout;
   rule = rule-opened layout sound (words_of layout (opening_words layout)) (are-opening layout sound);
   held = record { nothing = each-map opening_view (λ (v : View). v.parts ≡ [] → HoldsNothing v) (below layout.cpus) (λ i c e none. record { refs = refl; locks = refl; pages = refl; reserved = refl; hands = refl; owed = refl; bodies = refl }) };
-  unrevived = unrevived-opened layout sound (words_of layout (opening_words layout)) (are-opening layout sound);
 }

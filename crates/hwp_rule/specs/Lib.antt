@@ -5,9 +5,8 @@ pub mod Logs
 pub mod Slots
 pub mod Views
 pub mod parts
-pub mod Unrevived
 pub mod Rule
 pub mod Asks
 pub mod Moves
 pub mod Opening
-pub mod Served
+pub mod Lasting

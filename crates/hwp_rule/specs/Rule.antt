@@ -4,7 +4,7 @@ use Rattle.hwp_geom.specs.declared.Layout.{Layout}
 use Rattle.hwp_geom.specs.Layout.{IsSound}
 use Rattle.hwp_rule.specs.declared.record.State.{State}
 use Rattle.hwp_rule.specs.declared.view.View.{View}
-use Rattle.hwp_rule.specs.Lists.{Homes, EachMember}
+use Rattle.hwp_rule.specs.Lists.{Homes}
 use Rattle.hwp_rule.specs.Words.{Words, words_of, size}
 use Rattle.hwp_rule.specs.parts.Counts.{CountsBalance}
 use Rattle.hwp_rule.specs.parts.Places.{HasOnePlace}
@@ -24,7 +24,6 @@ use Rattle.hwp_rule.specs.parts.Policies.{PoliciesListed}
 use Rattle.hwp_rule.specs.parts.Exhaustion.{ExhaustionExplained}
 use Rattle.hwp_rule.specs.parts.Stops.{EndingsAndStopsStay}
 use Rattle.hwp_rule.specs.parts.Fits.{PageFits}
-use Rattle.hwp_rule.specs.Unrevived.{HasRevivedNone}
 
 -- what the parts read of a view
 abbrev pub count_debts_of : View → CountDebts
@@ -84,12 +83,10 @@ pub record FrameRule (layout : Layout) (w : Words) (homes : Homes) (views : List
   pub failures : FailureParts layout w.frames w.counter w.bads w.weaks homes views
   pub processors : ProcessorParts layout w.processes w.policies w.stop views
 
--- a board of a sound layout, with all its words and slots, that keeps the frame rule, where processors alone hold
--- something, and, until unpoisoning is served, where no poison was taken back
+-- a board of a sound layout, with all its words and slots, that keeps the frame rule, where processors alone hold something
 pub record Holds (layout : Layout) (s : State) : Type 0 where
   pub sound : IsSound layout
   pub words : length s.words ≡ size layout
   pub slots : length s.homes ≡ layout.frames + length layout.pages
   pub rule : FrameRule layout (words_of layout s.words) s.homes s.views
   pub held : HeldByProcessors s.views
-  pub unrevived : EachMember HasRevivedNone s.views

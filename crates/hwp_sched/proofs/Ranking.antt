@@ -7,14 +7,12 @@ use Rattle.hwp_geom.specs.declared.Frame.{Frame}
 use Rattle.hwp_geom.specs.declared.Layout.{Layout}
 use Rattle.hwp_rule.specs.declared.View.{View}
 use Rattle.hwp_rule.specs.Rule.{Holds}
-use Rattle.hwp_rule.specs.Served.{IsServed}
 use Rattle.hwp_step.specs.declared.Turn.{Turn}
 use Rattle.hwp_step.specs.declared.Turn.TheVariants as turns
 use Rattle.hwp_step.specs.Boards.{Played, view_of, AreSeated}
 use Rattle.hwp_step.specs.Ranks.{Member, CostFalls, HasFailed, OtherHand, Pending, failures_left, is_refused, is_waits, top, words_at}
 use Rattle.hwp_step.specs.Classes.{IsScheduled}
 use Rattle.hwp_step.proofs.Failures.{failures-few}
-use Rattle.hwp_step.proofs.Ranking.{failures-kept}
 use Rattle.hwp_sched.specs.Order.{Running, IsAt, IsNoMemory, TurnOf, level, levels, IsChosen, cpu_of, seat_of}
 use Rattle.hwp_sched.specs.Rank.{words_in, phi, has_one, yields, aborts_at, cost_at, need_at, ceiling, number_of, rank}
 use Rattle.hwp_sched.specs.Ready.{Claimed, Ready, IsNext}
@@ -96,17 +94,15 @@ module _ {S : Type 0} (m : Member S) (a b : Running S) (p : ℕ) (played : Playe
   cost-now : cost_at m b.tasks (words_in b) p ≡ m.cost turn.after (words_at a.layout b.state)
   cost-now = value-at (λ (x : S). m.cost x (words_in b)) b.tasks p turn.after 0 at-after ∙ ap (λ (l : Layout). m.cost turn.after (words_at l b.state)) layout_is
 
-  served : IsServed turn.made.step
-  served = law-of.served a.layout (view_of a.state (seat_of a p)) turn.before turn.made.step turn.made.fits turn.made.planned
-
   words-now : failures_left (words_in b) ≡ failures_left (words_at a.layout b.state)
   words-now = ap (λ (l : Layout). failures_left (words_at l b.state)) layout_is
 
-  -- what it may need falls with the cost of its task, and where one failure fewer is left
+  -- what it may need falls with the cost of its task, which pays for what may fail again, and where one failure fewer is left
   by-less : CostFalls m a.layout a.state b.state turn.before turn.after → need_at m b.tasks (words_in b) p < need_at m a.tasks (words_in a) p
-  by-less fall =
-      let stay : failures_left (words_at a.layout b.state) ≤ failures_left (words_at a.layout a.state) = failures-kept turn.made served in
-      omega (arith, cost-now, cost-was, words-now, fall, stay)
+  by-less fall = elim (law-of.pays a.layout (seat_of a p) a.state b.state turn.before turn.after played.turn turn.made) [
+    | inl stay ↦ omega (arith, cost-now, cost-was, words-now, fall, stay)
+    | inr paid ↦ omega (arith, cost-now, cost-was, words-now, paid)
+  ]
 
   by-failure : HasFailed m a.layout a.state b.state turn.before turn.after → need_at m b.tasks (words_in b) p < need_at m a.tasks (words_in a) p
   by-failure fails = omega (arith, cost-now, cost-was, words-now, fails.fewer, fails.bounded)

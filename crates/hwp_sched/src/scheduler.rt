@@ -42,7 +42,6 @@ fn keep_law<T: Scheduled>(tasks: &[T])
     let Some(task) = tasks.first() else {
         return;
     };
-    task.who();
     task.ranked();
     task.tells();
 }

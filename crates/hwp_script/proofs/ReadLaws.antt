@@ -76,7 +76,6 @@ not_faulty {bytes} {r} {s} h k =
 
 apart_for : (bytes : List ℕ) (r : Refused) (s : Script) (w : Why) → Reads bytes s → IsRefusedFor bytes r w → ⊥
 apart_for bytes r s whys.TooLong h k = omega (arith, h.short, k.1)
-apart_for bytes r s whys.NotBuilt h k = k
 apart_for bytes r s w h k = not_faulty h k
 
 -- no text is both a script's and refused

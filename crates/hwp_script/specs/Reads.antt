@@ -26,7 +26,6 @@ pub record IsFaulty (bytes : List ℕ) (r : Refused) : Type 0 where
 -- the bytes are refused so, by cases on the reason
 abbrev pub IsRefusedFor : List ℕ → Refused → Why → Type 0
 IsRefusedFor bytes r whys.TooLong = (r.line ≡ 0) × (script_limit < length bytes)
-IsRefusedFor bytes r whys.NotBuilt = ⊥
 IsRefusedFor bytes r w = IsFaulty bytes r
 
 -- the bytes are refused so: as too long, or at the first line at fault

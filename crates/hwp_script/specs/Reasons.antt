@@ -157,7 +157,6 @@ number whys.Twice = 6
 number whys.WrongPlace = 7
 number whys.NoEnd = 8
 number whys.TooLong = 9
-number whys.NotBuilt = 10
 
 -- the reason applies to the line, and no lower one does
 pub record IsLowest (above : List Form) (f : Form) (w : Why) : Type 0 where

@@ -19,8 +19,6 @@ pub enum Why {
     NoEnd,
     /// The script is longer than `MAX_SCRIPT`.
     TooLong,
-    /// The script is read, and has what is not served yet: `read` never gives this reason.
-    NotBuilt,
 }
 
 /// The line that a script is refused at, counted from 1 (0 for the whole script), and the reason.

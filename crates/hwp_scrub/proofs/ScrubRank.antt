@@ -16,7 +16,7 @@ use Rattle.hwp_rule.specs.declared.Step.TheVariants as steps
 use Rattle.hwp_rule.specs.declared.View.{View}
 use Rattle.hwp_rule.specs.Moves.{Move}
 use Rattle.hwp_rule.specs.Rule.{Holds}
-use Rattle.hwp_rule.specs.Served.{IsMild}
+use Rattle.hwp_rule.specs.Lasting.{IsMild, LeavesPoison}
 use Rattle.hwp_rule.specs.Words.{Words}
 use Rattle.hwp_step.specs.declared.Turn.{Turn}
 use Rattle.hwp_step.specs.Boards.{view_of}
@@ -38,7 +38,7 @@ use Rattle.hwp_handler.specs.Fits as handler_fits
 use Rattle.hwp_handler.specs.Fits.{events_of}
 use Rattle.hwp_handler.specs.Handlers as handlers
 use Rattle.hwp_handler.proofs.Grading.{found-in}
-use Rattle.hwp_handler.proofs.HandlerRank.{handler-member, handler-ranked, handler-tells}
+use Rattle.hwp_handler.proofs.HandlerRank.{handler-lasting, handler-member, handler-ranked, handler-tells}
 use Rattle.hwp_handler.proofs.Telling.{tell-cost, tell-idle}
 use Rattle.hwp_scrub.specs.Costs.{aborts, aborts_at, claims, claims_at, class, class_at, cost, cost_at, rest_cost}
 use Rattle.hwp_scrub.specs.Fits.{Fits, FitsAt}
@@ -324,3 +324,15 @@ scrub-tells = record {
   page = λ layout view s fits some. page-told layout view s s.at fits.at some;
   claim = λ layout view s frame cycle fits claimed. claim-told layout view s s.at frame cycle fits.at claimed;
 }
+
+-- none of its steps takes a frame's poison back
+pub scrub-lasting : (s : Scrub) (step : Step) → plan s ≡ Some step → LeavesPoison step
+scrub-lasting s step is = which s.at is
+  where
+    which : (x : ScrubAt) → plan_at x ≡ Some step → LeavesPoison step
+    which at.LoadStop e = subst LeavesPoison (same_Some (steps.Load places.Stop) step e) tt
+    which (at.LoadBad frame) e = subst LeavesPoison (same_Some (steps.Load (places.Bad frame)) step e) tt
+    which (at.Handle frame h) e = handler-lasting h step e
+    which (at.LoadWeak frame) e = subst LeavesPoison (same_Some (steps.Load (places.Weak frame)) step e) tt
+    which at.GiveUp e = subst LeavesPoison (same_Some steps.GiveUp step e) tt
+    which (at.Over answer) e = absurd (none-some step e)

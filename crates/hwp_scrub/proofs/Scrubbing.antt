@@ -70,11 +70,11 @@ can layout view s step fits is = which s.at fits.at is
     inside frame below = let within : s.last.0 < layout.frames = fits.frames.within in omega (arith, below, within)
 
     which : (x : ScrubAt) → FitsAt layout view s x → plan_at x ≡ Some step → CanMake layout s.who step (put_at x) view
-    which at.LoadStop has e = can-make fits.on_turn e tt tt tt
-    which (at.LoadBad frame) has e = can-make fits.on_turn e tt (inside frame has.1) tt
+    which at.LoadStop has e = can-make fits.on_turn e tt tt
+    which (at.LoadBad frame) has e = can-make fits.on_turn e (inside frame has.1) tt
     which (at.Handle frame h) has e = subst (λ (w : Who). CanMake layout w step (handlers.put h) view) has.0.own (handler-can layout view h step has.0.handler e)
-    which (at.LoadWeak frame) has e = can-make fits.on_turn e tt (inside frame has.inside) tt
-    which at.GiveUp has e = can-make fits.on_turn e tt tt tt
+    which (at.LoadWeak frame) has e = can-make fits.on_turn e (inside frame has.inside) tt
+    which at.GiveUp has e = can-make fits.on_turn e tt tt
     which (at.Over answer) has e = absurd (none-some step e)
 
 -- ---- what stays whatever the state

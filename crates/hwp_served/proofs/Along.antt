@@ -15,7 +15,7 @@ use Rattle.hwp_runs.specs.Turns.{Leads}
 
 -- Of a board, and of a view on it: a step leaves it of the other views, and makes it of its own.
 pub record IsKept (layout : Layout) (P : State → View → Type 0) : Type 1 where
-  pub stays : (seat : ℕ) (r : Rec) (a b : State) → Holds layout a → Move layout seat r a b → (v : View) → P a v → P b v
+  pub stays : (seat : ℕ) (r : Rec) (a b : State) → Holds layout a → (m : Move layout seat r a b) → Holds layout b → (v : View) → P a v → P b v
   pub moves : (seat : ℕ) (r : Rec) (a b : State) → Holds layout a → (m : Move layout seat r a b) → Holds layout b → EachMember (P a) a.views → P a m.view → P b (view_after layout r m.view)
   pub opens : (c : ℕ) → P (opening layout) (opening_view c)
 
@@ -24,7 +24,7 @@ module _ (layout : Layout) (P : State → View → Type 0) (kept : IsKept layout
   along [] a b holds leads each = subst (λ (s : State). EachMember (P s) s.views) (sym leads) each
   along (p ∷ ps) a b holds (mid, move, still, rest) each =
       along ps mid b still rest (subst (λ (l : List View). EachMember (P mid) l) (sym (ap (λ (s : State). s.views) move.next))
-      (each-set (P mid) a.views p.seat (view_after layout p.made move.view) (kept.moves p.seat p.made a mid holds move still each (each p.seat move.view move.me)) (λ i v there. kept.stays p.seat p.made a mid holds move v (each i v there))))
+      (each-set (P mid) a.views p.seat (view_after layout p.made move.view) (kept.moves p.seat p.made a mid holds move still each (each p.seat move.view move.me)) (λ i v there. kept.stays p.seat p.made a mid holds move still v (each i v there))))
 
   pub run-keeps : (turns : List Played) (last : State) → Holds layout (opening layout) → Leads layout (opening layout) turns last → EachMember (P last) last.views
   run-keeps turns last holds leads = along turns (opening layout) last holds leads (each-map opening_view (P (opening layout)) (below layout.cpus) (λ i c e. kept.opens c))

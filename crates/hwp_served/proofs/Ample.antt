@@ -12,7 +12,8 @@ use Rattle.hwp_rule.specs.declared.Place.TheVariants as places
 use Rattle.hwp_rule.specs.declared.State.{State}
 use Rattle.hwp_rule.specs.declared.View.{View}
 use Rattle.hwp_rule.specs.Lists.{EachMember, sum_all}
-use Rattle.hwp_rule.specs.Words.{sum_below}
+use Rattle.hwp_rule.specs.Words.{sum_below, words_of}
+use Rattle.hwp_rule.specs.parts.Counter.{is_poisoning}
 use Rattle.hwp_rule.specs.parts.Exhaustion.{is_marked, usable}
 use Rattle.hwp_rule.proofs.Counting.{some-term}
 use Rattle.hwp_rule.proofs.Lists.{at_map, map-was}
@@ -34,12 +35,13 @@ use Rattle.hwp_row.specs.declared.Row.{Row}
 use Rattle.hwp_handler.specs.declared.Told.{Told}
 use Rattle.hwp_handler.specs.Done.{marked_in}
 use Rattle.hwp_handler.specs.Told.{frame_of}
-use Rattle.hwp_served.specs.Accounts.{IsOwn, is_same, markings, markings_in, own_marking}
+use Rattle.hwp_served.specs.Accounts.{IsOwn, is_same, marking_by, markings, markings_in, own_marking}
 use Rattle.hwp_served.proofs.Ending.{IsEnd, command-of, filter-has, list-of, own-view, rows-of, served-of}
 use Rattle.hwp_served.proofs.lines.NamedEvents.{AreSuch, IsNamed, events-named, named-at}
 use Rattle.hwp_served.proofs.Picked.{picked-is}
 use Rattle.hwp_served.proofs.deeds.Made.{command-is}
 use Rattle.hwp_served.proofs.marks.RowNotes.{each-cons}
+use Rattle.hwp_served.proofs.marks.MarkPlaces.{IsMarkOf, below-count, first-poisons, has-place, mark_count, mark_place, word-of-mark}
 use Rattle.hwp_served.proofs.marks.Marked.{same-self}
 
 -- ---- sums
@@ -74,7 +76,7 @@ module _ (script : Script) (seat : Cpu → ℕ) (last : State) (report : Report)
   all_marks = map (λ (v : View). v.marks) last.views
 
   abbrev Such : Marking → Type 0
-  Such k = list_any (λ n. n == k.frame.0) (named_frames script) ≡ true
+  Such k = is_poisoning k.kind ≡ true → list_any (λ n. n == k.frame.0) (named_frames script) ≡ true
 
   -- the frame of a failure by an event is named, and that of what a command did to a frame itself
   picked-named : (row : Row) → AreSuch (IsNamed script seat last report end) row.told → (command : Command) (who : Who) → command_at script who ≡ Some command → IsOwn command row.answer row.own
@@ -88,17 +90,18 @@ module _ (script : Script) (seat : Cpu → ℕ) (last : State) (report : Report)
         where
           which : (t : Told) (o : Option Found) → option_map (λ (found : Found). poisoning (frame_of t.held) true found.cycle) o ≡ Some x → ((found : Found) → o ≡ Some found → IsNamed script seat last report end t.held.event.addr) → Such x
           which t None is named = absurd (none-some x is)
-          which t (Some found) is named = subst Such (same_Some (poisoning (frame_of t.held) true found.cycle) x is) (named found refl)
+          which t (Some found) is named = subst Such (same_Some (poisoning (frame_of t.held) true found.cycle) x is) (λ poisons. named found refl)
 
       by-own : (o : Option Own) (c : Command) → command_at script who ≡ Some c → IsOwn c row.answer o → EachMember Such (cons_option (own_marking o) [])
       by-own None c at own = λ i x there. absurd (none-some x there)
-      by-own (Some (owns.Failed frame found)) (commands.Inject f) at own = each-cons Such (poisoning frame false found.cycle) [] (named-at script who (commands.Inject f) frame.0 at (ap (λ (y : Frame). Some y.0) (sym own.0))) (λ i y there. absurd (none-some y there))
-      by-own (Some (owns.Offlined frame cycle moved)) (commands.Soft f) at own = each-cons Such (poisoning frame false cycle) [] (named-at script who (commands.Soft f) frame.0 at (ap (λ (y : Frame). Some y.0) (sym own.0))) (λ i y there. absurd (none-some y there))
+      by-own (Some (owns.Failed frame found)) (commands.Inject f) at own = each-cons Such (poisoning frame false found.cycle) [] (λ poisons. named-at script who (commands.Inject f) frame.0 at (ap (λ (y : Frame). Some y.0) (sym own.0))) (λ i y there. absurd (none-some y there))
+      by-own (Some (owns.Offlined frame cycle moved)) (commands.Soft f) at own = each-cons Such (poisoning frame false cycle) [] (λ poisons. named-at script who (commands.Soft f) frame.0 at (ap (λ (y : Frame). Some y.0) (sym own.0))) (λ i y there. absurd (none-some y there))
+      by-own (Some (owns.Revived frame cycle)) (commands.Unpoison f) at own = each-cons Such (marking_by (owns.Revived frame cycle)) [] (λ poisons. absurd (true≢false (sym poisons))) (λ i y there. absurd (none-some y there))
       by-own (Some x) c at own = absurd own
 
-  -- a marked frame is named
-  mark-named : (i j : ℕ) (v : View) (m : Mark) → slice_get last.views i ≡ Some v → slice_get v.marks j ≡ Some m → list_any (λ n. n == m.frame.0) (named_frames script) ≡ true
-  mark-named i j v m view there =
+  -- a poisoned frame is named
+  mark-named : (i j : ℕ) (v : View) (m : Mark) → slice_get last.views i ≡ Some v → slice_get v.marks j ≡ Some m → is_poisoning m.kind ≡ true → list_any (λ n. n == m.frame.0) (named_frames script) ≡ true
+  mark-named i j v m view there poisons =
       let who : Who = m.stamp.who in
       let past = (end.board.holds.rule.processors.commands.own i v view).marks j m there in
       let own = own-view script seat last report end i v who view past in
@@ -111,7 +114,7 @@ module _ (script : Script) (seat : Cpu → ℕ) (last : State) (report : Report)
       let told = events-named script seat last report end who.cpu of.list of.own own.0 of.list_is of.own_is who.seq of.row of.row_is in
       let found = filter-has (λ (k : Mark). is_same who k.stamp.who) (view_of last (seat who.cpu)).marks j m mine (same-self who who refl) in
       let among : slice_get (markings who (view_of last (seat who.cpu))) found.0 ≡ Some (marking_of m) = at_map marking_of _ found.0 m found.1 in
-      picked-named of.row told of.command who (command-is script who of.list of.command of.list_is of.command_is) of.served.accounted.own found.0 (marking_of m) (sym (ap (λ (l : List Marking). slice_get l found.0) of.served.accounted.marked) ∙ among)
+      picked-named of.row told of.command who (command-is script who of.list of.command of.list_is of.command_is) of.served.accounted.own found.0 (marking_of m) (sym (ap (λ (l : List Marking). slice_get l found.0) of.served.accounted.marked) ∙ among) poisons
 
   -- a frame without a name has no mark
   unmarked : (f : ℕ) → list_any (λ n. n == f) (named_frames script) ≡ false → sum_all (λ (m : Mark). from_bool (m.frame.0 == f)) all_marks ≡ 0
@@ -129,7 +132,12 @@ module _ (script : Script) (seat : Cpu → ℕ) (last : State) (report : Report)
           let was = map-was (λ (v : View). v.marks) last.views list.0 list.1 list.2 in
           let at : slice_get was.0.marks mark.0 ≡ Some mark.1 = ap (λ (l : List Mark). slice_get l mark.0) was.2 ∙ mark.2 in
           let frame_is : mark.1.frame.0 ≡ f = eqb-true mark.1.frame.0 f (some (mark.1.frame.0 == f) mark.3) in
-          let named : list_any (λ k. k == f) (named_frames script) ≡ true = subst (λ (g : ℕ). list_any (λ k. k == g) (named_frames script) ≡ true) frame_is (mark-named list.0 mark.0 was.0 mark.1 was.1 at) in
+          -- the first mark of the frame
+          let its = word-of-mark script.layout last end.board.holds list.0 mark.0 was.0 mark.1 was.1 at in
+          let less : mark_place mark.1 < mark_count its.0 = below-count script.layout last end.board.holds list.0 mark.0 was.0 mark.1 its.0 was.1 at its.1 in
+          let first : IsMarkOf script.layout last end.board.holds f 0 = has-place script.layout last end.board.holds f its.0 0 (subst (λ (g : ℕ). slice_get (words_of script.layout last.words).frames g ≡ Some its.0) frame_is its.1) (omega (arith, less)) in
+          let named : list_any (λ k. k == f) (named_frames script) ≡ true
+          = subst (λ (g : ℕ). list_any (λ k. k == g) (named_frames script) ≡ true) first.frame_is (mark-named first.i first.j first.view first.mark first.view_is first.listed (first-poisons first.mark first.place_is)) in
           absurd (true≢false (sym named ∙ unnamed))
 
   within : (f : ℕ) → spare script.layout.kernel (named_frames script) f + is_marked script.layout all_marks f ≤ usable script.layout f

@@ -22,7 +22,6 @@ use Rattle.hwp_rule.specs.declared.Made.{Made}
 use Rattle.hwp_rule.specs.declared.Place.TheVariants as places
 use Rattle.hwp_rule.specs.declared.State.{State}
 use Rattle.hwp_rule.specs.declared.View.{View}
-use Rattle.hwp_rule.specs.Lists.{EachMember}
 use Rattle.hwp_rule.specs.Logs.{state_of}
 use Rattle.hwp_step.specs.Boards.{view_of}
 use Rattle.hwp_known.specs.Known.{HasMade, Saw, SawBadOf}
@@ -39,7 +38,7 @@ use Rattle.hwp_report.specs.declared.FrameLine.{FrameLine}
 use Rattle.hwp_report.specs.declared.MarkLine.{MarkLine}
 use Rattle.hwp_report.specs.declared.Report.{Report}
 use Rattle.hwp_law.specs.Answers.{StandsAt, reply_answer}
-use Rattle.hwp_law.specs.Causes.{AreBadLines, ComesTo, HadBadLines, HasMark, IsFailureAnswer, IsOfflineAnswer, IsSigbus, SendsSigbus, IsCaused as IsLawCaused}
+use Rattle.hwp_law.specs.Causes.{AreBadLines, ComesTo, HadBadLines, HasMark, IsCaused as IsLawCaused, IsFailureAnswer, IsOfflineAnswer, IsSigbus, IsUnpoisonAnswer, SendsSigbus, TakesBack}
 use Rattle.hwp_law.specs.Commands.{current_thread}
 use Rattle.hwp_law.specs.Lines.{EventLine, bad_lines_of, events_of}
 use Rattle.hwp_law.specs.Places.{command_at, entry_at}
@@ -53,7 +52,7 @@ use Rattle.hwp_row.specs.declared.Own.TheVariants as owns
 use Rattle.hwp_row.specs.declared.Row.{Row}
 use Rattle.hwp_handler.specs.declared.Told.{Told}
 use Rattle.hwp_handler.specs.Told.{first_signal}
-use Rattle.hwp_served.specs.Causes.{FoundState, HasCome, IsAnswerCaused, IsInjectCaused, IsOfflineCaused, IsSoftCaused, SawBadLines}
+use Rattle.hwp_served.specs.Causes.{FoundState, HasCome, IsAnswerCaused, IsInjectCaused, IsOfflineCaused, IsSoftCaused, IsUnpoisonCaused, SawBadLines}
 use Rattle.hwp_served.specs.Rows.{offlined}
 use Rattle.hwp_served.specs.Runs.{row_at}
 use Rattle.hwp_served.proofs.Ample.{not-ample}
@@ -61,14 +60,13 @@ use Rattle.hwp_served.proofs.Ending.{IsEnd, IsOf}
 use Rattle.hwp_served.proofs.endings.Gone.{is-gone}
 use Rattle.hwp_served.proofs.deeds.Made.{command-is, some-so}
 use Rattle.hwp_served.proofs.lines.Records.{own-mark}
-use Rattle.hwp_served.proofs.marks.Poisoned.{was-poisoned}
-use Rattle.hwp_served.proofs.marks.PoisonSeen.{AreMarkedBy}
+use Rattle.hwp_served.proofs.marks.RecordPlaces.{was-hardware-seen, was-poisoned}
 use Rattle.hwp_served.proofs.RowLines.{event_at, events-told}
 use Rattle.hwp_served.proofs.Seen.{HasSignalled, MadeWhat, has-signalled, made-what}
 use Rattle.hwp_served.proofs.Signalled.{signalled-sends}
 use Rattle.hwp_served.proofs.Stops.{stop-there}
 
-module _ (script : Script) (seat : Cpu → ℕ) (last : State) (report : Report) (end : IsEnd script seat last report) (seen_marks : EachMember (AreMarkedBy last) last.views) (cpu : Cpu) (inside : cpu.0 < script.layout.cpus) where
+module _ (script : Script) (seat : Cpu → ℕ) (last : State) (report : Report) (end : IsEnd script seat last report) (cpu : Cpu) (inside : cpu.0 < script.layout.cpus) where
   abbrev view : View
   view = view_of last (seat cpu)
 
@@ -107,19 +105,19 @@ module _ (script : Script) (seat : Cpu → ℕ) (last : State) (report : Report)
   looked page saw = (saw.0, saw.1, saw.2, saw.3.0)
 
   -- lines that a step of the command showed as bad in a frame are bad in it at the end
-  bad-at-end : {who : Who} (page : Page) (frame : Frame) (mask : Mask) → frame.0 < script.layout.frames → mask.0 ≢ 0 → SawBadOf view who page frame mask.0 → AreBadLines (bad_lines_of report frame.0) mask.0
-  bad-at-end page frame mask inside_ some saw =
+  bad-at-end : {who : Who} (frame : Frame) (mask : Mask) → frame.0 < script.layout.frames → mask.0 ≢ 0 → Saw view who (places.Bad frame) mask.0 → AreBadLines (bad_lines_of report frame.0) mask.0
+  bad-at-end frame mask inside_ some saw =
       let line = there-is report.frames frame.0 (subst (λ (n : ℕ). frame.0 < n) (sym end.board.frames_fit) inside_) in
       let bads = (end.board.ends.frames frame line.0 line.1).bad in
       record {
         some = some;
         within = subst (λ (bad : ℕ). bit_and mask.0 bad ≡ mask.0) (sym (ap (λ (o : Option FrameLine). unwrap_or (option_map (λ (l : FrameLine). l.bad.0) o) 0) line.1))
-            (bad-lines-stay script.layout last end.board.holds (seat cpu) there frame (looked page saw) bads);
+            (bad-lines-stay script.layout last end.board.holds (seat cpu) there frame saw bads);
       }
 
   -- those of a page's frame
   bad-lines : (who : Who) (page : Page) (mask : Mask) (at : At) → FoundState script.layout view who at (λ (s : PageState). s.cached ≡ true) → SawBadLines script.layout view who page mask → HadBadLines script report mask at
-  bad-lines who page mask at found lines = record { cached = had found.saw; frame = lines.frame.0; bad = bad-at-end page lines.frame mask lines.inside lines.some lines.saw }
+  bad-lines who page mask at found lines = record { cached = had found.saw; frame = lines.frame.0; bad = bad-at-end lines.frame mask lines.inside lines.some (looked page lines.saw) }
 
   -- a failure came to its answer
   failure : (who : Who) (frame : Frame) (own : Option Own) (answer : Answer) → ((frame : Frame) (outcome : Outcome) → HasCome script.layout view who frame own outcome → HasMark report who frame (ComesTo outcome))
@@ -127,7 +125,7 @@ module _ (script : Script) (seat : Cpu → ℕ) (last : State) (report : Report)
   failure who frame own answers.Recovered marked come = marked frame _ come
   failure who frame own answers.Delayed marked come = marked frame _ come
   failure who frame own answers.Ignored marked come = marked frame _ come
-  failure who frame own answers.Already marked found = was-poisoned script seat last report end seen_marks cpu inside who frame found.0.word found.0.poisoned found.0.saw
+  failure who frame own answers.Already marked found = was-poisoned script seat last report end cpu inside who frame found.0.word true found.0.poisoned found.0.saw
   failure who frame own _ marked caused = absurd caused
 
   -- a frame that isn't the kernel's is one of the script's
@@ -137,12 +135,15 @@ module _ (script : Script) (seat : Cpu → ℕ) (last : State) (report : Report)
   abbrev IsMarkedSo : Who → Option Own → Type 0
   IsMarkedSo who own = (frame : Frame) (cycle : ℕ) (moved : Bool) → own ≡ Some (owns.Offlined frame cycle moved) → HasMark report who frame (λ (m : MarkLine). how_in m ≡ Some (offlined moved))
 
+  abbrev IsRevivedSo : Who → Option Own → Type 0
+  IsRevivedSo who own = (frame : Frame) (cycle : ℕ) → own ≡ Some (owns.Revived frame cycle) → HasMark report who frame TakesBack
+
   -- an answer of a soft offline of a frame that isn't the kernel's
   offline : (who : Who) (frame : Frame) (own : Option Own) (answer : Answer) → frame.0 < script.layout.frames → IsMarkedSo who own → IsOfflineCaused script.layout view who frame own answer → IsOfflineAnswer script report who frame answer
   offline who frame own (answers.Moved other bt) inside_ marked caused = (stands caused.made.made, marked frame caused.cycle true caused.own_is)
   offline who frame own answers.TakenFree inside_ marked caused = marked frame caused.cycle false caused.own_is
-  offline who frame own answers.Already inside_ marked caused = was-poisoned script seat last report end seen_marks cpu inside who frame caused.0.word caused.0.poisoned caused.0.saw
-  offline who frame own (answers.HasBad mask) inside_ marked caused = bad-at-end caused.0.page frame mask inside_ caused.0.some caused.0.saw
+  offline who frame own answers.Already inside_ marked caused = was-poisoned script seat last report end cpu inside who frame caused.0.word true caused.0.poisoned caused.0.saw
+  offline who frame own (answers.HasBad mask) inside_ marked caused = bad-at-end frame mask inside_ caused.0.some (looked caused.0.page caused.0.saw)
   offline who frame own answers.NoFrame inside_ marked caused = not-ample script seat last report end cpu inside who caused.1
   offline who frame own _ inside_ marked caused = absurd caused
 
@@ -150,6 +151,15 @@ module _ (script : Script) (seat : Cpu → ℕ) (last : State) (report : Report)
   soft who frame own answers.Stopped marked caused = absurd caused.1
   soft who frame own answers.Kernel marked caused = get_or_from_slice_get script.layout.kernel frame.0 true false caused.0.declared
   soft who frame own answer marked caused = (get_or_from_slice_get script.layout.kernel frame.0 false false caused.0, offline who frame own answer (users-inside frame caused.0) marked caused.1)
+
+  -- an answer of a command that takes a poison back
+  unpoison : (who : Who) (frame : Frame) (own : Option Own) (answer : Answer) → IsRevivedSo who own → IsUnpoisonCaused script.layout view who frame own answer → IsUnpoisonAnswer report who frame answer
+  unpoison who frame own answers.Done marked caused = marked frame caused.cycle caused.own_is
+  unpoison who frame own answers.NotPoisoned marked caused = was-poisoned script seat last report end cpu inside who frame caused.word false caused.sound caused.saw
+  unpoison who frame own answers.HardwareSeen marked caused = was-hardware-seen script seat last report end cpu inside who caused.word caused.some caused.saw
+  unpoison who frame own (answers.HasBad mask) marked caused = bad-at-end frame mask caused.inside caused.some caused.saw
+  unpoison who frame own (answers.InUse count) marked caused = tt
+  unpoison who frame own _ marked caused = absurd caused
 
   -- the entry of a failure that signalled the thread
   by-failure : (who : Who) (command : Command) (at : At) → HasSignalled view who command at → IsSigbus report who command at
@@ -169,6 +179,7 @@ module _ (script : Script) (seat : Cpu → ℕ) (last : State) (report : Report)
     pub count : length (events_of report who) ≡ length told
     pub marked : (frame : Frame) (outcome : Outcome) → HasCome script.layout view who frame own outcome → HasMark report who frame (ComesTo outcome)
     pub offlined : IsMarkedSo who own
+    pub revived : IsRevivedSo who own
 
   pub law-caused : (who : Who) (list : List Command) → slice_get script.lists who.cpu.0 ≡ Some list → (command : Command) (told : List Told) (own : Option Own) (answer : Answer) → command_at script who ≡ Some command → HasFacts who command told own
       → IsAnswerCaused script.layout list view who command told own answer → IsLawCaused script report who command answer
@@ -220,17 +231,19 @@ module _ (script : Script) (seat : Cpu → ℕ) (last : State) (report : Report)
   law-caused who list list_is (commands.Scrub first last_frame) told own (answers.Scrubbed n) at facts caused = caused.count ∙ sym facts.count
   law-caused who list list_is (commands.Inject frame) told own answer at facts caused = (caused.0, failure who frame own answer facts.marked caused.1)
   law-caused who list list_is (commands.Soft frame) told own answer at facts caused = soft who frame own answer facts.offlined caused
+  law-caused who list list_is (commands.Unpoison frame) told own answer at facts caused = unpoison who frame own answer facts.revived caused.1
   law-caused who list list_is command told own (answers.Sigbus bt) at facts caused = absurd (neither caused)
   law-caused who list list_is command told own answer at facts caused = absurd caused
 
 -- the report shows the cause of an answer
-pub is-caused : (script : Script) (seat : Cpu → ℕ) (last : State) (report : Report) (end : IsEnd script seat last report) → EachMember (AreMarkedBy last) last.views → (who : Who) (of : IsOf script end.rows (view_of last (seat who.cpu)) who) → IsLawCaused script report who of.command of.row.answer
-is-caused script seat last report end seen_marks who of =
+pub is-caused : (script : Script) (seat : Cpu → ℕ) (last : State) (report : Report) (end : IsEnd script seat last report) → (who : Who) (of : IsOf script end.rows (view_of last (seat who.cpu)) who) → IsLawCaused script report who of.command of.row.answer
+is-caused script seat last report end who of =
     let row_is : row_at end.rows who ≡ Some of.row = ap (λ (o : Option (List Row)). option_and_then (λ (own : List Row). slice_get own who.seq) o) of.own_is ∙ of.row_is in
-    law-caused script seat last report end seen_marks who.cpu of.inside who of.list of.list_is of.command of.row.told of.row.own of.row.answer (command-is script who of.list of.command of.list_is of.command_is)
+    law-caused script seat last report end who.cpu of.inside who of.list of.list_is of.command of.row.told of.row.own of.row.answer (command-is script who of.list of.command of.list_is of.command_is)
     (record {
       signalled = λ at is. has-signalled (view_of last (seat who.cpu)) who of.command of.row at of.served.accounted is;
       count = ap (λ (l : List EventLine). length l) (events-told script seat last report end (view_of last (seat who.cpu)) who of) ∙ length-map of.row.told (event_at who.seq);
       marked = λ frame outcome come. own-mark script seat last report end who of.row row_is (owns.Failed frame come.found) come.own_is (ComesTo outcome) come.outcome_is;
       offlined = λ frame cycle moved own_is. own-mark script seat last report end who of.row row_is (owns.Offlined frame cycle moved) own_is (λ (m : MarkLine). how_in m ≡ Some (offlined moved)) refl;
+      revived = λ frame cycle own_is. own-mark script seat last report end who of.row row_is (owns.Revived frame cycle) own_is TakesBack tt;
     }) of.served.caused

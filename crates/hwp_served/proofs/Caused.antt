@@ -28,7 +28,7 @@ use Rattle.hwp_served.specs.Served.{CanStop}
 use Rattle.hwp_served.specs.Served as served
 use Rattle.hwp_served.proofs.Answered.{is-caused}
 use Rattle.hwp_served.proofs.Ending.{IsEnd, IsOf, command-of, rows-of-lines}
-use Rattle.hwp_served.proofs.Holding.{ended, ended-rows, seen_marks}
+use Rattle.hwp_served.proofs.Holding.{ended, ended-rows}
 use Rattle.hwp_served.proofs.deeds.Made.{command-is, some-so}
 use Rattle.hwp_served.proofs.RowLines.{answer-told, answers-rise, events-told, row-of-line}
 use Rattle.hwp_served.proofs.RowTold.{told-so}
@@ -68,7 +68,7 @@ module _ (script : Script) (seat : Cpu → ℕ) (turns : List Played) (last : St
         let same_command : of.command ≡ command = same_Some of.command command (sym of.command_is ∙ ap (λ (l : List Command). slice_get l n) same_list ∙ command_is) in
         let same_own : of.own ≡ own = same_Some of.own own (sym of.own_is ∙ own_is) in
         let same_row : of.row ≡ row = same_Some of.row row (sym of.row_is ∙ ap (λ (l : List Row). slice_get l n) same_own ∙ row_is) in (
-          subst (λ (r : Row). IsLawCaused script report who command r.answer) same_row (subst (λ (c : Command). IsLawCaused script report who c of.row.answer) same_command (is-caused script seat last report end (seen_marks script seat turns last report run) who of)),
+          subst (λ (r : Row). IsLawCaused script report who command r.answer) same_row (subst (λ (c : Command). IsLawCaused script report who c of.row.answer) same_command (is-caused script seat last report end who of)),
           subst (λ (r : Row). IsHeeded report who r.answer) same_row (heeded who of),
         )
 

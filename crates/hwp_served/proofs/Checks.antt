@@ -34,8 +34,7 @@ use Rattle.hwp_handler.specs.Fits.{AreTold, IsDone, IsFailed, IsTold}
 use Rattle.hwp_handler.specs.Told.{frame_of, required_by, severity_at_once}
 use Rattle.hwp_served.proofs.Ending.{IsEnd}
 use Rattle.hwp_served.proofs.RowLines.{behind, event_at}
-use Rattle.hwp_served.proofs.marks.Poisoned.{was-poisoned}
-use Rattle.hwp_served.proofs.marks.PoisonSeen.{AreMarkedBy}
+use Rattle.hwp_served.proofs.marks.RecordPlaces.{was-poisoned}
 
 -- ---- lists
 
@@ -50,7 +49,7 @@ left-empty : (checks : List Check) → left_by empty_banks checks ≡ empty_bank
 left-empty [] = refl
 left-empty (c ∷ cs) = refl
 
-module _ (script : Script) (seat : Cpu → ℕ) (last : State) (report : Report) (end : IsEnd script seat last report) (seen_marks : EachMember (AreMarkedBy last) last.views) (who : Who) (inside : who.cpu.0 < script.layout.cpus) where
+module _ (script : Script) (seat : Cpu → ℕ) (last : State) (report : Report) (end : IsEnd script seat last report) (who : Who) (inside : who.cpu.0 < script.layout.cpus) where
   abbrev view : View
   view = view_of last (seat who.cpu)
 
@@ -68,7 +67,7 @@ module _ (script : Script) (seat : Cpu → ℕ) (last : State) (report : Report)
     frame = frame_at t.held.event.addr
 
     failed-so : (o : Option Found) → t.found ≡ o → IsFailed script.layout view who (frame_of t.held) required t.acted o → ((t.acted ≡ acts.Already) × WasPoisoned (marks_of report frame) who true) ⊎ IsResult (marks_of report frame) who t.acted
-    failed-so None none failed = inl (failed.0, was-poisoned script seat last report end seen_marks who.cpu inside who (frame_of t.held) failed.1.word failed.1.poisoned failed.1.saw)
+    failed-so None none failed = inl (failed.0, was-poisoned script seat last report end who.cpu inside who (frame_of t.held) failed.1.word true failed.1.poisoned failed.1.saw)
     failed-so (Some found) some failed = inr (result found some)
 
     failure-so : (x y z : Bool) → IsDone script.layout view who required t (cond x (Some acts.Held) (cond y (Some acts.Outside) (cond z None (Some acts.Panic))))

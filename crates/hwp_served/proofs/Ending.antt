@@ -32,6 +32,7 @@ use Rattle.hwp_served.specs.Served.{AreRowsServed, IsRowServed, IsServed}
 use Rattle.hwp_served.proofs.lines.LowWords.{AreOfLines}
 use Rattle.hwp_served.proofs.lines.ScrubBank.{empty-free, row-free}
 use Rattle.hwp_served.proofs.lines.SightedLines.{AreSights}
+use Rattle.hwp_served.proofs.marks.MarkSights.{AreRisingMarks, AreSplit}
 use Rattle.hwp_served.proofs.Spoils.{AreOfParts}
 
 -- the report is that of the last board of a run, where each processor has served its commands
@@ -45,6 +46,8 @@ pub record IsEnd (script : Script) (seat : Cpu → ℕ) (last : State) (report :
   pub served : AreServed script seat last rows report.cpus
   pub records : AreRecords (notes_of 0 rows) report
   pub low : AreOfLines (words_of script.layout last.words)
+  pub marks_rise : EachMember AreRisingMarks last.views
+  pub split : EachMember (AreSplit script.layout last) last.views
   pub spoilers : EachMember (AreOfParts last) last.views
   pub sights : EachMember (AreSights script.layout) last.views
 

@@ -37,7 +37,7 @@ use Rattle.hwp_scrub.specs.Visits.{scrubbing}
 use Rattle.hwp_served.specs.Told.{AreToldBy, IsAccessTold, IsRaiseTold, IsScrubTold, IsUntold, is_raised}
 use Rattle.hwp_served.proofs.Checks.{HasResult, check-so, checks-so}
 use Rattle.hwp_served.proofs.Ending.{IsEnd, rows-of, served-of}
-use Rattle.hwp_served.proofs.Holding.{ended, seen_marks}
+use Rattle.hwp_served.proofs.Holding.{ended}
 use Rattle.hwp_served.proofs.RowLines.{answer-told, event_at, events-by-row, told_at}
 use Rattle.hwp_served.proofs.deeds.CountedEntries.{entries-inside}
 use Rattle.hwp_served.proofs.lines.OfRows.{row-of}
@@ -66,7 +66,7 @@ module _ (script : Script) (seat : Cpu → ℕ) (turns : List Played) (last : St
     answered : answer_of report who ≡ Some row.answer
     answered = let r = row-of script seat last report end who row row_is in answer-told script seat last report end view who r.of ∙ ap (λ (x : Row). Some x.answer) r.same
 
-    results : EachMember (HasResult script seat last report end (seen_marks script seat turns last report run) who inside) row.told
+    results : EachMember (HasResult script seat last report end who inside) row.told
     results i t there found some = result-told script seat last report end who row row_is i t found there some
 
     -- an access has as many machine checks as entries of them
@@ -76,8 +76,8 @@ module _ (script : Script) (seat : Cpu → ℕ) (turns : List Played) (last : St
     of-access : (thread : Thread) (line : ℕ) (origin : Origin) (mode : Mode) → ((frame : Frame) → SawBad script.layout view who line frame → IsDamaged report origin frame.0 line) → (before after : Banks) → IsAccessTold script.layout view who thread line origin mode before row.told after
         → IsAccessChecked script report who (restarting mode) origin line before lines_of_row after
     of-access thread line origin mode damaged before after told =
-        let are = checks-so script seat last report end (seen_marks script seat turns last report run) who inside thread line origin mode damaged before told.checks told.are
-        (subst (EachMember (HasResult script seat last report end (seen_marks script seat turns last report run) who inside)) told.told_is results) in
+        let are = checks-so script seat last report end who inside thread line origin mode damaged before told.checks told.are
+        (subst (EachMember (HasResult script seat last report end who inside)) told.told_is results) in
         subst (λ (n : ℕ). AreAccessChecks script report who (restarting mode) origin line n before lines_of_row after) (told.count ∙ sym checks-count)
         (subst (λ (l : List Told). AreAccessChecks script report who (restarting mode) origin line (length told.checks) before (map (event_at who.seq) l) after) (sym told.told_is)
         (subst (AreAccessChecks script report who (restarting mode) origin line (length told.checks) before (map (event_at who.seq) (lines_of told.checks))) (sym told.after_is) are))
@@ -88,7 +88,7 @@ module _ (script : Script) (seat : Cpu → ℕ) (turns : List Played) (last : St
         (subst (λ (b : Bool). MatchBool b (IsCheck script report who how before lines_of_row × (after ≡ empty_banks)) ((lines_of_row ≡ []) × (after ≡ before))) (sym (same-raised row.answer who.seq row.told)) (which (is_raised row.answer row.told) told))
       where
         which : (b : Bool) → MatchBool b (IsActedOn script.layout view who thread how before row.told × (after ≡ empty_banks)) (IsUntold row.told before after) → MatchBool b (IsCheck script report who how before lines_of_row × (after ≡ empty_banks)) ((lines_of_row ≡ []) × (after ≡ before))
-        which true is = (check-so script seat last report end (seen_marks script seat turns last report run) who inside thread how before row.told is.0 results, is.1)
+        which true is = (check-so script seat last report end who inside thread how before row.told is.0 results, is.1)
         which false is = (ap (map (event_at who.seq)) is.0, is.1)
 
     untold : (before after : Banks) → IsUntold row.told before after → (lines_of_row ≡ []) × (after ≡ before)
@@ -97,7 +97,7 @@ module _ (script : Script) (seat : Cpu → ℕ) (turns : List Played) (last : St
     of-scrub : (first last_frame : Frame) (before after : Banks) → IsScrubTold script.layout view who first last_frame row.answer before row.told after → AreScrubbed script report who scrubbing first.0 (last_frame.0 + 1 - first.0) before lines_of_row after
     of-scrub first last_frame before after told =
         let r = row-of script seat last report end who row row_is in
-        scrubbed-so script seat last report end (seen_marks script seat turns last report run) who r.of first last_frame row.answer before row.told after told answered results
+        scrubbed-so script seat last report end who r.of first last_frame row.answer before row.told after told answered results
 
     of-command : (command : Command) (before after : Banks) → AreToldBy script.layout view who command row.answer before row.told after → AreEventsOf script report who (arrival_of command) command before lines_of_row after
     of-command (commands.Load thread slot line) before after told = of-access thread line origins.Access modes.User (λ frame saw. bad-shown script seat last report end who.cpu inside who line frame saw) before after told

@@ -37,3 +37,10 @@ paired R [] (b ∷ ys) j y pairs there = absurd pairs
 paired R (a ∷ xs) [] j y pairs there = absurd pairs
 paired R (a ∷ xs) (b ∷ ys) zero y pairs there = (a, refl, subst (R a) (same_Some b y there) pairs.0)
 paired R (a ∷ xs) (b ∷ ys) (suc j) y pairs there = paired R xs ys j y pairs.1 there
+
+-- a member of the first of two paired lists has its partner
+pub partner : {A B : Type 0} (R : A → B → Type 0) (xs : List A) (ys : List B) (j : ℕ) (x : A) → Pairs R xs ys → slice_get xs j ≡ Some x → (y : B) × (slice_get ys j ≡ Some y) × R x y
+partner R [] ys j x pairs there = absurd (none-some x there)
+partner R (a ∷ xs) [] j x pairs there = absurd pairs
+partner R (a ∷ xs) (b ∷ ys) zero x pairs there = (b, refl, subst (λ z. R z b) (same_Some a x there) pairs.0)
+partner R (a ∷ xs) (b ∷ ys) (suc j) x pairs there = partner R xs ys j x pairs.1 there

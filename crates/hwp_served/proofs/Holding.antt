@@ -33,7 +33,7 @@ use Rattle.hwp_served.specs.Runs.{IsRunOf}
 use Rattle.hwp_served.proofs.Along.{run-keeps}
 use Rattle.hwp_served.proofs.Answered.{had}
 use Rattle.hwp_served.proofs.Ending.{IsEnd, nothing-held}
-use Rattle.hwp_served.proofs.marks.PoisonSeen.{AreMarkedBy, marked-kept}
+use Rattle.hwp_served.proofs.marks.MarkSights.{AreRisingMarks, AreSplit, rising-kept, split-kept}
 use Rattle.hwp_served.proofs.lines.LowWords.{run-low}
 use Rattle.hwp_served.proofs.lines.SightedLines.{AreSights, sights-kept}
 use Rattle.hwp_served.proofs.Seen.{saw-at}
@@ -52,10 +52,6 @@ no-frame-of layout list view who command told own slot is caused = absurd (none-
 module _ (script : Script) (seat : Cpu → ℕ) (turns : List Played) (last : State) (report : Report) (run : IsRunOf script seat turns last report) where
   pub holds : Holds script.layout last
   holds = leads-hold script.layout (opening script.layout) last turns run.rule run.moves
-
-  -- each frame that a command saw poisoned had its mark
-  pub seen_marks : EachMember (AreMarkedBy last) last.views
-  seen_marks = run-keeps script.layout AreMarkedBy (marked-kept script.layout) turns last run.rule run.moves
 
   -- nothing is in hand
   pub nothing : EachMember HoldsNothing last.views
@@ -84,6 +80,8 @@ module _ (script : Script) (seat : Cpu → ℕ) (turns : List Played) (last : St
     served = run.served;
     records = run.records;
     low = run-low script.layout turns last run.rule run.moves;
+    marks_rise = run-keeps script.layout (λ (s : State) (v : View). AreRisingMarks v) (rising-kept script.layout) turns last run.rule run.moves;
+    split = run-keeps script.layout (AreSplit script.layout) (split-kept script.layout) turns last run.rule run.moves;
     spoilers = run-keeps script.layout AreOfParts (parts-kept script.layout) turns last run.rule run.moves;
     sights = run-keeps script.layout (λ (s : State) (v : View). AreSights script.layout v) (sights-kept script.layout) turns last run.rule run.moves;
   }
@@ -115,7 +113,7 @@ module _ (script : Script) (seat : Cpu → ℕ) (turns : List Played) (last : St
       record {
         at = record { page = found.page; entry = found.place };
         of_slot = found.page_is;
-        out = had script seat last report ended seen_marks cpu a.of.inside found.away;
+        out = had script seat last report ended cpu a.of.inside found.away;
         window = in-window script seat last report ended cpu rows rows_is seq (record { page = found.page; entry = found.place }) (ended.seated.there cpu a.of.inside) (saw-at found.away);
       }
 

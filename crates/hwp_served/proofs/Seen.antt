@@ -43,7 +43,7 @@ use Rattle.hwp_handler.specs.Done.{entered_by, failed_by}
 use Rattle.hwp_handler.specs.Done as done
 use Rattle.hwp_handler.specs.Told.{first_signal, required_by, signal_of}
 use Rattle.hwp_served.specs.Accounts.{IsAccounted, failures_in, own_failure}
-use Rattle.hwp_served.specs.Causes.{IsAnswerCaused, IsCaused, IsOfflineCaused, IsSoftCaused, IsTableCaused, WasSignalled}
+use Rattle.hwp_served.specs.Causes.{IsAnswerCaused, IsCaused, IsOfflineCaused, IsSoftCaused, IsTableCaused, WasSignalled, IsUnpoisonCaused}
 use Rattle.hwp_served.proofs.Picked.{picked-has, picked-is}
 
 -- the command saw the page after as many entries as the place says
@@ -287,6 +287,14 @@ module _ (layout : Layout) (list : List Command) (view : View) (who : Who) where
   offline-place frame own answers.NoFrame caused at is = absurd (none-some at is)
   offline-place frame own answer caused at is = absurd caused
 
+  unpoison-place : (frame : Frame) (own : Option Own) (answer : Answer) → IsUnpoisonCaused layout view who frame own answer → Names answer
+  unpoison-place frame own answers.Done caused at is = absurd (none-some at is)
+  unpoison-place frame own answers.NotPoisoned caused at is = absurd (none-some at is)
+  unpoison-place frame own answers.HardwareSeen caused at is = absurd (none-some at is)
+  unpoison-place frame own (answers.HasBad mask) caused at is = absurd (none-some at is)
+  unpoison-place frame own (answers.InUse count) caused at is = absurd (none-some at is)
+  unpoison-place frame own answer caused at is = absurd caused
+
   soft-place : (frame : Frame) (own : Option Own) (answer : Answer) → IsSoftCaused layout view who frame own answer → Names answer
   soft-place frame own answers.Kernel caused at is = absurd (none-some at is)
   soft-place frame own answer caused at is = offline-place frame own answer caused.1 at is
@@ -305,6 +313,7 @@ module _ (layout : Layout) (list : List Command) (view : View) (who : Who) where
   answer-place (commands.Inject frame) told own answers.Already either caused at is = absurd (none-some at is)
   answer-place (commands.Inject frame) told own answer either caused at is = absurd caused.1
   answer-place (commands.Soft frame) told own answer either caused at is = soft-place frame own answer caused at is
+  answer-place (commands.Unpoison frame) told own answer either caused at is = unpoison-place frame own answer caused.1 at is
   answer-place command told own (answers.Sigbus bt) either caused at is = either bt caused at is
   answer-place command told own answer either caused at is = table-place command answer caused at is
 
@@ -346,6 +355,14 @@ module _ (layout : Layout) (list : List Command) (view : View) (who : Who) where
   offline-state frame own answers.NoFrame caused at is = absurd (none-some at is)
   offline-state frame own answer caused at is = absurd caused
 
+  unpoison-state : (frame : Frame) (own : Option Own) (answer : Answer) → IsUnpoisonCaused layout view who frame own answer → (at : At) → state_named answer ≡ Some at → SawAt view who at
+  unpoison-state frame own answers.Done caused at is = absurd (none-some at is)
+  unpoison-state frame own answers.NotPoisoned caused at is = absurd (none-some at is)
+  unpoison-state frame own answers.HardwareSeen caused at is = absurd (none-some at is)
+  unpoison-state frame own (answers.HasBad mask) caused at is = absurd (none-some at is)
+  unpoison-state frame own (answers.InUse count) caused at is = absurd (none-some at is)
+  unpoison-state frame own answer caused at is = absurd caused
+
   soft-state : (frame : Frame) (own : Option Own) (answer : Answer) → IsSoftCaused layout view who frame own answer → (at : At) → state_named answer ≡ Some at → SawAt view who at
   soft-state frame own answers.Kernel caused at is = absurd (none-some at is)
   soft-state frame own answer caused at is = offline-state frame own answer caused.1 at is
@@ -362,6 +379,7 @@ module _ (layout : Layout) (list : List Command) (view : View) (who : Who) where
   answer-state (commands.Inject frame) told own answers.Already caused at is = absurd (none-some at is)
   answer-state (commands.Inject frame) told own answer caused at is = absurd caused.1
   answer-state (commands.Soft frame) told own answer caused at is = soft-state frame own answer caused at is
+  answer-state (commands.Unpoison frame) told own answer caused at is = unpoison-state frame own answer caused.1 at is
   answer-state command told own (answers.Sigbus bt) caused at is = absurd (none-some at is)
   answer-state command told own answer caused at is = table-state command answer caused at is
 

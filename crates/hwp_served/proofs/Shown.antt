@@ -1,5 +1,5 @@
 -- What a command's cause rests on was shown by turns of the command itself.
-use Rattle.std.proofs.Common.{◌≡◌, ◌≢◌, ◌⊎◌, ℕ, ◌+◌, not, true, false, List, Option, Some, None, length, take, slice_get, option_and_then, refl, sym, ap, ◌∙◌, subst, inl, inr, true≢false}
+use Rattle.std.proofs.Common.{◌≡◌, ◌≢◌, ◌⊎◌, ℕ, ◌+◌, not, true, false, List, Option, Some, None, length, take, slice_get, option_and_then, refl, sym, ap, ◌∙◌, subst, inl, inr, true≢false, ◌<◌}
 use Rattle.std.specs.Prelude.{IsSomeAnd}
 use Rattle.std.proofs.lemmas.Bool.{eq-eqb}
 use Rattle.std.proofs.lemmas.Option.{none-some, same_Some}
@@ -19,7 +19,8 @@ use Rattle.hwp_page.specs.declared.At.{At}
 use Rattle.hwp_page.specs.declared.PageState.{PageState}
 use Rattle.hwp_page.specs.Refusals.{IsAway}
 use Rattle.hwp_page.specs.Step.{IsOf}
-use Rattle.hwp_words.specs.Frames.{is_kernel, is_poisoned}
+use Rattle.hwp_words.specs.Counters.{hardware_of}
+use Rattle.hwp_words.specs.Frames.{is_kernel, is_poisoned, count_of}
 use Rattle.hwp_words.specs.Stops.{stopper_of}
 use Rattle.hwp_rule.specs.declared.Length.{Length}
 use Rattle.hwp_rule.specs.declared.Log.{Log}
@@ -51,11 +52,11 @@ use Rattle.hwp_law.specs.Runs.{slot_of}
 use Rattle.hwp_row.specs.declared.Own.{Own}
 use Rattle.hwp_handler.specs.declared.Told.{Told}
 use Rattle.hwp_handler.specs.Told.{frame_of}
-use Rattle.hwp_runs.specs.Shown.{AlreadyShown, AnswerShown, GoesOn, GoneShown, IsFree, LengthShown, NoFrameShown, ProcessShown, StopShown}
+use Rattle.hwp_runs.specs.Shown.{AlreadyShown, AnswerShown, GoesOn, GoneShown, IsFree, LengthShown, NoFrameShown, ProcessShown, StopShown, IsRevivable}
 use Rattle.hwp_runs.specs.Turns.{Finds, FindsBad, HasFrameOf, SawPage, SeesPage, TurnBy}
 use Rattle.hwp_runs.proofs.Knowing.{IsUnder, Said}
 use Rattle.hwp_runs.proofs.Telling.{told}
-use Rattle.hwp_served.specs.Causes.{FoundGone, FoundNoFrame, FoundState, FoundStopped, IsAnswerCaused, IsOfflineCaused, IsSoftCaused, IsTableCaused, SawBadLines, SawProcess, WasSignalled}
+use Rattle.hwp_served.specs.Causes.{FoundGone, FoundNoFrame, FoundState, FoundStopped, IsAnswerCaused, IsOfflineCaused, IsSoftCaused, IsTableCaused, SawBadLines, SawProcess, WasSignalled, IsUnpoisonCaused}
 use Rattle.hwp_served.proofs.RowLines.{event_at}
 use Rattle.hwp_served.proofs.deeds.Made.{some-so}
 
@@ -242,6 +243,16 @@ module _ (script : Script) (turns : List Played) (view : View) (said : Said (tol
       word-shown script.layout turns view said who (λ (word : ℕ). is_kernel word ≡ true) (places.Frame frame) caused.0.word caused.0.kernel caused.0.saw
   soft-shown frame own answer caused = offline-shown frame own answer caused.1
 
+  -- what the answer of a command that takes a poison back rests on
+  unpoison-shown : (frame : Frame) (own : Option Own) (answer : Answer) → IsUnpoisonCaused script.layout view who frame own answer → AnswerShown script turns who (commands.Unpoison frame) answer
+  unpoison-shown frame own answers.Done caused = tt
+  unpoison-shown frame own answers.NotPoisoned caused = word-shown script.layout turns view said who (λ (word : ℕ). is_poisoned word ≡ false) (places.Frame frame) caused.word caused.sound caused.saw
+  unpoison-shown frame own answers.HardwareSeen caused = word-shown script.layout turns view said who (λ (word : ℕ). 0 < hardware_of word) places.Counter caused.word caused.some caused.saw
+  unpoison-shown frame own (answers.HasBad mask) caused = word-shown script.layout turns view said who (λ (word : ℕ). word ≡ mask.0) (places.Bad frame) mask.0 refl caused.saw
+  unpoison-shown frame own (answers.InUse count) caused =
+      word-shown script.layout turns view said who (λ (word : ℕ). (¬ IsRevivable word) × (count_of word ≡ count)) (places.Frame frame) caused.word (caused.used, caused.count_is) caused.saw
+  unpoison-shown frame own answer caused = absurd caused
+
   pub answer-shown : (command : Command) (told : List Told) (own : Option Own) (answer : Answer) → command_at script who ≡ Some command → IsAnswerCaused script.layout list view who command told own answer → AnswerShown script turns who command answer
   answer-shown command told own answers.Stopped at caused = stop-shown script.layout turns view said who command caused
   answer-shown (commands.RaiseUser thread ripv eipv) told own (answers.Raised n) at caused = tt
@@ -255,6 +266,7 @@ module _ (script : Script) (turns : List Played) (view : View) (said : Said (tol
       word-shown script.layout turns view said who (λ (word : ℕ). is_poisoned word ≡ true) (places.Frame frame) caused.1.0.word caused.1.0.poisoned caused.1.0.saw
   answer-shown (commands.Inject frame) told own answer at caused = absurd caused.1
   answer-shown (commands.Soft frame) told own answer at caused = soft-shown frame own answer caused
+  answer-shown (commands.Unpoison frame) told own answer at caused = unpoison-shown frame own answer caused.1
   answer-shown command told own (answers.Sigbus entry) at caused = sigbus-shown command entry
   answer-shown command told own answer at caused = table-shown command answer at caused
 
@@ -316,6 +328,7 @@ module _ (script : Script) (turns : List Played) (view : View) (said : Said (tol
     goes (commands.Scrub first last) told own answer is caused = absurd (none-some process is)
     goes (commands.Inject frame) told own answer is caused = absurd (none-some process is)
     goes (commands.Soft frame) told own answer is caused = absurd (none-some process is)
+    goes (commands.Unpoison frame) told own answer is caused = absurd (none-some process is)
     goes command told own (answers.Sigbus at) is caused = goes-sigbus command told at is caused
     goes command told own answer is caused = goes-table command answer is caused
 

@@ -102,7 +102,7 @@ module _ (layout : Layout) (seat : ℕ) (r : Rec) (a b : State) (m : Move layout
 
 pub parts-kept : (layout : Layout) → IsKept layout AreOfParts
 parts-kept layout = record {
-  stays = λ seat r a b h m v each. each;
+  stays = λ seat r a b h m still v each. each;
   moves = λ seat r a b h m still all each. moves-parts layout seat r a b m each;
   opens = λ c i s there. absurd (none-some s there);
 }

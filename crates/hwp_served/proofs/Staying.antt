@@ -44,7 +44,7 @@ use Rattle.hwp_handler.specs.declared.Found.{Found}
 use Rattle.hwp_row.specs.declared.Own.{Own}
 use Rattle.hwp_row.specs.declared.Row.{Row}
 use Rattle.hwp_handler.specs.declared.Told.{Told}
-use Rattle.hwp_served.specs.Causes.{FoundGone, FoundNoFrame, FoundPoisoned, FoundState, FoundStopped, FoundBadLines, HasCome, HasFailed, HasMoved, HasOnlyBegun, HasOnlyMet, HasSpoiledLine, HasTaken, IsAnswerCaused, IsCaused, IsCopyCaused, IsInjectCaused, IsLoadCaused, IsOfflineCaused, IsPageCaused, IsReplied, IsSoftCaused, IsStoreCaused, IsTableCaused, MadeOne, Reached, SawBadLines, SawProcess, WasRaised, WasSignalled}
+use Rattle.hwp_served.specs.Causes.{FoundGone, FoundNoFrame, FoundPoisoned, FoundState, FoundStopped, FoundBadLines, HasCome, HasFailed, HasMoved, HasOnlyBegun, HasOnlyMet, HasSpoiledLine, HasTaken, IsAnswerCaused, IsCaused, IsCopyCaused, IsInjectCaused, IsLoadCaused, IsOfflineCaused, IsPageCaused, IsReplied, IsSoftCaused, IsStoreCaused, IsTableCaused, MadeOne, Reached, SawBadLines, SawProcess, WasRaised, WasSignalled, IsUnpoisonCaused}
 use Rattle.hwp_served.specs.Served.{IsRowServed}
 use Rattle.hwp_served.proofs.Accounting.{account-stays}
 use Rattle.hwp_served.proofs.Adding.{some-more}
@@ -237,6 +237,16 @@ module _ {layout : Layout} {by : Who} {step : Step} {body : Option BodyValue} {o
   soft-stays frame own answers.Kernel caused = (kernel-stays frame caused.0, made-none-later caused.1, caused.2)
   soft-stays frame own answer caused = (caused.0, offline-stays frame own answer caused.1)
 
+  -- ---- unpoisoning
+
+  unpoison-stays : (frame : Frame) (own : Option Own) (answer : Answer) → IsUnpoisonCaused layout old who frame own answer → IsUnpoisonCaused layout new who frame own answer
+  unpoison-stays frame own answers.Done caused = caused
+  unpoison-stays frame own answers.NotPoisoned caused = record { word = caused.word; sound = caused.sound; saw = saw-stays made caused.saw }
+  unpoison-stays frame own answers.HardwareSeen caused = record { word = caused.word; some = caused.some; saw = saw-stays made caused.saw }
+  unpoison-stays frame own (answers.HasBad mask) caused = record { inside = caused.inside; some = caused.some; saw = saw-stays made caused.saw }
+  unpoison-stays frame own (answers.InUse count) caused = record { word = caused.word; used = caused.used; count_is = caused.count_is; saw = saw-stays made caused.saw }
+  unpoison-stays frame own _ caused = absurd caused
+
   -- ---- the cause of another command's answer
 
   table-stays : (list : List Command) (command : Command) (answer : Answer) → IsTableCaused layout list old who command answer → IsTableCaused layout list new who command answer
@@ -287,6 +297,7 @@ module _ {layout : Layout} {by : Who} {step : Step} {body : Option BodyValue} {o
   answer-stays list (commands.Scrub first last) told own (answers.Scrubbed n) caused = raised-stays _ told n caused
   answer-stays list (commands.Inject frame) told own answer caused = (caused.0, inject-stays frame own answer caused.1)
   answer-stays list (commands.Soft frame) told own answer caused = soft-stays frame own answer caused
+  answer-stays list (commands.Unpoison frame) told own answer caused = (made-none-later caused.0, unpoison-stays frame own answer caused.1)
   answer-stays list command told own (answers.Sigbus at) caused = either-stays list command told at caused
   answer-stays list command told own answer caused = table-stays list command answer caused
 

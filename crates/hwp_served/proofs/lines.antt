@@ -11,6 +11,7 @@ pub mod ToldRight
 pub mod SpoiledLines
 pub mod Gathering
 pub mod RecordLines
+pub mod RisingLines
 pub mod Records
 pub mod FrameLines
 pub mod Recorded

@@ -1,6 +1,7 @@
 pub mod RowNotes
-pub mod MarkWords
+pub mod Rising
+pub mod MarkPlaces
+pub mod MarkSights
 pub mod Marked
 pub mod CountedMarks
-pub mod PoisonSeen
-pub mod Poisoned
+pub mod RecordPlaces

@@ -10,6 +10,7 @@ use Rattle.hwp_kill.specs.declared.Policy.{Policy}
 use Rattle.hwp_kill.specs.Prctl.{policy_set}
 use Rattle.hwp_page.specs.Situations.{outcome_of}
 use Rattle.hwp_rule.specs.declared.Mark.{Mark}
+use Rattle.hwp_rule.specs.declared.MarkKind.{MarkKind}
 use Rattle.hwp_rule.specs.declared.MarkKind.TheVariants as mark_kinds
 use Rattle.hwp_rule.specs.declared.Reported.{Reported}
 use Rattle.hwp_rule.specs.declared.Setting.{Setting}
@@ -24,6 +25,7 @@ use Rattle.hwp_report.specs.declared.Answer.{Answer}
 use Rattle.hwp_report.specs.declared.Answer.TheVariants as answers
 use Rattle.hwp_report.specs.declared.How.{How}
 use Rattle.hwp_report.specs.declared.How.TheVariants as hows
+use Rattle.hwp_report.specs.declared.MarkLine.{MarkLine}
 use Rattle.hwp_report.specs.declared.MarkLine.TheVariants as marks
 use Rattle.hwp_law.specs.Commands.{current_thread}
 use Rattle.hwp_law.specs.Policies.{arguments}
@@ -38,7 +40,7 @@ use Rattle.hwp_served.specs.Rows.{Note}
 abbrev pub is_same : Who → Who → Bool
 is_same who other = (other.cpu.0 == who.cpu.0) && (other.seq == who.seq)
 
--- the poisonings that a view lists as made by the command
+-- the marks that a view lists as made by the command
 abbrev pub markings : Who → View → List Marking
 markings who view = map marking_of (filter (λ (m : Mark). is_same who m.stamp.who) view.marks)
 
@@ -56,10 +58,11 @@ policies_set who view = map (λ (s : Setting). (s.thread, s.policy)) (filter (λ
 
 -- ---- by the command's row
 
--- the poisonings: those that its events told, and its own
+-- the marks: those that its events told, and its own
 abbrev pub marking_by : Own → Marking
 marking_by (owns.Failed frame found) = poisoning frame false found.cycle
 marking_by (owns.Offlined frame cycle moved) = poisoning frame false cycle
+marking_by (owns.Revived frame cycle) = record { frame = frame; cycle = cycle; kind = mark_kinds.Revived }
 
 abbrev pub own_marking : Option Own → Option Marking
 own_marking own = option_map marking_by own
@@ -71,6 +74,7 @@ markings_in row = filter_map marked_in row.told ++ cons_option (own_marking row.
 abbrev pub found_in : Own → Option Found
 found_in (owns.Failed frame found) = Some found
 found_in (owns.Offlined frame cycle moved) = None
+found_in (owns.Revived frame cycle) = None
 
 abbrev pub own_failure : Option Own → Option Failed
 own_failure own = failed_by None (option_and_then found_in own)
@@ -98,11 +102,13 @@ abbrev pub IsOfflined : Bool → Answer → Type 0
 IsOfflined true answer = is_moved (Some answer) ≡ true
 IsOfflined false answer = answer ≡ answers.TakenFree
 
--- only a command that makes its frame fail, or takes it out of use, did something to a frame itself, and its answer is what came of it
+-- only a command that makes its frame fail, takes it out of use or takes its poison back did something to a frame itself, and its answer
+-- is what came of it
 abbrev pub IsOwn : Command → Answer → Option Own → Type 0
 IsOwn command answer None = Unit {0}
 IsOwn (commands.Inject frame) answer (Some (owns.Failed own found)) = (own ≡ frame) × (answer ≡ outcome_answer (outcome_of found.situation))
 IsOwn (commands.Soft frame) answer (Some (owns.Offlined own cycle moved)) = (own ≡ frame) × IsOfflined moved answer
+IsOwn (commands.Unpoison frame) answer (Some (owns.Revived own cycle)) = (own ≡ frame) × (answer ≡ answers.Done)
 IsOwn command answer (Some own) = ⊥
 
 -- the command did what its row says
@@ -119,11 +125,14 @@ IsHow hardware (hows.Failure reported situation outcome) = (reported ≡ hardwar
 IsHow hardware hows.Moved = hardware ≡ false
 IsHow hardware hows.TakenFree = hardware ≡ false
 
+-- the line tells a mark of this kind
+abbrev pub IsLineOf : MarkKind → Mark → MarkLine → Type 0
+IsLineOf (mark_kinds.Poisoned hardware) m line = (how : How) × IsHow hardware how × (line ≡ marks.Poisoned m.cycle m.stamp.who how)
+IsLineOf mark_kinds.Revived m line = line ≡ marks.Unpoisoned m.cycle m.stamp.who
+
 -- the note tells the mark
 pub record IsNote (note : Note) (m : Mark) : Type 0 where
-  pub hardware : Bool
-  pub how : How
   pub frame : note.0 ≡ m.frame
-  pub kind : m.kind ≡ mark_kinds.Poisoned hardware
-  pub line : note.1 ≡ marks.Poisoned m.cycle m.stamp.who how
-  pub is : IsHow hardware how
+  pub kind : MarkKind
+  pub kind_is : m.kind ≡ kind
+  pub line : IsLineOf kind m note.1

@@ -27,7 +27,8 @@ use Rattle.hwp_rule.specs.declared.Made.{Made}
 use Rattle.hwp_rule.specs.declared.Place.TheVariants as places
 use Rattle.hwp_rule.specs.declared.Spoiled.{Spoiled}
 use Rattle.hwp_rule.specs.declared.View.{View}
-use Rattle.hwp_words.specs.Frames.{is_poisoned}
+use Rattle.hwp_words.specs.Counters.{hardware_of}
+use Rattle.hwp_words.specs.Frames.{count_of, is_poisoned}
 use Rattle.hwp_rule.specs.Lists.{SomeMember}
 use Rattle.hwp_known.specs.Known.{HasMade, HasMadeNone, HasOnly, IsOnTheWay, Precedes, Saw, SawBadOf, SawStop, is_failure}
 use Rattle.hwp_known.specs.Pages.{SawState}
@@ -38,6 +39,7 @@ use Rattle.hwp_report.specs.declared.Answer.TheVariants as answers
 use Rattle.hwp_law.specs.Answers.{reply_answer}
 use Rattle.hwp_law.specs.Commands.{Access, access_of, can_fail, process_of_thread}
 use Rattle.hwp_law.specs.Policies.{arguments, last_policy, settings}
+use Rattle.hwp_runs.specs.Shown.{IsRevivable}
 use Rattle.hwp_handler.specs.declared.Found.{Found}
 use Rattle.hwp_claim.specs.Grabs.{WasFree}
 use Rattle.hwp_move.specs.Seizes.{IsUsers, SawKernel}
@@ -218,6 +220,46 @@ abbrev pub IsSoftCaused : Layout → View → Who → Frame → Option Own → A
 IsSoftCaused layout view who frame own answers.Kernel = SawKernel layout view who frame × HasMadeNone view who × (own ≡ None)
 IsSoftCaused layout view who frame own answer = IsUsers layout frame × IsOfflineCaused layout view who frame own answer
 
+-- ---- unpoisoning
+
+-- the command was shown the frame without a poison
+pub record FoundSound (view : View) (who : Who) (frame : Frame) : Type 0 where
+  pub word : ℕ
+  pub sound : is_poisoned word ≡ false
+  pub saw : Saw view who (places.Frame frame) word
+
+-- or that memory had failed by the hardware
+pub record FoundHardware (view : View) (who : Who) : Type 0 where
+  pub word : ℕ
+  pub some : 0 < hardware_of word
+  pub saw : Saw view who places.Counter word
+
+-- or that these lines of the frame were bad
+pub record FoundBad (layout : Layout) (view : View) (who : Who) (frame : Frame) (mask : Mask) : Type 0 where
+  pub inside : frame.0 < layout.frames
+  pub some : mask.0 ≢ 0
+  pub saw : Saw view who (places.Bad frame) mask.0
+
+-- or that the frame was in use, with this count
+pub record FoundInUse (view : View) (who : Who) (frame : Frame) (count : ℕ) : Type 0 where
+  pub word : ℕ
+  pub used : ¬ IsRevivable word
+  pub count_is : count_of word ≡ count
+  pub saw : Saw view who (places.Frame frame) word
+
+-- or it took the frame's poison back
+pub record HasRevived (frame : Frame) (own : Option Own) : Type 0 where
+  pub cycle : ℕ
+  pub own_is : own ≡ Some (owns.Revived frame cycle)
+
+abbrev pub IsUnpoisonCaused : Layout → View → Who → Frame → Option Own → Answer → Type 0
+IsUnpoisonCaused layout view who frame own answers.Done = HasRevived frame own
+IsUnpoisonCaused layout view who frame own answers.NotPoisoned = FoundSound view who frame
+IsUnpoisonCaused layout view who frame own answers.HardwareSeen = FoundHardware view who
+IsUnpoisonCaused layout view who frame own (answers.HasBad mask) = FoundBad layout view who frame mask
+IsUnpoisonCaused layout view who frame own (answers.InUse count) = FoundInUse view who frame count
+IsUnpoisonCaused layout view who frame own _ = ⊥
+
 -- ---- machine checks
 
 -- a failure of the command's machine checks signalled its thread: the entry of the first that did is the one that the answer names
@@ -263,6 +305,7 @@ IsAnswerCaused layout list view who (commands.RaiseKernel ripv eipv) told own (a
 IsAnswerCaused layout list view who (commands.Scrub first last) told own (answers.Scrubbed n) = WasRaised layout view who (commands.Scrub first last) told n
 IsAnswerCaused layout list view who (commands.Inject frame) told own answer = (layout.recovery ≡ true) × IsInjectCaused layout view who frame own answer
 IsAnswerCaused layout list view who (commands.Soft frame) told own answer = IsSoftCaused layout view who frame own answer
+IsAnswerCaused layout list view who (commands.Unpoison frame) told own answer = HasMadeNone view who × IsUnpoisonCaused layout view who frame own answer
 IsAnswerCaused layout list view who command told own (answers.Sigbus at) =
     IsTableCaused layout list view who command (answers.Sigbus at) ⊎ IsSomeAnd (access_of command) (λ (a : Access). WasSignalled layout view who command a.thread told at)
 IsAnswerCaused layout list view who command told own answer = IsTableCaused layout list view who command answer

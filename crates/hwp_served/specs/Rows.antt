@@ -55,6 +55,7 @@ offlined false = hows.TakenFree
 abbrev pub note_by : Who → Own → Note
 note_by who (owns.Failed frame found) = note_of who false frame found
 note_by who (owns.Offlined frame cycle moved) = (frame, marks.Poisoned cycle who (offlined moved))
+note_by who (owns.Revived frame cycle) = (frame, marks.Unpoisoned cycle who)
 
 abbrev pub own_note : Who → Option Own → Option Note
 own_note who own = option_map (note_by who) own

@@ -1,6 +1,7 @@
 -- What is shown of a run, from which the law of its report follows.
-use Rattle.std.specs.Prelude.{◌≡◌, ℕ, ◌+◌, ◌*◌, ◌<◌, ◌==◌, ◌&&◌, not, Bool, List, [], ◌∷◌, Option, Some, length, find, option_map, option_and_then, slice_get, sum_by, count_by, AllPairs}
+use Rattle.std.specs.Prelude.{◌≡◌, ℕ, ◌+◌, ◌*◌, ◌<◌, ◌==◌, ◌&&◌, not, Bool, List, [], ◌∷◌, Option, Some, length, find, option_map, option_and_then, slice_get, count_by, AllPairs}
 use Rattle.std.specs.Int.{from_bool}
+use Rattle.std.specs.List.Sorted.{IsNonDecreasingBy, IsPermutation}
 use Rattle.std.specs.Option.{option_or}
 use Rattle.hwp_geom.specs.declared.Cpu.{Cpu}
 use Rattle.hwp_geom.specs.declared.Frame.{Frame}
@@ -29,7 +30,7 @@ use Rattle.hwp_runs.specs.Turns.{Leads}
 use Rattle.hwp_row.specs.declared.Row.{Row}
 use Rattle.hwp_handler.specs.declared.Told.{Told}
 use Rattle.hwp_handler.specs.Told.{frame_of}
-use Rattle.hwp_served.specs.Rows.{Note, lines_from, notes_from}
+use Rattle.hwp_served.specs.Rows.{Note, lines_from, notes_from, record_of}
 use Rattle.hwp_served.specs.Served.{IsServed}
 
 -- the processors have served their commands: the rows of each are those of its list, by what its seat knows, and its lines in the
@@ -60,9 +61,14 @@ notes_on frame test own = count_by (λ (n : Note). (n.0.0 == frame.0) && test n.
 abbrev pub place_in : MarkLine → ℕ
 place_in m = 2 * cycle_in m + from_bool (not (is_poisoning m))
 
--- the record of a frame is what processors noted of it, in order
+-- the same lines, by their places
+pub record AreSorted (lines list : List MarkLine) : Type 0 where
+  pub moved : IsPermutation lines list
+  pub rising : IsNonDecreasingBy place_in list
+
+-- the record of a frame is what processors noted of it, by rising place
 pub record IsRecord (notes : List (List Note)) (frame : Frame) (list : List MarkLine) : Type 0 where
-  pub same : (test : MarkLine → Bool) → count_by test list ≡ sum_by (notes_on frame test) notes
+  pub noted : IsPermutation (record_of frame notes) list
   pub rising : AllPairs (λ (a b : MarkLine). place_in a < place_in b) list
 
 abbrev pub AreRecords : List (List Note) → Report → Type 0

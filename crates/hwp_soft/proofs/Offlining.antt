@@ -45,13 +45,13 @@ pub can : (layout : Layout) (view : View) (s : Soft) (step : Step) → Fits layo
 can layout view s step fits is = which s.at fits.at is
   where
     which : (x : SoftAt) → FitsAt layout view s.who s.frame x → plan_at s.frame x ≡ Some step → CanMake layout s.who step (put_at x) view
-    which at.LoadStop has e = can-make fits.on_turn e tt tt tt
+    which at.LoadStop has e = can-make fits.on_turn e tt tt
     which (at.Seize z) has e = subst (λ (w : Who). CanMake layout w step (seizes.put z) view) has.0.own (seizing.can layout view z step has.0.seize e)
     which (at.Discard d) has e = subst (λ (w : Who). CanMake layout w step (discards.put d) view) has.0.own (discarding.can layout view d step has.0.discard e)
-    which (at.LoadBad page body) has e = can-make fits.on_turn e tt fits.frame tt
+    which (at.LoadBad page body) has e = can-make fits.on_turn e fits.frame tt
     which (at.Take page body t) has e = subst (λ (w : Who). CanMake layout w step None view) has.own (taking.can layout view t step has.take e)
-    which (at.Poison page body to) has e = can-make fits.on_turn e tt fits.frame tt
-    which (at.UnlockSpare page body to) has e = can-make fits.on_turn e tt has.0.within (unlocks-spare layout view s.who s.frame page body to has.0)
+    which (at.Poison page body to) has e = can-make fits.on_turn e fits.frame tt
+    which (at.UnlockSpare page body to) has e = can-make fits.on_turn e has.0.within (unlocks-spare layout view s.who s.frame page body to has.0)
     which (at.ReleaseSpare page body r) has e = subst (λ (w : Who). CanMake layout w step None view) has.0.own (releasing_laws.can layout view r step has.0.release e)
     which (at.Relocate r answer) has e = subst (λ (w : Who). CanMake layout w step (relocations.put r) view) has.own (relocated.can layout view r step has.relocate e)
     which (at.Unhold u answer) has e = subst (λ (w : Who). CanMake layout w step (unholds.put u) view) has.own (unholding.can layout view u step has.unhold e)

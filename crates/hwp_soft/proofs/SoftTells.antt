@@ -1,16 +1,24 @@
 -- The class of a `Soft` tells what it holds, and a failure that it claims isn't over.
-use Rattle.std.proofs.Common.{◌≡◌, ◌≢◌, ℕ, ◌≤◌, Bool, true, false, Option, Some, None, is_none, refl, sym, ap, ◌∙◌, arith}
+use Rattle.std.proofs.Common.{◌≡◌, ◌≢◌, ℕ, ◌≤◌, Bool, true, false, Option, Some, None, is_none, refl, sym, ap, ◌∙◌, subst, arith}
 use Rattle.std.proofs.lemmas.Bool.{both_ways}
-use Rattle.std.proofs.lemmas.Option.{none-some}
+use Rattle.std.proofs.lemmas.Option.{none-some, same_Some}
 use Rattle.hwp_geom.specs.declared.Frame.{Frame}
 use Rattle.hwp_geom.specs.declared.Layout.{Layout}
+use Rattle.hwp_rule.specs.declared.Place.TheVariants as places
+use Rattle.hwp_rule.specs.declared.Step.{Step}
+use Rattle.hwp_rule.specs.declared.Step.TheVariants as steps
 use Rattle.hwp_rule.specs.declared.View.{View}
+use Rattle.hwp_rule.specs.Lasting.{LeavesPoison}
 use Rattle.hwp_step.specs.Classes.{TellsClass}
 use Rattle.hwp_step.specs.Hands.{empty, hand_of}
+use Rattle.hwp_step.proofs.Failures.{mild-leaves}
 use Rattle.hwp_hold.specs.declared.give_up.GiveUp.{GiveUp}
 use Rattle.hwp_hold.specs.declared.give_up.GiveUpAt.{GiveUpAt}
 use Rattle.hwp_hold.specs.declared.give_up.GiveUpAt.TheVariants as give_up_at
 use Rattle.hwp_hold.specs.GiveUps as give_ups
+use Rattle.hwp_hold.proofs.FillCosts.{give-up-mild}
+use Rattle.hwp_hold.proofs.Ranking.{release-mild, unhold-mild}
+use Rattle.hwp_hold.proofs.TakeCosts as taking
 use Rattle.hwp_hold.proofs.Telling.{Tells, empty-tells, frame-tells, give-up-tells, no-frame, no-page, unhold-tells}
 use Rattle.hwp_move.specs.declared.discard.Discard.{Discard}
 use Rattle.hwp_move.specs.declared.discard.DiscardAt.{DiscardAt}
@@ -20,8 +28,9 @@ use Rattle.hwp_move.specs.declared.relocate.RelocateAt.{RelocateAt}
 use Rattle.hwp_move.specs.declared.relocate.RelocateAt.TheVariants as relocate_at
 use Rattle.hwp_move.specs.Discards as discards
 use Rattle.hwp_move.specs.Relocations as relocations
-use Rattle.hwp_move.proofs.Discarding.{discard-tells}
-use Rattle.hwp_move.proofs.RelocateCosts.{relocate-tells}
+use Rattle.hwp_move.proofs.Discarding.{discard-lasting, discard-tells}
+use Rattle.hwp_move.proofs.RelocateCosts.{relocate-mild, relocate-tells}
+use Rattle.hwp_move.proofs.SeizeCosts.{seize-mild}
 use Rattle.hwp_move.proofs.Seizing.{seize-tells}
 use Rattle.hwp_soft.specs.declared.soft.Soft.{Soft}
 use Rattle.hwp_soft.specs.declared.soft.SoftAt.{SoftAt}
@@ -139,3 +148,21 @@ soft-tells-class = record {
   page = λ layout view s fits some. ((soft-tells layout view s fits).1 some, λ none. no-page view (idle layout view s fits none) refl some);
   claim = λ layout view s frame cycle fits is. claims-on layout view s frame cycle fits is;
 }
+
+-- none of its steps takes a frame's poison back
+pub soft-lasting : (s : Soft) (step : Step) → plan s ≡ Some step → LeavesPoison step
+soft-lasting s step is = which s.at is
+  where
+    which : (x : SoftAt) → plan_at s.frame x ≡ Some step → LeavesPoison step
+    which at.LoadStop e = subst LeavesPoison (same_Some (steps.Load places.Stop) step e) tt
+    which (at.Seize z) e = mild-leaves step (seize-mild z step e)
+    which (at.Discard d) e = discard-lasting d step e
+    which (at.LoadBad page body) e = subst LeavesPoison (same_Some (steps.Load (places.Bad s.frame)) step e) tt
+    which (at.Take page body t) e = mild-leaves step (taking.mild t step e)
+    which (at.Poison page body to) e = subst LeavesPoison (same_Some (steps.Poison s.frame false) step e) tt
+    which (at.UnlockSpare page body to) e = subst LeavesPoison (same_Some (steps.UnlockFrame to) step e) tt
+    which (at.ReleaseSpare page body r) e = mild-leaves step (release-mild r step e)
+    which (at.Relocate r answer) e = mild-leaves step (relocate-mild r step e)
+    which (at.Unhold u answer) e = mild-leaves step (unhold-mild u step e)
+    which (at.GiveUp g) e = mild-leaves step (give-up-mild g step e)
+    which (at.Over answer) e = absurd (none-some step e)

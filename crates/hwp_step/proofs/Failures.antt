@@ -29,7 +29,7 @@ use Rattle.hwp_rule.specs.Asks.{AsksOf, CanRetire, HasInHand}
 use Rattle.hwp_rule.specs.Moves.{Move}
 use Rattle.hwp_rule.specs.Rule.{Holds}
 use Rattle.hwp_rule.specs.Logs.{log_of}
-use Rattle.hwp_rule.specs.Served.{IsServed, IsMild}
+use Rattle.hwp_rule.specs.Lasting.{LeavesPoison, IsMild}
 use Rattle.hwp_rule.specs.Steps.{place_of, word_after, goes}
 use Rattle.hwp_rule.specs.Views.{view_by, view_after, noted, loaded, taken, listed_of, put_home, body_of, lock_found, lock_of_page}
 use Rattle.hwp_rule.specs.Words.{Words, read, put, index, IsPlace}
@@ -182,17 +182,13 @@ got-word seen count found = which (found == seen) refl
     which true same = subst (λ (n : ℕ). handled_of found ≤ handled_of ((n + count * 16) % 2 ^ 64)) (eqb-true found seen same) (handled-more found count)
     which false other = omega arith
 
--- a step that takes no poison back
-abbrev IsLasting : Step → Type 0
-IsLasting (steps.Revive frame seen) = ⊥
-IsLasting step = Unit {0}
+-- a step that neither poisons nor takes poison back does not take it back
+pub mild-leaves : (step : Step) → IsMild step → LeavesPoison step
+mild-leaves (steps.Revive frame seen) mild = mild
+mild-leaves step mild = tt
 
-mild-lasts : (step : Step) → IsMild step → IsLasting step
-mild-lasts (steps.Revive frame seen) mild = mild
-mild-lasts step mild = tt
-
--- no such step clears HANDLED
-rises : (layout : Layout) (step : Step) (w : Words) (f : ℕ) → IsLasting step → length w.frames ≡ layout.frames → IsPlace layout (place_of step) → Fresh step (read (place_of step) w)
+-- a step that takes no poison back clears no HANDLED
+rises : (layout : Layout) (step : Step) (w : Words) (f : ℕ) → LeavesPoison step → length w.frames ≡ layout.frames → IsPlace layout (place_of step) → Fresh step (read (place_of step) w)
     → handled_of (slice_index w.frames f) ≤ handled_of (slice_index (put (place_of step) (word_after step (read (place_of step) w)) w).frames f)
 rises layout (steps.Load of) w f lasts count place fresh = subst (λ (x : Words). handled_of (slice_index w.frames f) ≤ handled_of (slice_index x.frames f)) (sym (same-put of w)) (omega arith)
 rises layout (steps.Reserve seen) w f lasts count place fresh = omega arith
@@ -229,7 +225,7 @@ rises layout (steps.ReportLost file) w f lasts count place fresh = omega arith
 -- ---- the sum
 
 -- what a word of a frame adds to the failures that are left
-abbrev left_of : ℕ → ℕ
+abbrev pub left_of : ℕ → ℕ
 left_of x = (1 - poison_of x) + (1 - handled_of x)
 
 left-poisoned : (x : ℕ) → left_of (bit_or x 2) ≤ left_of x
@@ -378,7 +374,7 @@ module _ {layout : Layout} {seat : ℕ} {r : Rec} {a b : State} (rule : Holds la
         handled : handled_of (slice_index was f) ≤ handled_of (slice_index now f)
         handled = subst (λ (w : Words). handled_of (slice_index was f) ≤ handled_of (slice_index w.frames f)) (sym words-moved)
             (subst (λ (n : ℕ). handled_of (slice_index was f) ≤ handled_of (slice_index (put (place_of r.step) (word_after r.step n) (words_at layout a)).frames f)) read-moved
-            (rises layout r.step (words_at layout a) f (mild-lasts r.step mild) was-long move.asks.place fresh))
+            (rises layout r.step (words_at layout a) f (mild-leaves r.step mild) was-long move.asks.place fresh))
 
     -- a poison sets a bit of one word
     poisoned-words : (frame : Frame) (hardware : Bool) → r.step ≡ steps.Poison frame hardware → (words_at layout b).frames ≡ set was frame.0 (bit_or (slice_index was frame.0) 2)
@@ -396,13 +392,13 @@ module _ {layout : Layout} {seat : ℕ} {r : Rec} {a b : State} (rule : Holds la
         let handled : handled_of (slice_index was f) ≤ handled_of (slice_index now f) = on.handled in
         omega (arith, poison, handled)
 
-    lowers : IsServed r.step → (f : ℕ) → f < length was → left_of (slice_index now f) ≤ left_of (slice_index was f)
-    lowers served f inside = which r.step refl
+    lowers : LeavesPoison r.step → (f : ℕ) → f < length was → left_of (slice_index now f) ≤ left_of (slice_index was f)
+    lowers leaves f inside = which r.step refl
       where
         which : (step : Step) → r.step ≡ step → left_of (slice_index now f) ≤ left_of (slice_index was f)
         which (steps.Poison frame hardware) is = subst (λ (l : List ℕ). left_of (slice_index l f) ≤ left_of (slice_index was f)) (sym (poisoned-words frame hardware is))
             (set-each (λ (y z : ℕ). left_of z ≤ left_of y) was frame.0 f (bit_or (slice_index was frame.0) 2) (poisoned-inside frame hardware is) (left-poisoned (slice_index was frame.0)) (λ y. omega arith))
-        which (steps.Revive frame seen) is = absurd (subst IsServed is served)
+        which (steps.Revive frame seen) is = absurd (subst LeavesPoison is leaves)
         which step is = lowers-mild (subst IsMild (sym is) tt) f inside
 
     same-length : length now ≡ length was
@@ -428,8 +424,8 @@ module _ {layout : Layout} {seat : ℕ} {r : Rec} {a b : State} (rule : Holds la
             }
         which (inr past) = absurd (both_ways true (sym pending.poisoned ∙ ap is_poisoned (get_or_past now frame.0 0 (omega (arith, past, now-long)))) refl)
 
-    pub failures-moved : IsServed r.step → failures_left (words_at layout b) ≤ failures_left (words_at layout a)
-    failures-moved served = sum-falls now was same-length (λ f inside. lowers served f inside)
+    pub failures-moved : LeavesPoison r.step → failures_left (words_at layout b) ≤ failures_left (words_at layout a)
+    failures-moved leaves = sum-falls now was same-length (λ f inside. lowers leaves f inside)
 
     -- a poison that finds none leaves one failure fewer
     pub poison-lowers : (frame : Frame) (hardware : Bool) → r.step ≡ steps.Poison frame hardware → poison_of r.found ≡ 0 → failures_left (words_at layout b) < failures_left (words_at layout a)

@@ -2,3 +2,4 @@ pub mod Driving
 pub mod Stepping
 pub mod Failures
 pub mod Ranking
+pub mod Revivals

@@ -12,7 +12,7 @@ use Rattle.hwp_rule.specs.declared.View.{View}
 use Rattle.hwp_rule.specs.Lists.{EachMember}
 use Rattle.hwp_rule.specs.Opening.{opening_view}
 use Rattle.hwp_rule.specs.Rule.{Holds}
-use Rattle.hwp_rule.specs.Served.{IsServed, IsMild}
+use Rattle.hwp_rule.specs.Lasting.{LeavesPoison, IsMild}
 use Rattle.hwp_rule.specs.Steps.{place_of, word_after}
 use Rattle.hwp_rule.specs.Views.{view_after}
 use Rattle.hwp_rule.specs.Words.{read, put}
@@ -52,8 +52,8 @@ module _ {S : Type 0} {m : Member S} {layout : Layout} {seat : ℕ} {a b : State
   pub pending-kept : IsMild made.step → (frame : Frame) (cycle : ℕ) → Pending (words_at layout b) frame cycle → Pending (words_at layout a) frame cycle
   pending-kept mild = pending-moved made.rule made.move made.kept mild
 
-  pub failures-kept : IsServed made.step → failures_left (words_at layout b) ≤ failures_left (words_at layout a)
-  failures-kept served = failures-moved made.rule made.move made.kept served
+  pub failures-kept : LeavesPoison made.step → failures_left (words_at layout b) ≤ failures_left (words_at layout a)
+  failures-kept leaves = failures-moved made.rule made.move made.kept leaves
 
   -- a frame that is poisoned, or retired, is one failure fewer
   pub poison-fails : (frame : Frame) (hardware : Bool) → Some (steps.Poison frame hardware) ≡ Some made.step → poison_of made.found ≡ 0 → failures_left (words_at layout b) < failures_left (words_at layout a)

@@ -14,7 +14,6 @@ use Rattle.hwp_rule.specs.Asks.{Asks, BeginsBare, IsTurnOf}
 use Rattle.hwp_rule.specs.Lists.{EachMember}
 use Rattle.hwp_rule.specs.Logs.{log_of}
 use Rattle.hwp_rule.specs.Moves.{Told}
-use Rattle.hwp_rule.specs.Served.{IsServed}
 use Rattle.hwp_rule.specs.Slots.{takes}
 
 -- the histories of bodies
@@ -46,10 +45,8 @@ GoesHome (steps.UnlockFrame frame) put = Unit {0}
 GoesHome (steps.UnlockPage page) put = Unit {0}
 GoesHome step put = put ≡ None
 
--- the processor can make the step of its command, with this body for the slot whose lock it frees; until unpoisoning is
--- served, no step of it
+-- the processor can make the step of its command, with this body for the slot whose lock it frees
 pub record CanMake (layout : Layout) (who : Who) (step : Step) (put : Option BodyValue) (view : View) : Type 0 where
-  pub served : IsServed step
   pub later : IsLater view who who.seq
   pub asks : Asks layout who step (logs put) view
   pub layout_is : FitsLayout layout put

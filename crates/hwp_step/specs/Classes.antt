@@ -3,7 +3,7 @@ use Rattle.std.specs.Prelude.{◌≡◌, ◌≢◌, ℕ, ◌≤◌, Some, None}
 use Rattle.hwp_geom.specs.declared.Frame.{Frame}
 use Rattle.hwp_geom.specs.declared.Layout.{Layout}
 use Rattle.hwp_rule.specs.declared.View.{View}
-use Rattle.hwp_step.specs.Ranks.{Member, HasFrame, HasPage, IsRanked, PlansServed}
+use Rattle.hwp_step.specs.Ranks.{Member, HasFrame, HasPage, IsRanked, PaysRevival}
 
 -- A task whose processor has a frame's lock, a frame in hand or a reservation is of class 1; where it has a page's lock, of
 -- class 1 or 2; and a task that claims a failure is of class 1 to 3. None of these is over.
@@ -16,4 +16,4 @@ pub record TellsClass {S : Type 0} (m : Member S) : Type 0 where
 pub record IsScheduled {S : Type 0} (m : Member S) : Type 0 where
   pub ranked : IsRanked m
   pub tells : TellsClass m
-  pub served : PlansServed m
+  pub pays : PaysRevival m

@@ -1,5 +1,5 @@
 -- The law by which tasks come to an end: each turn lowers a task's cost, or waits for what another processor holds.
-use Rattle.std.specs.Prelude.{◌≡◌, ◌≢◌, ℕ, ◌+◌, ◌-◌, ◌<◌, ◌≤◌, ◌⊎◌, Bool, true, false, cond, [], Option, Some, None, slice_index}
+use Rattle.std.specs.Prelude.{◌≡◌, ◌≢◌, ℕ, ◌+◌, ◌-◌, ◌*◌, ◌<◌, ◌≤◌, ◌⊎◌, Bool, true, false, cond, [], Option, Some, None, slice_index}
 use Rattle.std.specs.List.{sum_by}
 use Rattle.hwp_geom.specs.declared.Frame.{Frame}
 use Rattle.hwp_geom.specs.declared.Layout.{Layout}
@@ -11,7 +11,7 @@ use Rattle.hwp_rule.specs.declared.Step.{Step}
 use Rattle.hwp_rule.specs.declared.View.{View}
 use Rattle.hwp_rule.specs.Moves.{Move}
 use Rattle.hwp_rule.specs.Rule.{Holds}
-use Rattle.hwp_rule.specs.Served.{IsServed, IsMild}
+use Rattle.hwp_rule.specs.Lasting.{LeavesPoison, IsMild}
 use Rattle.hwp_rule.specs.Words.{Words, words_of}
 use Rattle.hwp_step.specs.declared.turn.Turn.{Turn}
 use Rattle.hwp_step.specs.declared.turn.Turn.TheVariants as turns
@@ -126,9 +126,15 @@ pub record HasFailed {S : Type 0} (m : Member S) (layout : Layout) (a b : State)
 abbrev pub CostFalls : {S : Type 0} → Member S → Layout → State → State → S → S → Type 0
 CostFalls m layout a b before after = m.cost after (words_at layout b) < m.cost before (words_at layout a)
 
--- what a task plans is served
-abbrev pub PlansServed : {S : Type 0} → Member S → Type 0
-PlansServed {S} m = (layout : Layout) (view : View) (s : S) (step : Step) → m.fits layout view s → m.plan s ≡ Some step → IsServed step
+-- a turn leaves no more frames to fail, or lowers the cost by more than what is left to fail may add to it
+abbrev pub PaysRevival : {S : Type 0} → Member S → Type 0
+PaysRevival {S} m = (layout : Layout) (seat : ℕ) (a b : State) (s t : S) (turn : Turn) → Made m layout seat a b s t turn
+    → (failures_left (words_at layout b) ≤ failures_left (words_at layout a))
+    ⊎ (m.cost t (words_at layout b) + failure_weight * failures_left (words_at layout b) < m.cost s (words_at layout a) + failure_weight * failures_left (words_at layout a))
+
+-- what a task plans takes no frame's poison back
+abbrev pub PlansLasting : {S : Type 0} → Member S → Type 0
+PlansLasting {S} m = (s : S) (step : Step) → m.plan s ≡ Some step → LeavesPoison step
 
 -- what a task plans neither poisons a frame nor takes its poison back
 abbrev pub PlansMild : {S : Type 0} → Member S → Type 0

@@ -2,7 +2,6 @@
 use Rattle.std.specs.Prelude.{◌≡◌, ◌≤◌, ℕ, List, Option, None, IsSomeAnd, length}
 use Rattle.hwp_script.specs.Limits.{script_limit}
 use Rattle.hwp_script.specs.declared.Refused.{Refused}
-use Rattle.hwp_script.specs.declared.Why.TheVariants as whys
 use Rattle.hwp_script_print.specs.Round.{IsTextOf}
 use Rattle.hwp_script_print.specs.Text.{script_text}
 use Rattle.hwp_gen.specs.Generated.{generated}
@@ -14,7 +13,7 @@ use Rattle.hwp_top.specs.declared.served.Call.{Call}
 use Rattle.hwp_top.specs.declared.served.Call.TheVariants as calls
 use Rattle.hwp_top.specs.Calls.{IsCall}
 use Rattle.hwp_top.specs.Checked.{IsChecked, RefusesChecked}
-use Rattle.hwp_top.specs.Top.{IsBuilt, IsReportOfRun, Refuses, Reports, done_status}
+use Rattle.hwp_top.specs.Top.{IsReportOfRun, Refuses, Reports, done_status}
 
 -- the text is that of the seed's script; where it is no longer than a script may be, it is read as this script, and as no other
 pub record IsGenerated (seed : ℕ) (text : List ℕ) : Type 0 where
@@ -29,7 +28,6 @@ pub record IsStepped (left left' : Option (List ℕ)) (status : ℕ) (text : Lis
 
 -- a report of the seed's script, as `step` gives it, and the text of its summary
 pub record IsSummed (seed status : ℕ) (text : List ℕ) (report : Report) : Type 0 where
-  pub built : IsBuilt (generated seed)
   pub report_of : IsReportOfRun (generated seed) report
   pub status_is : status ≡ 0
   pub text_is : text ≡ summary_text seed (summary_of report)
@@ -41,12 +39,12 @@ IsOutputOf calls.Check left left' status text report = IsChecked left left' stat
 IsOutputOf (calls.Gen seed) left left' status text report = IsGenerated seed text × (status ≡ 0) × (report ≡ None)
 IsOutputOf (calls.Sum seed) left left' status text report = IsSomeAnd report (IsSummed seed status text)
 
--- a call is refused: what the source gave is, or the seed's script has what is not built
+-- a call is refused: what the source gave is
 abbrev pub IsRefusedFor : Call → Option (List ℕ) → Option (List ℕ) → Refused → Type 0
 IsRefusedFor calls.Step left left' refused = Refuses left left' refused
 IsRefusedFor calls.Check left left' refused = RefusesChecked left left' refused
 IsRefusedFor (calls.Gen seed) left left' refused = ⊥
-IsRefusedFor (calls.Sum seed) left left' refused = (¬ IsBuilt (generated seed)) × (refused ≡ record { line = 0; why = whys.NotBuilt })
+IsRefusedFor (calls.Sum seed) left left' refused = ⊥
 
 -- the words ask for a call, and this is its output
 pub record IsOutput (words : List (List ℕ)) (left left' : Option (List ℕ)) (status : ℕ) (text : List ℕ) (report : Option Report) : Type 0 where

@@ -10,30 +10,21 @@ use Rattle.hwp_script.specs.Reads.{Reads, IsRefused}
 use Rattle.hwp_report.specs.declared.Report.{Report}
 use Rattle.hwp_law.specs.Law.{IsLawful}
 use Rattle.hwp_law.specs.Runs.{IsOfRun}
-use Rattle.hwp_core.specs.Runs.{AreSupported, IsCoreRun}
+use Rattle.hwp_core.specs.Runs.{IsCoreRun}
 
--- the script has only what is built: each of its commands is supported
-abbrev pub IsBuilt : Script → Type 0
-IsBuilt script = AreSupported script
-
--- the bytes are refused: they are the text of no script, or of one that is not built
-abbrev pub IsRefusal : List ℕ → Refused → Type 0
-IsRefusal bytes refused = IsRefused bytes refused ⊎ ((script : Script) × Reads bytes script × (¬ IsBuilt script) × (refused ≡ record { line = 0; why = whys.NotBuilt }))
-
--- a source gave these bytes and the refusal holds of them; all reasons but the length need the whole input
+-- a source gave these bytes, and they are refused so: they are the text of no script; all reasons but the length need the whole input
 pub record Refuses (left left' : Option (List ℕ)) (refused : Refused) : Type 0 where
   pub bytes : List ℕ
   pub consumed : Consumes left left' bytes
   pub whole : refused.why ≢ whys.TooLong → IsAtEnd left'
-  pub refusal : IsRefusal bytes refused
+  pub refusal : IsRefused bytes refused
 
--- a source gave these bytes to its end, they are the text of the script, and it is built
+-- a source gave these bytes to its end, and they are the text of the script
 pub record Takes (left left' : Option (List ℕ)) (script : Script) : Type 0 where
   pub bytes : List ℕ
   pub consumed : Consumes left left' bytes
   pub at_end : IsAtEnd left'
   pub reads : Reads bytes script
-  pub built : IsBuilt script
 
 -- the report is one of the script, and of a run of its processors on the written schedule
 pub record IsReportOfRun (script : Script) (report : Report) : Type 0 where
@@ -58,7 +49,6 @@ why_text whys.Twice = codes "Twice"
 why_text whys.WrongPlace = codes "WrongPlace"
 why_text whys.NoEnd = codes "NoEnd"
 why_text whys.TooLong = codes "TooLong"
-why_text whys.NotBuilt = codes "NotBuilt"
 
 -- `script line L: WHY`, and a line feed
 abbrev pub refusal_text : Refused → List ℕ

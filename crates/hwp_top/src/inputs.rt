@@ -1,14 +1,12 @@
 //! The script that a source gives.
-ghost use Rattle.std.specs.Prelude.{◌≡◌, ◌≤◌, ◌↔◌, All, true, IsTrue, IfOk, IsErrOf};
+ghost use Rattle.std.specs.Prelude.{◌≡◌, ◌≤◌, IfOk, IsErrOf};
 ghost use Rattle.hwp_io.specs.Causes.{Rose};
 ghost use Rattle.hwp_script.specs.Valid.{IsValid};
 ghost use Rattle.hwp_script.specs.declared.Refused.{Refused};
-ghost use Rattle.hwp_job.specs.Begins.{is_supported};
-ghost use Rattle.hwp_top.specs.Top.{IsBuilt, Refuses, Takes};
+ghost use Rattle.hwp_top.specs.Top.{Refuses, Takes};
 
 use hwp_io::{ReadAll, Source, read_all};
-use hwp_job::is_supported;
-use hwp_script::{Command, MAX_SCRIPT, ReadScript, Refused, Script, Why, read};
+use hwp_script::{MAX_SCRIPT, ReadScript, Refused, Script, Why, read};
 use std::alloc::Global;
 
 /// Why a source gives no script.
@@ -29,29 +27,10 @@ pub(crate) fn whole(why: Why) -> InputFault
     InputFault::Refused(Refused { line: 0, why })
 }
 
-/// Whether a script has only what is built.
-pub(crate) fn is_all_built(script: &Script) -> bool
-    ensures { IsTrue result ↔ IsBuilt script.now }
-{
-    script
-        .lists
-        .as_slice()
-        .iter()
-        .all(|list| are_built(list.as_slice()))
-}
-
-/// Whether all these commands are supported.
-fn are_built(list: &[Command]) -> bool
-    ensures { IsTrue result ↔ All (λ c. is_supported c ≡ true) list.now }
-{
-    list.iter().all(|command| is_supported(*command))
-}
-
 /// Reads a source to its end, and the script that it gives.
 pub fn take_script<S: Source>(alloc: Global, src: &mut S) -> Result<Script, InputFault>
     ensures script { IfOk result (Takes (S.left src.old) (S.left src.new)) }
     ensures valid { IfOk result IsValid }
-    ensures built { IfOk result IsBuilt }
     ensures refused { (r : Refused) → IsErrOf result (InputFault.Refused r)
         → Refuses (S.left src.old) (S.left src.new) r }
     ensures later { S.faults src.old ≤ S.faults src.new }
@@ -64,8 +43,7 @@ pub fn take_script<S: Source>(alloc: Global, src: &mut S) -> Result<Script, Inpu
         Err(ReadAll::OutOfMemory) => return Err(InputFault::OutOfMemory),
     };
     match read(alloc, bytes.as_slice()) {
-        Ok(script) if is_all_built(&script) => Ok(script),
-        Ok(_) => Err(whole(Why::NotBuilt)),
+        Ok(script) => Ok(script),
         Err(ReadScript::Refused(refused)) => Err(InputFault::Refused(refused)),
         Err(ReadScript::OutOfMemory) => Err(InputFault::OutOfMemory),
     }

@@ -29,7 +29,6 @@ fn name_of(why: Why) -> &'static str
         Why::WrongPlace => "WrongPlace",
         Why::NoEnd => "NoEnd",
         Why::TooLong => "TooLong",
-        Why::NotBuilt => "NotBuilt",
     }
 }
 

@@ -2,21 +2,18 @@
 ghost use Rattle.std.specs.Prelude.{◌≡◌, ◌≢◌, IfOk, IsErrOf, IsSomeAnd, None};
 ghost use Rattle.hwp_io.specs.Causes.{Rose};
 ghost use Rattle.hwp_script.specs.declared.Refused.{Refused};
-ghost use Rattle.hwp_script.specs.Valid.{IsValid};
 ghost use Rattle.hwp_report.specs.Text.{report_text};
-ghost use Rattle.hwp_gen.specs.Generated.{generated};
 ghost use Rattle.hwp_top.specs.Outputs.{IsGenerated, IsOutputOf, IsRefusedFor, IsSummed};
-ghost use Rattle.hwp_top.specs.Top.{IsBuilt, Refuses, Reports};
+ghost use Rattle.hwp_top.specs.Top.{Refuses, Reports};
 
 use crate::checking::checked;
-use crate::inputs::{InputFault, is_all_built, take_script, whole};
+use crate::inputs::{InputFault, take_script};
 use crate::served::Call;
 use hwp_core::run;
 use hwp_gen::generate;
 use hwp_geom::Text;
 use hwp_io::Source;
 use hwp_report::Report;
-use hwp_script::{Script, Why};
 use hwp_summary::summary;
 use std::alloc::Global;
 
@@ -78,30 +75,14 @@ fn script_text(alloc: Global, seed: u64) -> Result<Output, InputFault>
     })
 }
 
-/// The script that a seed gives, where all of it is built.
-fn built_script(alloc: Global, seed: u64) -> Result<Script, InputFault>
-    ensures script { IfOk result (λ script. script ≡ generated seed) }
-    ensures valid { IfOk result IsValid }
-    ensures built { IfOk result IsBuilt }
-    ensures refused { (r : Refused) → IsErrOf result (InputFault.Refused r)
-        → (¬ IsBuilt (generated seed)) × (r ≡ record { line = 0; why = Why.NotBuilt }) }
-    ensures unread { IsErrOf result InputFault.ReadFault → ⊥ }
-{
-    match generate(alloc, seed) {
-        Ok(script) if is_all_built(&script) => Ok(script),
-        Ok(_) => Err(whole(Why::NotBuilt)),
-        Err(_) => Err(InputFault::OutOfMemory),
-    }
-}
-
 /// The output of `sum`.
 fn summed(alloc: Global, seed: u64) -> Result<Output, InputFault>
     ensures output { IfOk result (λ o. IsSomeAnd o.report (IsSummed seed o.status o.text)) }
-    ensures refused { (r : Refused) → IsErrOf result (InputFault.Refused r)
-        → (¬ IsBuilt (generated seed)) × (r ≡ record { line = 0; why = Why.NotBuilt }) }
-    ensures unread { IsErrOf result InputFault.ReadFault → ⊥ }
+    ensures memory { (fault : InputFault) → IsErrOf result fault → fault ≡ InputFault.OutOfMemory }
 {
-    let script = built_script(alloc, seed)?;
+    let Ok(script) = generate(alloc, seed) else {
+        return Err(InputFault::OutOfMemory);
+    };
     let Ok(report) = run(alloc, &script) else {
         return Err(InputFault::OutOfMemory);
     };

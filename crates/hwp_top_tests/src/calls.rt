@@ -224,26 +224,6 @@ fn a_refused_script_leaves_nothing_on_out(rt: HostRuntime) {
     refuses(&rt, rt.alloc(), REFUSED);
 }
 
-/// Commands that aren't supported.
-const UNSUPPORTED: &[&str] = &["unpoison 0"];
-
-/// The script of the command, behind others that are supported, is refused.
-fn is_not_built(rt: &impl Abort, alloc: Global, command: &str) {
-    let front =
-        "hwp 1\ncpus 2\nframes 2\nproc 0\nthread 0 0 1 handler\ncpu 0\nlog 0x0 0x0 0x0\ncpu 1\ninject 0\n";
-    let mut script = String::from_str(alloc, front).expect(rt, "memory");
-    writeln!(script, "{command}\nend").expect(rt, "memory");
-    let left = step(rt, alloc, script.as_bytes());
-    leaves(rt, &left, false, 3, "", "script line 0: NotBuilt\n");
-}
-
-#[test]
-fn commands_that_are_not_supported_are_refused(rt: HostRuntime) {
-    for command in UNSUPPORTED {
-        is_not_built(&rt, rt.alloc(), command);
-    }
-}
-
 #[test]
 fn a_byte_too_many_is_refused(rt: HostRuntime) {
     let long = vec![in rt.alloc(); b' '; 1_048_577].expect(&rt, "memory");

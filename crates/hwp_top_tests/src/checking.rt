@@ -5,7 +5,8 @@ use crate::contests::{ASKED_FOR, IN_USE};
 use crate::failures::{EARLY_THREAD, EARLY_THREAD_SIGNALLED, FRAMES, KILLED, PANICS, SITUATIONS};
 use crate::helpers::{call, leaves};
 use crate::softs::{SHARED, SHARED_MOVED};
-use crate::{processors, softs};
+use crate::unpoisons::{FAILED_TWICE, FAILED_TWICE_REPORT};
+use crate::{processors, softs, unpoisons};
 use std::alloc::Global;
 use std::process::Abort;
 
@@ -57,6 +58,14 @@ fn reports_of_soft_offlines_are_legal(rt: HostRuntime) {
     are_legal(&rt, rt.alloc(), softs::STOPPED);
     are_legal(&rt, rt.alloc(), softs::USED);
     are_legal(&rt, rt.alloc(), softs::FAILING);
+}
+
+#[test]
+fn reports_of_frames_that_are_taken_back_are_legal(rt: HostRuntime) {
+    are_legal(&rt, rt.alloc(), unpoisons::TAKEN_BACK);
+    are_legal(&rt, rt.alloc(), unpoisons::REFUSED);
+    are_legal(&rt, rt.alloc(), unpoisons::STOPPED);
+    are_legal(&rt, rt.alloc(), unpoisons::RACES);
 }
 
 /// The text with this in place of line `number`, counted from 1; where it is empty the line is left out.
@@ -255,6 +264,20 @@ const FORGED: &[Forged] = &[
             (19, "2 moved 1 0 4", "not 19 3\n"),
             (19, "2 takenfree", "not 19 3\n"),
             (22, "5 hasbad 20", "not 22 3\n"),
+        ],
+    },
+    // a frame that was taken back, and failed again
+    Forged {
+        script: FAILED_TWICE,
+        report: FAILED_TWICE_REPORT,
+        lines: &[
+            (3, "count 1", "not 3 6\n"),
+            (6, "unpoisoned 1 0 1", "not 6 5\n"),
+            (6, "unpoisoned 0 0 3", "not 18 3\n"),
+            (7, "poisoned 0 0 6 hw anononly recovered", "not 7 5\n"),
+            (18, "1 notpoisoned", "not 6 5\n"),
+            (20, "3 hardwareseen", "not 20 3\n"),
+            (25, "7 notpoisoned", "not 25 3\n"),
         ],
     },
 ];

@@ -52,6 +52,9 @@ const SOUND: &str = "hwp-report 1\nstop none\ncount 0\n";
 /// One frame is.
 const POISONED: &str = "hwp-report 1\nstop none\ncount 1\n";
 
+/// It doesn't matter how many are.
+const SOME_POISONED: &str = "hwp-report 1\nstop none\ncount ";
+
 /// One frame, which the processors race for.
 const RACES: &[Race] = &[
     // a store, and a load of the same page
@@ -226,6 +229,39 @@ trans 1 1 0\ncpu 0\nstore 0 0 0 7\nsoft 0\nload 0 0 0\ncpu 1\nbad 0 0\nload 1 1 
 #[test]
 fn every_order_of_twelve_turns_of_a_soft_offline_gives_a_legal_report(rt: HostRuntime) {
     all_legal(&rt, rt.alloc(), OFFLINED_IN_USE, 12, 4096);
+}
+
+/// A frame is taken back while another processor's command is under way on it.
+const TAKEN_BACK: &[Race] = &[
+    // both make it fail
+    Race {
+        front: "hwp 1\ncpus 2\nframes 3\nproc 0\nproc 1\nthread 0 0 0 handler\nthread 1 1 1 handler\npage 0 anon\ntrans 0 0 0\n\
+trans 1 1 0\ncpu 0\ninject 0\nunpoison 0\nstore 0 0 0 7\ncpu 1\ninject 0\nload 1 1 0\nschedule 0.",
+        head: SOME_POISONED,
+    },
+    // both take it back, and make it fail again
+    Race {
+        front: "hwp 1\ncpus 2\nframes 3\nproc 0\nproc 1\nthread 0 0 0 handler\nthread 1 1 1 handler\npage 0 anon\ntrans 0 0 0\n\
+trans 1 1 0\ncpu 0\ninject 0\nunpoison 0\ninject 0\ncpu 1\nunpoison 0\ninject 0\nunpoison 0\nschedule 0.",
+        head: SOME_POISONED,
+    },
+    // its failure has begun, and a store has put it out of use: it is taken back, and a page is moved there
+    Race {
+        front: "hwp 1\ncpus 2\nframes 3\nproc 0\nproc 1\nthread 0 0 0 handler\nthread 1 1 1 handler\npage 0 anon\ntrans 0 0 0\n\
+trans 1 1 0\ncpu 0\ninject 0\nload 0 0 0\ncpu 1\nstore 1 1 0 7\nunpoison 0\nsoft 1\nload 1 1 0\nschedule 0@poison 1.",
+        head: POISONED,
+    },
+    // it is taken out of use again
+    Race {
+        front: "hwp 1\ncpus 2\nframes 3\nproc 0\nproc 1\nthread 0 0 0 handler\nthread 1 1 1 handler\npage 0 anon\ntrans 0 0 0\n\
+trans 1 1 0\ncpu 0\nsoft 0\nunpoison 0\nload 0 0 0\ncpu 1\nunpoison 0\nsoft 0\nstore 1 1 0 7\nschedule 0.",
+        head: SOME_POISONED,
+    },
+];
+
+#[test]
+fn every_order_of_twelve_turns_of_an_unpoisoning_gives_a_legal_report(rt: HostRuntime) {
+    all_legal(&rt, rt.alloc(), TAKEN_BACK, 12, 4096);
 }
 
 /// A bad line under two processors that both need its page.

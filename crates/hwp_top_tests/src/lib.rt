@@ -26,3 +26,5 @@ mod scrubs;
 mod seeds;
 #[cfg(test)]
 mod softs;
+#[cfg(test)]
+mod unpoisons;

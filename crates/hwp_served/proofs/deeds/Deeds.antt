@@ -247,6 +247,7 @@ module _ (layout : Layout) (list : List Command) (view : View) (who : Who) where
   answer-deeds (commands.Inject frame) told own answers.Already need caused = none view who _ caused.1.0.made
   answer-deeds (commands.Inject frame) told own answer need caused = absurd caused.1
   answer-deeds (commands.Soft frame) told own answer need caused = offline frame own answer need caused
+  answer-deeds (commands.Unpoison frame) told own answer need caused = none view who _ caused.0
   answer-deeds command told own (answers.Sigbus at) need caused = either command told at need caused
   answer-deeds command told own answer need caused = table-deeds command answer need caused
 

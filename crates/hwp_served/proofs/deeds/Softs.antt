@@ -32,6 +32,7 @@ abbrev pub moves_by : Option Own → ℕ
 moves_by None = 0
 moves_by (Some (owns.Failed frame found)) = 0
 moves_by (Some (owns.Offlined frame cycle moved)) = cond moved 1 0
+moves_by (Some (owns.Revived frame cycle)) = 0
 
 -- ---- only the command for that makes such an entry
 
@@ -52,6 +53,7 @@ own-still : (command : Command) (answer : Answer) (own : Option Own) → is_offl
 own-still command answer None other is = refl
 own-still (commands.Soft frame) answer (Some own) other is = absurd (true≢false other)
 own-still (commands.Inject frame) answer (Some (owns.Failed f found)) other is = refl
+own-still (commands.Unpoison frame) answer (Some (owns.Revived f cycle)) other is = refl
 own-still command answer (Some own) other is = absurd is
 
 stopped-still : (frame : Frame) (own : Option Own) → IsOwn (commands.Soft frame) answers.Stopped own → moves_by own ≡ 0
@@ -59,6 +61,7 @@ stopped-still frame None is = refl
 stopped-still frame (Some (owns.Failed f found)) is = absurd is
 stopped-still frame (Some (owns.Offlined f cycle true)) is = absurd (true≢false (sym is.1))
 stopped-still frame (Some (owns.Offlined f cycle false)) is = refl
+stopped-still frame (Some (owns.Revived f cycle)) is = absurd is
 
 -- ---- the entries
 

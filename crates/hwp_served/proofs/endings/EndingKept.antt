@@ -213,7 +213,7 @@ module _ (layout : Layout) (seat : ℕ) (r : Rec) (a b : State) (h : Holds layou
 -- along a run, what views know of ended processes
 pub ends-kept : (layout : Layout) → IsKept layout (λ (s : State) (v : View). KnowEnds layout v)
 ends-kept layout = record {
-  stays = λ seat r a b h m v know. know;
+  stays = λ seat r a b h m still v know. know;
   moves = λ seat r a b h m still all know. ends-moved layout seat r a b h m all know;
   opens = λ c. record { fresh = λ i x there. absurd (none-some x there); unended = λ i x there. absurd (none-some x there); stays = λ i x there. absurd (none-some x there) };
 }

@@ -98,6 +98,7 @@ module _ (layout : Layout) (list : List Command) (view : View) (who : Who) (proc
   going (commands.Scrub first last) told own (answers.Scrubbed n) is caused = absurd (none-some process is)
   going (commands.Inject frame) told own answer is caused = absurd (none-some process is)
   going (commands.Soft frame) told own answer is caused = absurd (none-some process is)
+  going (commands.Unpoison frame) told own answer is caused = absurd (none-some process is)
   going command told own (answers.Sigbus at) is caused = either-going command told at is caused
   going command told own answer is caused = table-going command answer is caused
 
@@ -114,6 +115,7 @@ module _ (layout : Layout) (list : List Command) (view : View) (who : Who) (proc
   gone (commands.RaiseUser thread ripv eipv) told own page is caused = saw-process thread _ is caused.0.ended
   gone (commands.Inject frame) told own page is caused = absurd caused.1
   gone (commands.Soft frame) told own page is caused = absurd (none-some process is)
+  gone (commands.Unpoison frame) told own page is caused = absurd (none-some process is)
   gone command told own page is caused = table-gone command page is caused
 
 module _ (script : Script) (seat : Cpu → ℕ) (turns : List Played) (last : State) (report : Report) (run : IsRunOf script seat turns last report) where

@@ -1,7 +1,7 @@
 -- The lines of frames: where each is, which of its lines are bad or weak, and how many are poisoned.
-use Rattle.std.proofs.Common.{◌≡◌, ◌≢◌, ℕ, zero, suc, ◌+◌, ◌-◌, ◌%◌, ◌^◌, ◌<◌, ◌≤◌, Bool, true, false, cond, List, [], ◌∷◌, Option, Some, None, length, slice_get, slice_index, refl, sym, ap, ◌∙◌, subst, arith}
+use Rattle.std.proofs.Common.{◌≡◌, ◌≢◌, ℕ, zero, suc, ◌+◌, ◌-◌, ◌%◌, ◌^◌, ◌<◌, ◌≤◌, Bool, true, false, cond, List, Option, Some, None, length, slice_get, slice_index, refl, sym, ap, ◌∙◌, subst, arith}
 use Rattle.std.proofs.lemmas.Bool.{eq-eqb, eqb-false, eqb-true, ne_eqb}
-use Rattle.std.proofs.lemmas.Option.{get_or_from_slice_get, none-some, slice_get_within}
+use Rattle.std.proofs.lemmas.Option.{get_or_from_slice_get, slice_get_within}
 use Rattle.hwp_geom.specs.declared.Cpu.{Cpu}
 use Rattle.hwp_geom.specs.declared.Damage.TheVariants as damages
 use Rattle.hwp_geom.specs.declared.Frame.{Frame}
@@ -9,37 +9,24 @@ use Rattle.hwp_geom.specs.declared.Page.{Page}
 use Rattle.hwp_words.specs.Frames.{cycle_of, handled_of, is_handled, is_kernel, is_poisoned, owner_of, poison_of}
 use Rattle.hwp_words.specs.Names.{page_named}
 use Rattle.hwp_rule.specs.declared.State.{State}
-use Rattle.hwp_rule.specs.declared.View.{View}
-use Rattle.hwp_rule.specs.Lists.{SomeMember}
 use Rattle.hwp_rule.specs.Words.{Words, sum_below, words_of}
-use Rattle.hwp_rule.proofs.Lists.{at_map}
 use Rattle.hwp_rule.proofs.Moving.{shaped}
 use Rattle.hwp_step.specs.Boards.{Played}
 use Rattle.hwp_script.specs.declared.Script.{Script}
 use Rattle.hwp_report.specs.declared.FrameLine.{FrameLine}
-use Rattle.hwp_report.specs.declared.MarkLine.{MarkLine}
 use Rattle.hwp_report.specs.declared.Place.TheVariants as places
 use Rattle.hwp_report.specs.declared.Report.{Report}
 use Rattle.hwp_law.specs.Frames.{IsFrameLine, IsPlaced, poisoned_count}
-use Rattle.hwp_law.specs.Records.{ends_poisoned, is_poisoning}
+use Rattle.hwp_law.specs.Records.{ends_poisoned}
 use Rattle.hwp_runs.specs.Ends.{IsFrameOn, place_in, place_owned}
 use Rattle.hwp_runs.proofs.Placed.{owned-named}
 use Rattle.hwp_served.specs.Runs.{IsRunOf}
 use Rattle.hwp_served.proofs.lines.SpoiledLines.{spoiled-so}
 use Rattle.hwp_served.proofs.Ending.{IsEnd}
 use Rattle.hwp_served.proofs.Holding.{ended}
-use Rattle.hwp_served.proofs.marks.MarkWords.{mark-poisons}
-use Rattle.hwp_served.proofs.marks.Poisoned.{of-mark, one-line}
-use Rattle.hwp_served.proofs.marks.PoisonSeen.{marked-word}
+use Rattle.hwp_served.proofs.marks.RecordPlaces.{ends-are}
 use Rattle.hwp_served.proofs.lines.Records.{record-so}
 use Rattle.hwp_served.proofs.Sums.{list-below}
-
--- a record of one poisoning at most says whether it has one
-ends-so : (l : List MarkLine) (b : Bool) → ((k : ℕ) (x : MarkLine) → slice_get l k ≡ Some x → (k ≡ 0) × (is_poisoning x ≡ true) × (b ≡ true)) → (b ≡ true → SomeMember (λ (x : MarkLine). Unit {0}) l) → ends_poisoned l ≡ b
-ends-so [] true each some = let x = some refl in absurd (none-some x.1 x.2)
-ends-so [] false each some = refl
-ends-so (x ∷ []) b each some = let one = each 0 x refl in one.1 ∙ sym one.2
-ends-so (x ∷ y ∷ l) b each some = absurd (let no_ : 1 ≡ 0 = (each 1 y refl).0 in omega arith)
 
 module _ (script : Script) (seat : Cpu → ℕ) (turns : List Played) (last : State) (report : Report) (run : IsRunOf script seat turns last report) where
   abbrev end : IsEnd script seat last report
@@ -49,26 +36,8 @@ module _ (script : Script) (seat : Cpu → ℕ) (turns : List Played) (last : St
   words = words_of script.layout last.words
 
   module _ (frame : Frame) (line : FrameLine) (line_is : slice_get report.frames frame.0 ≡ Some line) where
-    pub on : IsFrameOn words last.views frame line
+    abbrev pub on : IsFrameOn words last.views frame line
     on = end.board.ends.frames frame line line_is
-
-    -- the record ends poisoned exactly where the word has POISON
-    pub ends-are : ends_poisoned line.marks ≡ is_poisoned on.word
-    ends-are = ends-so line.marks (is_poisoned on.word) each some
-      where
-        each : (k : ℕ) (x : MarkLine) → slice_get line.marks k ≡ Some x → (k ≡ 0) × (is_poisoning x ≡ true) × (is_poisoned on.word ≡ true)
-        each k x there =
-            let one = one-line script seat last report end frame line line_is k x there in
-            let o = of-mark script seat last report end frame line line_is k x there in
-            let word : slice_get words.frames o.mark.frame.0 ≡ Some on.word = ap (λ (f : Frame). slice_get words.frames f.0) o.frame_is ∙ on.there in
-            (one.0, one.1, mark-poisons script.layout last end.board.holds o.i o.j o.view o.mark on.word o.view_is o.listed word)
-
-        some : is_poisoned on.word ≡ true → SomeMember (λ (x : MarkLine). Unit {0}) line.marks
-        some poisoned =
-            let by = marked-word script.layout last end.board.holds frame on.word on.there poisoned in
-            let k = by.3 in
-            let told = on.marks.listed k.1 (by.0, by.1.marks, at_map (λ (v : View). v.marks) last.views by.0 by.1 by.2, (k.0, k.1, k.2, refl)) k.3 in
-            (told.0, told.1, told.2, tt)
 
     -- a failure of the frame is ended: the frame is the kernel's or handled
     settled : is_kernel on.word ≡ false → is_handled on.word ≡ false → is_poisoned on.word ≡ false
@@ -112,7 +81,7 @@ module _ (script : Script) (seat : Cpu → ℕ) (turns : List Played) (last : St
       let o = on frame line line_is in
       let own : is_kernel o.word ≡ kernel = end.board.holds.rule.frames.places.declared frame.0 o.word kernel o.there kernel_is in
       record {
-        place = subst (λ (b : Bool). IsPlaced script.layout kernel b line.place) (sym (ends-are frame line line_is))
+        place = subst (λ (b : Bool). IsPlaced script.layout kernel b line.place) (sym (ends-are script seat last report end frame line line_is))
             (subst (IsPlaced script.layout kernel (is_poisoned o.word)) (sym o.place)
             (subst (λ (k : Bool). IsPlaced script.layout k (is_poisoned o.word) (place_in o.word)) own (placed-so frame line line_is (is_kernel o.word) (is_handled o.word) refl refl)));
         bad = λ n. spoiled-so script seat last report end frame damages.Bad n line.bad.0 o.bad;
@@ -137,4 +106,4 @@ module _ (script : Script) (seat : Cpu → ℕ) (turns : List Played) (last : St
       counts : (i : ℕ) (l : FrameLine) → slice_get report.frames i ≡ Some l → cond (ends_poisoned l.marks) 1 0 ≡ poison_of (slice_index words.frames i)
       counts i l there =
           let o = on (record { 0 = i }) l there in
-          ap (λ (b : Bool). cond b 1 0) (ends-are (record { 0 = i }) l there) ∙ bit-is o.word (is_poisoned o.word) refl ∙ ap poison_of (sym (get_or_from_slice_get words.frames i o.word 0 o.there))
+          ap (λ (b : Bool). cond b 1 0) (ends-are script seat last report end (record { 0 = i }) l there) ∙ bit-is o.word (is_poisoned o.word) refl ∙ ap poison_of (sym (get_or_from_slice_get words.frames i o.word 0 o.there))

@@ -72,14 +72,20 @@ pub record IsOwnOffline (layout : Layout) (command : Command) (answer : Answer) 
   pub answer_is : IsOfflined moved answer
   pub users : slice_get layout.kernel frame.0 ≡ Some false
 
+pub record IsOwnRevival (command : Command) (answer : Answer) (frame : Frame) : Type 0 where
+  pub command_is : command ≡ commands.Unpoison frame
+  pub answer_is : answer ≡ answers.Done
+
 abbrev pub IsOwnRight : Layout → View → Who → Command → Answer → Own → Type 0
 IsOwnRight layout view who command answer (owns.Failed frame found) = IsOwnFailure layout view who command answer frame found
 IsOwnRight layout view who command answer (owns.Offlined frame cycle moved) = IsOwnOffline layout command answer frame moved
+IsOwnRight layout view who command answer (owns.Revived frame cycle) = IsOwnRevival command answer frame
 
 -- what a failure found, and else this
 abbrev found_or : Found → Own → Found
 found_or other (owns.Failed frame found) = found
 found_or other (owns.Offlined frame cycle moved) = other
+found_or other (owns.Revived frame cycle) = other
 
 module _ (layout : Layout) (list : List Command) (view : View) (who : Who) (told : List Told) where
   -- the failure is the one that the answer came from
@@ -113,6 +119,7 @@ module _ (layout : Layout) (list : List Command) (view : View) (who : Who) (told
     answer_is = is;
     users = subst (λ (x : Frame). slice_get layout.kernel x.0 ≡ Some false) (sym same) (users-so f (Some (owns.Offlined frame cycle moved)) moved answer is caused);
   }
+  own-so (commands.Unpoison f) answer (owns.Revived frame cycle) (same, is) caused = record { command_is = ap commands.Unpoison (sym same); answer_is = is }
   own-so command answer own is caused = absurd is
 
 -- ---- at the end

@@ -169,11 +169,13 @@ module _ (layout : Layout) (view : View) (who : Who) (situation : Situation) (pa
   own-counts (Some (owns.Failed frame found)) entered = entry-counts frame None found (entered frame found refl)
   own-counts (Some (owns.Offlined frame cycle true)) entered = refl
   own-counts (Some (owns.Offlined frame cycle false)) entered = refl
+  own-counts (Some (owns.Revived frame cycle)) entered = refl
 
   own-needed : (own : Option Own) → ((frame : Frame) (found : Found) → own ≡ Some (owns.Failed frame found) → IsEntered layout view who frame None found found.at) → counts (is_needed situation) (own_failure own) ≡ 0
   own-needed None entered = refl
   own-needed (Some (owns.Failed frame found)) entered = required-counts frame None found (entered frame found refl) ∙ ap flag (and_right (situation_number found.situation == situation_number situation) false refl)
   own-needed (Some (owns.Offlined frame cycle moved)) entered = refl
+  own-needed (Some (owns.Revived frame cycle)) entered = refl
 
 -- ---- marks beside event lines
 
@@ -281,6 +283,7 @@ module _ (script : Script) (seat : Cpu → ℕ) (last : State) (report : Report)
         moves (Some (owns.Failed frame found)) = refl
         moves (Some (owns.Offlined frame cycle true)) = refl
         moves (Some (owns.Offlined frame cycle false)) = refl
+        moves (Some (owns.Revived frame cycle)) = refl
 
     one-with : marks_in report (is_commands who) ≤ 1
     one-with =

@@ -51,11 +51,12 @@ use Rattle.hwp_served.proofs.RowLines.{answer-told, events-by-row, told_at}
 use Rattle.hwp_served.proofs.Seen.{filter-is}
 use Rattle.hwp_served.proofs.deeds.Made.{command-is}
 use Rattle.hwp_served.proofs.lines.OfRows.{IsOwnRight, kernel-found, own-of, right-of, row-of}
-use Rattle.hwp_served.proofs.lines.RecordLines.{IsOfRow, OfItsRow, failure_line, of-row, record-is}
+use Rattle.hwp_served.proofs.lines.RecordLines.{IsOfRow, OfItsRow, failure_line, in-record, of-row}
+use Rattle.hwp_served.proofs.lines.RisingLines.{hardware-same}
 use Rattle.hwp_served.proofs.lines.RowEvents.{Came, TellsResult, came_line, found_in, found_on, hardware_line, results-are, row-lines, row-results, same-results}
 use Rattle.hwp_served.proofs.lines.ToldRight.{found_act}
 use Rattle.hwp_served.proofs.marks.Marked.{any-of, line-of}
-use Rattle.hwp_served.proofs.marks.Poisoned.{one-line}
+use Rattle.hwp_served.proofs.marks.RecordPlaces.{marks-at}
 use Rattle.hwp_served.proofs.marks.RowNotes.{all_notes, hardware-of, is_noted, notes-of-command, notes_at, own-by, record-flat}
 
 -- what an event tells is its result where it tells one
@@ -94,7 +95,7 @@ module _ (script : Script) (seat : Cpu → ℕ) (last : State) (report : Report)
 
   -- its lines in a record that its events caused, and its event lines that tell a result
   pub hardware-are : (who : Who) (frame : Frame) (line : FrameLine) → slice_get report.frames frame.0 ≡ Some line → hardware_marks who line.marks ≡ map (hardware_line who) (found_on frame.0 (told_at (row_at end.rows who)))
-  hardware-are who frame line line_is = ap (hardware_marks who) (record-is script seat last report end frame line line_is) ∙ hardware-of frame who end.rows ∙ which (row_at end.rows who)
+  hardware-are who frame line line_is = hardware-same script seat last report end who frame line line_is ∙ hardware-of frame who end.rows ∙ which (row_at end.rows who)
     where
       which : (o : Option Row) → filter is_by_hardware (lines_of frame (notes_at who o)) ≡ map (hardware_line who) (found_on frame.0 (told_at o))
       which None = refl
@@ -134,6 +135,7 @@ module _ (script : Script) (seat : Cpu → ℕ) (last : State) (report : Report)
         which : (b : Bool) → kernel ≡ false → IsFound kernel (offlined b)
         which true none = none
         which false none = none
+    own-found who command answer x how (owns.Revived f cycle) right frame_is line_is_ is = absurd (none-some how (ap how_in (sym line_is_) ∙ is))
 
     found-so : (k : ℕ) (x : MarkLine) (how : How) → slice_get (marks_of report frame.0) k ≡ Some x → how_in x ≡ Some how → IsFound kernel how
     found-so k x how there is = let o = of k x there in which o.row o.row_is o.of
@@ -157,6 +159,8 @@ module _ (script : Script) (seat : Cpu → ℕ) (last : State) (report : Report)
         (at ∙ ap (λ (c : Command). Some c) right.command_is ∙ ap (λ (y : Frame). Some (commands.Soft y)) frame_is, ap is_moved told ∙ right.answer_is)
     own-answered who command answer (owns.Offlined f cycle false) right frame_is at told =
         (at ∙ ap (λ (c : Command). Some c) right.command_is ∙ ap (λ (y : Frame). Some (commands.Soft y)) frame_is, told ∙ ap (λ (a : Answer). Some a) right.answer_is)
+    own-answered who command answer (owns.Revived f cycle) right frame_is at told =
+        (at ∙ ap (λ (c : Command). Some c) right.command_is ∙ ap (λ (y : Frame). Some (commands.Unpoison y)) frame_is, told ∙ ap (λ (a : Answer). Some a) right.answer_is)
 
     answered-so : (k : ℕ) (x : MarkLine) → slice_get (marks_of report frame.0) k ≡ Some x → IsAnswered script report frame x
     answered-so k x there = let o = of k x there in which o.row o.row_is o.of
@@ -171,9 +175,7 @@ module _ (script : Script) (seat : Cpu → ℕ) (last : State) (report : Report)
             (answer-told script seat last report end (view_of last (seat who.cpu)) who r.of))
 
     mark-at : (k : ℕ) (x : MarkLine) → slice_get (marks_of report frame.0) k ≡ Some x → IsMarkAt k x
-    mark-at k x there =
-        let one = one-line script seat last report end frame line line_is k x (at-line k x there) in
-        subst (λ (n : ℕ). IsMarkAt n x) (sym one.0) (record { cycle = one.2; turn = one.1 })
+    mark-at k x there = marks-at script seat last report end frame line line_is k x (at-line k x there)
 
     have-events : (who : Who) → HaveEvents report frame who
     have-events who =
@@ -235,10 +237,11 @@ module _ (script : Script) (seat : Cpu → ℕ) (last : State) (report : Report)
       let on = filter-has (λ (n : Note). n.0.0 == frame.0) (all_notes (notes_of 0 end.rows)) among.0 note among.1 (eq-eqb note.0.0 frame.0 (ap (λ (x : Frame). x.0) (own-frame who own))) in
       let in_record : slice_get (record_of frame (notes_of 0 end.rows)) on.0 ≡ Some note.1
       = ap (λ (l : List MarkLine). slice_get l on.0) (record-flat frame (notes_of 0 end.rows)) ∙ at_map (λ (n : Note). n.1) (filter (λ (n : Note). n.0.0 == frame.0) (all_notes (notes_of 0 end.rows))) on.0 note on.1 in
-      let at : slice_get (marks_of report frame.0) on.0 ≡ Some note.1
-      = ap (λ (l : List MarkLine). slice_get l on.0) (marks-are frame line.0 line_is ∙ record-is script seat last report end frame line.0 line_is) ∙ in_record in
-      any-of (λ (y : MarkLine). (who_in y ≡ who) × Such y) (marks_of report frame.0) (on.0, note.1, at, (own-by who own, such))
+      let some = in-record script seat last report end frame line.0 line_is on.0 note.1 in_record in
+      let at : slice_get (marks_of report frame.0) some.0 ≡ Some note.1 = ap (λ (l : List MarkLine). slice_get l some.0) (marks-are frame line.0 line_is) ∙ some.2 ∙ ap (λ (y : MarkLine). Some y) some.3 in
+      any-of (λ (y : MarkLine). (who_in y ≡ who) × Such y) (marks_of report frame.0) (some.0, note.1, at, (own-by who own, such))
     where
       own-frame : (who : Who) (own : Own) → (note_by who own).0 ≡ (marking_by own).frame
       own-frame who (owns.Failed f found) = refl
       own-frame who (owns.Offlined f cycle moved) = refl
+      own-frame who (owns.Revived f cycle) = refl

@@ -98,6 +98,7 @@ own-lines frame who (Some own) = which own ((note_by who own).0.0 == frame.0)
     which (owns.Failed f found) true = refl
     which (owns.Offlined f cycle true) true = refl
     which (owns.Offlined f cycle false) true = refl
+    which (owns.Revived f cycle) true = refl
 
 pub row-lines : (frame : Frame) (who : Who) (row : Row) → filter is_by_hardware (lines_of frame (row_notes who row)) ≡ map (hardware_line who) (found_on frame.0 row.told)
 row-lines frame who row =

@@ -39,7 +39,6 @@ use Rattle.hwp_served.proofs.Checks.{HasResult, check-so, each-first, each-secon
 use Rattle.hwp_served.proofs.Ending.{IsEnd, IsOf, command-of, served-of}
 use Rattle.hwp_served.proofs.RowLines.{answer-told, event_at}
 use Rattle.hwp_served.proofs.lines.SpoiledLines.{seen-after, spoil-shown}
-use Rattle.hwp_served.proofs.marks.PoisonSeen.{AreMarkedBy}
 
 -- a scrub went to its end
 abbrev is_whole : Answer → Bool
@@ -68,12 +67,12 @@ lowest-met word line (Some k) lowest one = which (cases_lt line k)
     which (inl less) = let none : bit_at word line ≡ 0 = lowest.lowest line (omega arith) less in absurd (omega (arith, one, none))
     which (inr past) = past
 
-module _ (script : Script) (seat : Cpu → ℕ) (last : State) (report : Report) (end : IsEnd script seat last report) (seen_marks : EachMember (AreMarkedBy last) last.views) (who : Who) (of : IsOf script end.rows (view_of last (seat who.cpu)) who) where
+module _ (script : Script) (seat : Cpu → ℕ) (last : State) (report : Report) (end : IsEnd script seat last report) (who : Who) (of : IsOf script end.rows (view_of last (seat who.cpu)) who) where
   abbrev view : View
   view = view_of last (seat who.cpu)
 
   abbrev Result : Told → Type 0
-  Result = HasResult script seat last report end seen_marks who of.inside
+  Result = HasResult script seat last report end who of.inside
 
   abbrev told_lines : List Told → List EventLine
   told_lines told = map (event_at who.seq) told
@@ -116,7 +115,7 @@ module _ (script : Script) (seat : Cpu → ℕ) (last : State) (report : Report)
   bad-found frame banks (Some line) lines saw acted results = (
     spoil-shown script seat last report end who.cpu of.inside who frame damages.Bad line saw.word saw.lowest.is_set saw.saw,
     refl,
-    check-so script seat last report end seen_marks who of.inside None scrubbing (with_bad frame line banks) lines acted results,
+    check-so script seat last report end who of.inside None scrubbing (with_bad frame line banks) lines acted results,
   )
 
   weak-found : (frame : Frame) (banks : Banks) (line : Option ℕ) (lines : List Told) → SawLowest view who (places.Weak frame) line → IsWeakMet script.layout view who frame banks line lines → EachMember Result lines
@@ -126,7 +125,7 @@ module _ (script : Script) (seat : Cpu → ℕ) (last : State) (report : Report)
     kept.event,
     spoil-shown script seat last report end who.cpu of.inside who frame damages.Weak line saw.word saw.lowest.is_set saw.saw,
     kept.held,
-    lines-so script seat last report end seen_marks who of.inside None scrubbing false ((scrub_bank, kept.event) ∷ []) lines kept.events kept.told results,
+    lines-so script seat last report end who of.inside None scrubbing false ((scrub_bank, kept.event) ∷ []) lines kept.events kept.told results,
     refl,
   )
 

@@ -148,7 +148,7 @@ module _ (layout : Layout) (seat : ℕ) (r : Rec) (a b : State) (h : Holds layou
 
 pub sights-kept : (layout : Layout) → IsKept layout (λ (s : State) (v : View). AreSights layout v)
 sights-kept layout = record {
-  stays = λ seat r a b h m v each. each;
+  stays = λ seat r a b h m still v each. each;
   moves = λ seat r a b h m still all each. moves-sights layout seat r a b h m each;
   opens = λ c i x there. absurd (none-some x there);
 }

@@ -25,7 +25,7 @@ AreReportsOwn s v = EachMember (λ (r : Reported). IsPast v.parts r.stamp.who) v
 
 pub reports-kept : (layout : Layout) → IsKept layout AreReportsOwn
 reports-kept layout = record {
-  stays = λ seat r a b h m v each. each;
+  stays = λ seat r a b h m still v each. each;
   moves = λ seat r a b h m still views each.
       let before : View = noted r.who m.view in
       let after : View = view_by layout r.who r.step r.found r.content before in

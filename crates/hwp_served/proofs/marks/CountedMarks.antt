@@ -1,12 +1,11 @@
 -- How many lines of the records tell of a command: as many as the notes of its row.
-use Rattle.std.proofs.Common.{◌≡◌, ℕ, zero, suc, ◌+◌, ◌<◌, ◌==◌, ◌&&◌, Bool, true, false, cond, List, [], ◌∷◌, Some, filter, length, slice_get, refl, sym, ap, ◌∙◌, subst, arith}
+use Rattle.std.proofs.Common.{◌≡◌, ℕ, ◌+◌, ◌<◌, ◌==◌, ◌&&◌, Bool, true, false, cond, List, [], ◌∷◌, Some, filter, length, slice_get, refl, sym, ap, ◌∙◌, subst, arith}
 use Rattle.std.specs.List.{count_by, sum_by}
 use Rattle.std.proofs.lemmas.List.Sums.{sum_by-cons}
-use Rattle.std.proofs.lemmas.Option.{none-some, same_Some, slice_get_within}
+use Rattle.std.proofs.lemmas.Option.{slice_get_within}
 use Rattle.hwp_geom.specs.declared.Cpu.{Cpu}
 use Rattle.hwp_geom.specs.declared.Frame.{Frame}
 use Rattle.hwp_geom.specs.declared.Who.{Who}
-use Rattle.hwp_geom.specs.Pairs.{Pairs}
 use Rattle.hwp_rule.specs.declared.State.{State}
 use Rattle.hwp_rule.specs.declared.View.{View}
 use Rattle.hwp_rule.specs.Lists.{EachMember}
@@ -27,19 +26,14 @@ use Rattle.hwp_served.specs.Rows.{Note}
 use Rattle.hwp_served.specs.Runs.{notes_of, notes_on, row_at}
 use Rattle.hwp_served.proofs.Ending.{IsEnd}
 use Rattle.hwp_served.proofs.Sums.{below-one, flat-sum, list-below, sum-same}
+use Rattle.hwp_served.proofs.Failed.{partner}
+use Rattle.hwp_served.proofs.lines.Gathering.{record-same}
 use Rattle.hwp_served.proofs.lines.RecordLines.{all-noted}
 use Rattle.hwp_served.proofs.marks.RowNotes.{all_notes, is_noted, notes-of-command, notes_at}
 
 cond-and : (a b : Bool) → ◌≡◌ {A = ℕ} (cond (a && b) 1 0) (cond a (cond b 1 0) 0)
 cond-and true b = refl
 cond-and false b = refl
-
--- a member of the first of two paired lists has its partner
-partner : {A B : Type 0} (R : A → B → Type 0) (xs : List A) (ys : List B) (j : ℕ) (x : A) → Pairs R xs ys → slice_get xs j ≡ Some x → (y : B) × (slice_get ys j ≡ Some y) × R x y
-partner R [] ys j x pairs there = absurd (none-some x there)
-partner R (a ∷ xs) [] j x pairs there = absurd pairs
-partner R (a ∷ xs) (b ∷ ys) zero x pairs there = (b, refl, subst (λ z. R z b) (same_Some a x there) pairs.0)
-partner R (a ∷ xs) (b ∷ ys) (suc j) x pairs there = partner R xs ys j x pairs.1 there
 
 -- the notes of a command that pass a test
 noted-count : (who : Who) (test : MarkLine → Bool) (own : List Note) → count_by (λ (n : Note). is_same_command who (who_in n.1) && test n.1) own ≡ count_by (λ (n : Note). test n.1) (filter (is_noted who) own)
@@ -71,7 +65,7 @@ module _ (script : Script) (seat : Cpu → ℕ) (last : State) (report : Report)
   -- the lines of all records are the notes of all processors
   marks-notes : (test : MarkLine → Bool) → marks_in report test ≡ sum_by (λ (own : List Note). count_by (λ (n : Note). test n.1) own) (notes_of 0 end.rows)
   marks-notes test =
-      list-below (λ (l : FrameLine). count_by test l.marks) (λ i. sum_by (notes_on (record { 0 = i }) test) (notes_of 0 end.rows)) report.frames (λ i l there. (end.records (record { 0 = i }) l there).same test)
+      list-below (λ (l : FrameLine). count_by test l.marks) (λ i. sum_by (notes_on (record { 0 = i }) test) (notes_of 0 end.rows)) report.frames (λ i l there. record-same (notes_of 0 end.rows) (record { 0 = i }) l.marks test (end.records (record { 0 = i }) l there))
       ∙ below-swap (λ (i : ℕ) (own : List Note). notes_on (record { 0 = i }) test own) (notes_of 0 end.rows) (length report.frames)
       ∙ sum-same (λ (own : List Note). sum_below (λ i. notes_on (record { 0 = i }) test own) (length report.frames)) (λ (own : List Note). count_by (λ (n : Note). test n.1) own) (notes_of 0 end.rows) (λ c own there.
       below-swap (λ (i : ℕ) (n : Note). cond ((n.0.0 == i) && test n.1) 1 0) own (length report.frames)

@@ -68,6 +68,7 @@ each-note Q who row told own = each-append Q (filter_map (told_note who) row.tol
 pub own-by : (who : Who) (own : Own) → who_in (note_by who own).1 ≡ who
 own-by who (owns.Failed frame found) = refl
 own-by who (owns.Offlined frame cycle moved) = refl
+own-by who (owns.Revived frame cycle) = refl
 
 noted-by : (who : Who) (row : Row) → EachMember (λ (n : Note). who_in n.1 ≡ who) (row_notes who row)
 noted-by who row = each-note (λ (n : Note). who_in n.1 ≡ who) who row (λ i t found at is. refl) (λ own is. own-by who own)
@@ -82,7 +83,7 @@ others-none who cpu n (row ∷ rows) other =
     ∙ others-none who cpu (n + 1) rows (λ m past. other m (omega (arith, past)))
 
 -- those of a command among its processor's
-notes-by : (who : Who) (n : ℕ) (rows : List Row) (k : ℕ) → who.seq ≡ n + k → filter (is_noted who) (notes_from who.cpu n rows) ≡ notes_at who (slice_get rows k)
+pub notes-by : (who : Who) (n : ℕ) (rows : List Row) (k : ℕ) → who.seq ≡ n + k → filter (is_noted who) (notes_from who.cpu n rows) ≡ notes_at who (slice_get rows k)
 notes-by who n [] k at = refl
 notes-by who n (row ∷ rows) zero at =
     let same : n ≡ who.seq = omega (arith, at) in

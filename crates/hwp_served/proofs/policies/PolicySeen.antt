@@ -285,7 +285,7 @@ module _ (layout : Layout) (seat : ℕ) (r : Rec) (a b : State) (h : Holds layou
 -- along a run, what views know of policies
 pub policies-kept : (layout : Layout) → IsKept layout (λ (s : State) (v : View). KnowPolicies layout v)
 policies-kept layout = record {
-  stays = λ seat r a b h m v know. know;
+  stays = λ seat r a b h m still v know. know;
   moves = λ seat r a b h m still all know. policies-moved layout seat r a b h m still know;
   opens = λ c. record { policed = λ i x there. absurd (none-some x there); numbered = λ i x there. absurd (none-some x there) };
 }

@@ -16,7 +16,7 @@ new-requires-in-loop-cpu-clause-commands c =
     let are : get_or c.args.script.now.lists c.loop-cpu.cpu c.index-lists-cpu.result ≡ c.as_slice-commands.result.now
     = ap (λ (l : List (List Command)). get_or l c.loop-cpu.cpu c.index-lists-cpu.result) (sym lists_are) ∙ sym c.index-lists-cpu.is ∙ sym c.as_slice-commands.ensures in
     subst (λ (l : Layout). AreCommands l (cpu_of c.loop-cpu.cpu) c.as_slice-commands.result.now) (sym c.loop-cpu.invariant.2)
-    (subst (AreCommands c.args.script.now.layout (cpu_of c.loop-cpu.cpu)) are (commands-at c.args.script.now c.loop-cpu.cpu c.index-lists-cpu.result c.requires.valid c.requires.supported inside))
+    (subst (AreCommands c.args.script.now.layout (cpu_of c.loop-cpu.cpu)) are (commands-at c.args.script.now c.loop-cpu.cpu c.index-lists-cpu.result c.requires.valid inside))
 
 pub loop-cpu-preserved : goal.loop-cpu-preserved
 loop-cpu-preserved c =

@@ -1,5 +1,9 @@
 use Rattle.hwp_control.proofs.read_stop.ReadStopScheduled.tells.Goals as goal
-use Rattle.hwp_control.proofs.Reading.{tells}
+use Rattle.hwp_step.proofs.Revivals.{mild-pays}
+use Rattle.hwp_control.proofs.Reading.{mild, tells, the-member}
 
-pub returns : goal.returns
-returns c = tells
+pub returns-clause-class : goal.returns-clause-class
+returns-clause-class c = tells
+
+pub returns-clause-pays : goal.returns-clause-pays
+returns-clause-pays c = mild-pays the-member mild

@@ -1,5 +1,9 @@
 use Rattle.hwp_evict.proofs.evict.EvictScheduled.tells.Goals as goal
-use Rattle.hwp_evict.proofs.EvictCosts.{evict-tells}
+use Rattle.hwp_step.proofs.Revivals.{mild-pays}
+use Rattle.hwp_evict.proofs.EvictCosts.{evict-member, evict-mild, evict-tells}
 
-pub returns : goal.returns
-returns c = evict-tells
+pub returns-clause-class : goal.returns-clause-class
+returns-clause-class c = evict-tells
+
+pub returns-clause-pays : goal.returns-clause-pays
+returns-clause-pays c = mild-pays evict-member evict-mild

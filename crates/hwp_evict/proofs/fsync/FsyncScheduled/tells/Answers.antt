@@ -1,5 +1,9 @@
 use Rattle.hwp_evict.proofs.fsync.FsyncScheduled.tells.Goals as goal
-use Rattle.hwp_evict.proofs.Fsyncing.{fsync-tells}
+use Rattle.hwp_step.proofs.Revivals.{mild-pays}
+use Rattle.hwp_evict.proofs.Fsyncing.{fsync-member, fsync-mild, fsync-tells}
 
-pub returns : goal.returns
-returns c = fsync-tells
+pub returns-clause-class : goal.returns-clause-class
+returns-clause-class c = fsync-tells
+
+pub returns-clause-pays : goal.returns-clause-pays
+returns-clause-pays c = mild-pays fsync-member fsync-mild

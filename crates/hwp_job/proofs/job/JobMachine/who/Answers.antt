@@ -33,3 +33,6 @@ returns-in-Inject-clause-law c = record { can = can; stays = stays }
 
 pub returns-in-Soft-clause-law : goal.returns-in-Soft-clause-law
 returns-in-Soft-clause-law c = record { can = can; stays = stays }
+
+pub returns-in-Unpoison-clause-law : goal.returns-in-Unpoison-clause-law
+returns-in-Unpoison-clause-law c = record { can = can; stays = stays }

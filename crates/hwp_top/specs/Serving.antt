@@ -1,0 +1,15 @@
+-- What `step` comes to where nothing fails.
+use Rattle.std.specs.Prelude.{◌≡◌, ℕ, List, Option, Some}
+use Rattle.std.specs.Io.KnownBytes.{Appends}
+use Rattle.hwp_script.specs.declared.Script.{Script}
+use Rattle.hwp_report.specs.declared.Report.{Report}
+use Rattle.hwp_report.specs.Text.{report_text}
+use Rattle.hwp_top.specs.Top.{IsReportOfRun, done_status}
+
+-- the report of a run of the script is there, all of it was written, and the status says whether the machine stopped
+pub record HasReported (script : Script) (taken taken' : Option (List ℕ)) (status : ℕ) (given : Option Report) : Type 0 where
+  pub report : Report
+  pub given_is : given ≡ Some report
+  pub report_of : IsReportOfRun script report
+  pub status_is : status ≡ done_status report
+  pub written : Appends taken taken' (report_text report)

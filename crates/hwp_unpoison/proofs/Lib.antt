@@ -1,0 +1,3 @@
+pub mod Reviving
+pub mod Costs
+pub mod Adding

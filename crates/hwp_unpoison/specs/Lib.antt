@@ -1,0 +1,2 @@
+pub mod Unpoisons
+pub mod Done

@@ -1,0 +1,2 @@
+" Fault scripts of hwp.
+autocmd BufRead,BufNewFile *.hwp setfiletype hwp
