@@ -1,7 +1,7 @@
 mod Openings
 mod Carried
 mod Meeting
-mod Trailing
+pub mod Trailing
 mod Stepped
-mod Turning
-mod AllHome
+pub mod Turning
+pub mod AllHome

@@ -1,4 +1,4 @@
--- Lists that grow by the next number, and bits of the frames.
+-- The slots at opening, and the board.
 use Rattle.std.proofs.Common.{◌≡◌, ℕ, suc, ◌+◌, List, [], ◌∷◌, ◌++◌, Option, Some, None, map, replicate, refl, sym, ap, ◌∙◌, subst, arith}
 use Rattle.std.proofs.lemmas.List.{append_assoc, append-nil, map-append, replicate_more}
 use Rattle.std.proofs.lemmas.Option.{none-some, same_Some}
@@ -10,24 +10,12 @@ use Rattle.hwp_rule.specs.Opening.{below, opening_words, opening_homes, opening_
 use Rattle.hwp_rule.specs.Rule.{Holds}
 use Rattle.hwp_rule.proofs.Lists.{each-push}
 use Rattle.hwp_rule.proofs.OpeningHolds.{opening-holds}
+use Rattle.hwp_opening.proofs.Openings.{map-more}
 use Rattle.hwp_plain.specs.declared.slot.Slot.{Slot}
 use Rattle.hwp_plain.specs.declared.slot.Slot.TheVariants.{Home}
 use Rattle.hwp_plain.specs.declared.trail.Trail.TheVariants.{Opening}
 use Rattle.hwp_plain.specs.Boards.{IsBoard, state_of}
 use Rattle.hwp_plain.specs.Slots.{home_of, IsSlotOf, AreOfLayout}
-
--- one number more
-pub below-more : (n : ℕ) → below n ++ n ∷ [] ≡ below (n + 1)
-below-more n = let next : suc n ≡ n + 1 = omega arith in ap below next
-
-pub map-more : {B : Type 0} (f : ℕ → B) (xs : List B) (n : ℕ) → xs ≡ map f (below n) → xs ++ f n ∷ [] ≡ map f (below (n + 1))
-map-more f xs n is = ap (λ l. l ++ f n ∷ []) is ∙ sym (map-append f (below n) (n ∷ [])) ∙ ap (map f) (below-more n)
-
--- a part more at the end
-pub joined : (w v a rest : List ℕ) → w ≡ v ++ a → w ++ rest ≡ v ++ (a ++ rest)
-joined w v a rest is = ap (λ (l : List ℕ). l ++ rest) is ∙ append_assoc v a rest
-
--- ---- the slots at opening
 
 abbrev pub empty_slot : Slot
 empty_slot = Home None

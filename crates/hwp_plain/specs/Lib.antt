@@ -1,5 +1,4 @@
 pub mod Slots
-pub mod Openings
 pub mod Trails
 pub mod Boards
 pub mod Ends

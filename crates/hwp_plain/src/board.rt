@@ -10,10 +10,11 @@ ghost use Rattle.hwp_plain.specs.Ends.{AreHistories};
 ghost use Rattle.hwp_step.specs.Boards.{AreSeated};
 
 use crate::closing::histories;
-use crate::opening::{opening_slots, opening_words};
+use crate::opening::opening_slots;
 use crate::slot::{Slot, carry};
 use crate::trail::{Trail, tell};
 use hwp_geom::{Cpu, Kind, Layout, List, OutOfMemory, Page, Who};
+use hwp_opening::opening_words;
 use hwp_page::{Body, Entry};
 use hwp_rule::{Place, Step, index};
 use hwp_step::{Met, Turn};

@@ -2,7 +2,7 @@
 
 ghost use Rattle.std.specs.Prelude.{◌<◌};
 
-use crate::helpers::{Left, call, gives, leaves, refuses, step};
+use crate::helpers::{Left, call, call_untold, gives, leaves, refuses, step};
 use std::alloc::Global;
 use std::process::Abort;
 use std::str;
@@ -224,6 +224,21 @@ fn a_refused_script_leaves_nothing_on_out(rt: HostRuntime) {
     refuses(&rt, rt.alloc(), REFUSED);
 }
 
+/// Without its last line feed a script is the same; with fewer bytes it is none.
+#[test]
+fn a_script_that_is_cut_is_refused(rt: HostRuntime) {
+    let script = STORE_AND_LOAD.as_bytes();
+    for length in 0..script.len() {
+        let left = step(&rt, rt.alloc(), &script[..length]);
+        if length + 1 == script.len() {
+            leaves(&rt, &left, true, 0, STORED_AND_LOADED, "");
+        } else {
+            assert_eq!(&rt; (left.reported, left.status), (false, 3));
+            assert!(&rt; left.out.bytes().is_empty());
+        }
+    }
+}
+
 #[test]
 fn a_byte_too_many_is_refused(rt: HostRuntime) {
     let long = vec![in rt.alloc(); b' '; 1_048_577].expect(&rt, "memory");
@@ -250,9 +265,11 @@ fn a_failing_read_leaves_nothing_on_out(rt: HostRuntime) {
     is_fault(&rt, rt.alloc(), 2);
 }
 
-/// Where the write of this number fails, of 16 bytes each, the front of the report that was written before stays.
-fn is_cut(rt: &impl Abort, alloc: Global, write: u64, front: &[u8]) {
-    let left = step_through(rt, alloc, &[], (16, &[write]));
+/// Where the write of this number fails, of so many bytes each, the front of the report that was written before stays.
+fn is_cut(rt: &impl Abort, alloc: Global, take: usize, write: u64, front: &[u8])
+    requires { 0 < take }
+{
+    let left = step_through(rt, alloc, &[], (take, &[write]));
     let front = str::from_utf8(front).ok().expect(rt, "a text");
     leaves(rt, &left, true, 5, front, "write fault\n");
 }
@@ -263,8 +280,22 @@ fn a_failing_write_leaves_a_front_of_the_report(rt: HostRuntime) {
     for write in 1..13 {
         let kept = 16 * (write - 1);
         assert!(rt; kept < report.len());
-        is_cut(&rt, rt.alloc(), write as u64, &report[..kept]);
+        is_cut(&rt, rt.alloc(), 16, write as u64, &report[..kept]);
     }
+}
+
+#[test]
+fn each_byte_before_a_failing_write_stays(rt: HostRuntime) {
+    let report = STORED_AND_LOADED.as_bytes();
+    for kept in 0..report.len() {
+        is_cut(&rt, rt.alloc(), 1, kept as u64 + 1, &report[..kept]);
+    }
+}
+
+#[test]
+fn a_fault_of_the_error_sink_changes_nothing(rt: HostRuntime) {
+    let left = call_untold(&rt, rt.alloc(), &["step"], b"", &[], (4096, &[]), &[1]);
+    leaves(&rt, &left, false, 3, "", "");
 }
 
 #[test]

@@ -6,7 +6,7 @@ use crate::failures::{EARLY_THREAD, EARLY_THREAD_SIGNALLED, FRAMES, KILLED, PANI
 use crate::helpers::{call, leaves};
 use crate::softs::{SHARED, SHARED_MOVED};
 use crate::unpoisons::{FAILED_TWICE, FAILED_TWICE_REPORT};
-use crate::{processors, softs, unpoisons};
+use crate::{machine_checks, processors, scrubs, softs, unpoisons};
 use std::alloc::Global;
 use std::process::Abort;
 
@@ -49,6 +49,16 @@ fn reports_of_failures_are_legal(rt: HostRuntime) {
     are_legal(&rt, rt.alloc(), PANICS);
     are_legal(&rt, rt.alloc(), IN_USE);
     are_legal(&rt, rt.alloc(), ASKED_FOR);
+}
+
+#[test]
+fn reports_of_machine_checks_are_legal(rt: HostRuntime) {
+    are_legal(&rt, rt.alloc(), machine_checks::MET);
+    are_legal(&rt, rt.alloc(), machine_checks::EVENTS);
+    are_legal(&rt, rt.alloc(), machine_checks::STOPS);
+    are_legal(&rt, rt.alloc(), machine_checks::MEETINGS);
+    are_legal(&rt, rt.alloc(), scrubs::SCRUBS);
+    are_legal(&rt, rt.alloc(), scrubs::CUT);
 }
 
 #[test]

@@ -26,7 +26,36 @@ fn words_of(rt: &impl Abort, alloc: Global, words: &[&str]) -> Vec<String> {
     list
 }
 
-/// A call of `top` over memory: the source fails at the read, and the sink, which takes so many bytes a write, at the write.
+/// A call of `top` over memory: the source fails at the read, the sink, which takes so many bytes a write, at the write, and the
+/// error sink at the last of these.
+pub fn call_untold(
+    rt: &impl Abort,
+    alloc: Global,
+    words: &[&str],
+    script: &[u8],
+    read: &[u64],
+    sink: (usize, &[u64]),
+    untold: &[u64],
+) -> Left
+    requires { 0 < sink.0 }
+{
+    let list = words_of(rt, alloc, words);
+    let (take, write) = sink;
+    let script = script.to_vec(alloc).expect(rt, "memory");
+    let mut src = MemSource::new(script, read.to_vec(alloc).expect(rt, "memory"));
+    let mut out = MemSink::new(alloc, take, write.to_vec(alloc).expect(rt, "memory"));
+    let mut err = MemSink::new(alloc, 4096, untold.to_vec(alloc).expect(rt, "memory"));
+    let Done { status, report } = top(alloc, list.as_slice(), &mut src, &mut out, &mut err);
+    let reported = report.is_some();
+    Left {
+        reported,
+        status,
+        out,
+        err,
+    }
+}
+
+/// The same with an error sink that doesn't fail.
 pub fn call(
     rt: &impl Abort,
     alloc: Global,
@@ -37,20 +66,7 @@ pub fn call(
 ) -> Left
     requires { 0 < sink.0 }
 {
-    let list = words_of(rt, alloc, words);
-    let (take, write) = sink;
-    let script = script.to_vec(alloc).expect(rt, "memory");
-    let mut src = MemSource::new(script, read.to_vec(alloc).expect(rt, "memory"));
-    let mut out = MemSink::new(alloc, take, write.to_vec(alloc).expect(rt, "memory"));
-    let mut err = MemSink::new(alloc, 4096, Vec::new(alloc));
-    let Done { status, report } = top(alloc, list.as_slice(), &mut src, &mut out, &mut err);
-    let reported = report.is_some();
-    Left {
-        reported,
-        status,
-        out,
-        err,
-    }
+    call_untold(rt, alloc, words, script, read, sink, &[])
 }
 
 /// The call gave a report or not, ended with the status, and left these texts on `out` and on `err`.

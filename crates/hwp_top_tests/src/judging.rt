@@ -13,7 +13,7 @@ struct Race {
 }
 
 /// The script of a race, where the next turns are the bits of the number: 0 is a turn of processor 0.
-fn scheduled(rt: &impl Abort, alloc: Global, front: &str, turns: u32, number: u32) -> String {
+pub fn scheduled(rt: &impl Abort, alloc: Global, front: &str, turns: u32, number: u32) -> String {
     let mut script = String::from_str(alloc, front).expect(rt, "memory");
     let mut rest = number;
     for _turn in 0..turns {
@@ -25,15 +25,20 @@ fn scheduled(rt: &impl Abort, alloc: Global, front: &str, turns: u32, number: u3
     script
 }
 
-/// The report of a script begins so, and is legal.
-fn is_legal(rt: &impl Abort, alloc: Global, script: &str, head: &str) {
-    let left = step(rt, alloc, script.as_bytes());
-    let report = left.out.bytes();
-    assert!(rt; report.starts_with(head.as_bytes()));
+/// The report of a script is legal.
+pub fn are_legal(rt: &impl Abort, alloc: Global, script: &str, report: &[u8]) {
     let mut input = script.as_bytes().to_vec(alloc).expect(rt, "memory");
     input.extend_from_slice(report).expect(rt, "memory");
     let verdict = judge(alloc, input.as_slice()).expect(rt, "a script");
     assert!(rt; matches!(verdict, Verdict::Legal));
+}
+
+/// The report that a script gives begins so, and is legal.
+fn gives_legal(rt: &impl Abort, alloc: Global, script: &str, head: &str) {
+    let left = step(rt, alloc, script.as_bytes());
+    let report = left.out.bytes();
+    assert!(rt; report.starts_with(head.as_bytes()));
+    are_legal(rt, alloc, script, report);
 }
 
 /// Each order of so many turns gives a report that is legal.
@@ -41,7 +46,7 @@ fn all_legal(rt: &impl Abort, alloc: Global, races: &[Race], turns: u32, orders:
     for race in races {
         for number in 0..orders {
             let script = scheduled(rt, alloc, race.front, turns, number);
-            is_legal(rt, alloc, script.as_str(), race.head);
+            gives_legal(rt, alloc, script.as_str(), race.head);
         }
     }
 }

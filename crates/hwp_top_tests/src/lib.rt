@@ -19,6 +19,8 @@ mod machine_checks;
 #[cfg(test)]
 mod many;
 #[cfg(test)]
+mod meetings;
+#[cfg(test)]
 mod processors;
 #[cfg(test)]
 mod scrubs;

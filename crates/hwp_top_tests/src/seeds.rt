@@ -1,6 +1,6 @@
-//! `gen` and `sum`: the script that a seed gives, and the summary of its report.
+//! `gen` and `sum`: the script that a seed gives, its report, and the summary of that.
 
-use crate::helpers::{Left, call, leaves};
+use crate::helpers::{Left, call, leaves, step};
 use hwp_gen::generate;
 use hwp_script::{Script, read};
 use hwp_script_print::print;
@@ -59,13 +59,38 @@ fn gen_tells_a_fault_of_the_sink(rt: HostRuntime) {
 }
 
 /// `sum` runs the script of the seed, reads nothing, and begins its summary with these lines.
-fn sums(rt: &impl Abort, alloc: Global, word: &str, front: &str) {
+fn sums(rt: &impl Abort, alloc: Global, word: &str, front: &str) -> Left {
     let left = unread(rt, alloc, &["sum", word]);
     assert_eq!(rt; (left.reported, left.status), (true, 0));
     assert!(rt; left.out.bytes().starts_with(front.as_bytes()));
+    left
 }
 
 #[test]
 fn sum_tells_of_the_run_of_its_seed(rt: HostRuntime) {
-    sums(&rt, rt.alloc(), "7", "hwp-sum 1\nseed 7\ncommands 4000\n");
+    let front = "hwp-sum 1\nseed 7\ncommands 4000\nnoframe 0\nstop none\n";
+    let first = sums(&rt, rt.alloc(), "7", front);
+    let second = sums(&rt, rt.alloc(), "7", front);
+    assert!(&rt; first.out.bytes() == second.out.bytes());
+}
+
+/// The script of the seed is run to its end, and its report is legal.
+fn runs(rt: &impl Abort, alloc: Global, word: &str) {
+    let script = unread(rt, alloc, &["gen", word]);
+    let report = step(rt, alloc, script.out.bytes());
+    assert_eq!(rt; (script.status, report.status), (0, 0));
+    let mut input = script.out.bytes().to_vec(alloc).expect(rt, "memory");
+    input
+        .extend_from_slice(report.out.bytes())
+        .expect(rt, "memory");
+    let verdict = call(rt, alloc, &["check"], input.as_slice(), &[], (4096, &[]));
+    leaves(rt, &verdict, false, 0, "legal\n", "");
+}
+
+#[test]
+fn the_report_of_a_seed_is_legal(rt: HostRuntime) {
+    runs(&rt, rt.alloc(), "0");
+    runs(&rt, rt.alloc(), "1");
+    runs(&rt, rt.alloc(), "2");
+    runs(&rt, rt.alloc(), "3");
 }

@@ -1,0 +1,143 @@
+-- The table at its end: where nothing is held, all slots are at home, and the moves led to what was read.
+use Rattle.std.proofs.Common.{◌≡◌, ℕ, suc, ◌+◌, ◌-◌, ◌<◌, ◌≤◌, ◌==◌, Bool, true, false, List, [], ◌∷◌, ◌⊎◌, inl, inr, map, length, slice_get, refl, sym, ap, ◌∙◌, subst, arith}
+use Rattle.std.specs.Prelude.{Option as Maybe, Some}
+use mathlib.Core.Option.{Option, some, some-injective}
+use lib.ListN.{get_elem?}
+use Rattle.std.proofs.lemmas.Bool.{cases_lt, eqb-true}
+use Rattle.std.proofs.lemmas.List.{length-map}
+use Rattle.std.proofs.lemmas.Option.{same_Some, slice_get_within}
+use Rattle.std.specs.Int.{from_bool}
+use Rattle.atomic_table.specs.Table.{Final, Seen}
+use Rattle.hwp_geom.specs.declared.Layout.{Layout}
+use Rattle.hwp_words.specs.Frames.{lock_of}
+use Rattle.hwp_rule.specs.declared.FrameLock.{FrameLock}
+use Rattle.hwp_rule.specs.declared.Log.{Log}
+use Rattle.hwp_rule.specs.declared.PageLock.{PageLock}
+use Rattle.hwp_rule.specs.declared.Ref.{Ref}
+use Rattle.hwp_rule.specs.declared.State.{State}
+use Rattle.hwp_rule.specs.declared.View.{View}
+use Rattle.hwp_rule.specs.Lists.{EachMember}
+use Rattle.hwp_rule.specs.Moves.{Run}
+use Rattle.hwp_rule.specs.Opening.{opening}
+use Rattle.hwp_rule.specs.Rule.{Holds}
+use Rattle.hwp_rule.specs.Slots.{IsIn}
+use Rattle.hwp_rule.specs.Views.{locks_on, page_locks_on}
+use Rattle.hwp_rule.specs.Words.{words_of}
+use Rattle.hwp_rule.specs.parts.Holdings.{HoldsNothing}
+use Rattle.hwp_rule.proofs.Counting.{some-term}
+use Rattle.hwp_rule.proofs.Lists.{each-map, each-weaken, sum-zero}
+use Rattle.hwp_rule.proofs.Moving.{shaped}
+use Rattle.hwp_rule.proofs.WordsByKind.{word-there}
+use Rattle.hwp_opening.specs.Openings.{home_with}
+use Rattle.hwp_table.specs.Ends.{HasAll, IsEnd, board_of}
+use Rattle.hwp_table.specs.Known.{Known}
+use Rattle.hwp_table.specs.Order.{in_rule}
+use Rattle.hwp_table.specs.Rules.{IsWhole, Reached}
+use Rattle.hwp_table.specs.Stands.{Content, Table, home_of, stand}
+use Rattle.hwp_table.proofs.Keeping.{reached-holds, run-seats}
+use Rattle.hwp_table.proofs.Reading.{as-slice, home-was}
+
+module _ (layout : Layout) (s : State) (h : Holds layout s) (nothing : EachMember HoldsNothing s.views) where
+  -- no frame is locked, and no page
+  frame-free : (f w : ℕ) → slice_get (words_of layout s.words).frames f ≡ Some w → lock_of w ≡ 0
+  frame-free f w there = sym (h.rule.frames.frame_locks.one f w there)
+      ∙ sum-zero (λ (l : List Ref × List FrameLock). locks_on f l.1) (map (λ (v : View). (v.refs, v.locks)) s.views)
+      (each-map (λ (v : View). (v.refs, v.locks)) (λ (l : List Ref × List FrameLock). locks_on f l.1 ≡ 0) s.views (each-weaken HoldsNothing (λ (v : View). locks_on f v.locks ≡ 0) s.views (λ v none. ap (locks_on f) none.locks) nothing))
+
+  page-free : (q w : ℕ) → slice_get (words_of layout s.words).pages q ≡ Some w → lock_of w ≡ 0
+  page-free q w there = sym (h.rule.pages.page_locks.one q w there)
+      ∙ sum-zero (page_locks_on q) (map (λ (v : View). v.pages) s.views)
+      (each-map (λ (v : View). v.pages) (λ (l : List PageLock). page_locks_on q l ≡ 0) s.views (each-weaken HoldsNothing (λ (v : View). page_locks_on q v.pages ≡ 0) s.views (λ v none. ap (page_locks_on q) none.pages) nothing))
+
+  frame-home : (f : ℕ) → f < layout.frames → (content : Maybe Log) × IsIn s.homes f content
+  frame-home f less =
+      let word = word-there (words_of layout s.words).frames f layout.frames (shaped layout s h).frames less in
+      let home = h.rule.pages.bodies.frame_home f _ word (frame-free f _ word) in
+      (home.content, home.there)
+
+  shelf-home : (q : ℕ) → q < length layout.pages → (content : Maybe Log) × IsIn s.homes (layout.frames + q) content
+  shelf-home q less =
+      let word = word-there (words_of layout s.words).pages q (length layout.pages) (shaped layout s h).pages less in
+      let cache = word-there (words_of layout s.words).caches q (length layout.pages) (shaped layout s h).caches less in
+      let home = h.rule.pages.bodies.shelf_home q _ _ word cache (page-free q _ word) in
+      (home.content, home.there)
+
+  -- so each slot is at home
+  pub all-home : (k : ℕ) → k < layout.frames + length layout.pages → (content : Maybe Log) × IsIn s.homes k content
+  all-home k less = which (cases_lt k layout.frames)
+    where
+      behind : (q : ℕ) → layout.frames + q ≡ k → q < length layout.pages → (content : Maybe Log) × IsIn s.homes k content
+      behind q is few = subst (λ (n : ℕ). (content : Maybe Log) × IsIn s.homes n content) is (shelf-home q few)
+
+      which : (k < layout.frames) ⊎ (layout.frames ≤ k) → (content : Maybe Log) × IsIn s.homes k content
+      which (inl front) = frame-home k front
+      which (inr past) = behind (k - layout.frames) (omega (arith, past)) (omega (arith, past, less))
+
+-- what was read is what was at home
+pub all-read : (hs : List (Option Content)) (xs : List Content) → length hs ≡ length xs → ((k : ℕ) → k < length hs → (y : Content) × (get_elem? hs k ≡ some (some y)))
+    → ((k : ℕ) (y : Content) → get_elem? hs k ≡ some (some y) → get_elem? xs k ≡ some y) → map home_of hs ≡ map home_with xs
+all-read [] [] same home read = refl
+all-read [] (x ∷ xs) same home read = absurd (omega (arith, same))
+all-read (h ∷ hs) [] same home read = absurd (omega (arith, same))
+all-read (h ∷ hs) (x ∷ xs) same home read =
+    let first = home 0 (omega arith) in
+    let y : Content = first.0 in
+    let h-is : h ≡ some y = some-injective h (some y) first.1 in
+    let x-is : x ≡ y = some-injective x y (read 0 y first.1) in
+    let head : home_of h ≡ home_with x = ap home_of h-is ∙ ap home_with (sym x-is) in
+    let rest = all-read hs xs (omega (arith, same)) (λ k less. home (suc k) (omega (arith, less))) (λ k z e. read (suc k) z e) in
+    λ i. head i ∷ rest i
+
+module _ (layout : Layout) (id : ℕ) (v : Known) (words : List ℕ) (slots : List Content) (end : Final (Seen (Reached layout) id v) words slots) (all : HasAll layout v) where
+  abbrev t : Table
+  t = end.0
+
+  reached : Reached layout t
+  reached = end.1.0
+
+  me : slice_get t.views id ≡ Some v
+  me = as-slice t.views id v end.1.1
+
+  seats : length reached.views ≡ layout.cpus
+  seats = run-seats layout reached.log (stand reached.views t) reached.run
+
+  holds : Holds layout (stand reached.views t)
+  holds = reached-holds layout t reached
+
+  -- each processor's view is the seat's, which holds nothing
+  nothing : EachMember HoldsNothing reached.views
+  nothing i u at =
+      let less : i < layout.cpus = subst (λ (n : ℕ). i < n) seats (slice_get_within reached.views i u at) in
+      let mine = some-term (λ (x : ℕ × View). from_bool (x.0 == i)) v.mines (all.all i less) in
+      let x : ℕ × View = mine.1 in
+      let number : x.0 ≡ i = this x mine.3 in
+      let known = reached.ruled.mines id v me mine.0 x mine.2 in
+      subst HoldsNothing (same_Some x.1 u (sym known ∙ ap (slice_get reached.views) number ∙ at)) (all.nothing mine.0 x mine.2)
+    where
+      found : (n m : ℕ) (b : Bool) → (n == m) ≡ b → 0 < from_bool b → n ≡ m
+      found n m true is has = eqb-true n m is
+      found n m false is has = absurd (omega (arith, has))
+
+      this : (x : ℕ × View) → 0 < from_bool (x.0 == i) → x.0 ≡ i
+      this x has = found x.0 i (x.0 == i) refl has
+
+  at-home : (k : ℕ) → k < length t.homes → (y : Content) × (get_elem? t.homes k ≡ some (some y))
+  at-home k less =
+      let count : length t.homes ≡ layout.frames + length layout.pages = sym (length-map t.homes home_of) ∙ holds.slots in
+      let home = all-home layout (stand reached.views t) holds nothing k (subst (λ (n : ℕ). k < n) count less) in
+      let was = home-was t.homes k home.0 home.1 in
+      (was.0, was.1)
+
+  state-is : stand reached.views t ≡ board_of (in_rule words) slots reached.views
+  state-is = λ i. record { words = in_rule (end.2 i); homes = all-read t.homes slots end.3 at-home end.4 i; views = reached.views }
+
+  pub ended : IsEnd layout v (in_rule words) slots
+  ended = record {
+    moves = reached.log;
+    views = reached.views;
+    run = subst (Run layout (opening layout) reached.log) state-is reached.run;
+    holds = subst (Holds layout) state-is holds;
+    count = seats;
+    mines = reached.ruled.mines id v me;
+    whole = λ w e. subst (λ (s : State). IsWhole layout s reached.log v.rights w) state-is (reached.ruled.whole id v me w e);
+  }

@@ -1,0 +1,16 @@
+mod Times
+mod Rotating
+mod Reading
+pub mod Meeting
+mod Ruling
+mod Keeping
+mod Reaching
+mod Dealing
+mod Locking
+mod Carried
+mod Bringing
+mod Made
+mod Passing
+mod Taken
+pub mod Opened
+mod Closed

@@ -1,0 +1,35 @@
+-- What a table comes to.
+use Rattle.std.specs.Prelude.{◌≡◌, ℕ, ◌<◌, List, Some, length, map, slice_get}
+use Rattle.hwp_geom.specs.declared.Layout.{Layout}
+use Rattle.hwp_rule.specs.declared.Rec.{Rec}
+use Rattle.hwp_rule.specs.declared.State.{State}
+use Rattle.hwp_rule.specs.declared.View.{View}
+use Rattle.hwp_rule.specs.Lists.{EachMember}
+use Rattle.hwp_rule.specs.Moves.{Run}
+use Rattle.hwp_rule.specs.Opening.{opening}
+use Rattle.hwp_rule.specs.Rule.{Holds}
+use Rattle.hwp_rule.specs.parts.Holdings.{HoldsNothing}
+use Rattle.hwp_opening.specs.Openings.{home_with}
+use Rattle.hwp_table.specs.Known.{Known, Whole, views_for}
+use Rattle.hwp_table.specs.Rules.{IsWhole}
+use Rattle.hwp_table.specs.Stands.{Content}
+
+-- the seat has the views of all processors, and none of them holds anything
+pub record HasAll (layout : Layout) (v : Known) : Type 0 where
+  pub all : (c : ℕ) → c < layout.cpus → 0 < views_for c v.mines
+  pub nothing : EachMember (λ (x : ℕ × View). HoldsNothing x.1) v.mines
+
+-- the board of these words and bodies, where the processors know this
+abbrev pub board_of : List ℕ → List Content → List View → State
+board_of words slots views = record { words = words; homes = map home_with slots; views = views }
+
+-- Moves led from the opening to these words and bodies, on which the frame rule holds, and each processor knows then what
+-- the seat had for it.
+pub record IsEnd (layout : Layout) (v : Known) (words : List ℕ) (slots : List Content) : Type 0 where
+  pub moves : List (ℕ × Rec)
+  pub views : List View
+  pub run : Run layout (opening layout) moves (board_of words slots views)
+  pub holds : Holds layout (board_of words slots views)
+  pub count : length views ≡ layout.cpus
+  pub mines : EachMember (λ (x : ℕ × View). slice_get views x.0 ≡ Some x.1) v.mines
+  pub whole : (w : Whole) → v.whole ≡ Some w → IsWhole layout (board_of words slots views) moves v.rights w

@@ -1,0 +1,71 @@
+ghost use Rattle.std.specs.Prelude.{◌≡◌, ◌<◌, ℕ, [], false, length, slice_index_or, IfErr, IfOk};
+ghost use Rattle.std.specs.Slots.{slots_items, slots_filled, slots_len, IsFull};
+ghost use Rattle.std.specs.Prelude.{vec_len, vec_capacity, ◌≤◌};
+ghost use Rattle.hwp_table.specs.Ends.{HasAll, IsEnd};
+ghost use Rattle.hwp_table.specs.Order.{in_rule};
+ghost use Rattle.hwp_table.specs.Seats.{IsTableOf};
+
+use crate::plays::{Pass, Slot, WordTable};
+use atomic_table::Closed;
+use std::alloc::Global;
+
+/// What a table came to: its words in the order of the frame rule, and what is in its slots.
+#[derive(Drop)]
+pub struct Ended {
+    pub words: Vec<u64>,
+    pub slots: Vec<Slot>,
+}
+
+/// The words and bodies of a table whose one seat has the views of all processors again, when nothing is held. Its moves
+/// led to them from the opening.
+///
+/// # Errors
+/// The table and the seat, as they were, where memory for the words and bodies is refused.
+pub fn close(alloc: Global, table: WordTable, pass: Pass) -> Result<Ended, (WordTable, Pass)>
+    requires table { IsTableOf table.shared.key table.shared.table_id }
+    requires same { pass.table_id ≡ table.shared.table_id }
+    requires all { HasAll table.shared.key pass.me.0 }
+    ensures ended { IfOk result (λ e. IsEnd table.shared.key pass.me.0 e.words.items e.slots.items) }
+    ensures refused { IfErr result (λ back. (back.0 ≡ table) × (back.1 ≡ pass)) }
+{
+    let word_count = table.word_count();
+    let Ok(mut words) = Vec::with_capacity(alloc, word_count) else {
+        return Err((table, pass));
+    };
+    let Ok(mut slots) = Vec::with_capacity(alloc, table.slot_count()) else {
+        return Err((table, pass));
+    };
+    let mut closed = table.close_with(pass);
+    read_words(&closed, word_count, &mut words);
+    take_slots(&mut closed, &mut slots);
+    closed.free();
+    Ok(Ended { words, slots })
+}
+
+/// Reads all words, the stop word last.
+fn read_words(closed: &Closed<Slot, Global>, count: usize, words: &mut Vec<u64>)
+    requires full { IsFull closed.now.words × (slots_len closed.now.words ≡ count) × (0 < count) }
+    requires room { (words.old.items ≡ []) × (vec_len words.old ≡ 0) × (count ≤ vec_capacity words.old) }
+    ensures { words.new.items ≡ in_rule (slots_items closed.now.words) }
+{
+    let mut next = 1;
+    while next < count {
+        words.push_reserved(closed.word(next));
+        next += 1;
+    }
+    words.push_reserved(closed.word(0));
+}
+
+/// Takes what is in all slots.
+fn take_slots(closed: &mut Closed<Slot, Global>, slots: &mut Vec<Slot>)
+    requires full { IsFull closed.old.slots }
+    requires room { (slots.old.items ≡ []) × (vec_len slots.old ≡ 0) × (slots_len closed.old.slots ≤ vec_capacity slots.old) }
+    ensures taken { slots.new.items ≡ slots_items closed.old.slots }
+    ensures empty { (k : ℕ) → k < slots_len closed.new.slots → slice_index_or (slots_filled closed.new.slots) k false ≡ false }
+{
+    let mut next = 0;
+    while next < closed.slot_count() {
+        slots.push_reserved(closed.take(next));
+        next += 1;
+    }
+}
