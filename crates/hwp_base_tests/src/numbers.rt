@@ -9,7 +9,7 @@ fn is_line(rt: &impl Abort, number: u8, want: Option<u64>) {
     let mut lines = Lines::filled(9);
     lines.set(last, 70);
     let word = Line::new(number).map(|line| lines.copy().get(line));
-    assert_eq!(rt; word, want, "line {number}");
+    assert!(rt; word == want);
 }
 
 #[test]
@@ -24,7 +24,7 @@ fn lines_are_those_below_64(rt: HostRuntime) {
 /// Whether the mask has the line.
 fn has(rt: &impl Abort, mask: u64, number: u8, want: bool) {
     let line = Line::new(number).expect(rt, "a line");
-    assert_eq!(rt; Mask(mask).has(line), want, "line {number} of {mask:x}");
+    assert!(rt; Mask(mask).has(line) == want);
 }
 
 #[test]
@@ -41,5 +41,5 @@ fn a_text_is_the_bytes_of_its_string(rt: HostRuntime) {
     let text = Text::from_string(string);
     let items = List::from_vec(text.as_slice().to_vec(rt.alloc()).expect(&rt, "memory"));
     let copy = items.copy(rt.alloc()).expect(&rt, "memory").into_vec();
-    assert_eq!(rt; (copy.as_slice(), items.len()), (b"end\n".as_slice(), 4));
+    assert!(rt; (copy.as_slice(), items.len()) == (b"end\n".as_slice(), 4));
 }

@@ -14,13 +14,10 @@ fn are_read(rt: &impl Abort, alloc: Global, count: usize, limit: usize, want: Op
     match read_all(alloc, &mut source, limit) {
         Ok(read) => {
             let read = read.as_slice();
-            assert_eq!(rt;
-                (read.len(), read.last().copied()),
-                (count.saturating_add(1), Some(8))
-            );
-            assert_eq!(rt; want, None);
+            assert!(rt; (read.len(), read.last().copied()) == (count.saturating_add(1), Some(8)));
+            assert!(rt; want == None);
         }
-        Err(error) => assert_eq!(rt; want, Some(error)),
+        Err(error) => assert!(rt; want == Some(error)),
     }
 }
 
@@ -38,7 +35,7 @@ const TEXT: &[u8; 10] = b"stop none\n";
 fn a_whole_text_is_written_in_pieces(rt: HostRuntime) {
     let mut sink = MemSink::new(rt.alloc(), 3, Vec::new(rt.alloc()));
     let written = write_all(&mut sink, TEXT);
-    assert_eq!(rt; (written, sink.bytes()), (Ok(()), TEXT.as_slice()));
+    assert!(rt; (written, sink.bytes()) == (Ok(()), TEXT.as_slice()));
 }
 
 /// A reader and a writer that gives an error at every second call.
@@ -82,7 +79,7 @@ fn a_reader_of_std_is_a_source(rt: HostRuntime) {
     let read = read_all(rt.alloc(), &mut source, 10)
         .ok()
         .expect(&rt, "all bytes");
-    assert_eq!(rt; read.as_slice(), TEXT.as_slice());
+    assert!(rt; read.as_slice() == TEXT.as_slice());
 }
 
 #[test]
@@ -90,7 +87,7 @@ fn a_source_tells_an_error_of_its_reader(rt: HostRuntime) {
     let mut source = StdSource::new(Flaky { calls: 0 });
     let counts = [source.read(&mut [0; 4]).ok(), source.read(&mut [0; 4]).ok()];
     let all = read_all(rt.alloc(), &mut source, 10).err();
-    assert_eq!(rt; (counts, all), ([Some(1), None], Some(ReadAll::ReadFault)));
+    assert!(rt; (counts, all) == ([Some(1), None], Some(ReadAll::ReadFault)));
 }
 
 #[test]
@@ -98,7 +95,7 @@ fn a_writer_of_std_is_a_sink(rt: HostRuntime) {
     let mut taken = Vec::new(rt.alloc());
     let mut sink = StdSink::new(&mut taken);
     let written = write_all(&mut sink, TEXT);
-    assert_eq!(rt; (written, taken.as_slice()), (Ok(()), TEXT.as_slice()));
+    assert!(rt; (written, taken.as_slice()) == (Ok(()), TEXT.as_slice()));
 }
 
 #[test]
@@ -110,5 +107,5 @@ fn a_sink_tells_an_error_of_its_writer(rt: HostRuntime) {
         sink.write(TEXT).ok(),
         sink.write(b"").ok(),
     ];
-    assert_eq!(rt; counts, [None, None, Some(0)]);
+    assert!(rt; counts == [None, None, Some(0)]);
 }

@@ -61,7 +61,7 @@ const FRAMES: [(u64, FrameWord); 5] = [
 fn are_frames(rt: &impl Abort, rows: &[(u64, FrameWord)]) {
     for (word, want) in rows {
         let read = FrameWord::unpack(*word);
-        assert_eq!(rt; (read, read.pack()), (*want, *word));
+        assert!(rt; (read, read.pack()) == (*want, *word));
     }
 }
 
@@ -74,7 +74,7 @@ fn a_frame_word_has_its_fields_from_bit_0_up(rt: HostRuntime) {
 fn counts(rt: &impl Abort, word: u64, hardware: u32, poisoned: i32) {
     let want = CounterWord { hardware, poisoned };
     let read = CounterWord::unpack(word);
-    assert_eq!(rt; (read, read.pack()), (want, word));
+    assert!(rt; (read, read.pack()) == (want, word));
 }
 
 #[test]
@@ -91,7 +91,7 @@ fn the_poisoned_frames_of_a_counter_word_have_a_sign(rt: HostRuntime) {
 /// The word of a translation says this.
 fn leads(rt: &impl Abort, word: u64, want: Pte) {
     let read = Pte::unpack(word);
-    assert_eq!(rt; (read, read.pack()), (want, word));
+    assert!(rt; (read, read.pack()) == (want, word));
 }
 
 #[test]
@@ -106,7 +106,7 @@ fn a_translation_word_is_empty_a_frame_or_poison(rt: HostRuntime) {
 fn has_policy(rt: &impl Abort, word: u64, policy: Policy, settings: u64) {
     let want = PolicyWord { policy, settings };
     let read = PolicyWord::unpack(word);
-    assert_eq!(rt; (read, read.pack()), (want, word));
+    assert!(rt; (read, read.pack()) == (want, word));
 }
 
 #[test]
@@ -126,7 +126,7 @@ fn a_policy_word_counts_settings_above_its_policy(rt: HostRuntime) {
 fn stops(rt: &impl Abort, word: u64, cpu: Option<Cpu>, no_memory: bool) {
     let want = StopWord { cpu, no_memory };
     let read = StopWord::unpack(word);
-    assert_eq!(rt; (read, read.pack()), (want, word));
+    assert!(rt; (read, read.pack()) == (want, word));
 }
 
 #[test]
@@ -148,11 +148,8 @@ fn is_of_one_value(
     let page = PageWord::unpack(word);
     let cache = CacheWord::unpack(word);
     let process = ProcessWord::unpack(word);
-    assert_eq!(rt;
-        (page.locked, cache.frame, process.ended_by),
-        (locked, frame, ended_by)
-    );
-    assert_eq!(rt; [page.pack(), cache.pack(), process.pack()], [word; 3]);
+    assert!(rt; (page.locked, cache.frame, process.ended_by) == (locked, frame, ended_by));
+    assert!(rt; [page.pack(), cache.pack(), process.pack()] == [word; 3]);
 }
 
 #[test]
@@ -166,20 +163,17 @@ fn words_of_one_value(rt: HostRuntime) {
 fn words_of_a_number(rt: HostRuntime) {
     let available = AvailableWord { frames: 7 };
     let loss = LossWord { lost: 3 };
-    assert_eq!(rt; (available.pack(), loss.pack()), (7, 3));
-    assert_eq!(rt;
-        (AvailableWord::unpack(7), LossWord::unpack(3)),
-        (available, loss)
-    );
+    assert!(rt; (available.pack(), loss.pack()) == (7, 3));
+    assert!(rt; (AvailableWord::unpack(7), LossWord::unpack(3)) == (available, loss));
 }
 
 /// The lowest bit of the word is this one.
 fn is_lowest(rt: &impl Abort, word: u64, want: Option<u8>) {
     let damage = DamageWord::unpack(word);
     let line = damage.lowest().map(Line::get);
-    assert_eq!(rt;
-        (damage.lines, line, FreeWord::unpack(word).lowest()),
-        (Mask(word), want, want.map(u32::from))
+    assert!(rt;
+        (damage.lines, line, FreeWord::unpack(word).lowest())
+            == (Mask(word), want, want.map(u32::from))
     );
 }
 

@@ -38,8 +38,8 @@ use Rattle.hwp_served.proofs.lines.ScrubBank.{empty-free}
 use Rattle.hwp_served.proofs.lines.Gathering.{AreNoted}
 use Rattle.hwp_served.proofs.RowTold.{told-so}
 use Rattle.hwp_served.proofs.marks.RowNotes.{notes-at, notes-fit}
-use Rattle.hwp_core.specs.Closing.{IsEnded, IsHalter, IsNamed, IsTellable, lines_of_all}
-use Rattle.hwp_core.proofs.Noted.{are-marks}
+use Rattle.hwp_outcome.specs.Closing.{IsEnded, IsHalter, IsNamed, IsTellable, lines_of_all}
+use Rattle.hwp_outcome.proofs.Noted.{are-marks}
 
 -- ---- the frames that rows name
 

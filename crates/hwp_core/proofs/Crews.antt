@@ -29,7 +29,7 @@ use Rattle.hwp_processor.specs.declared.Processor.{Processor}
 use Rattle.hwp_processor.specs.Processors.{AreCommands, AtBeginning}
 use Rattle.hwp_processor.specs.Serving.{Fits}
 use Rattle.hwp_processor.proofs.Ends.{next-keeps, opening-fits, opening-own, served-of}
-use Rattle.hwp_core.specs.Closing.{lines_of_all}
+use Rattle.hwp_outcome.specs.Closing.{lines_of_all}
 use Rattle.hwp_core.specs.Runs.{AreAtBeginning, AreFinished, own_seat, processors}
 
 -- ---- the commands of a processor

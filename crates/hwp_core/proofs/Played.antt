@@ -1,16 +1,16 @@
--- The tasks of a script on the board at opening, and where their turns lead.
+-- The tasks of a script on a board at opening, and where their turns lead.
 use Rattle.std.proofs.Common.{◌≡◌, ℕ, ◌++◌, List, length, take, drop, refl, sym, ap, ◌∙◌, subst, arith}
 use Rattle.std.proofs.lemmas.List.{take_all, take-append-le}
+use Rattle.hwp_geom.specs.declared.Cpu.{Cpu}
 use Rattle.hwp_geom.specs.declared.Layout.{Layout}
 use Rattle.hwp_rule.specs.declared.State.{State}
 use Rattle.hwp_rule.specs.Opening.{opening}
 use Rattle.hwp_rule.specs.Rule.{Holds}
-use Rattle.hwp_step.specs.Boards.{AreSeated}
-use Rattle.hwp_plain.specs.Boards.{Board, IsReached}
+use Rattle.hwp_step.specs.Boards.{AreSeated, Played}
 use Rattle.hwp_script.specs.declared.Go.{Go}
 use Rattle.hwp_script.specs.declared.Script.{Script}
 use Rattle.hwp_script.specs.Valid.{IsValid}
-use Rattle.hwp_sched.specs.Order.{AreOver, Grows, InOrder, Running, running}
+use Rattle.hwp_sched.specs.Order.{AreOver, Grows, InOrder, Running, logged, running}
 use Rattle.hwp_sched.specs.Ready.{IsCrew}
 use Rattle.hwp_runs.specs.Turns.{Leads}
 use Rattle.hwp_runs.proofs.Lasting.{same-ordered}
@@ -19,66 +19,73 @@ use Rattle.hwp_row.specs.declared.Row.{Row}
 use Rattle.hwp_served.proofs.Settled.{settled-when-over}
 use Rattle.hwp_processor.specs.declared.Processor.{Processor}
 use Rattle.hwp_processor.proofs.Telling.{tells}
-use Rattle.hwp_core.specs.Runs.{AreAtBeginning, AreFinished, IsPlayed, own_seat, processors}
+use Rattle.hwp_core.specs.Runs.{AreAtBeginning, AreFinished, IsOpened, IsPlayed, own_seat, processors}
 use Rattle.hwp_core.proofs.Crews.{all-served, begin-crew, finished-length}
 
--- what holds of the board of a script at opening holds of a board that is that one
-at-opening : (P : Layout → State → Type 0) (script : Script) (board : Board) → board.layout ≡ script.layout → board.state ≡ opening script.layout → P board.layout board.state → P script.layout (opening script.layout)
-at-opening P script board layout_is state_is p = subst (λ (l : Layout). P l (opening script.layout)) layout_is (subst (P board.layout) state_is p)
+module _ (script : Script) (layout : Layout) (seat : Cpu → ℕ) (state : State) (log : List Played) (opened : IsOpened script layout seat state log) (tasks ps : List Processor) (same : ps ≡ tasks) where
+  -- what holds of the board of a script at opening, as the tasks see it
+  at-opening : (P : Running Processor → Type 0) → P (running layout seat ps state) → P (running script.layout own_seat tasks (opening script.layout))
+  at-opening P p = subst (λ (l : Layout). P (running l own_seat tasks (opening script.layout))) opened.layout_is
+      (subst (λ (o : Cpu → ℕ). P (running layout o tasks (opening script.layout))) opened.seat_is
+      (subst (λ (s : State). P (running layout seat tasks s)) opened.state_is (subst (λ (ts : List Processor). P (running layout seat ts state)) same p)))
 
--- the tasks are a crew there
-pub crew-opened : (script : Script) (board : Board) (tasks ps : List Processor) → IsValid script → AreAtBeginning script tasks → board.layout ≡ script.layout → board.state ≡ opening script.layout → ps ≡ tasks
-    → IsCrew processors (running board.layout own_seat ps board.state)
-crew-opened script board tasks ps valid begin layout_is state_is same =
-    subst (λ (l : Layout). IsCrew processors (running l own_seat ps board.state)) (sym layout_is)
-    (subst (λ (s : State). IsCrew processors (running script.layout own_seat ps s)) (sym state_is)
-    (subst (λ (ts : List Processor). IsCrew processors (running script.layout own_seat ts (opening script.layout))) (sym same) (begin-crew script tasks valid begin)))
+  back : (P : Running Processor → Type 0) → P (running script.layout own_seat tasks (opening script.layout)) → P (running layout seat ps state)
+  back P p = subst (λ (ts : List Processor). P (running layout seat ts state)) (sym same)
+      (subst (λ (s : State). P (running layout seat tasks s)) (sym opened.state_is)
+      (subst (λ (o : Cpu → ℕ). P (running layout o tasks (opening script.layout))) (sym opened.seat_is)
+      (subst (λ (l : Layout). P (running l own_seat tasks (opening script.layout))) (sym opened.layout_is) p)))
 
--- the turns that a board's log lists beyond those of another
-abbrev pub Ordered : List Go → Board → List Processor → Board → List Processor → Type 0
-Ordered go before ps after qs = Grows before.log after.log (λ turns. InOrder processors go (running before.layout own_seat ps before.state) turns (running after.layout own_seat qs after.state))
+  -- the tasks are a crew there
+  pub crew-opened : IsValid script → AreAtBeginning script tasks → IsCrew processors (running layout seat ps state)
+  crew-opened valid begin = back (IsCrew processors) (begin-crew script tasks valid begin)
 
--- when all turns are made, the run is played
-pub all-played : (script : Script) (go : List Go) (before after : Board) (tasks ps qs : List Processor) (rows : List (List Row)) → go ≡ script.go → IsValid script → AreAtBeginning script tasks → before.layout ≡ script.layout → before.state ≡ opening script.layout → ps ≡ tasks
-    → IsReached before.layout before.log before.state → AreSeated before.layout before.state own_seat → Ordered go before ps after qs → IsCrew processors (running after.layout own_seat qs after.state)
-    → AreSeated after.layout after.state own_seat → AreFinished qs rows → AreOver processors qs → IsPlayed script after rows
-all-played script go before after tasks ps qs rows words valid begin layout_was state_was same reached seated grows crew seated-last finished over = record {
-  tasks = tasks;
-  begin = begin;
-  rule = rule;
-  seated = at-opening (λ l s. AreSeated l s own_seat) script before layout_was state_was seated;
-  turns = grows.turns;
-  last = last;
-  order = order;
-  layout_is = layout_is;
-  state_is = refl;
-  seated_last = seated-there;
-  settled = settled-when-over processors (running script.layout own_seat qs after.state) tells crew-there over;
-  served = all-served script tasks valid begin grows.turns last order (leads-hold script.layout (opening script.layout) after.state grows.turns rule led) seated-there crew-there rows finished;
-  count = finished-length qs rows finished ∙ crew.count ∙ ap (λ (l : Layout). l.cpus) layout_is;
-}
-  where
-    last : Running Processor
-    last = running after.layout own_seat qs after.state
-
+  -- when all turns are made
+  module _ (go : List Go) (words : go ≡ script.go) (last : Running Processor) (log' : List Played) (grows : Grows log log' (λ turns. InOrder processors go (running layout seat ps state) turns last)) where
     order : InOrder processors script.go (running script.layout own_seat tasks (opening script.layout)) grows.turns last
-    order = subst (λ (g : List Go). InOrder processors g (running script.layout own_seat tasks (opening script.layout)) grows.turns last) words (subst (λ (ts : List Processor). InOrder processors go (running script.layout own_seat ts (opening script.layout)) grows.turns last) same
-        (at-opening (λ l s. InOrder processors go (running l own_seat ps s) grows.turns last) script before layout_was state_was grows.are))
+    order = at-opening (λ a. InOrder processors script.go a grows.turns last) (subst (λ (g : List Go). InOrder processors g (running layout seat ps state) grows.turns last) words grows.are)
 
-    rule : Holds script.layout (opening script.layout)
-    rule = at-opening Holds script before layout_was state_was reached.holds
+    -- the machine is the same, and so is each seat
+    pub layout-is : last.layout ≡ script.layout
+    layout-is = (same-ordered processors script.go (running script.layout own_seat tasks (opening script.layout)) last grows.turns order).0
 
-    led : Leads script.layout (opening script.layout) grows.turns after.state
-    led = leads-ordered processors script.go (running script.layout own_seat tasks (opening script.layout)) last grows.turns order
+    seat-is : last.seat ≡ own_seat
+    seat-is = (same-ordered processors script.go (running script.layout own_seat tasks (opening script.layout)) last grows.turns order).1
 
-    layout_is : after.layout ≡ script.layout
-    layout_is = (same-ordered processors script.go (running script.layout own_seat tasks (opening script.layout)) last grows.turns order).0
+    module _ (rows : List (List Row)) (valid : IsValid script) (begin : AreAtBeginning script tasks) (holds : Holds layout state) (seated : AreSeated layout state seat)
+        (crew : IsCrew processors last) (seated-last : AreSeated last.layout last.state last.seat) (finished : AreFinished last.tasks rows) (over : AreOver processors last.tasks) where
+      rule : Holds script.layout (opening script.layout)
+      rule = at-opening (λ a. Holds a.layout a.state) holds
 
-    crew-there : IsCrew processors (running script.layout own_seat qs after.state)
-    crew-there = subst (λ (l : Layout). IsCrew processors (running l own_seat qs after.state)) layout_is crew
+      led : Leads script.layout (opening script.layout) grows.turns last.state
+      led = leads-ordered processors script.go (running script.layout own_seat tasks (opening script.layout)) last grows.turns order
 
-    seated-there : AreSeated script.layout after.state own_seat
-    seated-there = subst (λ (l : Layout). AreSeated l after.state own_seat) layout_is seated-last
+      crew-there : IsCrew processors (running script.layout own_seat last.tasks last.state)
+      crew-there = subst (λ (l : Layout). IsCrew processors (running l own_seat last.tasks last.state)) layout-is
+          (subst (λ (o : Cpu → ℕ). IsCrew processors (running last.layout o last.tasks last.state)) seat-is crew)
+
+      seated-there : AreSeated script.layout last.state own_seat
+      seated-there = subst (λ (l : Layout). AreSeated l last.state own_seat) layout-is (subst (AreSeated last.layout last.state) seat-is seated-last)
+
+      -- the run is played
+      pub all-played : IsPlayed script log' last.state rows
+      all-played = record {
+        tasks = tasks;
+        begin = begin;
+        seated = at-opening (λ a. AreSeated a.layout a.state a.seat) seated;
+        turns = grows.turns;
+        log_is = grows.now_is ∙ ap (logged grows.turns) opened.log_is;
+        last = last;
+        order = order;
+        state_is = refl;
+        ended = record {
+          rule = rule;
+          moves = led;
+          seated = seated-there;
+          settled = settled-when-over processors (running script.layout own_seat last.tasks last.state) tells crew-there over;
+          served = all-served script tasks valid begin grows.turns last order (leads-hold script.layout (opening script.layout) last.state grows.turns rule led) seated-there crew-there rows finished;
+          count = finished-length last.tasks rows finished ∙ crew.count ∙ ap (λ (l : Layout). l.cpus) layout-is;
+        };
+      }
 
 -- what a vector holds after its slice was written
 pub written-back : {A : Type 0} (n : ℕ) (new old : List A) → length new ≡ n → take n (new ++ drop (length new) old) ≡ new

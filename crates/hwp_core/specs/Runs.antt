@@ -1,24 +1,30 @@
 -- The run of a script: the processors' tasks as they begin, how they end, and the law of the report.
-use Rattle.std.specs.Prelude.{◌≡◌, ℕ, List, Some, None, length, slice_get}
+use Rattle.std.specs.Prelude.{◌≡◌, ℕ, List, [], Some, None, length, map, slice_get}
 use Rattle.hwp_geom.specs.Pairs.{Pairs}
 use Rattle.hwp_geom.specs.declared.Cpu.{Cpu}
 use Rattle.hwp_geom.specs.declared.Frame.{Frame}
+use Rattle.hwp_geom.specs.declared.Layout.{Layout}
+use Rattle.hwp_rule.specs.declared.State.{State}
 use Rattle.hwp_rule.specs.Opening.{opening}
 use Rattle.hwp_rule.specs.Rule.{Holds}
 use Rattle.hwp_step.specs.Boards.{AreSeated, Played}
 use Rattle.hwp_step.specs.Ranks.{Member, Pending, member, words_at}
-use Rattle.hwp_plain.specs.Boards.{Board}
+use Rattle.hwp_opening.specs.Openings.{home_with}
+use Rattle.hwp_table.specs.Ends.{EndValue, HasAll}
+use Rattle.hwp_table.specs.Known.{Known}
+use Rattle.hwp_seats.specs.Boards.{whole_then}
 use Rattle.hwp_script.specs.declared.Command.{Command}
 use Rattle.hwp_script.specs.declared.Script.{Script}
-use Rattle.hwp_sched.specs.Order.{InOrder, Running, running}
+use Rattle.hwp_sched.specs.Order.{InOrder, Running, logged, running}
 use Rattle.hwp_report.specs.declared.Report.{Report}
 use Rattle.hwp_runs.specs.Run.{CoreRun}
+use Rattle.hwp_runs.specs.Turns.{Leads}
 use Rattle.hwp_row.specs.declared.Row.{Row}
 use Rattle.hwp_served.specs.Runs.{AreServed}
 use Rattle.hwp_processor.specs.declared.Processor.{Processor}
 use Rattle.hwp_processor.specs.Processors.{AtBeginning, Next, aborts, bare, claims, class, cost, plan, put, who}
 use Rattle.hwp_processor.specs.Serving.{Fits}
-use Rattle.hwp_core.specs.Closing.{lines_of_all}
+use Rattle.hwp_outcome.specs.Closing.{lines_of_all}
 
 -- a processor as a task
 abbrev pub processors : Member Processor
@@ -37,22 +43,34 @@ pub record AreAtBeginning (script : Script) (tasks : List Processor) : Type 0 wh
 abbrev pub AreFinished : List Processor → List (List Row) → Type 0
 AreFinished tasks rows = Pairs (λ (p : Processor) (own : List Row). (own ≡ p.rows.items) × (p.job ≡ None)) tasks rows
 
--- the tasks made their turns from their beginning to this board, on which all commands are served by these rows, and each failure
--- of a frame is ended
-pub record IsPlayed (script : Script) (board : Board) (rows : List (List Row)) : Type 0 where
+-- The turns lead from the opening to this board, on which all commands are served by these rows, and each failure of a frame is
+-- ended. It says nothing of the order of the turns.
+pub record HasEnded (script : Script) (turns : List Played) (state : State) (rows : List (List Row)) : Type 0 where
+  pub rule : Holds script.layout (opening script.layout)
+  pub moves : Leads script.layout (opening script.layout) turns state
+  pub seated : AreSeated script.layout state own_seat
+  pub settled : (frame : Frame) (cycle : ℕ) → Pending (words_at script.layout state) frame cycle → ⊥
+  pub served : AreServed script own_seat state rows (lines_of_all rows)
+  pub count : length rows ≡ script.layout.cpus
+
+-- a board of the script at opening, on which no turn was made
+pub record IsOpened (script : Script) (layout : Layout) (seat : Cpu → ℕ) (state : State) (log : List Played) : Type 0 where
+  pub layout_is : layout ≡ script.layout
+  pub seat_is : seat ≡ own_seat
+  pub state_is : state ≡ opening script.layout
+  pub log_is : log ≡ []
+
+-- the tasks made the turns of this log in the script's order, from their beginning to this board, on which the run has ended
+pub record IsPlayed (script : Script) (log : List Played) (state : State) (rows : List (List Row)) : Type 0 where
   pub tasks : List Processor
   pub begin : AreAtBeginning script tasks
-  pub rule : Holds script.layout (opening script.layout)
   pub seated : AreSeated script.layout (opening script.layout) own_seat
   pub turns : List Played
+  pub log_is : log ≡ logged turns []
   pub last : Running Processor
   pub order : InOrder processors script.go (running script.layout own_seat tasks (opening script.layout)) turns last
-  pub layout_is : board.layout ≡ script.layout
-  pub state_is : last.state ≡ board.state
-  pub seated_last : AreSeated script.layout board.state own_seat
-  pub settled : (frame : Frame) (cycle : ℕ) → Pending (words_at script.layout board.state) frame cycle → ⊥
-  pub served : AreServed script own_seat board.state rows (lines_of_all rows)
-  pub count : length rows ≡ script.layout.cpus
+  pub state_is : last.state ≡ state
+  pub ended : HasEnded script turns state rows
 
 -- The report is of a run that the tasks of the script's processors make from their beginning, and on its last board each processor
 -- has served its commands by its rows, of which the report's lines are.
@@ -62,3 +80,34 @@ pub record IsCoreRun (script : Script) (report : Report) : Type 0 where
   pub run : CoreRun processors tasks own_seat script report
   pub rows : List (List Row)
   pub served : AreServed script own_seat run.last.state rows report.cpus
+
+-- ---- at a table
+
+-- One seat has the views of all processors, none of which holds anything, and knows the board to which the processors' turns
+-- led, and their moves.
+pub record KnowsRun (script : Script) (v : Known) (rows : List (List Row)) : Type 0 where
+  pub log : List Played
+  pub state : State
+  pub played : IsPlayed script log state rows
+  pub all : HasAll script.layout v
+  pub whole : v.whole ≡ Some (whole_then state log)
+
+-- the table was closed with the words and the bodies of this board, by a seat that knew that these turns led to it
+pub record HasClosed (script : Script) (log : List Played) (state : State) (ended : EndValue) : Type 0 where
+  pub layout_is : ended.layout ≡ script.layout
+  pub words_are : ended.words ≡ state.words
+  pub bodies_are : map home_with ended.slots ≡ state.homes
+  pub moves_are : ended.known.whole ≡ Some (whole_then state log)
+
+-- the processors made their turns at a table, which was closed with what they led to
+pub record IsTablePlayed (script : Script) (ended : EndValue) (rows : List (List Row)) : Type 0 where
+  pub log : List Played
+  pub state : State
+  pub played : IsPlayed script log state rows
+  pub closed : HasClosed script log state ended
+
+-- The run of the report was made at a table: the table was closed with the words and the bodies of the run's last board, by a
+-- seat that knew the run's moves.
+pub record IsTableRun (script : Script) (report : Report) (ended : EndValue) : Type 0 where
+  pub of_run : IsCoreRun script report
+  pub closed : HasClosed script (logged of_run.run.turns []) of_run.run.last.state ended

@@ -1,14 +1,13 @@
-//! The core: the processors of a script, one task each, on one board, turn by turn in the order of the schedule; and the report
-//! of what the board and the processors came to.
+//! The core: the processors of a script, one task each, at one table or on one plain board, turn by turn in the order of the
+//! schedule; and the report of what they came to.
 #![tactic(auto)]
 
-mod closing;
-mod frames;
-mod lines;
-mod notes;
-mod records;
+mod crew;
+mod plain;
+mod playing;
 mod running;
-mod stopping;
 
-pub use closing::report;
-pub use running::run;
+pub use crew::{Rows, crew_of, rows_of};
+pub use plain::run_plain;
+pub use playing::play;
+pub use running::{Finished, run};

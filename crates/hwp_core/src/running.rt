@@ -1,74 +1,109 @@
-ghost use Rattle.std.specs.Prelude.{IfOk};
+ghost use Rattle.std.specs.Prelude.{◌≡◌, [], length, map, IfOk};
 ghost use Rattle.hwp_law.specs.Law.{IsLawful};
 ghost use Rattle.hwp_law.specs.Runs.{IsOfRun};
 ghost use Rattle.hwp_script.specs.Valid.{IsValid};
-ghost use Rattle.hwp_core.specs.Runs.{AreAtBeginning, AreFinished, IsCoreRun, IsPlayed};
+ghost use Rattle.hwp_opening.specs.Openings.{home_with};
+ghost use Rattle.hwp_closing.specs.Ends.{AreHistories};
+ghost use Rattle.hwp_table.specs.Known.{first_known};
+ghost use Rattle.hwp_table.specs.Seats.{IsTableOf};
+ghost use Rattle.hwp_core.specs.Runs.{IsCoreRun, IsTablePlayed, IsTableRun, KnowsRun};
 
-use crate::closing::report;
-use hwp_geom::{Cpu, List, OutOfMemory};
-use hwp_plain::PlainBoard;
-use hwp_processor::Processor;
+use crate::crew::Rows;
+use crate::playing::play;
+use hwp_closing::histories;
+use hwp_geom::{Layout, List, OutOfMemory, Page};
+use hwp_outcome::report;
+use hwp_page::Entry;
 use hwp_report::Report;
-use hwp_row::Row;
-use hwp_sched::step_all;
+use hwp_rule::{Place, index};
 use hwp_script::Script;
-use std::alloc::Global;
+use hwp_seats::{OfTable, SeatBoard};
+use hwp_table::{Ended, Pass, Sheet, Slot, begin, close};
+use std::alloc::{AllocError, Global};
+use std::marker::Brand;
 use std::sync::Arc;
 
-type Rows = List<List<Row>>;
+/// What a run came to: its report, and what the table at which it was made was closed with.
+#[derive(Drop)]
+pub struct Finished {
+    pub report: Report,
+    pub ended: Ended,
+}
 
-/// A processor for each list of the script, at the beginning of its first command.
-fn crew_of(alloc: Global, script: &Script) -> Result<Vec<Processor>, OutOfMemory>
+/// All turns of a script's processors at a table whose one seat has all there is: that seat again, with what they led to, and the
+/// rows of each processor.
+fn seat_all<N: OfTable>(
+    alloc: Global,
+    sheet: &Sheet,
+    script: &Script,
+    pass: Pass,
+) -> Result<(Pass, Rows), OutOfMemory>
     requires valid { IsValid script.now }
-    ensures { IfOk result (λ crew. AreAtBeginning script.now crew.items) }
+    requires named { N.table ≡ sheet.now.table_id }
+    requires table { IsTableOf script.now.layout sheet.now.table_id × (sheet.now.key ≡ script.now.layout) }
+    requires seat { (pass.table_id ≡ sheet.now.table_id) × (pass.me ≡ (first_known script.now.layout, [])) }
+    ensures same { IfOk result (λ end. end.0.table_id ≡ sheet.now.table_id) }
+    ensures knows { IfOk result (λ end. KnowsRun script.now end.0.me.0 end.1) }
+{
+    let mut board = SeatBoard::<N>::new(alloc, sheet, &script.layout, pass)?;
+    let rows = play(alloc, script, &mut board)?;
+    Ok((board.into_pass(), rows))
+}
+
+/// The turns of a script's processors at a table of their own: what the table was closed with, the bodies that were in its
+/// slots, and the rows of each processor.
+fn play_at_table(alloc: Global, script: &Script) -> Result<(Ended, Vec<Slot>, Rows), OutOfMemory>
+    requires valid { IsValid script.now }
+    ensures played { IfOk result (λ end. IsTablePlayed script.now end.0 end.2) }
+    ensures bodies { IfOk result (λ end. end.0.slots ≡ end.1.items) }
 {
     let layout = Arc::new(alloc, script.layout.copy(alloc)?)?;
-    let lists = script.lists.as_slice();
-    let mut crew = Vec::with_capacity(alloc, lists.len())?;
-    for cpu in 0..lists.len() {
-        let commands = lists[cpu].as_slice();
-        crew.push(Processor::new(alloc, &layout, Cpu(cpu as u8), commands)?)?;
-    }
-    Ok(crew)
+    let (table, pass) = begin(alloc, &layout)?;
+    let (pass, rows) = seat_all::<Brand>(alloc, &table.shared, script, pass)?;
+    let Ok((ended, slots)) = close(alloc, table, pass) else {
+        return Err(AllocError);
+    };
+    Ok((ended, slots, rows))
 }
 
-/// The rows of each processor.
-///
-/// # Errors
-/// `OutOfMemory` where a command was not answered, because memory ran out.
-fn rows_of(alloc: Global, crew: Vec<Processor>) -> Result<Rows, OutOfMemory>
-    ensures { IfOk result (λ rows. AreFinished crew.items rows) }
+/// The histories of the bodies of a table that was closed, in the order of the pages.
+fn pages_of(
+    alloc: Global,
+    ended: &Ended,
+    bodies: Vec<Slot>,
+    layout: &Layout,
+) -> Result<List<List<Entry>>, OutOfMemory>
+    requires layout { ended.now.layout ≡ layout.now }
+    requires bodies { ended.now.slots ≡ bodies.items }
+    ensures count { IfOk result (λ pages. length pages ≡ length layout.now.pages) }
+    ensures pages { IfOk result (λ pages. AreHistories (map home_with ended.now.slots) pages) }
 {
-    let mut rows = Vec::with_capacity(alloc, crew.len())?;
-    for processor in crew {
-        rows.push(processor.finish()?)?;
-    }
-    Ok(List::from_vec(rows))
-}
-
-/// All turns of a script's processors, in the order of its schedule: the board to which they lead, and the rows of each
-/// processor.
-fn play(alloc: Global, script: &Script) -> Result<(PlainBoard, Rows), OutOfMemory>
-    requires valid { IsValid script.now }
-    ensures { IfOk result (λ end. IsPlayed script.now end.0 end.1) }
-{
-    let mut board = PlainBoard::new(alloc, &script.layout)?;
-    board.reached();
-    let mut crew = crew_of(alloc, script)?;
-    step_all(&mut board, &mut crew, script.go.as_slice())?;
-    board.reached();
-    let rows = rows_of(alloc, crew)?;
-    Ok((board, rows))
+    ended.reached();
+    let words = ended.words();
+    let from = index(layout, Place::Cache(Page(0)));
+    let caches = &words[from..from + layout.pages.len()];
+    histories(alloc, bodies, usize::from(layout.frames), caches)
 }
 
 /// The run of a script: its processors make their turns in the order of the schedule, and then in the finishing order, until
-/// each of their commands is answered. The report is of the board to which that leads.
-pub fn run(alloc: Global, script: &Script) -> Result<Report, OutOfMemory>
+/// each of their commands is answered. They make them at one table of atomic words, and the report is of what it is closed with.
+pub fn run(alloc: Global, script: &Script) -> Result<Finished, OutOfMemory>
     requires valid { IsValid script.now }
-    ensures of_run { IfOk result (IsOfRun script.now) }
-    ensures lawful { IfOk result (IsLawful script.now) }
-    ensures core { IfOk result (IsCoreRun script.now) }
+    ensures of_run { IfOk result (λ run. IsOfRun script.now run.report) }
+    ensures lawful { IfOk result (λ run. IsLawful script.now run.report) }
+    ensures core { IfOk result (λ run. IsCoreRun script.now run.report) }
+    ensures ended { IfOk result (λ run. IsTableRun script.now run.report run.ended) }
 {
-    let (board, rows) = play(alloc, script)?;
-    report(alloc, script.lists.as_slice(), board, rows.as_slice())
+    let (ended, slots, rows) = play_at_table(alloc, script)?;
+    let pages = pages_of(alloc, &ended, slots, &script.layout)?;
+    let lists = script.lists.as_slice();
+    let report = report(
+        alloc,
+        &script.layout,
+        ended.words(),
+        pages,
+        lists,
+        rows.as_slice(),
+    )?;
+    Ok(Finished { report, ended })
 }

@@ -1,7 +1,7 @@
 //! Calls of `top` over memory with nothing that fails, and what they left.
 
 use hwp_io::{MemSink, MemSource};
-use hwp_top::{Done, top};
+use hwp_top::top;
 use std::alloc::Global;
 use std::process::Abort;
 
@@ -22,11 +22,10 @@ fn call(rt: &impl Abort, alloc: Global, word: &str, input: &[u8]) -> Left {
     let mut src = MemSource::new(input.to_vec(alloc).expect(rt, "memory"), Vec::new(alloc));
     let mut out = MemSink::new(alloc, 4096, Vec::new(alloc));
     let mut err = MemSink::new(alloc, 4096, Vec::new(alloc));
-    let Done { status, report } = top(alloc, words.as_slice(), &mut src, &mut out, &mut err);
-    let reported = report.is_some();
+    let done = top(alloc, words.as_slice(), &mut src, &mut out, &mut err);
     Left {
-        reported,
-        status,
+        reported: done.report.is_some(),
+        status: done.status,
         out,
         err,
     }

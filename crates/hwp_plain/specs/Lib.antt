@@ -1,4 +1,3 @@
 pub mod Slots
 pub mod Trails
 pub mod Boards
-pub mod Ends

@@ -1,6 +1,7 @@
 -- The slots of the frames, and then the shelves of the pages.
 use Rattle.std.specs.Prelude.{ℕ, ◌<◌, List, Option, Some, None, option_map}
 use Rattle.hwp_geom.specs.declared.Layout.{Layout}
+use Rattle.hwp_page.specs.History.{BodyValue}
 use Rattle.hwp_rule.specs.declared.Log.{Log}
 use Rattle.hwp_rule.specs.declared.SlotMove.{SlotMove}
 use Rattle.hwp_rule.specs.declared.SlotMove.TheVariants as moves
@@ -15,6 +16,14 @@ use Rattle.hwp_plain.specs.declared.slot.Slot.TheVariants.{Home, Out}
 abbrev pub home_of : Slot → Option (Option Log)
 home_of (Home body) = Some (option_map log_of body)
 home_of Out = None
+
+-- a slot at home with this body, and the body in a slot
+abbrev pub in_slot : Option BodyValue → Slot
+in_slot body = Home body
+
+abbrev pub body_in : Slot → Option BodyValue
+body_in (Home body) = body
+body_in Out = None
 
 -- the slot that moves is one of so many
 abbrev pub IsWithin : ℕ → SlotMove → Type 0

@@ -2,19 +2,18 @@ ghost use Rattle.std.specs.Prelude.{◌≡◌, ◌<◌, true, false, [], cond, N
 ghost use Rattle.hwp_geom.specs.Layout.{IsSound};
 ghost use Rattle.hwp_rule.specs.Lists.{EachMember};
 ghost use Rattle.hwp_rule.specs.Opening.{opening};
-ghost use Rattle.hwp_rule.specs.Words.{IsPlace, read, words_of};
 ghost use Rattle.hwp_rule.specs.parts.Holdings.{HoldsNothing};
 ghost use Rattle.hwp_step.specs.Calls.{CanMake, Steps, logs, rec_of};
 ghost use Rattle.hwp_plain.specs.Boards.{IsReached, Moves, own_view, with_turn};
-ghost use Rattle.hwp_plain.specs.Ends.{AreHistories};
+ghost use Rattle.hwp_closing.specs.Ends.{AreHistories};
 ghost use Rattle.hwp_step.specs.Boards.{AreSeated};
 
-use crate::closing::histories;
-use crate::opening::opening_slots;
+use crate::bodies::{bodies_of, slots_of};
 use crate::slot::{Slot, carry};
 use crate::trail::{Trail, tell};
+use hwp_closing::histories;
 use hwp_geom::{Cpu, Kind, Layout, List, OutOfMemory, Page, Who};
-use hwp_opening::opening_words;
+use hwp_opening::{opening_bodies, opening_words};
 use hwp_page::{Body, Entry};
 use hwp_rule::{Place, Step, index};
 use hwp_step::{Met, Turn};
@@ -69,7 +68,8 @@ impl PlainBoard {
     {
         let words = opening_words(alloc, layout)?;
         let layout = Arc::new(alloc, layout.copy(alloc)?)?;
-        let slots = opening_slots(alloc, &layout)?;
+        let bodies = opening_bodies(alloc, &layout)?;
+        let slots = slots_of(alloc, bodies)?;
         Ok(PlainBoard {
             layout,
             words,
@@ -88,12 +88,11 @@ impl PlainBoard {
         &self.layout
     }
 
-    /// The word of a place.
-    pub fn word(&self, place: Place) -> u64
-        requires inside { IsPlace self.now.layout place }
-        ensures { result ≡ read place (words_of self.now.layout self.now.state.words) }
+    /// The words, in the order of the frame rule.
+    pub fn words(&self) -> &[u64]
+        ensures { result.now ≡ self.now.state.words }
     {
-        self.words[index(&self.layout, place)]
+        self.words.as_slice()
     }
 
     /// The moves of the log led from the opening to the board as it is, the frame rule holds of it, and each processor has
@@ -176,6 +175,7 @@ impl PlainBoard {
         } = self;
         let from = index(&layout, Place::Cache(Page(0)));
         let caches = &words[from..from + layout.pages.len()];
-        histories(alloc, slots, usize::from(layout.frames), caches)
+        let bodies = bodies_of(alloc, slots)?;
+        histories(alloc, bodies, usize::from(layout.frames), caches)
     }
 }

@@ -4,8 +4,7 @@
 #![tactic(auto)]
 
 mod board;
-mod closing;
-mod opening;
+mod bodies;
 mod ops;
 mod slot;
 mod trail;

@@ -63,11 +63,11 @@ module _ (n c : ℕ) (less : c < n) where
 
 -- what is still with the one seat
 abbrev pub left_from : ℕ → ℕ → Known
-left_from c n = record { mines = map pair (drop c (below n)); rights = []; whole = None }
+left_from c n = record { mines = map pair (drop c (below n)); own = []; rights = []; whole = None }
 
 module _ (n c : ℕ) (less : c < n) (pass own left : Me) (pass-is : pass ≡ (left_from c n, [])) where
-  pub own-is : own ≡ (dealt c pass.0, []) → own ≡ (record { mines = pair c ∷ []; rights = []; whole = None }, [])
-  own-is is = is ∙ ap (λ (m : Me). (dealt c m.0, [])) pass-is ∙ (λ i. (record { mines = dealt-is n c less i; rights = []; whole = None }, []))
+  pub own-is : own ≡ (dealt c pass.0, []) → own ≡ (record { mines = pair c ∷ []; own = []; rights = []; whole = None }, [])
+  own-is is = is ∙ ap (λ (m : Me). (dealt c m.0, [])) pass-is ∙ (λ i. (record { mines = dealt-is n c less i; own = []; rights = []; whole = None }, []))
 
   pub left-is : left ≡ (kept c pass.0, pass.1) → left ≡ (left_from (c + 1) n, [])
-  left-is is = is ∙ ap (λ (m : Me). (kept c m.0, m.1)) pass-is ∙ (λ i. (record { mines = kept-is n c less i; rights = []; whole = None }, []))
+  left-is is = is ∙ ap (λ (m : Me). (kept c m.0, m.1)) pass-is ∙ (λ i. (record { mines = kept-is n c less i; own = []; rights = []; whole = None }, []))

@@ -61,7 +61,7 @@ pub record Handed (a b : List SeatValue) (from to : ℕ) : Type 0 where
 
 -- the seats at opening: each has its view, and none has a right yet
 abbrev pub seat_open : TableId → Layout → ℕ → SeatValue
-seat_open id layout c = record { table = id; layout = layout; known = record { mines = (c, opening_view c) ∷ []; rights = []; whole = None } }
+seat_open id layout c = record { table = id; layout = layout; known = record { mines = (c, opening_view c) ∷ []; own = []; rights = []; whole = None } }
 
 -- no table
 abbrev pub no_table : TableId

@@ -1,34 +1,24 @@
 -- The table at its end: where nothing is held, all slots are at home, and the moves led to what was read.
-use Rattle.std.proofs.Common.{◌≡◌, ℕ, suc, ◌+◌, ◌-◌, ◌<◌, ◌≤◌, ◌==◌, Bool, true, false, List, [], ◌∷◌, ◌⊎◌, inl, inr, map, length, slice_get, refl, sym, ap, ◌∙◌, subst, arith}
-use Rattle.std.specs.Prelude.{Option as Maybe, Some}
+use Rattle.std.proofs.Common.{◌≡◌, ℕ, suc, ◌+◌, ◌<◌, ◌==◌, Bool, true, false, List, [], ◌∷◌, map, length, slice_get, refl, sym, ap, ◌∙◌, subst, arith}
+use Rattle.std.specs.Prelude.{Some}
 use mathlib.Core.Option.{Option, some, some-injective}
 use lib.ListN.{get_elem?}
-use Rattle.std.proofs.lemmas.Bool.{cases_lt, eqb-true}
+use Rattle.std.proofs.lemmas.Bool.{eqb-true}
 use Rattle.std.proofs.lemmas.List.{length-map}
 use Rattle.std.proofs.lemmas.Option.{same_Some, slice_get_within}
 use Rattle.std.specs.Int.{from_bool}
 use Rattle.atomic_table.specs.Table.{Final, Seen}
 use Rattle.hwp_geom.specs.declared.Layout.{Layout}
-use Rattle.hwp_words.specs.Frames.{lock_of}
-use Rattle.hwp_rule.specs.declared.FrameLock.{FrameLock}
-use Rattle.hwp_rule.specs.declared.Log.{Log}
-use Rattle.hwp_rule.specs.declared.PageLock.{PageLock}
-use Rattle.hwp_rule.specs.declared.Ref.{Ref}
 use Rattle.hwp_rule.specs.declared.State.{State}
 use Rattle.hwp_rule.specs.declared.View.{View}
 use Rattle.hwp_rule.specs.Lists.{EachMember}
 use Rattle.hwp_rule.specs.Moves.{Run}
 use Rattle.hwp_rule.specs.Opening.{opening}
 use Rattle.hwp_rule.specs.Rule.{Holds}
-use Rattle.hwp_rule.specs.Slots.{IsIn}
-use Rattle.hwp_rule.specs.Views.{locks_on, page_locks_on}
-use Rattle.hwp_rule.specs.Words.{words_of}
 use Rattle.hwp_rule.specs.parts.Holdings.{HoldsNothing}
 use Rattle.hwp_rule.proofs.Counting.{some-term}
-use Rattle.hwp_rule.proofs.Lists.{each-map, each-weaken, sum-zero}
-use Rattle.hwp_rule.proofs.Moving.{shaped}
-use Rattle.hwp_rule.proofs.WordsByKind.{word-there}
 use Rattle.hwp_opening.specs.Openings.{home_with}
+use Rattle.hwp_closing.proofs.AllHome.{all-home}
 use Rattle.hwp_table.specs.Ends.{HasAll, IsEnd, board_of}
 use Rattle.hwp_table.specs.Known.{Known}
 use Rattle.hwp_table.specs.Order.{in_rule}
@@ -36,42 +26,7 @@ use Rattle.hwp_table.specs.Rules.{IsWhole, Reached}
 use Rattle.hwp_table.specs.Stands.{Content, Table, home_of, stand}
 use Rattle.hwp_table.proofs.Keeping.{reached-holds, run-seats}
 use Rattle.hwp_table.proofs.Reading.{as-slice, home-was}
-
-module _ (layout : Layout) (s : State) (h : Holds layout s) (nothing : EachMember HoldsNothing s.views) where
-  -- no frame is locked, and no page
-  frame-free : (f w : ℕ) → slice_get (words_of layout s.words).frames f ≡ Some w → lock_of w ≡ 0
-  frame-free f w there = sym (h.rule.frames.frame_locks.one f w there)
-      ∙ sum-zero (λ (l : List Ref × List FrameLock). locks_on f l.1) (map (λ (v : View). (v.refs, v.locks)) s.views)
-      (each-map (λ (v : View). (v.refs, v.locks)) (λ (l : List Ref × List FrameLock). locks_on f l.1 ≡ 0) s.views (each-weaken HoldsNothing (λ (v : View). locks_on f v.locks ≡ 0) s.views (λ v none. ap (locks_on f) none.locks) nothing))
-
-  page-free : (q w : ℕ) → slice_get (words_of layout s.words).pages q ≡ Some w → lock_of w ≡ 0
-  page-free q w there = sym (h.rule.pages.page_locks.one q w there)
-      ∙ sum-zero (page_locks_on q) (map (λ (v : View). v.pages) s.views)
-      (each-map (λ (v : View). v.pages) (λ (l : List PageLock). page_locks_on q l ≡ 0) s.views (each-weaken HoldsNothing (λ (v : View). page_locks_on q v.pages ≡ 0) s.views (λ v none. ap (page_locks_on q) none.pages) nothing))
-
-  frame-home : (f : ℕ) → f < layout.frames → (content : Maybe Log) × IsIn s.homes f content
-  frame-home f less =
-      let word = word-there (words_of layout s.words).frames f layout.frames (shaped layout s h).frames less in
-      let home = h.rule.pages.bodies.frame_home f _ word (frame-free f _ word) in
-      (home.content, home.there)
-
-  shelf-home : (q : ℕ) → q < length layout.pages → (content : Maybe Log) × IsIn s.homes (layout.frames + q) content
-  shelf-home q less =
-      let word = word-there (words_of layout s.words).pages q (length layout.pages) (shaped layout s h).pages less in
-      let cache = word-there (words_of layout s.words).caches q (length layout.pages) (shaped layout s h).caches less in
-      let home = h.rule.pages.bodies.shelf_home q _ _ word cache (page-free q _ word) in
-      (home.content, home.there)
-
-  -- so each slot is at home
-  pub all-home : (k : ℕ) → k < layout.frames + length layout.pages → (content : Maybe Log) × IsIn s.homes k content
-  all-home k less = which (cases_lt k layout.frames)
-    where
-      behind : (q : ℕ) → layout.frames + q ≡ k → q < length layout.pages → (content : Maybe Log) × IsIn s.homes k content
-      behind q is few = subst (λ (n : ℕ). (content : Maybe Log) × IsIn s.homes n content) is (shelf-home q few)
-
-      which : (k < layout.frames) ⊎ (layout.frames ≤ k) → (content : Maybe Log) × IsIn s.homes k content
-      which (inl front) = frame-home k front
-      which (inr past) = behind (k - layout.frames) (omega (arith, past)) (omega (arith, past, less))
+use Rattle.hwp_table.proofs.Ruling.{counted}
 
 -- what was read is what was at home
 pub all-read : (hs : List (Option Content)) (xs : List Content) → length hs ≡ length xs → ((k : ℕ) → k < length hs → (y : Content) × (get_elem? hs k ≡ some (some y)))
@@ -138,6 +93,8 @@ module _ (layout : Layout) (id : ℕ) (v : Known) (words : List ℕ) (slots : Li
     run = subst (Run layout (opening layout) reached.log) state-is reached.run;
     holds = subst (Holds layout) state-is holds;
     count = seats;
+    nothing = nothing;
     mines = reached.ruled.mines id v me;
+    own = λ i x e. (reached.ruled.own id v me).all x.0 (counted x.0 x.1 v.mines i e);
     whole = λ w e. subst (λ (s : State). IsWhole layout s reached.log v.rights w) state-is (reached.ruled.whole id v me w e);
   }

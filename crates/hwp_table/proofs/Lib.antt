@@ -2,6 +2,7 @@ mod Times
 mod Rotating
 mod Reading
 pub mod Meeting
+mod Owning
 mod Ruling
 mod Keeping
 mod Reaching

@@ -22,8 +22,9 @@ use Rattle.hwp_step.specs.Calls.{FitsLayout}
 use Rattle.hwp_opening.specs.Openings.{home_with}
 use Rattle.hwp_table.specs.Known.{Known, Whole, first_known, times, views_for}
 use Rattle.hwp_table.specs.Order.{in_rule}
-use Rattle.hwp_table.specs.Rules.{IsWhole, Reached, Ruled}
+use Rattle.hwp_table.specs.Rules.{IsOwn, IsWhole, Reached, Ruled}
 use Rattle.hwp_table.specs.Stands.{Content, Table, home_of, stand, AreOfLayout}
+use Rattle.hwp_table.proofs.Owning.{first-own}
 use Rattle.hwp_table.proofs.Reading.{as-slice}
 use Rattle.hwp_table.proofs.Rotating.{length-in_rule}
 use Rattle.hwp_table.proofs.Ruling.{Of, each-one}
@@ -87,6 +88,7 @@ module _ (layout : Layout) (words : List ℕ) (slots : List Content) (sound : Is
   first-ruled : Ruled layout (opening layout) [] (first_known layout ∷ [])
   first-ruled = record {
     mines = each-one (λ (v : Known). EachMember (Of (opening layout)) v.mines) (first_known layout) (own-view layout.cpus);
+    own = each-one (IsOwn []) (first_known layout) (first-own (first_known layout) refl);
     one_view = λ c. single (λ (v : Known). views_for c v.mines)
         (subst (λ (n : ℕ). n ≤ 1) (sym (sum-map (λ (x : ℕ × View). from_bool (x.0 == c)) (λ (d : ℕ). (d, opening_view d)) (below layout.cpus))) (times-once layout.cpus c));
     one_right = λ c. single (λ (v : Known). times c v.rights) (times-once layout.cpus c);

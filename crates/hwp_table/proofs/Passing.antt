@@ -26,7 +26,7 @@ module _ (layout key : Layout) (id of now : TableId) (me new : Me) (order : List
   }
 
   pub gathered : (w : Known) → w.mines ≡ [] → new ≡ (joined me.0 w, me.1) → new.0 ≡ with_note me.0 w
-  gathered w none is-new = ap (λ (m : Me). m.0) is-new ∙ (λ i. record { mines = (ap (λ (l : List (ℕ × View)). me.0.mines ++ l) none ∙ append-nil me.0.mines) i; rights = (joined me.0 w).rights; whole = (joined me.0 w).whole })
+  gathered w none is-new = ap (λ (m : Me). m.0) is-new ∙ (λ i. record { mines = (ap (λ (l : List (ℕ × View)). me.0.mines ++ l) none ∙ append-nil me.0.mines) i; own = (joined me.0 w).own; rights = (joined me.0 w).rights; whole = (joined me.0 w).whole })
 
   pub seat-gathers : (w : Known) → w.mines ≡ [] → new ≡ (joined me.0 w, me.1) → IsSeat layout key id now new order
   seat-gathers w none is-new = seat-same (ap (λ (v : Known). v.mines) (gathered w none is-new)) (ap (λ (m : Me). m.1) is-new)

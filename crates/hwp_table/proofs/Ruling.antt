@@ -16,7 +16,8 @@ use Rattle.hwp_rule.specs.Views.{view_after}
 use Rattle.hwp_rule.specs.Words.{index}
 use Rattle.hwp_rule.proofs.Lists.{same-or, same-number, map-was, at_set, at_push, set_here, set_else, sum-set, sum-map, term-le, terms-le, from_bool-same}
 use Rattle.hwp_table.specs.Known.{Known, Whole, times, views_for, idle, let_go, note, dealt, kept, joined, either_whole, known_after, mine_after, whole_after}
-use Rattle.hwp_table.specs.Rules.{Ruled, IsWhole}
+use Rattle.hwp_table.specs.Rules.{Ruled, IsOwn, IsWhole}
+use Rattle.hwp_table.proofs.Owning.{let-go-own, kept-own, dealt-own, joined-own, after-own, other-own, none-own}
 use Rattle.hwp_table.proofs.Times.{sum-parts, times-append}
 
 abbrev pub Of : State → ℕ × View → Type 0
@@ -56,7 +57,7 @@ module _ {A : Type 0} (P : A → Type 0) where
   each-append (x ∷ xs) ys a b = each-cons x (xs ++ ys) (a 0 x refl) (each-append xs ys (λ i y e. a (suc i) y e) b)
 
 -- a view that is there is counted
-counted : (c : ℕ) (m : View) (mines : List (ℕ × View)) (i : ℕ) → slice_get mines i ≡ Some (c, m) → 0 < views_for c mines
+pub counted : (c : ℕ) (m : View) (mines : List (ℕ × View)) (i : ℕ) → slice_get mines i ≡ Some (c, m) → 0 < views_for c mines
 counted c m mines i at =
     let less = term-le (λ (x : ℕ × View). from_bool (x.0 == c)) mines i (c, m) at in
     let one : from_bool (c == c) ≡ 1 = from_bool-same c c refl in
@@ -93,9 +94,10 @@ module _ (layout : Layout) (s : State) (log : List (ℕ × Rec)) (vs : List Know
   ]
 
   pub cut-ruled : (id : ℕ) (v w u : Known) → slice_get vs id ≡ Some v → ((c : ℕ) → views c w + views c u ≡ views c v) → ((c : ℕ) → rights c w + rights c u ≡ rights c v)
-      → Mines s w → Mines s u → Knows layout s log w → Knows layout s log u → Ruled layout s log (set vs id w ++ u ∷ [])
-  cut-ruled id v w u me same_views same_rights mines_w mines_u whole_w whole_u = record {
+      → Mines s w → Mines s u → IsOwn log w → IsOwn log u → Knows layout s log w → Knows layout s log u → Ruled layout s log (set vs id w ++ u ∷ [])
+  cut-ruled id v w u me same_views same_rights mines_w mines_u own_w own_u whole_w whole_u = record {
     mines = cut-each (Mines s) id w u mines_w mines_u h.mines;
+    own = cut-each (IsOwn log) id w u own_w own_u h.own;
     one_view = λ c. cut-count (views c) id v w u me (same_views c) (h.one_view c);
     one_right = λ c. cut-count (rights c) id v w u me (same_rights c) (h.one_right c);
     whole = cut-each (Knows layout s log) id w u whole_w whole_u h.whole;
@@ -106,7 +108,8 @@ module _ (layout : Layout) (s : State) (log : List (ℕ × Rec)) (vs : List Know
 
   -- the rights go off on a note
   pub note-ruled : (id : ℕ) (v : Known) → slice_get vs id ≡ Some v → Ruled layout s log (set vs id (let_go v) ++ note v ∷ [])
-  note-ruled id v me = cut-ruled id v (let_go v) (note v) me (λ c. omega arith) (λ c. omega arith) (h.mines id v me) (λ i x e. absurd (none-some x e)) (knows-none (let_go v) refl) (h.whole id v me)
+  note-ruled id v me = cut-ruled id v (let_go v) (note v) me (λ c. omega arith) (λ c. omega arith) (h.mines id v me) (λ i x e. absurd (none-some x e))
+      (let-go-own log v (h.own id v me)) (none-own log (note v) refl refl) (knows-none (let_go v) refl) (h.whole id v me)
 
   -- a new seat has what there is of a processor
   pub deal-ruled : (id : ℕ) (v : Known) (c : ℕ) → slice_get vs id ≡ Some v → Ruled layout s log (set vs id (kept c v) ++ dealt c v ∷ [])
@@ -115,7 +118,7 @@ module _ (layout : Layout) (s : State) (log : List (ℕ × Rec)) (vs : List Know
       (λ d. sum-parts (λ (n : ℕ). from_bool (n == d)) (λ (n : ℕ). n == c) v.rights)
       (each-filter (Of s) (λ (x : ℕ × View). not (x.0 == c)) v.mines (h.mines id v me))
       (each-filter (Of s) (λ (x : ℕ × View). x.0 == c) v.mines (h.mines id v me))
-      (knows-none (kept c v) refl) (knows-none (dealt c v) refl)
+      (kept-own log v (h.own id v me) c) (dealt-own log v (h.own id v me) c) (knows-none (kept c v) refl) (knows-none (dealt c v) refl)
 
   idle-mines : Mines s idle
   idle-mines i x e = absurd (none-some x e)
@@ -143,6 +146,7 @@ module _ (layout : Layout) (s : State) (log : List (ℕ × Rec)) (vs : List Know
   pub join-ruled : (id other : ℕ) (v w : Known) → slice_get vs id ≡ Some v → slice_get vs other ≡ Some w → other ≢ id → Ruled layout s log (set (set vs id (joined v w)) other idle)
   join-ruled id other v w me you apart = record {
     mines = join-each (Mines s) id other (joined v w) (each-append (Of s) v.mines w.mines (h.mines id v me) (h.mines other w you)) idle-mines h.mines;
+    own = join-each (IsOwn log) id other (joined v w) (joined-own log v (h.own id v me) w (h.own other w you) in-one) (none-own log idle refl refl) h.own;
     one_view = λ c. join-count (views c) id other v w (joined v w) me you' (sum_by-append (λ (x : ℕ × View). from_bool (x.0 == c)) v.mines w.mines) refl (h.one_view c);
     one_right = λ c. join-count (rights c) id other v w (joined v w) me you' (times-append c v.rights w.rights) refl (h.one_right c);
     whole = join-each (Knows layout s log) id other (joined v w) (knows-both v.whole refl) (knows-none idle refl) h.whole;
@@ -150,6 +154,9 @@ module _ (layout : Layout) (s : State) (log : List (ℕ × Rec)) (vs : List Know
     where
       you' : slice_get (set vs id (joined v w)) other ≡ Some w
       you' = set_else vs id other (joined v w) apart ∙ you
+
+      in-one : (c : ℕ) → views c v + views c w ≤ 1
+      in-one c = let two = terms-le (views c) vs other id w v apart you me in let one = h.one_view c in omega (arith, two, one)
 
       more : (c : ℕ) → 0 < times c v.rights + times c w.rights → 0 < times c (v.rights ++ w.rights)
       more c some = subst (λ (n : ℕ). 0 < n) (sym (times-append c v.rights w.rights)) some
@@ -191,6 +198,14 @@ module _ (layout : Layout) (s : State) (log : List (ℕ × Rec)) (vs : List Know
         differs same = view-once i id u v c other at me
             (counted c x.1 u.mines j (e ∙ ap (λ (n : ℕ). Some (n, x.1)) same)) (counted c m v.mines mine.0 mine-at)
 
+    -- the others haven't the processor's view
+    no-view : (i : ℕ) (u : Known) → i ≢ id → slice_get vs i ≡ Some u → views c u ≡ 0
+    no-view i u other at =
+        let two = terms-le (views c) vs i id u v other at me in
+        let one = h.one_view c in
+        let has = counted c m v.mines mine.0 mine-at in
+        omega (arith, two, one, has)
+
     step-count : (f : Known → ℕ) → f w ≡ f v → sum_by f vs ≤ 1 → sum_by f (set vs id w) ≤ 1
     step-count f same one = let all = sum-set f vs id v w me in omega (arith, same, one, all)
 
@@ -217,6 +232,10 @@ module _ (layout : Layout) (s : State) (log : List (ℕ × Rec)) (vs : List Know
       mines = λ i u at. elim (at_set vs id i w u at) [
         | inl e ↦ subst (Mines then) e.1 own
         | inr e ↦ others i u e.0 e.1
+      ];
+      own = λ i u at. elim (at_set vs id i w u at) [
+        | inl e ↦ subst (IsOwn ((c, r) ∷ log)) e.1 (after-own log v (h.own id v me) layout c r (counted c m v.mines mine.0 mine-at))
+        | inr e ↦ other-own log u (h.own i u e.1) layout c r (no-view i u e.0 e.1)
       ];
       one_view = λ d. step-count (views d) (sum-map (λ (x : ℕ × View). from_bool (x.0 == d)) (mine_after layout c r) v.mines) (h.one_view d);
       one_right = λ d. step-count (rights d) refl (h.one_right d);

@@ -19,10 +19,11 @@ pub record Whole : Type 0 where
   pub homes : Homes
   pub log : List (ℕ × Rec)
 
--- The processors whose view of the frame rule the seat has, each with that view; the processors whose right to make steps it
--- has; and, with all rights only, what the table is.
+-- The processors whose view of the frame rule the seat has, each with that view; the moves that these processors made, the
+-- newest first; the processors whose right to make steps it has; and, with all rights only, what the table is.
 pub record Known : Type 0 where
   pub mines : List (ℕ × View)
+  pub own : List (ℕ × Rec)
   pub rights : List ℕ
   pub whole : Option Whole
 
@@ -37,14 +38,19 @@ views_for c mines = sum_by (λ (x : ℕ × View). from_bool (x.0 == c)) mines
 abbrev pub less : ℕ → List ℕ → List ℕ
 less c rights = without (λ (n : ℕ). n == c) rights
 
+-- the moves of one processor
+abbrev pub moves_by : ℕ → List (ℕ × Rec) → List (ℕ × Rec)
+moves_by c moves = filter (λ (x : ℕ × Rec). x.0 == c) moves
+
 -- a seat that has nothing
 abbrev pub idle : Known
-idle = record { mines = []; rights = []; whole = None }
+idle = record { mines = []; own = []; rights = []; whole = None }
 
 -- what the opening seat knows: all there is
 abbrev pub first_known : Layout → Known
 first_known layout = record {
   mines = map (λ (c : ℕ). (c, opening_view c)) (below layout.cpus);
+  own = [];
   rights = below layout.cpus;
   whole = Some (record { words = opening_words layout; homes = opening_homes layout; log = [] });
 }
@@ -61,21 +67,36 @@ whole_after layout c r w = record {
 }
 
 abbrev pub known_after : Layout → ℕ → Rec → Known → Known
-known_after layout c r v = record { mines = map (mine_after layout c r) v.mines; rights = v.rights; whole = option_map (whole_after layout c r) v.whole }
+known_after layout c r v = record {
+  mines = map (mine_after layout c r) v.mines;
+  own = (c, r) ∷ v.own;
+  rights = v.rights;
+  whole = option_map (whole_after layout c r) v.whole;
+}
 
--- the rights go off on a note, with the whole; the views stay
+-- the rights go off on a note, with the whole; the views stay, and the moves
 abbrev pub let_go : Known → Known
-let_go v = record { mines = v.mines; rights = []; whole = None }
+let_go v = record { mines = v.mines; own = v.own; rights = []; whole = None }
 
 abbrev pub note : Known → Known
-note v = record { mines = []; rights = v.rights; whole = v.whole }
+note v = record { mines = []; own = []; rights = v.rights; whole = v.whole }
 
--- what a new seat has of a processor, its view and its right, and what is left
+-- what a new seat has of a processor, its view, its moves and its right, and what is left
 abbrev pub dealt : ℕ → Known → Known
-dealt c v = record { mines = filter (λ (x : ℕ × View). x.0 == c) v.mines; rights = filter (λ (n : ℕ). n == c) v.rights; whole = None }
+dealt c v = record {
+  mines = filter (λ (x : ℕ × View). x.0 == c) v.mines;
+  own = moves_by c v.own;
+  rights = filter (λ (n : ℕ). n == c) v.rights;
+  whole = None;
+}
 
 abbrev pub kept : ℕ → Known → Known
-kept c v = record { mines = filter (λ (x : ℕ × View). not (x.0 == c)) v.mines; rights = filter (λ (n : ℕ). not (n == c)) v.rights; whole = None }
+kept c v = record {
+  mines = filter (λ (x : ℕ × View). not (x.0 == c)) v.mines;
+  own = filter (λ (x : ℕ × Rec). not (x.0 == c)) v.own;
+  rights = filter (λ (n : ℕ). not (n == c)) v.rights;
+  whole = None;
+}
 
 -- the whole, where one of two knows it
 abbrev pub either_whole : Option Whole → Option Whole → Option Whole
@@ -84,8 +105,8 @@ either_whole (Some v) w = Some v
 
 -- all that two seats have
 abbrev pub joined : Known → Known → Known
-joined v w = record { mines = v.mines ++ w.mines; rights = v.rights ++ w.rights; whole = either_whole v.whole w.whole }
+joined v w = record { mines = v.mines ++ w.mines; own = v.own ++ w.own; rights = v.rights ++ w.rights; whole = either_whole v.whole w.whole }
 
 -- the same where the other is a note, which has no view
 abbrev pub with_note : Known → Known → Known
-with_note v w = record { mines = v.mines; rights = v.rights ++ w.rights; whole = either_whole v.whole w.whole }
+with_note v w = record { mines = v.mines; own = v.own ++ w.own; rights = v.rights ++ w.rights; whole = either_whole v.whole w.whole }

@@ -23,7 +23,7 @@ fn is_spelled(rt: &impl Abort, alloc: Global, text: &str, want: &str) {
 /// The printed text of a script.
 fn is_printed(rt: &impl Abort, alloc: Global, script: &Script, want: &str) {
     let text = print(alloc, script).expect(rt, "memory");
-    assert_eq!(rt; str::from_utf8(text.as_slice()).ok(), Some(want));
+    assert!(rt; str::from_utf8(text.as_slice()).ok() == Some(want));
 }
 
 #[test]

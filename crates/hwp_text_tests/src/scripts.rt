@@ -26,7 +26,7 @@ fn refusal(rt: &impl Abort, alloc: Global, text: &[u8]) -> Answer {
 
 /// The text becomes this.
 fn becomes(rt: &impl Abort, alloc: Global, text: &[u8], want: Answer) {
-    assert_eq!(rt; refusal(rt, alloc, text), want);
+    assert!(rt; refusal(rt, alloc, text) == want);
 }
 
 /// A change of a text, and the line and the reason at which it is then refused.
@@ -37,7 +37,7 @@ fn refused(rt: &impl Abort, alloc: Global, text: &str, changes: &[Change<'_>]) {
     for (from, to, line, why) in changes {
         let changed = text.replace(alloc, from, to).expect(rt, "memory");
         let answer = refusal(rt, alloc, changed.as_bytes());
-        assert_eq!(rt; answer, Some((*line, *why)), "{to}");
+        assert!(rt; answer == Some((*line, *why)));
     }
 }
 
@@ -58,17 +58,14 @@ fn have(rt: &impl Abort, script: &Script, rows: &[(usize, usize, [u64; 5])]) {
     for (cpu, seq, want) in rows {
         let list = script.lists.as_slice().get(*cpu).expect(rt, "a list");
         let command = list.as_slice().get(*seq).expect(rt, "a command");
-        assert_eq!(rt; side_by_side(command), *want);
+        assert!(rt; side_by_side(command) == *want);
     }
 }
 
 /// The layout that `ALL` declares.
 fn is_declared(rt: &impl Abort, layout: &Layout) {
     let counts = (layout.cpus, layout.frames, layout.procs, layout.files);
-    assert_eq!(rt;
-        (counts, layout.recovery, layout.early),
-        ((2, 4, 2, 1), false, true)
-    );
+    assert!(rt; (counts, layout.recovery, layout.early) == ((2, 4, 2, 1), false, true));
 }
 
 const NUMBERS: &[(usize, usize, [u64; 5])] = &[

@@ -2,6 +2,7 @@
 use Rattle.std.specs.Prelude.{◌≡◌, ℕ, List, [], ◌∷◌, Contains, Bool, true, false, if◌then◌else◌, is_some, ◌⊎◌, Option, Some, None}
 use Rattle.std.proofs.Common.{lit<, refl, subst, sym, inl, inr}
 use Rattle.hwp_report.specs.declared.Report.{Report}
+use Rattle.hwp_table.specs.Ends.{EndValue}
 use Rattle.hwp_top.specs.declared.served.Call.{Call}
 use Rattle.hwp_top.specs.declared.served.Call.TheVariants as calls
 use Rattle.hwp_check_rules.specs.declared.verdicts.Verdict.{Verdict}
@@ -35,15 +36,17 @@ verdict_is_done verdicts.Legal = inl refl
 verdict_is_done (verdicts.Not place rule) = inr (inl refl)
 
 -- an output has the status of a call that is done
-output_is_done : (call : Call) (left left' : Option (List ℕ)) (status : ℕ) (text : List ℕ) (report : Option Report) → IsOutputOf call left left' status text report → IsDone status
-output_is_done calls.Step left left' status text (Some report) o = subst IsDone (sym o.status_is) (report_is_done report)
-output_is_done calls.Step left left' status text None o = elim o [ ]
-output_is_done calls.Check left left' status text report o = subst IsDone (sym o.0.status_is) (verdict_is_done o.0.verdict)
-output_is_done (calls.Gen seed) left left' status text report o = inl o.1
-output_is_done (calls.Sum seed) left left' status text (Some report) o = inl o.status_is
-output_is_done (calls.Sum seed) left left' status text None o = elim o [ ]
+output_is_done : (call : Call) (left left' : Option (List ℕ)) (status : ℕ) (text : List ℕ) (report : Option Report) (ended : Option EndValue) → IsOutputOf call left left' status text report ended → IsDone status
+output_is_done calls.Step left left' status text (Some report) (Some ended) o = subst IsDone (sym o.status_is) (report_is_done report)
+output_is_done calls.Step left left' status text (Some report) None o = elim o [ ]
+output_is_done calls.Step left left' status text None ended o = elim o [ ]
+output_is_done calls.Check left left' status text report ended o = subst IsDone (sym o.0.status_is) (verdict_is_done o.0.verdict)
+output_is_done (calls.Gen seed) left left' status text report ended o = inl o.1
+output_is_done (calls.Sum seed) left left' status text (Some report) (Some ended) o = inl o.status_is
+output_is_done (calls.Sum seed) left left' status text (Some report) None o = elim o [ ]
+output_is_done (calls.Sum seed) left left' status text None ended o = elim o [ ]
 
 -- an output that is written, whole or in part, ends with a status of the list
-pub output_is_listed : (call : Call) (left left' : Option (List ℕ)) (status n : ℕ) (text : List ℕ) (report : Option Report) → IsOutputOf call left left' status text report → (n ≡ status) ⊎ (n ≡ 5) → Listed n
-output_is_listed call left left' status n text report o (inl whole) = subst Listed (sym whole) (done_is_listed status (output_is_done call left left' status text report o))
-output_is_listed call left left' status n text report o (inr cut) = subst Listed (sym cut) (5, lit< tt, refl)
+pub output_is_listed : (call : Call) (left left' : Option (List ℕ)) (status n : ℕ) (text : List ℕ) (report : Option Report) (ended : Option EndValue) → IsOutputOf call left left' status text report ended → (n ≡ status) ⊎ (n ≡ 5) → Listed n
+output_is_listed call left left' status n text report ended o (inl whole) = subst Listed (sym whole) (done_is_listed status (output_is_done call left left' status text report ended o))
+output_is_listed call left left' status n text report ended o (inr cut) = subst Listed (sym cut) (5, lit< tt, refl)

@@ -9,6 +9,7 @@ use Rattle.hwp_report.specs.declared.Report.{Report}
 use Rattle.hwp_report.specs.Text.{report_text}
 use Rattle.hwp_summary.specs.Counts.{summary_of}
 use Rattle.hwp_summary.specs.Text.{summary_text}
+use Rattle.hwp_table.specs.Ends.{EndValue}
 use Rattle.hwp_top.specs.declared.served.Call.{Call}
 use Rattle.hwp_top.specs.declared.served.Call.TheVariants as calls
 use Rattle.hwp_top.specs.Calls.{IsCall}
@@ -21,23 +22,27 @@ pub record IsGenerated (seed : ℕ) (text : List ℕ) : Type 0 where
   pub read : length text ≤ script_limit → IsTextOf text (generated seed)
 
 -- the report of a script that a source gave, its text, and its status
-pub record IsStepped (left left' : Option (List ℕ)) (status : ℕ) (text : List ℕ) (report : Report) : Type 0 where
-  pub reports : Reports left left' report
+pub record IsStepped (left left' : Option (List ℕ)) (status : ℕ) (text : List ℕ) (report : Report) (ended : EndValue) : Type 0 where
+  pub reports : Reports left left' report ended
   pub status_is : status ≡ done_status report
   pub text_is : text ≡ report_text report
 
 -- a report of the seed's script, as `step` gives it, and the text of its summary
-pub record IsSummed (seed status : ℕ) (text : List ℕ) (report : Report) : Type 0 where
-  pub report_of : IsReportOfRun (generated seed) report
+pub record IsSummed (seed status : ℕ) (text : List ℕ) (report : Report) (ended : EndValue) : Type 0 where
+  pub report_of : IsReportOfRun (generated seed) report ended
   pub status_is : status ≡ 0
   pub text_is : text ≡ summary_text seed (summary_of report)
 
--- the output of a call: its status, its text, and its report where it has one
-abbrev pub IsOutputOf : Call → Option (List ℕ) → Option (List ℕ) → ℕ → List ℕ → Option Report → Type 0
-IsOutputOf calls.Step left left' status text report = IsSomeAnd report (IsStepped left left' status text)
-IsOutputOf calls.Check left left' status text report = IsChecked left left' status text × (report ≡ None)
-IsOutputOf (calls.Gen seed) left left' status text report = IsGenerated seed text × (status ≡ 0) × (report ≡ None)
-IsOutputOf (calls.Sum seed) left left' status text report = IsSomeAnd report (IsSummed seed status text)
+-- the report is there, and what its run's table was closed with
+abbrev pub HasRun : Option Report → Option EndValue → (Report → EndValue → Type 0) → Type 0
+HasRun report ended Such = IsSomeAnd report (λ (r : Report). IsSomeAnd ended (Such r))
+
+-- the output of a call: its status, its text, and, where a run was made, its report and what its table was closed with
+abbrev pub IsOutputOf : Call → Option (List ℕ) → Option (List ℕ) → ℕ → List ℕ → Option Report → Option EndValue → Type 0
+IsOutputOf calls.Step left left' status text report ended = HasRun report ended (IsStepped left left' status text)
+IsOutputOf calls.Check left left' status text report ended = IsChecked left left' status text × (report ≡ None) × (ended ≡ None)
+IsOutputOf (calls.Gen seed) left left' status text report ended = IsGenerated seed text × (status ≡ 0) × (report ≡ None) × (ended ≡ None)
+IsOutputOf (calls.Sum seed) left left' status text report ended = HasRun report ended (IsSummed seed status text)
 
 -- a call is refused: what the source gave is
 abbrev pub IsRefusedFor : Call → Option (List ℕ) → Option (List ℕ) → Refused → Type 0
@@ -47,10 +52,10 @@ IsRefusedFor (calls.Gen seed) left left' refused = ⊥
 IsRefusedFor (calls.Sum seed) left left' refused = ⊥
 
 -- the words ask for a call, and this is its output
-pub record IsOutput (words : List (List ℕ)) (left left' : Option (List ℕ)) (status : ℕ) (text : List ℕ) (report : Option Report) : Type 0 where
+pub record IsOutput (words : List (List ℕ)) (left left' : Option (List ℕ)) (status : ℕ) (text : List ℕ) (report : Option Report) (ended : Option EndValue) : Type 0 where
   pub call : Call
   pub asked : IsCall words call
-  pub output : IsOutputOf call left left' status text report
+  pub output : IsOutputOf call left left' status text report ended
 
 -- the words ask for a call, and it is refused
 pub record IsRefusedCall (words : List (List ℕ)) (left left' : Option (List ℕ)) (refused : Refused) : Type 0 where

@@ -10,7 +10,8 @@ use Rattle.hwp_script.specs.Reads.{Reads, IsRefused}
 use Rattle.hwp_report.specs.declared.Report.{Report}
 use Rattle.hwp_law.specs.Law.{IsLawful}
 use Rattle.hwp_law.specs.Runs.{IsOfRun}
-use Rattle.hwp_core.specs.Runs.{IsCoreRun}
+use Rattle.hwp_table.specs.Ends.{EndValue}
+use Rattle.hwp_core.specs.Runs.{IsCoreRun, IsTableRun}
 
 -- a source gave these bytes, and they are refused so: they are the text of no script; all reasons but the length need the whole input
 pub record Refuses (left left' : Option (List ℕ)) (refused : Refused) : Type 0 where
@@ -26,17 +27,19 @@ pub record Takes (left left' : Option (List ℕ)) (script : Script) : Type 0 whe
   pub at_end : IsAtEnd left'
   pub reads : Reads bytes script
 
--- the report is one of the script, and of a run of its processors on the written schedule
-pub record IsReportOfRun (script : Script) (report : Report) : Type 0 where
+-- the report is one of the script, and of a run of its processors on the written schedule; and the table at which they made that
+-- run was closed with this
+pub record IsReportOfRun (script : Script) (report : Report) (ended : EndValue) : Type 0 where
   pub run : IsOfRun script report
   pub lawful : IsLawful script report
   pub core : IsCoreRun script report
+  pub table : IsTableRun script report ended
 
 -- the report is one of the script that a source gave
-pub record Reports (left left' : Option (List ℕ)) (report : Report) : Type 0 where
+pub record Reports (left left' : Option (List ℕ)) (report : Report) (ended : EndValue) : Type 0 where
   pub script : Script
   pub takes : Takes left left' script
-  pub report_of : IsReportOfRun script report
+  pub report_of : IsReportOfRun script report ended
 
 -- the name of a reason
 abbrev pub why_text : Why → List ℕ

@@ -13,14 +13,16 @@ use crate::outputs::{Output, output_of};
 use crate::words::call_of;
 use hwp_io::{Sink, Source, WriteFault, write_all};
 use hwp_report::Report;
+use hwp_table::Ended;
 use std::alloc::Global;
 use std::process::ExitCode;
 
-/// How a call ended: its exit status, and the report where there is one.
+/// How a call ended: its exit status; and, where it made a run, the report, and what the run's table was closed with.
 #[derive(Drop)]
 pub struct Done {
     pub status: u8,
     pub report: Option<Report>,
+    pub ended: Option<Ended>,
 }
 
 impl Done {
@@ -64,7 +66,7 @@ pub fn top<S: Source, K: Sink, E: Sink>(
     // Status 0, or 8 where the machine of `step` stopped, or 1 where the report that `check` read isn't legal: what is written is
     // the output of the call that the words ask for.
     ensures done { IsDone result.status → (text : List ℕ)
-        × IsOutput (map string_bytes words.now) (S.left src.old) (S.left src.new) result.status text result.report
+        × IsOutput (map string_bytes words.now) (S.left src.old) (S.left src.new) result.status text result.report result.ended
         × Appends (K.taken out.old) (K.taken out.new) text }
 
     // Status 2 comes if and only if the words are anything else, and statuses 3, 4 and 5 only by their cause.
@@ -80,10 +82,10 @@ pub fn top<S: Source, K: Sink, E: Sink>(
 
     // Status 5: a part of the output is written, and the report of `step` and `sum` is there.
     ensures cut { result.status ≡ 5 → (status : ℕ) × (text : List ℕ)
-        × IsOutput (map string_bytes words.now) (S.left src.old) (S.left src.new) status text result.report
+        × IsOutput (map string_bytes words.now) (S.left src.old) (S.left src.new) status text result.report result.ended
         × AppendsStrictFront (K.taken out.old) (K.taken out.new) text }
     ensures unwritten { (¬ IsDone result.status) → result.status ≢ 5 → out.new ≡ out.old }
-    ensures no_report { (¬ IsDone result.status) → result.status ≢ 5 → result.report ≡ None }
+    ensures no_report { (¬ IsDone result.status) → result.status ≢ 5 → (result.report ≡ None) × (result.ended ≡ None) }
 
     // What is told on `err`.
     ensures silent { IsDone result.status → err.new ≡ err.old }
@@ -95,6 +97,7 @@ pub fn top<S: Source, K: Sink, E: Sink>(
         return Done {
             status: 2,
             report: None,
+            ended: None,
         };
     };
     match output_of(alloc, call, src) {
@@ -102,6 +105,7 @@ pub fn top<S: Source, K: Sink, E: Sink>(
         Err(fault) => Done {
             status: tell_fault(alloc, err, fault),
             report: None,
+            ended: None,
         },
     }
 }
@@ -110,7 +114,7 @@ pub fn top<S: Source, K: Sink, E: Sink>(
 fn deliver<K: Sink, E: Sink>(out: &mut K, err: &mut E, output: Output) -> Done
     requires { IsDone output.status }
     ensures statuses { (result.status ≡ output.status) ⊎ (result.status ≡ 5) }
-    ensures report { result.report ≡ output.report }
+    ensures report { (result.report ≡ output.report) × (result.ended ≡ output.ended) }
     ensures done { IsDone result.status → (result.status ≡ output.status) × Appends (K.taken out.old) (K.taken out.new) output.text }
     ensures silent { IsDone result.status → err.new ≡ err.old }
     ensures write_fault { result.status ≡ 5 → Rose (K.faults out.old) (K.faults out.new) }
@@ -121,12 +125,21 @@ fn deliver<K: Sink, E: Sink>(out: &mut K, err: &mut E, output: Output) -> Done
         text,
         status,
         report,
+        ended,
     } = output;
     match write_all(out, text.as_slice()) {
-        Ok(()) => Done { status, report },
+        Ok(()) => Done {
+            status,
+            report,
+            ended,
+        },
         Err(WriteFault) => {
             tell(err, WRITE_FAULT);
-            Done { status: 5, report }
+            Done {
+                status: 5,
+                report,
+                ended,
+            }
         }
     }
 }

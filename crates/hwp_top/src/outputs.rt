@@ -1,65 +1,75 @@
 //! What each call writes.
-ghost use Rattle.std.specs.Prelude.{◌≡◌, ◌≢◌, IfOk, IsErrOf, IsSomeAnd, None};
+ghost use Rattle.std.specs.Prelude.{◌≡◌, ◌≢◌, IfOk, IsErrOf, None};
 ghost use Rattle.hwp_io.specs.Causes.{Rose};
 ghost use Rattle.hwp_script.specs.declared.Refused.{Refused};
 ghost use Rattle.hwp_report.specs.Text.{report_text};
-ghost use Rattle.hwp_top.specs.Outputs.{IsGenerated, IsOutputOf, IsRefusedFor, IsSummed};
-ghost use Rattle.hwp_top.specs.Top.{Refuses, Reports};
+ghost use Rattle.hwp_top.specs.Outputs.{HasRun, IsGenerated, IsOutputOf, IsRefusedFor, IsSummed};
+ghost use Rattle.hwp_top.specs.Top.{Refuses, Reports, done_status};
 
 use crate::checking::checked;
 use crate::inputs::{InputFault, take_script};
 use crate::served::Call;
-use hwp_core::run;
+use hwp_core::{Finished, run};
 use hwp_gen::generate;
 use hwp_geom::Text;
 use hwp_io::Source;
 use hwp_report::Report;
 use hwp_summary::summary;
+use hwp_table::Ended;
 use std::alloc::Global;
 
-/// What a call writes, the status where all of it is written, and the report where there is one.
+/// What a call writes, the status where all of it is written, and, where it made a run, the report, and what the run's table was
+/// closed with.
 #[derive(Drop)]
 pub(crate) struct Output {
     pub text: Text,
     pub status: u8,
     pub report: Option<Report>,
+    pub ended: Option<Ended>,
 }
 
-/// The report of the script that a source gives, and its text.
-fn report_of<S: Source>(alloc: Global, src: &mut S) -> Result<(Report, Text), InputFault>
-    ensures report { IfOk result (λ done. Reports (S.left src.old) (S.left src.new) done.0) }
-    ensures text { IfOk result (λ done. done.1 ≡ report_text done.0) }
+/// The run of the script that a source gives, and the text of its report.
+fn report_of<S: Source>(alloc: Global, src: &mut S) -> Result<(Finished, Text), InputFault>
+    ensures report { IfOk result (λ done. Reports (S.left src.old) (S.left src.new) done.0.report done.0.ended) }
+    ensures text { IfOk result (λ done. done.1 ≡ report_text done.0.report) }
     ensures refused { (r : Refused) → IsErrOf result (InputFault.Refused r) → Refuses (S.left src.old) (S.left src.new) r }
     ensures fault { IsErrOf result InputFault.ReadFault → Rose (S.faults src.old) (S.faults src.new) }
 {
     let script = take_script(alloc, src)?;
-    let Ok(report) = run(alloc, &script) else {
+    let Ok(run) = run(alloc, &script) else {
         return Err(InputFault::OutOfMemory);
     };
-    let Ok(text) = hwp_report::print(alloc, &report) else {
+    let Ok(text) = hwp_report::print(alloc, &run.report) else {
         return Err(InputFault::OutOfMemory);
     };
-    Ok((report, text))
+    Ok((run, text))
 }
 
 /// The output of `step`.
 fn stepped<S: Source>(alloc: Global, src: &mut S) -> Result<Output, InputFault>
-    ensures output { IfOk result (λ o. IsOutputOf Call.Step (S.left src.old) (S.left src.new) o.status o.text o.report) }
+    ensures output { IfOk result (λ o. IsOutputOf Call.Step (S.left src.old) (S.left src.new) o.status o.text o.report o.ended) }
     ensures refused { (r : Refused) → IsErrOf result (InputFault.Refused r) → Refuses (S.left src.old) (S.left src.new) r }
     ensures fault { IsErrOf result InputFault.ReadFault → Rose (S.faults src.old) (S.faults src.new) }
 {
-    let (report, text) = report_of(alloc, src)?;
-    let status = if report.stop.is_some() { 8 } else { 0 };
+    let (run, text) = report_of(alloc, src)?;
     Ok(Output {
         text,
-        status,
-        report: Some(report),
+        status: status_of(&run.report),
+        report: Some(run.report),
+        ended: Some(run.ended),
     })
+}
+
+/// The status of a report that is written: 8 where the machine stopped.
+fn status_of(report: &Report) -> u8
+    ensures { result ≡ done_status report.now }
+{
+    if report.stop.is_some() { 8 } else { 0 }
 }
 
 /// The output of `gen`.
 fn script_text(alloc: Global, seed: u64) -> Result<Output, InputFault>
-    ensures output { IfOk result (λ o. IsGenerated seed o.text × (o.status ≡ 0) × (o.report ≡ None)) }
+    ensures output { IfOk result (λ o. IsGenerated seed o.text × (o.status ≡ 0) × (o.report ≡ None) × (o.ended ≡ None)) }
     ensures memory { (fault : InputFault) → IsErrOf result fault → fault ≡ InputFault.OutOfMemory }
 {
     let Ok(script) = generate(alloc, seed) else {
@@ -72,27 +82,29 @@ fn script_text(alloc: Global, seed: u64) -> Result<Output, InputFault>
         text,
         status: 0,
         report: None,
+        ended: None,
     })
 }
 
 /// The output of `sum`.
 fn summed(alloc: Global, seed: u64) -> Result<Output, InputFault>
-    ensures output { IfOk result (λ o. IsSomeAnd o.report (IsSummed seed o.status o.text)) }
+    ensures output { IfOk result (λ o. HasRun o.report o.ended (IsSummed seed o.status o.text)) }
     ensures memory { (fault : InputFault) → IsErrOf result fault → fault ≡ InputFault.OutOfMemory }
 {
     let Ok(script) = generate(alloc, seed) else {
         return Err(InputFault::OutOfMemory);
     };
-    let Ok(report) = run(alloc, &script) else {
+    let Ok(run) = run(alloc, &script) else {
         return Err(InputFault::OutOfMemory);
     };
-    let Ok(text) = hwp_summary::print(alloc, seed, &summary(&report)) else {
+    let Ok(text) = hwp_summary::print(alloc, seed, &summary(&run.report)) else {
         return Err(InputFault::OutOfMemory);
     };
     Ok(Output {
         text,
         status: 0,
-        report: Some(report),
+        report: Some(run.report),
+        ended: Some(run.ended),
     })
 }
 
@@ -102,7 +114,7 @@ pub(crate) fn output_of<S: Source>(
     call: Call,
     src: &mut S,
 ) -> Result<Output, InputFault>
-    ensures output { IfOk result (λ o. IsOutputOf call (S.left src.old) (S.left src.new) o.status o.text o.report) }
+    ensures output { IfOk result (λ o. IsOutputOf call (S.left src.old) (S.left src.new) o.status o.text o.report o.ended) }
     ensures refused { (r : Refused) → IsErrOf result (InputFault.Refused r) → IsRefusedFor call (S.left src.old) (S.left src.new) r }
     ensures fault { IsErrOf result InputFault.ReadFault → Rose (S.faults src.old) (S.faults src.new) }
     ensures unread { call ≢ Call.Step → call ≢ Call.Check → src.new ≡ src.old }

@@ -1,8 +1,8 @@
-//! The top call over memory: worked scripts, refusals, and faults of the source and the sink at each call.
+//! The top call over memory: its reports, refusals, and faults of the source and the sink at each call.
 
 ghost use Rattle.std.specs.Prelude.{◌<◌};
 
-use crate::helpers::{Left, call, call_untold, gives, leaves, refuses, step};
+use crate::helpers::{Left, call, call_untold, leaves, refuses, step};
 use std::alloc::Global;
 use std::process::Abort;
 use std::str;
@@ -38,43 +38,24 @@ cpu 0 2
 end
 ";
 
-pub const WORKED: &[(&str, &str)] = &[
-    // a store and a load
-    (STORE_AND_LOAD, STORED_AND_LOADED),
-    // nothing but a frame
-    (
-        "hwp 1\ncpus 1\nframes 1\nend\n",
-        "hwp-report 1\nstop none\ncount 0\nframe 0 free bad 0 weak 0\ncpu 0 0\nend\n",
-    ),
-    // the last line of a page, before and after a store of the largest word
-    (
-        "hwp 1\ncpus 1\nframes 2\nproc 0\nthread 0 0 0 handler\npage 0 anon\ntrans 0 0 0\ncpu 0\n\
-load 0 0 63\nstore 0 0 63 18446744073709551615\nload 0 0 63\nend\n",
-        "hwp-report 1\nstop none\ncount 0\nframe 0 page 0 bad 0 weak 0\nframe 1 free bad 0 weak 0\n\
-page 0 5\nin 0 0\nmap 0 0 0\nload 0 0 0 63 0 0\nstore 0 1 0 63 0 18446744073709551615\n\
-load 0 2 0 63 0 18446744073709551615\ncpu 0 3\n0 value 0 0 2\n1 stored 0 3\n\
-2 value 18446744073709551615 0 4\nend\n",
-    ),
-    // two pages and one frame
-    (
-        "hwp 1\ncpus 1\nframes 1\nproc 0\nthread 0 0 0 handler\npage 0 anon\npage 1 anon\n\
-trans 0 0 0\ntrans 1 0 1\ncpu 0\nstore 0 0 0 1\nload 0 1 0\nload 0 0 0\nend\n",
-        "hwp-report 1\nstop none\ncount 0\nframe 0 page 0 bad 0 weak 0\npage 0 4\nin 0 0\nmap 0 0 0\n\
-store 0 0 0 0 0 1\nload 0 2 0 0 0 1\npage 1 0\ncpu 0 3\n0 stored 0 2\n1 noframe\n2 value 1 0 3\nend\n",
-    ),
-    // two translations of one page
-    (
-        "hwp 1\ncpus 1\nframes 2\nproc 0\nthread 0 0 0 handler\npage 0 anon\ntrans 0 0 0\n\
-trans 1 0 0\ncpu 0\nstore 0 0 0 9\nload 0 1 0\nend\n",
-        "hwp-report 1\nstop none\ncount 0\nframe 0 page 0 bad 0 weak 0\nframe 1 free bad 0 weak 0\n\
-page 0 5\nin 0 0\nmap 0 0 0\nstore 0 0 0 0 0 9\nmap 0 1 1\nload 0 1 1 0 0 9\ncpu 0 2\n\
-0 stored 0 2\n1 value 9 0 4\nend\n",
-    ),
-];
+/// A machine check inside another one stops the machine.
+const NESTED: &str = "\
+hwp 1\ncpus 1\nframes 2\nproc 0\nthread 0 0 0 handler\npage 0 anon\ntrans 0 0 0\ncpu 0\nraise nested\nend\n";
+
+const STOPPED: &str = "\
+hwp-report 1\nstop 0 0 shutdown\ncount 0\nframe 0 free bad 0 weak 0\nframe 1 free bad 0 weak 0\npage 0 0\ncpu 0 1\n\
+0 stopped\nend\n";
+
+/// `step` gives the report of a script, and ends with this status.
+fn gives(rt: &impl Abort, alloc: Global, script: &str, report: &str, status: u8) {
+    let left = step(rt, alloc, script.as_bytes());
+    leaves(rt, &left, true, status, report, "");
+}
 
 #[test]
-fn worked_scripts_give_their_reports(rt: HostRuntime) {
-    gives(&rt, rt.alloc(), 0, WORKED);
+fn step_gives_the_report_of_a_script(rt: HostRuntime) {
+    gives(&rt, rt.alloc(), STORE_AND_LOAD, STORED_AND_LOADED, 0);
+    gives(&rt, rt.alloc(), NESTED, STOPPED, 8);
 }
 
 /// Each of the words is a usage.
@@ -117,94 +98,6 @@ fn a_seed_is_a_number_of_a_script(rt: HostRuntime) {
     are_usage(&rt, rt.alloc(), OTHER_SEEDS);
 }
 
-pub const PAGES: &[(&str, &str)] = &[
-    // a page of a file: dirty, then clean and mapped, then dropped, and read again
-    (
-        "hwp 1\ncpus 1\nframes 1\nfile 0\nproc 0\nthread 0 0 0 handler\npage 0 file 0 fill 3\ntrans 0 0 0\n\
-cpu 0\nload 0 0 1\nstore 0 0 1 8\ndrop 0\nsync 0\ndrop 0\nfree 0\ndrop 0\nfree 0\nsync 0\nload 0 0 1\nfsync 0\nend\n",
-        "hwp-report 1\nstop none\ncount 0\nfile 0 lost 0\nframe 0 page 0 bad 0 weak 0\npage 0 10\nin 0 0\nmap 0 0 0\n\
-load 0 0 0 1 0 3\nstore 0 1 0 1 0 8\nsync 0 3\nfree 0 5 0\ndrop 0 6\nin 0 9\nmap 0 9 0\nload 0 9 0 1 0 8\ncpu 0 11\n\
-0 value 3 0 2\n1 stored 0 3\n2 dirty 0 4\n3 done 0 4\n4 mapped 0 5\n5 done 0 5\n6 done 0 6\n7 notmapped 0 7\n\
-8 notresident 0 7\n9 value 8 0 9\n10 done\nend\n",
-    ),
-    // an anonymous page swapped out and in, beside a frame of the kernel
-    (
-        "hwp 1\ncpus 1\nframes 2\nkernel 0\nproc 0\nthread 0 0 0 handler\npage 0 anon\ntrans 0 0 0\ncpu 0\n\
-store 0 0 0 5\nout 0\nout 0\nload 0 0 0\nend\n",
-        "hwp-report 1\nstop none\ncount 0\nframe 0 kernel bad 0 weak 0\nframe 1 page 0 bad 0 weak 0\npage 0 7\n\
-in 0 0\nmap 0 0 0\nstore 0 0 0 0 0 5\nout 0 1\nin 0 3\nmap 0 3 0\nload 0 3 0 0 0 5\ncpu 0 4\n0 stored 0 2\n\
-1 done 0 3\n2 notresident 0 4\n3 value 5 0 6\nend\n",
-    ),
-    // a page of a file, dropped in each state that it can be in
-    (
-        "hwp 1\ncpus 1\nframes 2\nfile 0\nproc 0\nthread 0 0 0 handler\npage 0 file 0 fill 9\ntrans 0 0 0\n\
-cpu 0\ndrop 0\nstore 0 0 0 4\ndrop 0\nsync 0\ndrop 0\nfree 0\nfree 0\ndrop 0\nload 0 0 0\nend\n",
-        "hwp-report 1\nstop none\ncount 0\nfile 0 lost 0\nframe 0 page 0 bad 0 weak 0\nframe 1 free bad 0 weak 0\n\
-page 0 9\nin 0 1\nmap 0 1 0\nstore 0 1 0 0 0 4\nsync 0 3\nfree 0 5 0\ndrop 0 7\nin 0 8\nmap 0 8 0\n\
-load 0 8 0 0 0 4\ncpu 0 9\n0 notresident 0 0\n1 stored 0 2\n2 dirty 0 3\n3 done 0 3\n4 mapped 0 4\n5 done 0 4\n\
-6 notmapped 0 5\n7 done 0 5\n8 value 4 0 8\nend\n",
-    ),
-    // a page swapped out and in, and stored again
-    (
-        "hwp 1\ncpus 1\nframes 3\nproc 0\nthread 0 0 0 handler\npage 0 anon\ntrans 0 0 0\ncpu 0\n\
-store 0 0 0 5\nout 0\nload 0 0 0\nstore 0 0 0 6\nend\n",
-        "hwp-report 1\nstop none\ncount 0\nframe 0 page 0 bad 0 weak 0\nframe 1 free bad 0 weak 0\n\
-frame 2 free bad 0 weak 0\npage 0 8\nin 0 0\nmap 0 0 0\nstore 0 0 0 0 0 5\nout 0 1\nin 0 2\nmap 0 2 0\n\
-load 0 2 0 0 0 5\nstore 0 3 0 0 0 6\ncpu 0 4\n0 stored 0 2\n1 done 0 3\n2 value 5 0 6\n3 stored 0 7\nend\n",
-    ),
-];
-
-#[test]
-fn commands_on_pages_change_what_frames_and_histories_show(rt: HostRuntime) {
-    gives(&rt, rt.alloc(), 0, PAGES);
-}
-
-pub const POLICIES: &[(&str, &str)] = &[
-    // policies set, read and cleared by two threads
-    (
-        "hwp 1\ncpus 1\nframes 1\nproc 0\nthread 0 0 0 nohandler\nthread 1 0 0 handler\ncpu 0\n\
-prctl 0 34 0 0 0 0\nprctl 0 33 1 1 0 0\nprctl 0 34 0 0 0 0\nprctl 1 34 0 0 0 0\nprctl 0 33 1 0 1 0\n\
-prctl 0 33 1 0 0 0\nprctl 0 34 0 0 0 0\nprctl 0 33 0 0 0 0\nprctl 0 34 0 0 0 0\nprctl 0 35 0 0 0 0\n\
-log 0xBD000000000000C0 0x1000 0x8c\nend\n",
-        "hwp-report 1\nstop none\ncount 0\nframe 0 free bad 0 weak 0\ncpu 0 11\n0 is 2\n1 done\n2 is 1\n\
-3 is 2\n4 einval\n5 done\n6 is 0\n7 done\n8 is 2\n9 einval\n10 done\nend\n",
-    ),
-    // policies and arguments that are none
-    (
-        "hwp 1\ncpus 1\nframes 2\nproc 0\nthread 0 0 0 handler\npage 0 anon\ntrans 0 0 0\ncpu 0\n\
-prctl 0 33 1 3 0 0\nprctl 0 33 0 1 0 0\nprctl 0 33 1 1 0 0\nprctl 0 34 0 0 0 0\nprctl 0 34 1 0 0 0\nend\n",
-        "hwp-report 1\nstop none\ncount 0\nframe 0 free bad 0 weak 0\nframe 1 free bad 0 weak 0\npage 0 0\ncpu 0 5\n\
-0 einval\n1 einval\n2 done\n3 is 1\n4 einval\nend\n",
-    ),
-];
-
-#[test]
-fn prctl_answers_the_policy_that_was_set(rt: HostRuntime) {
-    gives(&rt, rt.alloc(), 0, POLICIES);
-}
-
-pub const STOPPED: &[(&str, &str)] = &[
-    // alone
-    (
-        "hwp 1\ncpus 1\nframes 2\nproc 0\nthread 0 0 0 handler\npage 0 anon\ntrans 0 0 0\ncpu 0\n\
-raise nested\nend\n",
-        "hwp-report 1\nstop 0 0 shutdown\ncount 0\nframe 0 free bad 0 weak 0\nframe 1 free bad 0 weak 0\n\
-page 0 0\ncpu 0 1\n0 stopped\nend\n",
-    ),
-    // between a store and a load
-    (
-        "hwp 1\ncpus 1\nframes 1\nproc 0\nthread 0 0 0 handler\npage 0 anon\ntrans 0 0 0\ncpu 0\n\
-store 0 0 0 7\nraise nested\nload 0 0 0\nraise nested\nend\n",
-        "hwp-report 1\nstop 0 1 shutdown\ncount 0\nframe 0 page 0 bad 0 weak 0\npage 0 3\nin 0 0\nmap 0 0 0\n\
-store 0 0 0 0 0 7\ncpu 0 4\n0 stored 0 2\n1 stopped\n2 stopped\n3 stopped\nend\n",
-    ),
-];
-
-#[test]
-fn a_nested_machine_check_stops_the_machine(rt: HostRuntime) {
-    gives(&rt, rt.alloc(), 8, STOPPED);
-}
-
 const REFUSED: &[(&str, &str)] = &[
     ("", "script line 1: BadHeader\n"),
     ("hwp 2\n", "script line 1: BadHeader\n"),
@@ -233,7 +126,7 @@ fn a_script_that_is_cut_is_refused(rt: HostRuntime) {
         if length + 1 == script.len() {
             leaves(&rt, &left, true, 0, STORED_AND_LOADED, "");
         } else {
-            assert_eq!(&rt; (left.reported, left.status), (false, 3));
+            assert!(&rt; (left.reported, left.status) == (false, 3));
             assert!(&rt; left.out.bytes().is_empty());
         }
     }

@@ -3,7 +3,7 @@
 ghost use Rattle.std.specs.Prelude.{◌<◌};
 
 use hwp_io::{MemSink, MemSource};
-use hwp_top::{Done, top};
+use hwp_top::top;
 use std::alloc::Global;
 use std::process::Abort;
 use std::str;
@@ -45,11 +45,10 @@ pub fn call_untold(
     let mut src = MemSource::new(script, read.to_vec(alloc).expect(rt, "memory"));
     let mut out = MemSink::new(alloc, take, write.to_vec(alloc).expect(rt, "memory"));
     let mut err = MemSink::new(alloc, 4096, untold.to_vec(alloc).expect(rt, "memory"));
-    let Done { status, report } = top(alloc, list.as_slice(), &mut src, &mut out, &mut err);
-    let reported = report.is_some();
+    let done = top(alloc, list.as_slice(), &mut src, &mut out, &mut err);
     Left {
-        reported,
-        status,
+        reported: done.report.is_some(),
+        status: done.status,
         out,
         err,
     }
@@ -75,21 +74,13 @@ pub fn leaves(rt: &impl Abort, left: &Left, reported: bool, status: u8, out: &st
         str::from_utf8(left.out.bytes()).ok(),
         str::from_utf8(left.err.bytes()).ok(),
     );
-    assert_eq!(rt; texts, (Some(out), Some(err)));
-    assert_eq!(rt; (left.reported, left.status), (reported, status));
+    assert!(rt; texts == (Some(out), Some(err)));
+    assert!(rt; (left.reported, left.status) == (reported, status));
 }
 
 /// `step` on a script, with nothing that fails.
 pub fn step(rt: &impl Abort, alloc: Global, script: &[u8]) -> Left {
     call(rt, alloc, &["step"], script, &[], (4096, &[]))
-}
-
-/// `step` gives the report beside each script, and ends with this status.
-pub fn gives(rt: &impl Abort, alloc: Global, status: u8, rows: &[(&str, &str)]) {
-    for (script, report) in rows {
-        let left = step(rt, alloc, script.as_bytes());
-        leaves(rt, &left, true, status, report, "");
-    }
 }
 
 /// `step` refuses each script, and tells what stands beside it.

@@ -1,19 +1,31 @@
-use Rattle.std.proofs.Common.{length, sym, ap, ◌∙◌, subst}
+use Rattle.std.proofs.Common.{◌+◌, ◌-◌, length, take, drop, refl, sym, ap, ◌∙◌, subst}
+use Rattle.std.specs.Prelude.{IfOk}
 use Rattle.std.specs.Arc.{arc_value}
 use Rattle.hwp_geom.specs.declared.Layout.{Layout}
-use Rattle.hwp_rule.specs.Lists.{EachMember}
+use Rattle.hwp_rule.specs.Lists.{EachMember, Homes}
 use Rattle.hwp_rule.specs.Words.{index}
 use Rattle.hwp_rule.specs.declared.Place.TheVariants as places
 use Rattle.hwp_rule.specs.parts.Holdings.{HoldsNothing}
+use Rattle.hwp_closing.specs.Ends.{AreHistories, AreLed}
+use Rattle.hwp_closing.proofs.AllHome.{led-here}
 use Rattle.hwp_plain.specs.Boards.{Board, state_of}
-use Rattle.hwp_plain.proofs.AllHome.{led-here}
+use Rattle.hwp_plain.proofs.AtHome.{bodies-taken}
 use Rattle.hwp_plain.proofs.board.PlainBoard.histories.Goals as goal
 
 pub histories-requires-clause-led : goal.histories-requires-clause-led
 histories-requires-clause-led c =
-    led-here (arc_value c.self.inside.layout) (state_of (arc_value c.self.inside.layout) c.self.inside.words.items c.self.inside.slots.items c.self.inside.trail) c.self.invariant.reached.holds
-    (subst (λ (b : Board). EachMember HoldsNothing b.state.views) (sym c.self.view_is) c.requires.nothing)
-    c.index-from.result c.len.result c.from.result c.deref-2.result.now c.deref-2.ensures.value
+    let nothing = subst (λ (b : Board). EachMember HoldsNothing b.state.views) (sym c.self.view_is) c.requires.nothing in
+    let state = state_of (arc_value c.self.inside.layout) c.self.inside.words.items c.self.inside.slots.items c.self.inside.trail in
+    let bodies = bodies-taken (arc_value c.self.inside.layout) state c.self.invariant.reached.holds nothing c.self.inside.slots.items c.in_ok-bodies.bodies.items refl c.in_ok-bodies.ensures in
+    subst (λ (homes : Homes). AreLed c.from.result (take (c.index-from.result + c.len.result - c.index-from.result) (drop c.index-from.result c.deref-2.result.now)) homes) bodies
+    (led-here (arc_value c.self.inside.layout) state c.self.invariant.reached.holds nothing c.index-from.result c.len.result c.from.result c.deref-2.result.now c.deref-2.ensures.value
     (c.index-from.ensures.value ∙ ap (λ (l : Layout). index l (places.Cache (record { 0 = 0 }))) c.deref.ensures)
     (c.len.ensures ∙ ap (λ (l : Layout). length l.pages) c.deref-3.ensures)
-    (c.from.ensures ∙ ap (λ (l : Layout). l.frames) c.deref-4.ensures)
+    (c.from.ensures ∙ ap (λ (l : Layout). l.frames) c.deref-4.ensures))
+
+pub returns-clause-pages : goal.returns-clause-pages
+returns-clause-pages c =
+    let nothing = subst (λ (b : Board). EachMember HoldsNothing b.state.views) (sym c.self.view_is) c.requires.nothing in
+    let state = state_of (arc_value c.self.inside.layout) c.self.inside.words.items c.self.inside.slots.items c.self.inside.trail in
+    let bodies = bodies-taken (arc_value c.self.inside.layout) state c.self.invariant.reached.holds nothing c.self.inside.slots.items c.in_ok-bodies.bodies.items refl c.in_ok-bodies.ensures in
+    subst (λ (homes : Homes). IfOk c.histories.result (λ pages. AreHistories homes pages)) (sym bodies ∙ ap (λ (b : Board). b.state.homes) c.self.view_is) c.histories.ensures.pages

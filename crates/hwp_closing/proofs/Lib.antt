@@ -1,0 +1,2 @@
+pub mod AllHome
+mod Taking

@@ -1,0 +1,35 @@
+ghost use Rattle.std.specs.Prelude.{◌≡◌, IfOk};
+ghost use Rattle.hwp_law.specs.Law.{IsLawful};
+ghost use Rattle.hwp_law.specs.Runs.{IsOfRun};
+ghost use Rattle.hwp_script.specs.Valid.{IsValid};
+ghost use Rattle.hwp_core.specs.Runs.{IsCoreRun};
+
+use crate::playing::play;
+use hwp_geom::OutOfMemory;
+use hwp_outcome::report;
+use hwp_plain::PlainBoard;
+use hwp_report::Report;
+use hwp_script::Script;
+use std::alloc::Global;
+
+/// The run of a script on one plain board: the reference for `run`, whose processors make the same turns at a table.
+pub fn run_plain(alloc: Global, script: &Script) -> Result<Report, OutOfMemory>
+    requires valid { IsValid script.now }
+    ensures of_run { IfOk result (IsOfRun script.now) }
+    ensures lawful { IfOk result (IsLawful script.now) }
+    ensures core { IfOk result (IsCoreRun script.now) }
+{
+    let mut board = PlainBoard::new(alloc, &script.layout)?;
+    let rows = play(alloc, script, &mut board)?;
+    let words = Vec::from_slice(alloc, board.words())?;
+    let pages = board.histories(alloc)?;
+    let lists = script.lists.as_slice();
+    report(
+        alloc,
+        &script.layout,
+        words.as_slice(),
+        pages,
+        lists,
+        rows.as_slice(),
+    )
+}

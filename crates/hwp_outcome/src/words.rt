@@ -1,0 +1,15 @@
+ghost use Rattle.std.specs.Prelude.{◌≡◌};
+ghost use Rattle.hwp_rule.specs.Words.{IsPlace, read, words_of};
+ghost use Rattle.hwp_outcome.specs.Closing.{AreWordsOf};
+
+use hwp_geom::Layout;
+use hwp_rule::{Place, index};
+
+/// The word of a place, among the words in the frame rule's order.
+pub fn word(layout: &Layout, words: &[u64], place: Place) -> u64
+    requires whole { AreWordsOf layout.now words.now }
+    requires inside { IsPlace layout.now place }
+    ensures { result ≡ read place (words_of layout.now words.now) }
+{
+    words[index(layout, place)]
+}

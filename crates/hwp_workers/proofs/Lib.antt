@@ -1,0 +1,4 @@
+pub mod Splitting
+pub mod Moving
+pub mod Pieces
+pub mod TakingIn
