@@ -18,7 +18,7 @@ _hwp() {
       ;;
     *)
       if ((COMP_CWORD == 1)); then
-        mapfile -t COMPREPLY < <(compgen -W "step check gen sum --help --version" -- "$current")
+        mapfile -t COMPREPLY < <(compgen -W "step run check gen sum --help --version" -- "$current")
       fi
       ;;
   esac

@@ -1,9 +1,11 @@
-//! The program `hwp`: its words and standard streams to the top call, and its exit status.
+//! The program `hwp`: its words and standard streams to a top call, and its exit status.
 #![tactic(auto)]
 
 use hwp_io::{StdSink, StdSource};
-use hwp_top::{Done, top};
+use hwp_top_run::{Done, Open, top, top_run};
 use std::process::ExitCode;
+use std::sync::Wait;
+use std::thread::Threads;
 use std::{env, io};
 
 /// What `--version` prints.
@@ -12,6 +14,7 @@ const VERSION: &str = "hwp 0.1.0";
 /// What `--help` prints.
 const HELP: &str = "\
 usage: hwp step < SCRIPT > REPORT
+       hwp run < SCRIPT > REPORT
        hwp check < SCRIPT-AND-REPORT
        hwp gen N > SCRIPT
        hwp sum N > SUMMARY
@@ -21,6 +24,8 @@ machine of its own. docs/FORMATS.md has the formats.
 
   hwp step     reads a fault script from standard input, runs it, and writes the
                report to standard output
+  hwp run      does the same with each processor on a thread of its own, in
+               whatever order they come; the schedule isn't used
   hwp check    reads a script and the report behind it, and writes `legal`, or
                `not PLACE RULE`: the rule that is broken, and where first
   hwp gen N    writes the fault script of seed N, a number below 2^64
@@ -44,12 +49,29 @@ fn words(rt: &HostRuntime) -> io::Result<Vec<String>> {
     Ok(words)
 }
 
-/// Runs the top call over the standard streams.
-fn serve(rt: &HostRuntime, words: &[String]) -> Done {
+/// Whether the first word asks for a run on threads.
+fn asks_run(words: &[String]) -> bool {
+    words.first().is_some_and(|word| word.as_str() == "run")
+}
+
+/// Runs a top call over the standard streams.
+fn serve<T: Threads + Wait + Sync>(threads: &T, rt: &HostRuntime, words: &[String]) -> Done {
     let mut src = StdSource::new(rt.reader());
     let mut out = StdSink::new(io::writer(rt));
     let mut err = StdSink::new(rt.stderr());
-    top(rt.alloc(), words, &mut src, &mut out, &mut err)
+    if asks_run(words) {
+        top_run(
+            threads,
+            rt.alloc(),
+            words,
+            &mut src,
+            &mut out,
+            &mut err,
+            &Open,
+        )
+    } else {
+        top(rt.alloc(), words, &mut src, &mut out, &mut err)
+    }
 }
 
 fn main(rt: HostRuntime) -> ExitCode {
@@ -59,7 +81,7 @@ fn main(rt: HostRuntime) -> ExitCode {
     let printed = match words.as_slice() {
         [word] if word.as_str() == "--help" => rt.println(HELP),
         [word] if word.as_str() == "--version" => rt.println(VERSION),
-        words => return serve(&rt, words).exit_code(),
+        words => return serve(&rt, &rt, words).exit_code(),
     };
     match printed {
         Ok(()) => ExitCode::SUCCESS,

@@ -23,7 +23,7 @@ use Rattle.hwp_rule.proofs.Lists.{each-map, each-weaken, sum-zero}
 use Rattle.hwp_rule.proofs.Meeting.{named-body}
 use Rattle.hwp_rule.proofs.Moving.{shaped}
 use Rattle.hwp_rule.proofs.WordsByKind.{word-there}
-use Rattle.hwp_closing.specs.Ends.{AreLed, HasBody, slot_by}
+use Rattle.hwp_closing.specs.Ends.{AreLed, HasBody}
 
 module _ (layout : Layout) (s : State) (h : Holds layout s) (nothing : EachMember HoldsNothing s.views) where
   -- no frame is locked, and no page

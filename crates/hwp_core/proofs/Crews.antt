@@ -1,15 +1,14 @@
 -- The processors of a script, at their beginning and when all their turns are made.
-use Rattle.std.proofs.Common.{◌≡◌, ◌⊎◌, ℕ, zero, suc, ◌+◌, ◌<◌, ◌≤◌, inl, inr, List, [], ◌∷◌, ◌++◌, Some, None, All, length, get_or, slice_get, refl, sym, ap, ◌∙◌, subst, arith}
+use Rattle.std.proofs.Common.{◌≡◌, ◌⊎◌, ℕ, zero, suc, ◌+◌, ◌<◌, ◌≤◌, inl, inr, List, [], ◌∷◌, ◌++◌, Some, All, length, get_or, slice_get, refl, sym, ap, ◌∙◌, subst, arith}
 use Rattle.std.proofs.lemmas.Bool.{cases_lt}
 use Rattle.std.proofs.lemmas.List.{length-append}
 use Rattle.std.proofs.lemmas.List.Sums.{get_or-le-sum_by}
-use Rattle.std.proofs.lemmas.Option.{get_or_from_slice_get, none-some, same_Some, slice_get-get_or, slice_get_within}
+use Rattle.std.proofs.lemmas.Option.{get_or_from_slice_get, same_Some, slice_get-get_or, slice_get_within}
 use Rattle.hwp_geom.specs.declared.Cpu.{Cpu}
 use Rattle.hwp_geom.specs.declared.Layout.{Layout}
 use Rattle.hwp_rule.specs.declared.State.{State}
 use Rattle.hwp_rule.specs.Opening.{opening}
 use Rattle.hwp_rule.specs.Rule.{Holds}
-use Rattle.hwp_rule.proofs.Lists.{at_map}
 use Rattle.hwp_step.specs.declared.Turn.{Turn}
 use Rattle.hwp_step.specs.Boards.{AreSeated, Played, view_of}
 use Rattle.hwp_step.specs.Ranks.{Made}
@@ -22,14 +21,13 @@ use Rattle.hwp_sched.proofs.Opening.{opening-crew}
 use Rattle.hwp_runs.proofs.Homes.{there-is}
 use Rattle.hwp_runs.proofs.Lasting.{kept-ordered}
 use Rattle.hwp_row.specs.declared.Row.{Row}
-use Rattle.hwp_served.specs.Rows.{lines_from}
 use Rattle.hwp_served.specs.Runs.{AreServed}
-use Rattle.hwp_served.specs.Served.{IsServed}
 use Rattle.hwp_processor.specs.declared.Processor.{Processor}
 use Rattle.hwp_processor.specs.Processors.{AreCommands, AtBeginning}
 use Rattle.hwp_processor.specs.Serving.{Fits}
-use Rattle.hwp_processor.proofs.Ends.{next-keeps, opening-fits, opening-own, served-of}
+use Rattle.hwp_processor.proofs.Ends.{opening-fits, opening-own}
 use Rattle.hwp_outcome.specs.Closing.{lines_of_all}
+use Rattle.hwp_core.proofs.Serving.{Keeps, begins-kept, next-kept, served-kept}
 use Rattle.hwp_core.specs.Runs.{AreAtBeginning, AreFinished, own_seat, processors}
 
 -- ---- the commands of a processor
@@ -104,42 +102,22 @@ module _ (script : Script) (tasks : List Processor) (valid : IsValid script) (be
       let begins = begins-at cpu p at in
       (opening-own script.layout (cpu_of cpu) begins.0 p begins.2, opening-fits script.layout (cpu_of cpu) begins.0 p begins.2))
 
-  -- a processor keeps its number and its commands
-  pub record Keeps (cpu : ℕ) (p : Processor) : Type 0 where
-    pub cpu_is : p.cpu ≡ cpu_of cpu
-    pub listed : slice_get script.lists cpu ≡ Some p.commands
-
-  turn-keeps : (layout : Layout) (seat : ℕ) (a b : State) (cpu : ℕ) (p q : Processor) (turn : Turn) → Made processors layout seat a b p q turn → Keeps cpu p → Keeps cpu q
-  turn-keeps layout seat a b cpu p q turn made keeps =
-      let next = next-keeps layout p q made.found made.got turn made.follows in
-      record { cpu_is = next.0 ∙ keeps.cpu_is; listed = keeps.listed ∙ ap (λ (l : List Command). Some l) (sym next.1) }
-
   -- when all turns are made, each has served its commands
   pub all-served : (turns : List Played) (last : Running Processor) → InOrder processors script.go (running script.layout own_seat tasks (opening script.layout)) turns last
       → Holds script.layout last.state → AreSeated script.layout last.state own_seat
       → IsCrew processors (running script.layout own_seat last.tasks last.state) → (rows : List (List Row)) → AreFinished last.tasks rows → AreServed script own_seat last.state rows (lines_of_all rows)
-  all-served turns last order holds seated crew rows finished cpu list own list_is own_is =
-      let pair = paired last.tasks rows cpu.0 own finished own_is in
-      let p = pair.0 in
-      let at : IsAt last.tasks cpu.0 p = is-at last.tasks cpu.0 p pair.1 in
-      let kept : Keeps cpu.0 p = kept-ordered processors Keeps turn-keeps script.go (running script.layout own_seat tasks (opening script.layout)) last turns order (λ c q there.
-      let begins = begins-at c q there in
-      record { cpu_is = begins.2.cpu_is; listed = begins.1 ∙ ap (λ (l : List Command). Some l) (sym begins.2.commands_are) }) cpu.0 p at in
-      let inside : p.cpu.0 < script.layout.cpus = subst (λ (c : Cpu). c.0 < script.layout.cpus) (sym kept.cpu_is) (subst (λ (n : ℕ). cpu.0 < n) valid.one_each (slice_get_within script.lists cpu.0 list list_is)) in
-      let fits : Fits script.layout (view_of last.state p.cpu.0) p = subst (λ (c : Cpu). Fits script.layout (view_of last.state c.0) p) (sym kept.cpu_is) (crew.fits cpu.0 p at) in
-      let served : IsServed script.layout (view_of last.state p.cpu.0) p.cpu p.commands p.rows.items = served-of script.layout last.state own_seat holds seated p inside fits pair.2.1 in (
-        subst (λ (c : Cpu). IsServed script.layout (view_of last.state c.0) c list own) kept.cpu_is
-            (subst (λ (l : List Command). IsServed script.layout (view_of last.state p.cpu.0) p.cpu l own) (same_Some p.commands list (sym kept.listed ∙ list_is))
-            (subst (IsServed script.layout (view_of last.state p.cpu.0) p.cpu p.commands) (sym pair.2.0) served)),
-        at_map (lines_from 0) rows cpu.0 own own_is,
-      )
+  all-served turns last order holds seated crew rows finished = served-kept script valid last.state last.tasks holds seated each rows finished
     where
-      paired : (ps : List Processor) (rows : List (List Row)) (i : ℕ) (own : List Row) → AreFinished ps rows → slice_get rows i ≡ Some own → (p : Processor) × (slice_get ps i ≡ Some p) × ((own ≡ p.rows.items) × (p.job ≡ None))
-      paired [] [] i own are there = absurd (none-some own there)
-      paired [] (r ∷ rs) i own are there = absurd are
-      paired (p ∷ ps) [] i own are there = absurd are
-      paired (p ∷ ps) (r ∷ rs) zero own are there = (p, refl, (sym (same_Some r own there) ∙ are.0.0, are.0.1))
-      paired (p ∷ ps) (r ∷ rs) (suc i) own are there = paired ps rs i own are.1 there
+      turn-keeps : (layout : Layout) (seat : ℕ) (a b : State) (cpu : ℕ) (p q : Processor) (turn : Turn) → Made processors layout seat a b p q turn → Keeps script cpu p → Keeps script cpu q
+      turn-keeps layout seat a b cpu p q turn made = next-kept script layout cpu p q made.found made.got turn made.follows
+
+      each : (cpu : ℕ) (p : Processor) → slice_get last.tasks cpu ≡ Some p → Keeps script cpu p × Fits script.layout (view_of last.state cpu) p
+      each cpu p there =
+          let at : IsAt last.tasks cpu p = is-at last.tasks cpu p there in (
+            kept-ordered processors (Keeps script) turn-keeps script.go (running script.layout own_seat tasks (opening script.layout)) last turns order
+                (λ c q begun. begins-kept script tasks valid begin c q (at-place tasks c q begun)) cpu p at,
+            crew.fits cpu p at,
+          )
 
 -- there are as many lists of rows as processors
 pub finished-length : (ps : List Processor) (rows : List (List Row)) → AreFinished ps rows → length rows ≡ length ps

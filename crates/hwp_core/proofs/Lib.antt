@@ -5,3 +5,4 @@ pub mod Played
 pub mod Came
 pub mod Whole
 mod Tabled
+pub mod Serving

@@ -43,7 +43,7 @@ module _ (script : Script) (turns : List Played) (state : State) (rows : List (L
   lines-served : AreServed script own_seat state rows report.cpus
   lines-served = subst (AreServed script own_seat state rows) (sym closed.lines) ended.served
 
-  run-of : IsRunOf script own_seat turns state report
+  pub run-of : IsRunOf script own_seat turns state report
   run-of = record {
     rule = ended.rule;
     moves = ended.moves;

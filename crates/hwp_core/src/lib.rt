@@ -10,4 +10,4 @@ mod running;
 pub use crew::{Rows, crew_of, rows_of};
 pub use plain::run_plain;
 pub use playing::play;
-pub use running::{Finished, run};
+pub use running::{Finished, pages_of, run};

@@ -67,7 +67,7 @@ fn play_at_table(alloc: Global, script: &Script) -> Result<(Ended, Vec<Slot>, Ro
 }
 
 /// The histories of the bodies of a table that was closed, in the order of the pages.
-fn pages_of(
+pub fn pages_of(
     alloc: Global,
     ended: &Ended,
     bodies: Vec<Slot>,

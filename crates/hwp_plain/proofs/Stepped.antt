@@ -18,7 +18,7 @@ use Rattle.hwp_rule.specs.Asks.{AsksOf}
 use Rattle.hwp_rule.specs.Logs.{log_of}
 use Rattle.hwp_rule.specs.Moves.{Move, Told}
 use Rattle.hwp_rule.specs.Opening.{opening_view}
-use Rattle.hwp_rule.specs.Slots.{slot_move, is_out, homes_moved, takes, MeetsSlot}
+use Rattle.hwp_rule.specs.Slots.{slot_move, is_out, homes_moved, takes, IsWithin, LeavesHome, MeetsSlot}
 use Rattle.hwp_rule.specs.Steps.{place_of, word_after, kind_of}
 use Rattle.hwp_rule.specs.Views.{view_after}
 use Rattle.hwp_rule.specs.Words.{index, size, IsPlace}
@@ -33,9 +33,9 @@ use Rattle.hwp_plain.specs.declared.slot.Slot.{Slot}
 use Rattle.hwp_plain.specs.declared.trail.Trail.{Trail}
 use Rattle.hwp_plain.specs.declared.trail.Trail.TheViews.{Made}
 use Rattle.hwp_plain.specs.Boards.{Board, IsBoard, IsReached, Moves, logged, own_view, state_of}
-use Rattle.hwp_plain.specs.Slots.{home_of, IsWithin, IsAtHome, AreOfLayout}
+use Rattle.hwp_plain.specs.Slots.{home_of, AreOfLayout}
 use Rattle.hwp_plain.specs.Trails.{made_of, played, views_of}
-use Rattle.hwp_plain.proofs.Meeting.{asks-taken, slot-within, slot-home}
+use Rattle.hwp_rule.proofs.Meeting.{asks-taken, slot-within, slot-home}
 use Rattle.hwp_plain.proofs.Trailing.{view-there, view-now, views-are}
 
 -- the content is that of the body that went out, or came home
@@ -65,7 +65,7 @@ module _ (layout : Layout) (words : List ℕ) (slots : List Slot) (trail : Trail
     pub within : IsWithin (length slots) (slot_move layout step found)
     within = subst (λ (n : ℕ). IsWithin n (slot_move layout step found)) (sym slots-whole) (slot-within layout step found can.asks.place)
 
-    pub at-home : IsAtHome (slot_move layout step found) (map home_of slots)
+    pub at-home : LeavesHome (slot_move layout step found) (map home_of slots)
     at-home = slot-home layout a kept.reached.holds seat view me found who step (logs put) can.asks met
 
     module _ (fits : found < 2 ^ 64) (slots_now : List Slot) (content got : Option BodyValue)
@@ -165,8 +165,8 @@ begun {layout} {l} {m} {words} {view} {who} {step} {put} {place} {at} {found} {t
 module _ (layout : Layout) (words : List ℕ) (slots : List Slot) (trail : Trail) (seat : Cpu) (kept : IsBoard layout words slots trail seat.0)
     (who : Who) (step : Step) (put : Option BodyValue) (at found word : ℕ) (to : SlotMove) (is : IsBegun layout words (get_or (views_of layout trail) seat.0 (opening_view seat.0)) who step put at found to) where
   -- a slot that goes out is at home
-  pub home-now : IsAtHome to (map home_of slots)
-  home-now = subst (λ (t : SlotMove). IsAtHome t (map home_of slots)) (sym is.to_is) (at-home layout words slots trail seat.0 kept who step put is.can found is.met)
+  pub home-now : LeavesHome to (map home_of slots)
+  home-now = subst (λ (t : SlotMove). LeavesHome t (map home_of slots)) (sym is.to_is) (at-home layout words slots trail seat.0 kept who step put is.can found is.met)
 
   module _ (fits : found < 2 ^ 64) (word-is : word ≡ word_after step found)
       (slots_now : List Slot) (content : Snapshot (Option BodyValue)) (got : Option BodyValue)

@@ -1,13 +1,11 @@
 -- The slots of the frames, and then the shelves of the pages.
-use Rattle.std.specs.Prelude.{ℕ, ◌<◌, List, Option, Some, None, option_map}
+use Rattle.std.specs.Prelude.{List, Option, Some, None, option_map}
 use Rattle.hwp_geom.specs.declared.Layout.{Layout}
 use Rattle.hwp_page.specs.History.{BodyValue}
 use Rattle.hwp_rule.specs.declared.Log.{Log}
-use Rattle.hwp_rule.specs.declared.SlotMove.{SlotMove}
 use Rattle.hwp_rule.specs.declared.SlotMove.TheVariants as moves
-use Rattle.hwp_rule.specs.Lists.{Homes, EachMember}
+use Rattle.hwp_rule.specs.Lists.{EachMember}
 use Rattle.hwp_rule.specs.Logs.{log_of}
-use Rattle.hwp_rule.specs.Slots.{IsIn}
 use Rattle.hwp_step.specs.Calls.{FitsLayout}
 use Rattle.hwp_plain.specs.declared.slot.Slot.{Slot}
 use Rattle.hwp_plain.specs.declared.slot.Slot.TheVariants.{Home, Out}
@@ -24,17 +22,6 @@ in_slot body = Home body
 abbrev pub body_in : Slot → Option BodyValue
 body_in (Home body) = body
 body_in Out = None
-
--- the slot that moves is one of so many
-abbrev pub IsWithin : ℕ → SlotMove → Type 0
-IsWithin count moves.Stays = Unit {0}
-IsWithin count (moves.Out slot) = slot < count
-IsWithin count (moves.Home slot) = slot < count
-
--- a slot that goes out is at home
-abbrev pub IsAtHome : SlotMove → Homes → Type 0
-IsAtHome (moves.Out slot) homes = (content : Option Log) × IsIn homes slot content
-IsAtHome move homes = Unit {0}
 
 -- a body in a slot is of the layout
 abbrev pub IsSlotOf : Layout → Slot → Type 0

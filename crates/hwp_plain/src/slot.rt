@@ -2,9 +2,9 @@ ghost use Rattle.std.specs.Prelude.{◌≡◌, false, Some, None, cond, map, len
 ghost use Rattle.hwp_geom.specs.declared.Layout.{Layout};
 ghost use Rattle.hwp_page.specs.History.{BodyValue, IsReplay};
 ghost use Rattle.hwp_rule.specs.Logs.{log_of};
-ghost use Rattle.hwp_rule.specs.Slots.{MeetsSlot, homes_moved, is_out};
+ghost use Rattle.hwp_rule.specs.Slots.{IsWithin, LeavesHome, MeetsSlot, homes_moved, is_out};
 ghost use Rattle.hwp_step.specs.Calls.{FitsLayout};
-ghost use Rattle.hwp_plain.specs.Slots.{home_of, IsWithin, IsAtHome, AreOfLayout};
+ghost use Rattle.hwp_plain.specs.Slots.{home_of, AreOfLayout};
 
 use hwp_page::Body;
 use hwp_rule::SlotMove;
@@ -30,7 +30,7 @@ pub struct Carried {
 /// Moves a slot: it goes out with what is in it, or it comes home with the body.
 pub fn carry(slots: &mut Vec<Slot>, to: SlotMove, body: Option<Body>) -> Carried
     requires within { IsWithin (length slots.old.items) to }
-    requires home { IsAtHome to (map home_of slots.old.items) }
+    requires home { LeavesHome to (map home_of slots.old.items) }
     ensures homes { map home_of slots.new.items ≡ homes_moved to (option_map log_of result.content.value) (map home_of slots.old.items) }
     ensures met { MeetsSlot to (map home_of slots.old.items) (option_map log_of result.content.value) }
     ensures flow { result.content.value ≡ cond (is_out to) result.body body }

@@ -2,10 +2,11 @@
 -- page's lock of the page's cache word, of its body and of its frame.
 use Rattle.std.proofs.Common.{◌≡◌, ◌≢◌, ℕ, ◌+◌, ◌-◌, ◌*◌, ◌/◌, ◌%◌, ◌^◌, ◌<◌, ◌≤◌, ◌==◌, Bool, true, false, not, cond, List, [], Option, Some, None, map, length, drop, min, slice_get, slice_index, ◌⊎◌, inl, inr, refl, sym, ap, ◌∙◌, subst, arith, w64}
 use Rattle.std.specs.Int.{from_bool, trailing_zeros}
-use Rattle.std.proofs.lemmas.Bool.{cases_lt, eqb-true, eqb-false, ne_eqb}
+use Rattle.std.proofs.lemmas.Bool.{cases_lt, eqb-true, eqb-false, ne_eqb, false≢true}
 use Rattle.std.proofs.lemmas.List.{length-take}
 use Rattle.std.proofs.lemmas.Nat.Bits.{bit_at-trailing_zeros}
 use Rattle.std.proofs.lemmas.Option.{slice_get-get_or, same_Some, slice_get_within}
+use Rattle.hwp_geom.specs.declared.Who.{Who}
 use Rattle.hwp_geom.specs.declared.Frame.{Frame}
 use Rattle.hwp_geom.specs.declared.Layout.{Layout}
 use Rattle.hwp_geom.specs.declared.Page.{Page}
@@ -17,18 +18,21 @@ use Rattle.hwp_rule.specs.declared.view.FrameLock.{FrameLock}
 use Rattle.hwp_rule.specs.declared.view.PageLock.{PageLock}
 use Rattle.hwp_rule.specs.declared.view.Ref.{Ref}
 use Rattle.hwp_rule.specs.declared.view.View.{View}
-use Rattle.hwp_rule.specs.Asks.{HasInHand}
+use Rattle.hwp_rule.specs.Asks.{HasInHand, Asks, AsksOf}
 use Rattle.hwp_rule.specs.Lists.{EachMember}
 use Rattle.hwp_rule.specs.Logs.{state_of}
-use Rattle.hwp_rule.specs.Slots.{IsIn, frame_slot, shelf_slot}
+use Rattle.hwp_rule.specs.Slots.{IsIn, frame_slot, shelf_slot, IsWithin, LeavesHome, slot_move, moved_out, takes}
 use Rattle.hwp_rule.specs.Rule.{Holds}
 use Rattle.hwp_rule.specs.Views.{frame_in, locks_on, page_locks_on}
-use Rattle.hwp_rule.specs.Words.{words_of, segment, index, size, free_words}
+use Rattle.hwp_rule.specs.Words.{words_of, segment, index, size, free_words, IsPlace}
 use Rattle.hwp_rule.specs.parts.Bodies.{IsAtHome, content_name}
 use Rattle.hwp_rule.specs.parts.Counts.{named}
 use Rattle.hwp_rule.specs.parts.Fits.{KnowsWords}
 use Rattle.hwp_rule.specs.parts.Owners.{NamesOwn}
 use Rattle.hwp_rule.specs.parts.Places.{in_hand, IsBare}
+use Rattle.hwp_rule.specs.declared.step.Step.{Step}
+use Rattle.hwp_rule.specs.declared.step.Step.TheVariants as steps
+use Rattle.hwp_rule.specs.Steps.{place_of, goes}
 use Rattle.hwp_rule.proofs.FittingWords.{same-page}
 use Rattle.hwp_rule.proofs.FramesInHand.{in_hand-mine}
 use Rattle.hwp_rule.proofs.Lists.{at_map, term-le, same-number, sum-zero, each-map, each-weaken}
@@ -247,3 +251,52 @@ module _ (layout : Layout) (s : State) (h : Holds layout s) where
             let some : not (frame.0 + 1 == 0) ≡ true = ap not (ne_eqb (frame.0 + 1) 0 (λ e. omega (arith, e))) in
             let at_home : slice_get s.homes frame.0 ≡ Some (Some (Some body.0)) = slot ∙ ap (λ (c : Option Log). Some (Some c)) body.1 in
             sym some ∙ (h.rule.pages.fits.at_home frame.0 body.0 at_home (frame.0 + 1) (ap (λ (p : Page). slice_get (words_of layout s.words).caches p.0) body.2 ∙ cached)).cached
+
+-- ---- the slot that a step moves
+
+-- a step that takes a lock asks nothing of a content
+pub asks-taken : (layout : Layout) (who : Who) (step : Step) (found : ℕ) (put content : Option Log) (v : View) → takes layout step found ≡ true → AsksOf layout who step put v → AsksOf layout who step content v
+asks-taken layout who (steps.Adopt frame) found put content v out asks = asks
+asks-taken layout who (steps.LockFrame frame) found put content v out asks = asks
+asks-taken layout who (steps.LockPage page) found put content v out asks = asks
+asks-taken layout who step found put content v out asks = absurd (false≢true out)
+
+-- a step asks of the content that it brings or puts what it asks of the one that it puts
+pub asks-content : (layout : Layout) (who : Who) (step : Step) (found : ℕ) (got put : Option Log) (v : View) (t : Bool) → takes layout step found ≡ t → AsksOf layout who step put v → AsksOf layout who step (cond t got put) v
+asks-content layout who step found got put v true is asks = asks-taken layout who step found put got v is asks
+asks-content layout who step found got put v false is asks = asks
+
+within-out : (taken : Bool) (slot count : ℕ) → slot < count → IsWithin count (moved_out taken slot)
+within-out true slot count less = less
+within-out false slot count less = tt
+
+-- the slot that moves is one of the board
+pub slot-within : (layout : Layout) (step : Step) (found : ℕ) → IsPlace layout (place_of step) → IsWithin (layout.frames + length layout.pages) (slot_move layout step found)
+slot-within layout (steps.Adopt frame) found place = omega (arith, place)
+slot-within layout (steps.LockFrame frame) found place = within-out (goes (steps.LockFrame frame) found) frame.0 (layout.frames + length layout.pages) (omega (arith, place))
+slot-within layout (steps.UnlockFrame frame) found place = omega (arith, place)
+slot-within layout (steps.Retire frame) found place = omega (arith, place)
+slot-within layout (steps.LockPage page) found place = within-out (goes (steps.LockPage page) found) (layout.frames + page.0) (layout.frames + length layout.pages) (omega (arith, place))
+slot-within layout (steps.UnlockPage page) found place = omega (arith, place)
+slot-within layout step found place = tt
+
+module _ (layout : Layout) (s : State) (holds : Holds layout s) (seat : ℕ) (v : View) (me : slice_get s.views seat ≡ Some v) (found : ℕ) where
+  frame-home : (frame : Frame) → frame.0 < layout.frames → found ≡ slice_index s.words (index layout (places.Frame frame)) → lock_of found ≡ 0 → (content : Option Log) × IsIn s.homes frame.0 content
+  frame-home frame less met free = let home = holds.rule.pages.bodies.frame_home frame.0 found (frame-word layout s holds frame found less met) free in (home.content, home.there)
+
+  page-home : (page : Page) → page.0 < length layout.pages → found ≡ slice_index s.words (index layout (places.Page page)) → lock_of found ≡ 0 → (content : Option Log) × IsIn s.homes (layout.frames + page.0) content
+  page-home page less met free =
+      let cache = slice_get-get_or (words_of layout s.words).caches page.0 0 (subst (λ (n : ℕ). page.0 < n) (sym (shaped layout s holds).caches) less) in
+      let home = holds.rule.pages.bodies.shelf_home page.0 found (slice_index (words_of layout s.words).caches page.0) (page-word layout s holds page found less met) cache free in
+      (home.content, home.there)
+
+  home-out : (slot : ℕ) → (lock_of found ≡ 0 → (content : Option Log) × IsIn s.homes slot content) → (b : Bool) → not (is_locked found) ≡ b → LeavesHome (moved_out b slot) s.homes
+  home-out slot home true free = home (free-word found free)
+  home-out slot home false free = tt
+
+  -- a slot that goes out is at home
+  pub slot-home : (who : Who) (step : Step) (put : Option Log) → Asks layout who step put v → found ≡ slice_index s.words (index layout (place_of step)) → LeavesHome (slot_move layout step found) s.homes
+  slot-home who (steps.Adopt frame) put asks met = frame-home frame asks.place met (hand-bare layout s holds seat v frame found me asks.kind.0 asks.place met).unlocked
+  slot-home who (steps.LockFrame frame) put asks met = home-out frame.0 (frame-home frame asks.place met) (not (is_locked found)) refl
+  slot-home who (steps.LockPage page) put asks met = home-out (layout.frames + page.0) (page-home page asks.place met) (not (is_locked found)) refl
+  slot-home who step put asks met = tt

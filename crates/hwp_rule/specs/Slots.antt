@@ -1,5 +1,5 @@
 -- The table of slots: which slot a step moves, and what is home after it. The holder of a lock has the lock's slot.
-use Rattle.std.specs.Prelude.{◌≡◌, ℕ, ◌+◌, Bool, true, false, cond, Option, Some, None, slice_get, slice_set}
+use Rattle.std.specs.Prelude.{◌≡◌, ℕ, ◌+◌, ◌<◌, Bool, true, false, cond, Option, Some, None, slice_get, slice_set}
 use Rattle.hwp_geom.specs.declared.Frame.{Frame}
 use Rattle.hwp_geom.specs.declared.Layout.{Layout}
 use Rattle.hwp_geom.specs.declared.Page.{Page}
@@ -53,6 +53,17 @@ MeetsSlot move homes content = Unit {0}
 
 abbrev pub Meets : Layout → Homes → Step → ℕ → Option Log → Type 0
 Meets layout homes step found content = MeetsSlot (slot_move layout step found) homes content
+
+-- the slot that moves is one of so many
+abbrev pub IsWithin : ℕ → SlotMove → Type 0
+IsWithin count moves.Stays = Unit {0}
+IsWithin count (moves.Out slot) = slot < count
+IsWithin count (moves.Home slot) = slot < count
+
+-- a slot that goes out is at home
+abbrev pub LeavesHome : SlotMove → Homes → Type 0
+LeavesHome (moves.Out slot) homes = (content : Option Log) × IsIn homes slot content
+LeavesHome move homes = Unit {0}
 
 -- the step took a lock, and with it the content of its slot
 abbrev pub is_out : SlotMove → Bool

@@ -1,11 +1,10 @@
 -- One seat takes all that the others have, from the last on.
-use Rattle.std.proofs.Common.{◌≡◌, ◌≢◌, ℕ, zero, suc, ◌+◌, ◌<◌, ◌≤◌, ◌==◌, List, [], ◌∷◌, ◌++◌, inl, inr, length, map, slice_get, refl, sym, ap, ◌∙◌, subst, arith}
+use Rattle.std.proofs.Common.{◌≡◌, ◌≢◌, ℕ, ◌+◌, ◌<◌, ◌==◌, List, [], ◌∷◌, ◌++◌, inl, inr, length, map, slice_get, sym, ap, ◌∙◌, subst, arith}
 use Rattle.std.specs.Prelude.{Option, Some, None}
 use Rattle.std.proofs.lemmas.List.{append_assoc, append-nil, length-append}
 use Rattle.std.proofs.lemmas.List.Sums.{sum_by-append, sum_by-cons}
 use Rattle.std.proofs.lemmas.Option.{none-some, same_Some, slice_get_within}
 use Rattle.std.specs.Int.{from_bool}
-use Rattle.std.specs.List.{sum_by}
 use Rattle.atomic_table.specs.Seated.{TableId}
 use Rattle.hwp_geom.specs.declared.Layout.{Layout}
 use Rattle.hwp_rule.specs.declared.FrameLock.{FrameLock}
@@ -20,7 +19,7 @@ use Rattle.hwp_table.specs.Known.{Known, Whole, either_whole, joined, views_for}
 use Rattle.hwp_table.specs.Seats.{SeatValue, cpu, mine, slots_of}
 use Rattle.hwp_table.specs.Stands.{Me}
 use Rattle.hwp_seats.specs.Boards.{IsAtTable, state_of, whole_then}
-use Rattle.hwp_seats.specs.Seats.{AreSeats, AreThese, CanGather, Gathering, IsGathered, IsHeld, IsSeatOf, whole_at}
+use Rattle.hwp_seats.specs.Seats.{AreThese, CanGather, Gathering, IsGathered, IsSeatOf, whole_at}
 use Rattle.hwp_seats.specs.Turns.{played}
 use Rattle.hwp_seats.proofs.Played.{moves-played}
 

@@ -1,17 +1,15 @@
 -- All rights go from one seat to another: what each knows of its processor stays, and so does the whole.
-use Rattle.std.proofs.Common.{◌≡◌, ◌≢◌, ℕ, ◌+◌, ◌<◌, ◌==◌, List, [], ◌∷◌, ◌++◌, inl, inr, length, map, set, slice_get, refl, sym, ap, ◌∙◌, subst, arith}
+use Rattle.std.proofs.Common.{◌≡◌, ℕ, ◌+◌, ◌<◌, ◌==◌, List, ◌++◌, inl, inr, map, set, slice_get, refl, sym, ap, ◌∙◌, subst, arith}
 use Rattle.std.specs.Prelude.{Option, Some, None}
 use Rattle.std.proofs.lemmas.List.{length-set, map-set}
-use Rattle.std.proofs.lemmas.Option.{none-some, same_Some}
+use Rattle.std.proofs.lemmas.Option.{same_Some}
 use Rattle.std.proofs.lemmas.List.Sums.{sum_by-append}
 use Rattle.std.specs.Int.{from_bool}
-use Rattle.std.specs.List.{sum_by}
 use Rattle.atomic_table.specs.Seated.{TableId}
 use Rattle.hwp_geom.specs.declared.Layout.{Layout}
-use Rattle.hwp_rule.specs.declared.View.{View}
-use Rattle.hwp_rule.proofs.Lists.{same-or, at_set, at_map, set_again, set_here}
-use Rattle.hwp_table.specs.Known.{Known, Whole, either_whole, times}
-use Rattle.hwp_table.specs.Seats.{SeatValue, cpu, mine}
+use Rattle.hwp_rule.proofs.Lists.{at_set, at_map, set_again, set_here}
+use Rattle.hwp_table.specs.Known.{Whole, either_whole, times}
+use Rattle.hwp_table.specs.Seats.{SeatValue, mine}
 use Rattle.hwp_seats.specs.Seats.{AreSeats, Handed, IsHeld, IsSeatOf, with_rights, without_rights, whole_at, whole_in, whole_of}
 
 -- what a seat that is there knows of the whole

@@ -1,12 +1,11 @@
 -- The seats of the processors at opening, where the first has all rights.
-use Rattle.std.proofs.Common.{◌≡◌, ◌≢◌, ℕ, ◌<◌, List, [], ◌∷◌, ◌++◌, inl, inr, length, map, set, slice_get, get_or, refl, sym, ap, ◌∙◌, subst}
-use Rattle.std.specs.Prelude.{Option, Some, None}
+use Rattle.std.proofs.Common.{◌≡◌, ℕ, ◌<◌, List, [], ◌∷◌, inl, inr, length, map, set, slice_get, get_or, refl, sym, ap, ◌∙◌, subst}
+use Rattle.std.specs.Prelude.{Some}
 use Rattle.std.proofs.lemmas.List.{length-map}
 use Rattle.std.proofs.lemmas.Option.{same_Some, slice_get_within, get_or_from_slice_get}
 use Rattle.atomic_table.specs.Seated.{TableId}
 use Rattle.hwp_geom.specs.declared.Layout.{Layout}
 use Rattle.hwp_geom.specs.Layout.{IsSound}
-use Rattle.hwp_rule.specs.declared.State.{State}
 use Rattle.hwp_rule.specs.declared.View.{View}
 use Rattle.hwp_rule.specs.Opening.{below, opening, opening_homes, opening_view, opening_words}
 use Rattle.hwp_rule.specs.Rule.{Holds}
@@ -14,7 +13,7 @@ use Rattle.hwp_rule.proofs.Lists.{at_map, at_set, map-was, set_here}
 use Rattle.hwp_rule.proofs.OpeningHolds.{opening-holds}
 use Rattle.hwp_rule.proofs.OpeningWords.{below-at, length-below}
 use Rattle.hwp_plain.specs.Boards.{IsReached}
-use Rattle.hwp_table.specs.Known.{Known, Whole, first_known, note, times, with_note}
+use Rattle.hwp_table.specs.Known.{Whole, first_known, note, with_note}
 use Rattle.hwp_table.specs.Seats.{SeatValue, mine}
 use Rattle.hwp_table.specs.Stands.{Me}
 use Rattle.hwp_table.proofs.Opened.{times-in}

@@ -1,8 +1,7 @@
 -- Moves with their turns.
-use Rattle.std.proofs.Common.{◌≡◌, ℕ, suc, List, [], ◌∷◌, length, map, refl, sym, ap, arith}
+use Rattle.std.proofs.Common.{◌≡◌, ℕ, List, [], ◌∷◌, length, refl, ap, arith}
 use Rattle.hwp_rule.specs.declared.Rec.{Rec}
 use Rattle.hwp_step.specs.declared.Turn.{Turn}
-use Rattle.hwp_step.specs.Boards.{Played}
 use Rattle.hwp_plain.specs.Boards.{moves_of, with_turn}
 use Rattle.hwp_seats.specs.Turns.{played, with_newest}
 

@@ -1,5 +1,5 @@
 -- Each processor has the seat of its number, and turns are told.
-use Rattle.std.proofs.Common.{◌≡◌, ℕ, Bool, true, false, cond, List, [], ◌∷◌, map, length, set, slice_get, get_or, sym, ap, ◌∙◌, subst}
+use Rattle.std.proofs.Common.{◌≡◌, ℕ, Bool, true, false, cond, List, [], ◌∷◌, map, set, get_or, sym, ap, ◌∙◌, subst}
 use Rattle.std.proofs.lemmas.Option.{get_or_from_slice_get}
 use Rattle.atomic_table.specs.Seated.{TableId}
 use Rattle.hwp_geom.specs.declared.Cpu.{Cpu}
@@ -11,8 +11,8 @@ use Rattle.hwp_rule.specs.Moves.{Run}
 use Rattle.hwp_rule.specs.Opening.{opening, opening_view}
 use Rattle.hwp_rule.specs.Views.{view_after}
 use Rattle.hwp_step.specs.declared.Turn.{Turn}
-use Rattle.hwp_step.specs.Boards.{AreSeated, Played}
-use Rattle.hwp_plain.specs.Boards.{IsReached, moves_of, with_turn}
+use Rattle.hwp_step.specs.Boards.{AreSeated}
+use Rattle.hwp_plain.specs.Boards.{moves_of, with_turn}
 use Rattle.hwp_plain.proofs.Trailing.{AreViews, views-open, views-more, view-there}
 use Rattle.hwp_table.specs.Seats.{SeatValue, mine}
 use Rattle.hwp_seats.specs.Boards.{IsSeatBoard, state_of}

@@ -11,7 +11,7 @@ use Rattle.hwp_rule.specs.declared.Rec.{Rec}
 use Rattle.hwp_rule.specs.declared.State.{State}
 use Rattle.hwp_rule.specs.declared.Step.{Step}
 use Rattle.hwp_rule.specs.declared.View.{View}
-use Rattle.hwp_rule.specs.Moves.{Move, Run, moved}
+use Rattle.hwp_rule.specs.Moves.{Move, Run}
 use Rattle.hwp_rule.specs.Opening.{opening, opening_view}
 use Rattle.hwp_rule.specs.Slots.{takes}
 use Rattle.hwp_rule.specs.Steps.{kind_of}
@@ -21,14 +21,14 @@ use Rattle.hwp_rule.proofs.Moving.{holds-moved}
 use Rattle.hwp_rule.proofs.Served.{keeps}
 use Rattle.hwp_step.specs.declared.Turn.{Turn}
 use Rattle.hwp_step.specs.declared.Turn.TheVariants.{Moved}
-use Rattle.hwp_step.specs.Boards.{Played, view_of}
+use Rattle.hwp_step.specs.Boards.{view_of}
 use Rattle.hwp_step.specs.Calls.{CanMake, Steps, logs, rec_of}
-use Rattle.hwp_plain.specs.Boards.{Board, IsReached, logged, moves_of}
+use Rattle.hwp_plain.specs.Boards.{Board, logged, moves_of}
 use Rattle.hwp_plain.specs.Boards as plain
-use Rattle.hwp_table.specs.Known.{Known, Whole, known_after, mine_after, times, whole_after}
+use Rattle.hwp_table.specs.Known.{Whole, known_after, mine_after, times, whole_after}
 use Rattle.hwp_table.specs.Plays.{Finds}
 use Rattle.hwp_table.specs.Seats.{HasRight, Moves, SeatValue, cpu, cpu_of, mine, mine_of}
-use Rattle.hwp_table.proofs.Meeting.{asks-content}
+use Rattle.hwp_rule.proofs.Meeting.{asks-content}
 use Rattle.hwp_seats.specs.Boards.{IsSeatBoard, state_of}
 use Rattle.hwp_seats.specs.Seats.{AreSeats, Handed, IsHeld, IsSeatOf, whole_at}
 use Rattle.hwp_seats.specs.Turns.{played}

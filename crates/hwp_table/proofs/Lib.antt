@@ -1,7 +1,6 @@
 mod Times
 mod Rotating
 mod Reading
-pub mod Meeting
 mod Owning
 mod Ruling
 mod Keeping

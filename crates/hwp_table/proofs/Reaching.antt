@@ -1,5 +1,5 @@
 -- What each operation on the table asks of its rule: a step of any kind goes on with the history.
-use Rattle.std.proofs.Common.{◌≡◌, ℕ, ◌^◌, ◌<◌, Bool, true, false, cond, List, ◌∷◌, map, set, length, slice_get, slice_index, refl, sym, ap, ◌∙◌, subst, inl, inr}
+use Rattle.std.proofs.Common.{◌≡◌, ℕ, ◌^◌, ◌<◌, true, false, cond, List, ◌∷◌, map, set, length, slice_get, slice_index, refl, sym, ap, ◌∙◌, subst, inl, inr}
 use Rattle.std.specs.Prelude.{Option as Maybe, Some, None}
 use mathlib.Core.Option.{Option, some, none, some-injective, some-ne-none}
 use lib.ListN.{get_elem?}
@@ -9,7 +9,6 @@ use Rattle.atomic_table.specs.Seated.{TableId}
 use Rattle.atomic_table.specs.Table.{Act, keeps, takes, gives, Valid, Allows, stepped, carried_after, put_back, rest}
 use Rattle.atomic_table.proofs.Lists as table
 use Rattle.hwp_geom.specs.declared.Layout.{Layout}
-use Rattle.hwp_geom.specs.declared.Who.{Who}
 use Rattle.hwp_rule.specs.declared.Log.{Log}
 use Rattle.hwp_rule.specs.declared.Rec.{Rec}
 use Rattle.hwp_rule.specs.declared.SlotMove.{SlotMove}
@@ -17,12 +16,11 @@ use Rattle.hwp_rule.specs.declared.SlotMove.TheVariants as moves
 use Rattle.hwp_rule.specs.declared.State.{State}
 use Rattle.hwp_rule.specs.declared.Step.{Step}
 use Rattle.hwp_rule.specs.declared.View.{View}
-use Rattle.hwp_rule.specs.Asks.{AsksOf}
 use Rattle.hwp_rule.specs.Lists.{Homes}
 use Rattle.hwp_rule.specs.Moves.{Move, Told, moved}
 use Rattle.hwp_rule.specs.Rule.{Holds}
 use Rattle.hwp_rule.specs.Slots as slots
-use Rattle.hwp_rule.specs.Slots.{slot_move, is_out, homes_moved, homes_after, MeetsSlot, IsIn}
+use Rattle.hwp_rule.specs.Slots.{slot_move, is_out, homes_moved, MeetsSlot, IsIn, LeavesHome}
 use Rattle.hwp_rule.specs.Steps.{place_of, word_after}
 use Rattle.hwp_rule.specs.Views.{view_after}
 use Rattle.hwp_rule.specs.Words.{index, size}
@@ -32,9 +30,9 @@ use Rattle.hwp_table.specs.Order.{in_rule, in_table}
 use Rattle.hwp_table.specs.Plays.{Call, rec, carried, IsFront, Finds, Makes}
 use Rattle.hwp_table.specs.Rules.{Reached, Ruled}
 use Rattle.hwp_table.specs.Seats.{CanPlay}
-use Rattle.hwp_table.specs.Stands.{Content, Me, Table, home_of, stand, AreOfLayout, IsAtHome}
+use Rattle.hwp_table.specs.Stands.{Content, Me, Table, home_of, stand, AreOfLayout}
 use Rattle.hwp_table.proofs.Keeping.{reached-holds, run-seats}
-use Rattle.hwp_table.proofs.Meeting.{asks-content, slot-home}
+use Rattle.hwp_rule.proofs.Meeting.{asks-content, slot-home}
 use Rattle.hwp_table.proofs.Reading.{as-slice, home-was, home-out, home-in}
 use Rattle.hwp_table.proofs.Rotating.{length-in_rule, in_rule-read, in_rule-set, index-within}
 use Rattle.hwp_table.proofs.Ruling.{step-ruled, view-at}
@@ -172,7 +170,7 @@ module _ (call : Call) (id : ℕ) (m : Me) (word : ℕ) (tid of : TableId) (can 
         )
 
     -- a slot goes out
-    goes-out : (k : ℕ) → slot_move layout step x ≡ moves.Out k → IsAtHome (moves.Out k) s.homes → Played
+    goes-out : (k : ℕ) → slot_move layout step x ≡ moves.Out k → LeavesHome (moves.Out k) s.homes → Played
     goes-out k is home =
         let was = home-was st.homes k home.0 home.1 in
         let y : Content = was.0 in
@@ -204,7 +202,7 @@ module _ (call : Call) (id : ℕ) (m : Me) (word : ℕ) (tid of : TableId) (can 
           makes None (put_back st.homes m.1) slot homes-is bodies (rest m.1) none-fits (λ e. refl) (ap (λ (t : SlotMove). carried t None m.1) (sym is)),
         )
 
-    plays : (to : SlotMove) → slot_move layout step x ≡ to → IsAtHome to s.homes → Played
+    plays : (to : SlotMove) → slot_move layout step x ≡ to → LeavesHome to s.homes → Played
     plays moves.Stays is home = stays is
     plays (moves.Out k) is home = goes-out k is home
     plays (moves.Home k) is home = goes-home k is

@@ -1,5 +1,5 @@
 -- A table, as the frame rule sees it.
-use Rattle.std.specs.Prelude.{◌≡◌, ℕ, ◌<◌, List, map}
+use Rattle.std.specs.Prelude.{◌≡◌, ℕ, List, map}
 use Rattle.std.specs.Prelude.{Option as Maybe, Some, None}
 use mathlib.Core.Option.{Option, some, none}
 use lib.ListN.{get_elem?}
@@ -7,12 +7,9 @@ use Rattle.atomic_table.specs.Table as table
 use Rattle.hwp_geom.specs.declared.Layout.{Layout}
 use Rattle.hwp_page.specs.History.{BodyValue}
 use Rattle.hwp_rule.specs.declared.Log.{Log}
-use Rattle.hwp_rule.specs.declared.SlotMove.{SlotMove}
 use Rattle.hwp_rule.specs.declared.SlotMove.TheVariants as moves
 use Rattle.hwp_rule.specs.declared.State.{State}
 use Rattle.hwp_rule.specs.declared.View.{View}
-use Rattle.hwp_rule.specs.Lists.{Homes}
-use Rattle.hwp_rule.specs.Slots.{IsIn}
 use Rattle.hwp_step.specs.Calls.{FitsLayout, logs}
 use Rattle.hwp_table.specs.Known.{Known}
 use Rattle.hwp_table.specs.Order.{in_rule}
@@ -41,14 +38,3 @@ stand views t = record { words = in_rule t.words; homes = map home_of t.homes; v
 -- the bodies at home are of the layout
 abbrev pub AreOfLayout : Layout → List (Option Content) → Type 0
 AreOfLayout layout homes = (slot : ℕ) (content : Content) → get_elem? homes slot ≡ some (some content) → FitsLayout layout content
-
--- the slot that moves is one of so many
-abbrev pub IsWithin : ℕ → SlotMove → Type 0
-IsWithin count moves.Stays = Unit {0}
-IsWithin count (moves.Out slot) = slot < count
-IsWithin count (moves.Home slot) = slot < count
-
--- a slot that goes out is at home
-abbrev pub IsAtHome : SlotMove → Homes → Type 0
-IsAtHome (moves.Out slot) homes = (content : Maybe Log) × IsIn homes slot content
-IsAtHome move homes = Unit {0}

@@ -23,7 +23,7 @@ use Rattle.hwp_top.specs.Serving.{HasReported}
 use Rattle.hwp_top.specs.Top.{IsDone, IsReportOfRun, Refuses}
 
 -- a source that is at its end gave all that it had
-all-given : (had : List ℕ) (left : Option (List ℕ)) (bytes : List ℕ) → Consumes (Some had) left bytes → IsAtEnd left → had ≡ bytes
+pub all-given : (had : List ℕ) (left : Option (List ℕ)) (bytes : List ℕ) → Consumes (Some had) left bytes → IsAtEnd left → had ≡ bytes
 all-given had None bytes consumed end = absurd consumed
 all-given had (Some rest) bytes consumed end = consumed ∙ ap (λ (l : List ℕ). bytes ++ l) end ∙ append-nil bytes
 
@@ -35,7 +35,7 @@ no-more had (Some rest) bytes consumed =
     let parts : length (bytes ++ rest) ≡ length bytes + length rest = length-append bytes rest in omega arith
 
 -- the text of a script is not refused
-unrefused : (had : List ℕ) (script : Script) (left : Option (List ℕ)) (r : Refused) → Reads had script → Refuses (Some had) left r → ⊥
+pub unrefused : (had : List ℕ) (script : Script) (left : Option (List ℕ)) (r : Refused) → Reads had script → Refuses (Some had) left r → ⊥
 unrefused had script left r reads refuses = which r.why refl refuses.refusal.reason
   where
     which : (w : Why) → r.why ≡ w → IsRefusedFor refuses.bytes r w → ⊥

@@ -1,2 +1,2 @@
-mod Statuses
+pub mod Statuses
 pub mod Completes

@@ -24,7 +24,7 @@ fault_is_listed n (inl is) = subst Listed (sym is) (3, lit< tt, refl)
 fault_is_listed n (inr (inl is)) = subst Listed (sym is) (4, lit< tt, refl)
 fault_is_listed n (inr (inr is)) = subst Listed (sym is) (6, lit< tt, refl)
 
-report_is_done : (report : Report) → IsDone (done_status report)
+pub report_is_done : (report : Report) → IsDone (done_status report)
 report_is_done report = by (is_some report.stop)
   where
     by : (stopped : Bool) → IsDone (if stopped then 8 else 0)

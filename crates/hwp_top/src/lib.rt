@@ -9,5 +9,8 @@ mod outputs;
 mod served;
 mod words;
 
-pub use calls::{Done, top};
+pub use calls::{Done, deliver, tell_fault, top};
+pub use inputs::{InputFault, take_script};
+pub use messages::{USAGE, tell};
+pub use outputs::{Output, status_of};
 pub use served::Call;

@@ -21,7 +21,7 @@ use std::alloc::Global;
 /// What a call writes, the status where all of it is written, and, where it made a run, the report, and what the run's table was
 /// closed with.
 #[derive(Drop)]
-pub(crate) struct Output {
+pub struct Output {
     pub text: Text,
     pub status: u8,
     pub report: Option<Report>,
@@ -61,7 +61,7 @@ fn stepped<S: Source>(alloc: Global, src: &mut S) -> Result<Output, InputFault>
 }
 
 /// The status of a report that is written: 8 where the machine stopped.
-fn status_of(report: &Report) -> u8
+pub fn status_of(report: &Report) -> u8
     ensures { result ≡ done_status report.now }
 {
     if report.stop.is_some() { 8 } else { 0 }

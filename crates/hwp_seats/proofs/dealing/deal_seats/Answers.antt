@@ -1,4 +1,4 @@
-use Rattle.std.proofs.Common.{◌≡◌, ℕ, ◌<◌, List, [], ◌∷◌, ◌++◌, refl, sym, ap, ◌∙◌, subst, arith}
+use Rattle.std.proofs.Common.{◌≡◌, ◌<◌, [], ◌∷◌, ◌++◌, refl, sym, ap, ◌∙◌, subst, arith}
 use Rattle.hwp_opening.proofs.Openings.{map-more}
 use Rattle.hwp_table.specs.Seats.{SeatValue, cpu_of, mine_of, slots_of}
 use Rattle.hwp_table.specs.Stands.{Me}

@@ -1,11 +1,10 @@
-use Rattle.std.proofs.Common.{ℕ, List, ◌∷◌, set, sym, ap, subst}
+use Rattle.std.proofs.Common.{◌∷◌, set, sym, ap, subst}
 use Rattle.hwp_step.specs.declared.Turn.TheVariants.{Moved}
 use Rattle.hwp_step.specs.Calls.{CanMake, Steps, logs}
 use Rattle.hwp_plain.specs.Boards.{Board, own_view}
 use Rattle.hwp_seats.specs.declared.turns.Turns.{Turns}
 use Rattle.hwp_seats.specs.Boards.{IsSeatBoard, state_of}
-use Rattle.hwp_seats.specs.Seats.{whole_at}
-use Rattle.hwp_seats.specs.Turns.{played, turns_of}
+use Rattle.hwp_seats.specs.Turns.{turns_of}
 use Rattle.hwp_seats.proofs.Stepping.{has-right, can-now, board3, steps3, moves3, moved-on}
 use Rattle.hwp_seats.proofs.board.SeatBoard.make.Goals as goal
 

@@ -1,0 +1,22 @@
+use Rattle.std.proofs.Common.{List, ℕ, lit<, refl, subst}
+use Rattle.std.proofs.lemmas.Option.{same_Some}
+use Rattle.hwp_top.specs.Top.{Told, usage_text}
+use Rattle.hwp_top_run.proofs.Statuses.{fault-listed, output-done, output-listed}
+use Rattle.hwp_top_run.proofs.calls.top_run.Goals as goal
+
+pub returns-then-not-asks_run-clause-statuses : goal.returns-then-not-asks_run-clause-statuses
+returns-then-not-asks_run-clause-statuses g c = (1, lit< tt, refl)
+
+pub returns-then-not-asks_run-clause-told : goal.returns-then-not-asks_run-clause-told
+returns-then-not-asks_run-clause-told g c text is =
+    subst (λ (t : List ℕ). Told (g.E.Sink.taken c.args.err.now) (g.E.Sink.taken c.tell.new.err) (g.E.Sink.faults c.args.err.now) (g.E.Sink.faults c.tell.new.err) t) (same_Some usage_text text is) c.tell.ensures
+
+pub deliver-requires : goal.deliver-requires
+deliver-requires g c = output-done (g.S.Source.left c.args.src.now) (g.S.Source.left c.threaded.new.src) c.in-Ok.output.status c.in-Ok.output.text c.in-Ok.output.report c.in-Ok.output.ended c.in-Ok.ensures.output
+
+pub returns-in-Ok-clause-statuses : goal.returns-in-Ok-clause-statuses
+returns-in-Ok-clause-statuses g c =
+    output-listed (g.S.Source.left c.args.src.now) (g.S.Source.left c.threaded.new.src) c.in-Ok.output.status c.in-Ok.output.text c.in-Ok.output.report c.in-Ok.output.ended c.deliver.result.status c.in-Ok.ensures.output c.deliver.ensures.statuses
+
+pub returns-in-Err-clause-statuses : goal.returns-in-Err-clause-statuses
+returns-in-Err-clause-statuses g c = fault-listed c.tell_fault.result c.tell_fault.ensures.statuses

@@ -1,0 +1,97 @@
+ghost use Rattle.std.specs.Prelude.{◌≡◌, ◌≢◌, ◌↔◌, ℕ, List, [], ◌∷◌, codes, map, string_bytes, Contains, IsTrue, Some, None};
+ghost use Rattle.std.specs.Io.KnownBytes.{Appends};
+ghost use Rattle.hwp_io.specs.Causes.{AppendsStrictFront, Rose};
+ghost use Rattle.hwp_script.specs.declared.Refused.{Refused};
+ghost use Rattle.hwp_top.specs.Outputs.{HasRun};
+ghost use Rattle.hwp_top.specs.Top.{IsDone, Refuses, Told, refusal_text, told_text};
+ghost use Rattle.hwp_top_run.specs.Top.{IsRun, IsThreaded};
+
+use crate::running::threaded;
+use hwp_io::{Sink, Source};
+use hwp_threads::Gate;
+use hwp_top::{Done, USAGE, deliver, tell, tell_fault};
+use std::alloc::Global;
+use std::sync::Wait;
+use std::thread::Threads;
+
+/// Whether a word is `run`.
+fn is_run(word: &[u8]) -> bool
+    ensures { IsTrue result ↔ (word.now ≡ codes "run") }
+{
+    word == "run".as_bytes()
+}
+
+/// Whether the words ask for a run on threads.
+fn asks_run(words: &[String]) -> bool
+    ensures { IsTrue result ↔ IsRun (map string_bytes words.now) }
+{
+    match words {
+        [word] => is_run(word.as_bytes()),
+        _ => false,
+    }
+}
+
+/// Serves the word `run`: reads a fault script from `src`, runs it with each of its processors on a thread of its own, all at one
+/// table of atomic words, and writes the report to `out`. The schedule is read and not used. A worker passes `gate` after the first
+/// turn of each command and after the last.
+///
+/// The exit statuses are those of `top` for `step`: 0 done, 8 done and the machine stopped, 2 other words, 3 the script is refused,
+/// 4 the source failed, 5 the sink failed, and a part of the report is written, 6 out of memory. For each but 0 and 8 a text goes to
+/// `err`. A fault of `err` changes nothing. (This project's rule.)
+///
+/// It says nothing of progress: each clause holds if it returns.
+pub fn top_run<R: Threads + Wait + Sync, S: Source, K: Sink, E: Sink, G: Gate + Sync>(
+    rt: &R,
+    alloc: Global,
+    words: &[String],
+    src: &mut S,
+    out: &mut K,
+    err: &mut E,
+    gate: &G,
+) -> Done
+    ensures statuses { Contains (0 ∷ 2 ∷ 3 ∷ 4 ∷ 5 ∷ 6 ∷ 8 ∷ []) result.status }
+
+    // Status 0, or 8 where the machine stopped: what is written is the report of a run on threads of the script that the source gave.
+    ensures done { IsDone result.status → (text : List ℕ)
+        × IsRun (map string_bytes words.now)
+        × HasRun result.report result.ended (IsThreaded (S.left src.old) (S.left src.new) result.status text)
+        × Appends (K.taken out.old) (K.taken out.new) text }
+
+    // Status 2 comes if and only if the words are anything else, and statuses 3, 4 and 5 only by their cause.
+    ensures usage { (result.status ≡ 2) ↔ (¬ IsRun (map string_bytes words.now)) }
+    ensures refused { result.status ≡ 3 → (r : Refused)
+        × Refuses (S.left src.old) (S.left src.new) r
+        × Told (E.taken err.old) (E.taken err.new) (E.faults err.old) (E.faults err.new) (refusal_text r) }
+    ensures read_fault { result.status ≡ 4 → Rose (S.faults src.old) (S.faults src.new) }
+    ensures write_fault { result.status ≡ 5 → Rose (K.faults out.old) (K.faults out.new) }
+    ensures unread { (¬ IsRun (map string_bytes words.now)) → src.new ≡ src.old }
+
+    // Status 5: a part of the report is written, and the report is there.
+    ensures cut { result.status ≡ 5 → (status : ℕ) × (text : List ℕ)
+        × HasRun result.report result.ended (IsThreaded (S.left src.old) (S.left src.new) status text)
+        × AppendsStrictFront (K.taken out.old) (K.taken out.new) text }
+    ensures unwritten { (¬ IsDone result.status) → result.status ≢ 5 → out.new ≡ out.old }
+    ensures no_report { (¬ IsDone result.status) → result.status ≢ 5 → (result.report ≡ None) × (result.ended ≡ None) }
+
+    // What is told on `err`.
+    ensures silent { IsDone result.status → err.new ≡ err.old }
+    ensures told { (text : List ℕ) → told_text result.status ≡ Some text
+        → Told (E.taken err.old) (E.taken err.new) (E.faults err.old) (E.faults err.new) text }
+{
+    if !asks_run(words) {
+        tell(err, USAGE);
+        return Done {
+            status: 2,
+            report: None,
+            ended: None,
+        };
+    }
+    match threaded(rt, alloc, src, gate) {
+        Ok(output) => deliver(out, err, output),
+        Err(fault) => Done {
+            status: tell_fault(alloc, err, fault),
+            report: None,
+            ended: None,
+        },
+    }
+}
