@@ -1,4 +1,4 @@
-# Completion of hwp for bash: `source docs/completion/hwp.bash`. It serves bin/hwp too.
+# Completion of hwp for bash: `source docs/completion/hwp.bash`. It serves hwp-trace, and both in bin/ too.
 
 _hwp() {
   local current=${COMP_WORDS[COMP_CWORD]} previous=${COMP_WORDS[COMP_CWORD - 1]}
@@ -18,10 +18,12 @@ _hwp() {
       ;;
     *)
       if ((COMP_CWORD == 1)); then
-        mapfile -t COMPREPLY < <(compgen -W "step run check gen sum --help --version" -- "$current")
+        local words="step run check gen sum --help --version"
+        [[ ${1##*/} == hwp-trace ]] && words="--help --version"
+        mapfile -t COMPREPLY < <(compgen -W "$words" -- "$current")
       fi
       ;;
   esac
 }
 
-complete -F _hwp hwp
+complete -F _hwp hwp hwp-trace

@@ -1,0 +1,46 @@
+//! The trace of a script that a source gives.
+ghost use Rattle.std.specs.Prelude.{◌≡◌, None, IfOk, IsErrOf};
+ghost use Rattle.hwp_io.specs.Causes.{Rose};
+ghost use Rattle.hwp_script.specs.declared.Refused.{Refused};
+ghost use Rattle.hwp_top.specs.Top.{Refuses, done_status};
+ghost use Rattle.hwp_trace.specs.Shown.{IsShown, IsTraceOf};
+
+use hwp_geom::Text;
+use hwp_io::Source;
+use hwp_report::Report;
+use hwp_top::{InputFault, Output, status_of, take_script};
+use hwp_trace_lines::print;
+use hwp_tracing::trace;
+use std::alloc::Global;
+
+/// The report of the run of the script that a source gives, and the text of its trace.
+fn trace_of<S: Source>(alloc: Global, src: &mut S) -> Result<(Report, Text), InputFault>
+    ensures trace { IfOk result (λ done. IsTraceOf (S.left src.old) (S.left src.new) (done_status done.0) done.1 done.0) }
+    ensures refused { (r : Refused) → IsErrOf result (InputFault.Refused r) → Refuses (S.left src.old) (S.left src.new) r }
+    ensures fault { IsErrOf result InputFault.ReadFault → Rose (S.faults src.old) (S.faults src.new) }
+{
+    let script = take_script(alloc, src)?;
+    let Ok(run) = trace(alloc, &script) else {
+        return Err(InputFault::OutOfMemory);
+    };
+    let Ok(text) = print(alloc, run.lines.as_slice()) else {
+        return Err(InputFault::OutOfMemory);
+    };
+    Ok((run.report, text))
+}
+
+/// What is written: the trace of the script that a source gives.
+pub(crate) fn traced<S: Source>(alloc: Global, src: &mut S) -> Result<Output, InputFault>
+    ensures output { IfOk result (λ o. IsShown (S.left src.old) (S.left src.new) o.status o.text o.report) }
+    ensures no_table { IfOk result (λ o. o.ended ≡ None) }
+    ensures refused { (r : Refused) → IsErrOf result (InputFault.Refused r) → Refuses (S.left src.old) (S.left src.new) r }
+    ensures fault { IsErrOf result InputFault.ReadFault → Rose (S.faults src.old) (S.faults src.new) }
+{
+    let (report, text) = trace_of(alloc, src)?;
+    Ok(Output {
+        text,
+        status: status_of(&report),
+        report: Some(report),
+        ended: None,
+    })
+}

@@ -1,0 +1,4 @@
+mod StepKinds
+mod Telling
+mod ToldTurns
+mod Reports
