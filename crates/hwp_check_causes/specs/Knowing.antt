@@ -13,6 +13,7 @@ use Rattle.hwp_law.specs.Policies.{policy_before}
 use Rattle.hwp_evidence.specs.Ends.{ArePageEnds, own_ends}
 use Rattle.hwp_evidence.specs.Marked.{reported}
 use Rattle.hwp_evidence.specs.Windows.{AreSpans}
+use Rattle.hwp_records.specs.Nears.{IsPast}
 use Rattle.hwp_check_causes.specs.declared.right.Own.{Own}
 use Rattle.hwp_check_causes.specs.declared.right.Told.{Told}
 use Rattle.hwp_script.specs.declared.Script.{Script}
@@ -33,6 +34,7 @@ pub record IsOwn (script : Script) (report : Report) (cpu : Cpu) (own : Own) : T
   pub ended : own.ended.items ≡ own_ends script.layout cpu report.pages
   pub spans : AreSpans cpu report.pages own.spans.items
   pub seen : own.reported ≡ reported cpu report.frames
+  pub past : IsPast cpu report.frames own.past
 
 -- and what is known of a command
 pub record IsTold (script : Script) (report : Report) (who : Who) (command : Command) (told : Told) : Type 0 where

@@ -5,17 +5,16 @@ ghost use Rattle.hwp_law.specs.Answers.{StandsAt, is_ample, reply_answer};
 ghost use Rattle.hwp_law.specs.Causes.{IsFailureAnswer, IsOfflineAnswer, IsUnpoisonAnswer};
 ghost use Rattle.hwp_law.specs.Policies.{arguments};
 ghost use Rattle.hwp_evidence.specs.Marked.{reported};
+ghost use Rattle.hwp_records.specs.Nears.{IsPast};
 
 use crate::plain::{are_bad_lines, bad_lines_of};
 use crate::telling::entry_at;
-use hwp_events::was_poisoned;
-use hwp_evidence::{
-    came_to, marks_of, was_hardware_seen, was_moved, was_taken_back, was_taken_free,
-};
+use hwp_evidence::{came_to, was_hardware_seen, was_moved, was_taken_back, was_taken_free};
 use hwp_form::PrctlArgs;
 use hwp_geom::{Frame, List, Who};
 use hwp_kill::{Policy, Reply, prctl};
 use hwp_page::{At, Entry, Outcome, What};
+use hwp_records::{Past, was_poisoned};
 use hwp_report::{Answer, Report};
 use hwp_script::Script;
 
@@ -44,14 +43,21 @@ pub(crate) fn is_reply(old: Policy, args: &PrctlArgs, answer: &Answer) -> bool
 }
 
 /// Whether the answer is that of a failure of a frame that a command brings about.
-pub(crate) fn is_failure(report: &Report, who: Who, frame: Frame, answer: &Answer) -> bool
+pub(crate) fn is_failure(
+    report: &Report,
+    past: &Past,
+    who: Who,
+    frame: Frame,
+    answer: &Answer,
+) -> bool
+    requires { IsPast who.cpu report.now.frames past.now }
     ensures { IsTrue result ↔ IsFailureAnswer report.now who frame answer.now }
 {
     match *answer {
         Answer::Recovered => came_to(report, who, frame, Outcome::Recovered),
         Answer::Delayed => came_to(report, who, frame, Outcome::Delayed),
         Answer::Ignored => came_to(report, who, frame, Outcome::Ignored),
-        Answer::Already => was_poisoned(marks_of(report, frame), who, true),
+        Answer::Already => was_poisoned(report, past, who, u64::from(frame.0), true),
         _ => false,
     }
 }
@@ -71,11 +77,13 @@ pub(crate) fn is_offline(
     script: &Script,
     report: &Report,
     ample: bool,
+    past: &Past,
     who: Who,
     frame: Frame,
     answer: &Answer,
 ) -> bool
-    requires { ample ≡ is_ample script.now }
+    requires ample { ample ≡ is_ample script.now }
+    requires past { IsPast who.cpu report.now.frames past.now }
     ensures { IsTrue result ↔ IsOfflineAnswer script.now report.now who frame answer.now }
 {
     match *answer {
@@ -83,7 +91,7 @@ pub(crate) fn is_offline(
             is_soft_at(report.pages.as_slice(), who, at) && was_moved(report, who, frame)
         }
         Answer::TakenFree => was_taken_free(report, who, frame),
-        Answer::Already => was_poisoned(marks_of(report, frame), who, true),
+        Answer::Already => was_poisoned(report, past, who, u64::from(frame.0), true),
         Answer::HasBad(mask) => are_bad_lines(bad_lines_of(report, frame), mask),
         Answer::NoFrame => !ample,
         _ => false,
@@ -95,16 +103,18 @@ pub(crate) fn is_offline(
 pub(crate) fn is_unpoison(
     report: &Report,
     first: u64,
+    past: &Past,
     who: Who,
     frame: Frame,
     answer: &Answer,
 ) -> bool
-    requires { first ≡ reported who.cpu report.now.frames }
+    requires first { first ≡ reported who.cpu report.now.frames }
+    requires past { IsPast who.cpu report.now.frames past.now }
     ensures { IsTrue result ↔ IsUnpoisonAnswer report.now who frame answer.now }
 {
     match *answer {
         Answer::Done => was_taken_back(report, who, frame),
-        Answer::NotPoisoned => was_poisoned(marks_of(report, frame), who, false),
+        Answer::NotPoisoned => was_poisoned(report, past, who, u64::from(frame.0), false),
         Answer::HardwareSeen => was_hardware_seen(report, first, who),
         Answer::HasBad(mask) => are_bad_lines(bad_lines_of(report, frame), mask),
         Answer::InUse(_) => true,

@@ -8,6 +8,7 @@ use crate::known::Known;
 use crate::right::Own;
 use hwp_evidence::{glances_of, is_ample, own_ends, page_ends, reported, spans};
 use hwp_geom::{Cpu, OutOfMemory};
+use hwp_records::past_of;
 use hwp_report::Report;
 use hwp_script::Script;
 use std::alloc::Global;
@@ -33,10 +34,12 @@ pub fn own_of(alloc: Global, script: &Script, report: &Report, cpu: Cpu) -> Resu
     let ended = own_ends(alloc, &script.layout, cpu, pages)?;
     let spans = spans(alloc, cpu, pages)?;
     let reported = reported(cpu, report.frames.as_slice());
+    let past = past_of(alloc, cpu, report.frames.as_slice())?;
     Ok(Own {
         ends,
         ended,
         spans,
         reported,
+        past,
     })
 }

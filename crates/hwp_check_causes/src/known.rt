@@ -12,7 +12,9 @@ ghost use Rattle.hwp_check_causes.specs.Knowing.{IsKnown};
 use crate::asking::{is_askable, named_state};
 use crate::plain::are_bad_lines;
 use hwp_check_rules::command_of;
-use hwp_evidence::{Glance, has_ending, was_away, was_cached, was_dirty, was_mapped, was_unused};
+use hwp_evidence::{
+    Glance, Repeats, has_ending, was_away, was_cached, was_dirty, was_mapped, was_unused,
+};
 use hwp_geom::{Layout, List, Mask, Page, Proc, Thread, Who};
 use hwp_page::At;
 use hwp_report::{Answer, FrameLine, Report};
@@ -24,7 +26,7 @@ pub struct Known {
     /// Whether there are frames enough at any time.
     pub ample: bool,
     /// The states of pages at all places of their histories.
-    pub glances: Vec<List<Glance>>,
+    pub glances: Vec<Repeats<Glance>>,
 }
 
 /// Whether the translation that the command frees wasn't in use at the place.

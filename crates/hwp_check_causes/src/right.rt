@@ -18,6 +18,7 @@ use crate::telling::is_by_entry;
 use hwp_evidence::Span;
 use hwp_geom::{List, Thread, Who};
 use hwp_kill::Policy;
+use hwp_records::Past;
 use hwp_report::{Answer, Report};
 use hwp_script::{Command, Script};
 
@@ -32,6 +33,8 @@ pub struct Own {
     pub spans: Vec<Span>,
     /// The command at whose end a bank's event had poisoned some frame.
     pub reported: u64,
+    /// What is kept of the records of frames for its commands.
+    pub past: Past,
 }
 
 /// What is known of one command.
@@ -111,13 +114,15 @@ fn is_last_right(
             is_reply(told.old, &args, answer)
         }
         Command::Inject { frame } => {
-            script.layout.recovery && is_failure(report, who, frame, answer)
+            script.layout.recovery && is_failure(report, &own.past, who, frame, answer)
         }
         Command::Soft { frame } => {
             !is_kernels(&script.layout, frame)
-                && is_offline(script, report, known.ample, who, frame, answer)
+                && is_offline(script, report, known.ample, &own.past, who, frame, answer)
         }
-        Command::Unpoison { frame } => is_unpoison(report, own.reported, who, frame, answer),
+        Command::Unpoison { frame } => {
+            is_unpoison(report, own.reported, &own.past, who, frame, answer)
+        }
         _ => false,
     }
 }

@@ -9,25 +9,25 @@ ghost use Rattle.hwp_events.specs.Told.{access_by, coming, told};
 use crate::acts::{is_line_of, is_panic, stops};
 use crate::lines::{bad_lines_of, has_line};
 use crate::shown::{Arrival, Checks, Shown};
+use crate::traced::Traced;
 use hwp_banks::{Bank, Event, Origin};
 use hwp_geom::{Frame, Line, Who};
-use hwp_report::Report;
 use hwp_script::Script;
 
 /// Whether a frame is bad at a line.
 #[tactic(auto, using(crate::proofs::LineLaws::has_line_is))]
-fn is_bad_at(report: &Report, frame: u64, at: Line) -> bool
+fn is_bad_at(report: &Traced<'_>, frame: u64, at: Line) -> bool
     ensures { IsTrue result ↔ IsBitSet (bad_lines_of report.now frame) at }
 {
     has_line(bad_lines_of(report, frame), at.get())
 }
 
 /// The lowest frame that is bad at a line.
-fn first_bad(report: &Report, at: Line) -> Option<Frame>
+fn first_bad(report: &Traced<'_>, at: Line) -> Option<Frame>
     requires { length report.now.frames ≤ 65536 }
     ensures { MatchOption result ((frame : ℕ) → IsBitSet (bad_lines_of report.now frame) at → ⊥) (λ frame. IsBitSet (bad_lines_of report.now frame.0) at) }
 {
-    for frame in 0..report.frames.len() {
+    for frame in 0..report.get().frames.len() {
         if is_bad_at(report, frame as u64, at) {
             return Some(Frame(frame as u16));
         }
@@ -36,7 +36,7 @@ fn first_bad(report: &Report, at: Line) -> Option<Frame>
 }
 
 /// A frame that is bad at a line, that of the event's address where it is.
-fn candidate(report: &Report, at: Line, addr: u64) -> Option<Frame>
+fn candidate(report: &Traced<'_>, at: Line, addr: u64) -> Option<Frame>
     requires { length report.now.frames ≤ 65536 }
     ensures found { IsCandidate report.now at addr result }
     ensures small { at < 64 }
@@ -104,7 +104,7 @@ fn is_held(how: Arrival, checks: &Checks, beside: Option<Event>, lines: &[Shown]
 /// Whether the line tells what bank 1 held, where it held something.
 pub(crate) fn is_raw_line(
     script: &Script,
-    report: &Report,
+    report: &Traced<'_>,
     who: Who,
     how: Arrival,
     held: bool,
@@ -123,7 +123,7 @@ pub(crate) fn is_raw_line(
 #[tactic(auto, using(crate::proofs::OwnLaws::own_none))]
 fn is_own_line(
     script: &Script,
-    report: &Report,
+    report: &Traced<'_>,
     who: Who,
     how: Arrival,
     checks: &Checks,
@@ -175,7 +175,7 @@ pub(crate) fn asked_by_access(checks: &Checks, raw: Option<Event>) -> u64
 /// Whether the line is right as the first one. Bank 1 is given up.
 fn is_first_line(
     script: &Script,
-    report: &Report,
+    report: &Traced<'_>,
     who: Who,
     how: Arrival,
     checks: &Checks,
@@ -195,7 +195,7 @@ fn is_first_line(
 /// Whether the line is right as the one with this number, not the first.
 fn is_later_line(
     script: &Script,
-    report: &Report,
+    report: &Traced<'_>,
     who: Who,
     how: Arrival,
     checks: &Checks,
@@ -224,7 +224,7 @@ fn is_later_line(
 /// The first line that isn't the one that the machine checks ask at its place. Bank 1 is given up.
 pub(crate) fn access_wrong(
     script: &Script,
-    report: &Report,
+    report: &Traced<'_>,
     who: Who,
     how: Arrival,
     checks: &Checks,

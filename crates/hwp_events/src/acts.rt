@@ -1,15 +1,15 @@
 ghost use Rattle.std.specs.Prelude.{◌≡◌, ◌↔◌, IsTrue};
 ghost use Rattle.hwp_law.specs.Checks.{IsAct, IsFailureAct, IsLineOf, IsResult, is_panic};
-ghost use Rattle.hwp_law.specs.Lines.{is_same_command, marks_of};
+ghost use Rattle.hwp_law.specs.Lines.{is_same_command};
 ghost use Rattle.hwp_events.specs.Found.{stops};
 ghost use Rattle.hwp_events.specs.Told.{coming, has_result, tells, tells_mark, told};
 
-use crate::records::was_poisoned;
 use crate::shown::{Arrival, Shown};
+use crate::traced::Traced;
 use hwp_banks::Event;
 use hwp_geom::Who;
 use hwp_page::Outcome;
-use hwp_report::{Acted, How, MarkLine, Report};
+use hwp_report::{Acted, How, MarkLine};
 use hwp_script::Script;
 use hwp_severity::{Severity, grade};
 
@@ -69,20 +69,10 @@ fn is_result(marks: &[MarkLine], who: Who, acted: Acted) -> bool
     has_result(who, acted, marks)
 }
 
-/// The record of a frame. One that the report doesn't show has none.
-fn marks_of(report: &Report, frame: u64) -> &[MarkLine]
-    ensures { result.now ≡ marks_of report.now frame }
-{
-    match report.frames.as_slice().get(frame as usize) {
-        Some(line) => line.marks.as_slice(),
-        None => &[],
-    }
-}
-
 /// Whether this was to be done about an event that is a failure of the frame; `held` says that failures are held back.
 fn is_failure_act(
     script: &Script,
-    report: &Report,
+    report: &Traced<'_>,
     who: Who,
     held: bool,
     frame: u64,
@@ -99,15 +89,14 @@ fn is_failure_act(
     if !script.layout.recovery {
         return matches!(acted, Acted::Panic);
     }
-    let marks = marks_of(report, frame);
-    matches!(acted, Acted::Already) && was_poisoned(marks, who, true)
-        || is_result(marks, who, acted)
+    matches!(acted, Acted::Already) && report.was_poisoned(who, frame)
+        || is_result(report.marks_of(frame), who, acted)
 }
 
 /// Whether this was to be done about an event of the severity.
 fn is_act(
     script: &Script,
-    report: &Report,
+    report: &Traced<'_>,
     who: Who,
     held: bool,
     frame: u64,
@@ -148,7 +137,7 @@ pub(crate) fn stops(how: Arrival, event: Event) -> bool
 /// Whether the line tells the event of a bank, the row that graded it, and what was to be done about it.
 pub(crate) fn is_line_of(
     script: &Script,
-    report: &Report,
+    report: &Traced<'_>,
     who: Who,
     how: Arrival,
     held: bool,

@@ -8,9 +8,10 @@ ghost use Rattle.hwp_events.specs.Told.{access_by, coming, told};
 
 use crate::accesses::{access_wrong, asked_by_access, is_raw_line, may_stop};
 use crate::shown::{Arrival, Checks, Shown};
+use crate::traced::Traced;
 use hwp_banks::{Bank, Event};
 use hwp_geom::Who;
-use hwp_report::{Answer, Report};
+use hwp_report::Answer;
 use hwp_script::Script;
 
 /// What is wrong about the event lines of a command: the first that isn't the one that its machine checks ask at its place, if
@@ -31,7 +32,7 @@ pub(crate) fn any(lines: &[Shown]) -> Option<usize>
 /// What is wrong about the lines of an access.
 pub(crate) fn access_faults(
     script: &Script,
-    report: &Report,
+    report: &Traced<'_>,
     who: Who,
     how: Arrival,
     checks: &Checks,
@@ -70,7 +71,7 @@ pub(crate) fn is_raised(answer: Option<Answer>, lines: &[Shown]) -> bool
 /// The first line that a machine check which was raised doesn't ask.
 fn raise_wrong(
     script: &Script,
-    report: &Report,
+    report: &Traced<'_>,
     who: Who,
     how: Arrival,
     raw: Option<Event>,
@@ -91,7 +92,7 @@ fn raise_wrong(
 /// What is wrong about the lines of a raise.
 pub(crate) fn raise_faults(
     script: &Script,
-    report: &Report,
+    report: &Traced<'_>,
     who: Who,
     how: Arrival,
     answer: Option<Answer>,

@@ -12,9 +12,10 @@ ghost use Rattle.hwp_events.specs.Told.{coming, told};
 use crate::faults::{Faults, access_faults, any, raise_faults};
 use crate::scrub_faults::scrub_faults;
 use crate::shown::{Arrival, Checks, Shown};
+use crate::traced::Traced;
 use hwp_banks::{Bank, Event, Origin, Status};
 use hwp_geom::{Frame, Line, Mode, Who};
-use hwp_report::{Answer, Report};
+use hwp_report::Answer;
 use hwp_script::{Command, Script};
 use hwp_severity::McgBits;
 
@@ -82,7 +83,7 @@ fn none_asked(lines: &[Shown]) -> Faults
 /// What is wrong about the lines of an access, by what the report says of it.
 fn judge_access(
     script: &Script,
-    report: &Report,
+    report: &Traced<'_>,
     who: Who,
     how: Arrival,
     origin: Origin,
@@ -104,7 +105,7 @@ fn judge_access(
 /// What is wrong about the lines of a scrub, by what the report says of it.
 fn judge_scrub(
     script: &Script,
-    report: &Report,
+    report: &Traced<'_>,
     who: Who,
     how: Arrival,
     first: Frame,
@@ -128,7 +129,7 @@ fn judge_scrub(
 /// What is wrong about the event lines of a command, where bank 1 holds this; bank 1 is left as the command leaves it.
 pub fn command_faults(
     script: &Script,
-    report: &Report,
+    report: &Traced<'_>,
     who: Who,
     command: &Command,
     known: &Known,

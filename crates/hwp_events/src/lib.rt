@@ -17,11 +17,12 @@ mod scrub_faults;
 mod scrubs;
 mod shown;
 mod tables;
+mod traced;
 mod walk;
 
 pub use faults::Faults;
 pub use judge::{Known, command_faults};
 pub use misfits::Misfits;
 pub use processors::{processor_faults, small_masks};
-pub use records::was_poisoned;
 pub use shown::Shown;
+pub use traced::Traced;

@@ -2,31 +2,31 @@ ghost use Rattle.std.specs.Prelude.{◌≡◌, ◌<◌, ◌≤◌};
 ghost use Rattle.hwp_law.specs.Lines.{bad_lines_of, weak_lines_of};
 ghost use Rattle.hwp_events.specs.Scrubs.{damaged_lines, has_line, has_line_below, line_at};
 
+use crate::traced::Traced;
 use hwp_banks::Origin;
-use hwp_report::Report;
 
 /// The bad lines of a frame.
-pub(crate) fn bad_lines_of(report: &Report, frame: u64) -> u64
+pub(crate) fn bad_lines_of(report: &Traced<'_>, frame: u64) -> u64
     ensures { result ≡ bad_lines_of report.now frame }
 {
-    match report.frames.as_slice().get(frame as usize) {
+    match report.get().frames.as_slice().get(frame as usize) {
         Some(line) => line.bad.0,
         None => 0,
     }
 }
 
 /// The weak lines of a frame.
-pub(crate) fn weak_lines_of(report: &Report, frame: u64) -> u64
+pub(crate) fn weak_lines_of(report: &Traced<'_>, frame: u64) -> u64
     ensures { result ≡ weak_lines_of report.now frame }
 {
-    match report.frames.as_slice().get(frame as usize) {
+    match report.get().frames.as_slice().get(frame as usize) {
         Some(line) => line.weak.0,
         None => 0,
     }
 }
 
 /// The lines of a frame that are damaged so.
-pub(crate) fn damaged_lines(report: &Report, origin: Origin, frame: u64) -> u64
+pub(crate) fn damaged_lines(report: &Traced<'_>, origin: Origin, frame: u64) -> u64
     ensures { result ≡ damaged_lines report.now origin frame }
 {
     match origin {

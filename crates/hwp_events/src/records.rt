@@ -56,7 +56,7 @@ fn may_end(marks: &[MarkLine], who: Who, poisoned: bool) -> bool
 
 /// Whether the frame with this record may have been poisoned, or not, while the command ran.
 #[tactic(auto, using(crate::proofs::EndLaws::may_end_is))]
-pub fn was_poisoned(marks: &[MarkLine], who: Who, poisoned: bool) -> bool
+pub(crate) fn was_poisoned(marks: &[MarkLine], who: Who, poisoned: bool) -> bool
     ensures { IsTrue result ↔ WasPoisoned marks.now who poisoned }
 {
     may_end(marks, who, poisoned)

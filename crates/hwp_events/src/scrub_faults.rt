@@ -10,13 +10,13 @@ use crate::lines::{bad_lines_of, has_line_below};
 use crate::reach::{Range, Reach};
 use crate::scrubs::{LINES, lacking, low_at, place_of, scan};
 use crate::shown::{Arrival, Shown};
+use crate::traced::Traced;
 use hwp_banks::{Bank, Event, Origin};
 use hwp_geom::{Frame, Who};
-use hwp_report::Report;
 use hwp_script::Script;
 
 /// Whether the scrub may meet a bad line of the frame.
-fn can_meet_bad(report: &Report, table: &[u8], whole: bool, frame: u64) -> bool
+fn can_meet_bad(report: &Traced<'_>, table: &[u8], whole: bool, frame: u64) -> bool
     requires { frame < 2 ^ 62 }
     ensures { result ≡ can_meet_bad report.now (low_of table.now whole) frame }
 {
@@ -26,7 +26,7 @@ fn can_meet_bad(report: &Report, table: &[u8], whole: bool, frame: u64) -> bool
 }
 
 /// The place behind a frame's bad line, where the scrub may meet one, or what was found before.
-fn bound_by(report: &Report, table: &[u8], whole: bool, bound: u64, frame: u64) -> u64
+fn bound_by(report: &Traced<'_>, table: &[u8], whole: bool, bound: u64, frame: u64) -> u64
     requires { frame < 2 ^ 62 }
     ensures { result ≡ cond (can_meet_bad report.now (low_of table.now whole) frame) (2 * frame + 1) bound }
 {
@@ -38,7 +38,7 @@ fn bound_by(report: &Report, table: &[u8], whole: bool, bound: u64, frame: u64) 
 }
 
 /// Behind which place a scrub of so many frames from one on can meet no bad line.
-fn bound_of(report: &Report, table: &[u8], whole: bool, first: u64, more: u64) -> u64
+fn bound_of(report: &Traced<'_>, table: &[u8], whole: bool, first: u64, more: u64) -> u64
     requires { first + more < 2 ^ 62 }
     ensures { result ≡ bound_from report.now (low_of table.now whole) 0 first more }
 {
@@ -62,7 +62,7 @@ fn leave(raw: &mut Bank, left: Option<Event>)
 /// What is wrong about the lines of a scrub of these frames, which went to its end or not.
 pub(crate) fn scrub_faults(
     script: &Script,
-    report: &Report,
+    report: &Traced<'_>,
     who: Who,
     how: Arrival,
     table: &[u8],

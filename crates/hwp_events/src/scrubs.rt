@@ -13,9 +13,9 @@ use crate::acts::{is_line_of, is_panic};
 use crate::lines::{damaged_lines, has_line, line_at};
 use crate::reach::{Range, Reach, Turn};
 use crate::shown::{Arrival, Shown};
+use crate::traced::Traced;
 use hwp_banks::{Event, Origin, Status};
 use hwp_geom::{Frame, Line, Who};
-use hwp_report::Report;
 use hwp_script::Script;
 
 /// The greatest line number, and one more.
@@ -78,7 +78,7 @@ fn tells_own(origin: Origin, line: &Shown) -> bool
 
 /// Whether the scrub may still meet the line, at its place.
 fn may_meet(
-    report: &Report,
+    report: &Traced<'_>,
     table: &[u8],
     range: Range,
     origin: Origin,
@@ -99,7 +99,7 @@ fn may_meet(
 }
 
 /// What a line is to the scrub.
-fn turn(report: &Report, table: &[u8], range: Range, reach: Reach, line: &Shown) -> Turn
+fn turn(report: &Traced<'_>, table: &[u8], range: Range, reach: Reach, line: &Shown) -> Turn
     ensures turn { result ≡ turn report.now (course_of table.now range) reach (told line.now) }
     ensures ahead { IsAhead range reach (told line.now) result }
 {
@@ -196,7 +196,7 @@ fn is_held(how: Arrival, raw: Option<Event>) -> bool
 /// Whether the line is right as what it is to the scrub.
 fn is_scrubbed_line(
     script: &Script,
-    report: &Report,
+    report: &Traced<'_>,
     who: Who,
     how: Arrival,
     reach: Reach,
@@ -257,7 +257,7 @@ pub(crate) struct Scanned {
 /// Goes over the lines of a scrub.
 pub(crate) fn scan(
     script: &Script,
-    report: &Report,
+    report: &Traced<'_>,
     who: Who,
     how: Arrival,
     table: &[u8],

@@ -8,9 +8,10 @@ use crate::judge::{Known, command_faults};
 use crate::misfits::Misfits;
 use crate::shown::Shown;
 use crate::tables::mark;
+use crate::traced::Traced;
 use hwp_banks::Bank;
 use hwp_geom::{Cpu, List, Who};
-use hwp_report::{Answer, CpuLine, Report};
+use hwp_report::{Answer, CpuLine};
 use hwp_script::{Command, Script};
 
 /// The lower of a row that was found so far, if one was, and one more.
@@ -51,7 +52,7 @@ fn join(found: Misfits, faults: Faults, lines: &[Shown]) -> Misfits
 /// machine checks. The table of marked lines is filled.
 pub(crate) fn walk(
     script: &Script,
-    report: &Report,
+    report: &Traced<'_>,
     cpu: Cpu,
     commands: &[Command],
     rows: &[CpuLine],

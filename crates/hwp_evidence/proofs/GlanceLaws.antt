@@ -1,6 +1,7 @@
 -- What was to be seen of a page at a place tells which states it had there.
-use Rattle.std.proofs.Common.{◌≡◌, ◌≢◌, ◌↔◌, ◌⊎◌, inl, inr, ℕ, zero, suc, ◌<◌, ◌≤◌, ◌&&◌, ◌||◌, not, Bool, true, false, List, [], ◌∷◌, Option, Some, None, MatchOption, IsTrue, length, take, slice_get, option_and_then, refl, sym, ap, ◌∙◌, subst, true≢false, arith}
+use Rattle.std.proofs.Common.{◌≡◌, ◌≢◌, ◌↔◌, ◌⊎◌, inl, inr, ℕ, zero, suc, ◌<◌, ◌≤◌, ◌&&◌, ◌||◌, not, Bool, true, false, List, [], ◌∷◌, ◌++◌, ◌+◌, ◌-◌, Option, Some, None, MatchOption, IsTrue, append_assoc, drop, get_or, length, take, slice_get, option_and_then, refl, sym, ap, ◌∙◌, subst, true≢false, arith}
 use Rattle.std.proofs.lemmas.Bool.{cases_lt}
+use Rattle.std.proofs.lemmas.List.{drop_more, length_push}
 use Rattle.std.proofs.lemmas.Option.{none-some, same_Some, slice_get_within}
 use Rattle.std.specs.Cmp.{nat_cmp_total}
 use Rattle.std.specs.FinSet as set
@@ -22,6 +23,7 @@ use Rattle.hwp_law.specs.States.{HadState}
 use Rattle.hwp_evidence.specs.declared.glances.Glance.{Glance}
 use Rattle.hwp_evidence.specs.Glances.{AreGlances, glance_at, glance_of, glances_from}
 use Rattle.hwp_evidence.proofs.Reading.{item_at}
+use Rattle.hwp_evidence.proofs.RepeatLaws.{held-last}
 
 glance-get : (s : PageState) (es : List Entry) (n : ℕ) → n ≤ length es → slice_get (glances_from s es) n ≡ Some (glance_of (state_after s (take n es)))
 glance-get s [] zero low = refl
@@ -34,6 +36,35 @@ glance-past s [] zero low = absurd (omega (arith, low))
 glance-past s [] (suc n) low = refl
 glance-past s (e ∷ es) zero low = absurd (omega (arith, low))
 glance-past s (e ∷ es) (suc n) low = glance-past (after s e.what) es n (omega (arith, low))
+
+-- behind the first one
+abbrev pub later : PageState → List Entry → List Glance
+later s [] = []
+later s (e ∷ rest) = glances_from (after s e.what) rest
+
+first-later : (s : PageState) (es : List Entry) → glance_of s ∷ later s es ≡ glances_from s es
+first-later s [] = refl
+first-later s (e ∷ rest) = refl
+
+pub begins : (s : PageState) (es : List Entry) → ([] ++ glance_of s ∷ []) ++ later s es ≡ glances_from s es
+begins s es = first-later s es
+
+-- one entry more
+pub goes-on : (list all : List Glance) (s : PageState) (e : Entry) (rest : List Entry) → list ++ later s (e ∷ rest) ≡ all
+    → (list ++ glance_of (after s e.what) ∷ []) ++ later (after s e.what) rest ≡ all
+goes-on list all s e rest so = append_assoc list (glance_of (after s e.what) ∷ []) (later (after s e.what) rest) ∙ ap (λ (l : List Glance). list ++ l) (first-later (after s e.what) rest) ∙ so
+
+pub goes-on-at : (list all : List Glance) (s : PageState) (entries : List Entry) (n : ℕ) (e : Entry) → n < length entries → e ≡ get_or entries n e → list ++ later s (drop n entries) ≡ all
+    → (list ++ glance_of (after s e.what) ∷ []) ++ later (after s e.what) (drop (n + 1) entries) ≡ all
+goes-on-at list all s entries n e low there so = goes-on list all s e (drop (n + 1) entries) (ap (λ (es : List Entry). list ++ later s es) (sym cut) ∙ so)
+  where
+    cut : drop n entries ≡ e ∷ drop (n + 1) entries
+    cut = drop_more entries n e low ∙ ap (λ (x : Entry). x ∷ drop (n + 1) entries) (sym there)
+
+pub last-pushed : (list : List Glance) (g : Glance) → slice_get (list ++ g ∷ []) (length (list ++ g ∷ []) - 1) ≡ Some g
+last-pushed list g =
+    let place : length (list ++ g ∷ []) - 1 ≡ length list = omega (arith, length_push list g) in
+    ap (slice_get (list ++ g ∷ [])) place ∙ held-last list g
 
 -- the state that was there
 pub record StoodAt (layout : Layout) (pages : List (List Entry)) (at : At) (state : PageState) : Type 1 where

@@ -1,5 +1,6 @@
 pub mod Reading
 mod AmpleLaws
+mod RepeatLaws
 mod GlanceLaws
 mod SpanLaws
 pub mod WindowLaws

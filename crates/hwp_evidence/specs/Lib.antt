@@ -5,4 +5,5 @@ pub mod Firsts
 pub mod Glances
 pub mod Marked
 pub mod Named
+pub mod Repeats
 pub mod Windows

@@ -1,15 +1,17 @@
-ghost use Rattle.std.specs.Prelude.{◌≡◌, ◌≢◌, ◌↔◌, ◌&&◌, IsTrue, IfOk, length, true, false};
+ghost use Rattle.std.specs.Prelude.{◌≡◌, ◌≢◌, ◌↔◌, ◌&&◌, ◌-◌, ◌++◌, ◌∷◌, [], IsTrue, IfOk, OnOk, Some, length, slice_get, true, false};
 ghost use Rattle.std.specs.List.{All};
 ghost use Rattle.std.specs.FinSet as set;
 ghost use Rattle.std.specs.Option.{option_copied};
 ghost use Rattle.hwp_page.specs.Refusals.{IsAway, IsDirty, IsMapped, IsUnused};
-ghost use Rattle.hwp_page.specs.Step.{MapsWithin, opening_of};
+ghost use Rattle.hwp_page.specs.Step.{MapsWithin, after, opening_of};
+ghost use Rattle.hwp_page.specs.declared.PageState.{PageState as State};
 ghost use Rattle.hwp_law.specs.States.{HadState};
 ghost use Rattle.hwp_evidence.specs.Glances.{AreGlances, AreLegalSteps, glance_at, glance_of, glances_from};
 
+use crate::repeats::Repeats;
 use hwp_geom::{Layout, List, OutOfMemory, PageKind, VSlot};
 use hwp_kill::Slots;
-use hwp_page::{At, Entry, PageState};
+use hwp_page::{At, Entry, PageState, What};
 use std::alloc::Global;
 
 /// What answers tell of a page's state.
@@ -32,22 +34,43 @@ fn look(state: &PageState) -> Glance
     }
 }
 
+/// Whether what happened leaves the page's state as it was; it may say no of what does.
+fn leaves(what: &What) -> bool
+    ensures { IsTrue result → (s : State) → after s what.now ≡ s }
+{
+    matches!(what, What::Load { .. } | What::Mce { .. } | What::Soft)
+}
+
+/// Goes on to the state behind what happened, and adds what answers tell of it; the last one was of the state before.
+fn go_on(list: &mut Repeats<Glance>, state: &mut PageState, what: &What) -> Result<(), OutOfMemory>
+    requires within { MapsWithin what.now }
+    requires last { slice_get list.old (length list.old - 1) ≡ Some (glance_of state.old) }
+    ensures state { state.new ≡ after state.old what.now }
+    ensures list { OnOk result (list.new ≡ list.old ++ glance_of (after state.old what.now) ∷ []) }
+{
+    if leaves(what) {
+        list.again()
+    } else {
+        state.step(what);
+        list.push(look(state))
+    }
+}
+
 /// That of the state of a page of this kind before each of its entries, and behind the last.
 fn page_glances(
     alloc: Global,
     kind: PageKind,
     entries: &[Entry],
-) -> Result<List<Glance>, OutOfMemory>
+) -> Result<Repeats<Glance>, OutOfMemory>
     requires { All (λ (e : Entry). MapsWithin e.what) entries.now }
     ensures { IfOk result (λ list. list ≡ glances_from (opening_of kind) entries.now) }
 {
-    let mut list = List::new(alloc);
+    let mut list = Repeats::new(alloc, entries.len() + 1)?;
     let mut state = PageState::opening(kind);
-    for entry in entries {
-        list.push(look(&state))?;
-        state.step(&entry.what);
-    }
     list.push(look(&state))?;
+    for entry in entries {
+        go_on(&mut list, &mut state, &entry.what)?;
+    }
     Ok(list)
 }
 
@@ -56,7 +79,7 @@ pub fn glances_of(
     alloc: Global,
     layout: &Layout,
     pages: &[List<Entry>],
-) -> Result<Vec<List<Glance>>, OutOfMemory>
+) -> Result<Vec<Repeats<Glance>>, OutOfMemory>
     requires many { length layout.now.pages ≡ length pages.now }
     requires legal { AreLegalSteps pages.now }
     ensures { IfOk result (λ all. AreGlances layout.now pages.now all.items) }
@@ -70,15 +93,15 @@ pub fn glances_of(
 }
 
 /// What was to be seen of a page at a place of its history, if there is such a place.
-fn glance_at(all: &[List<Glance>], at: At) -> Option<&Glance>
+fn glance_at(all: &[Repeats<Glance>], at: At) -> Option<&Glance>
     ensures { option_copied result ≡ glance_at all.now at }
 {
     let list = all.get(usize::from(at.page.0))?;
-    list.as_slice().get(at.entry as usize)
+    list.get(at.entry)
 }
 
 /// Whether the page was in no frame there.
-pub fn was_away(layout: &Layout, pages: &[List<Entry>], all: &[List<Glance>], at: At) -> bool
+pub fn was_away(layout: &Layout, pages: &[List<Entry>], all: &[Repeats<Glance>], at: At) -> bool
     requires { AreGlances layout.now pages.now all.now }
     ensures { IsTrue result ↔ HadState layout.now pages.now at IsAway }
 {
@@ -89,7 +112,7 @@ pub fn was_away(layout: &Layout, pages: &[List<Entry>], all: &[List<Glance>], at
 }
 
 /// Whether it was in one.
-pub fn was_cached(layout: &Layout, pages: &[List<Entry>], all: &[List<Glance>], at: At) -> bool
+pub fn was_cached(layout: &Layout, pages: &[List<Entry>], all: &[Repeats<Glance>], at: At) -> bool
     requires { AreGlances layout.now pages.now all.now }
     ensures { IsTrue result ↔ HadState layout.now pages.now at (λ s. s.cached ≡ true) }
 {
@@ -107,7 +130,7 @@ fn is_dirty(glance: &Glance) -> bool
 }
 
 /// Whether it was in one, and its content didn't stand behind it.
-pub fn was_dirty(layout: &Layout, pages: &[List<Entry>], all: &[List<Glance>], at: At) -> bool
+pub fn was_dirty(layout: &Layout, pages: &[List<Entry>], all: &[Repeats<Glance>], at: At) -> bool
     requires { AreGlances layout.now pages.now all.now }
     ensures { IsTrue result ↔ HadState layout.now pages.now at IsDirty }
 {
@@ -132,7 +155,7 @@ fn is_mapped(glance: &Glance) -> bool
 }
 
 /// Whether it was in one, its content stood behind it, and translations led to it.
-pub fn was_mapped(layout: &Layout, pages: &[List<Entry>], all: &[List<Glance>], at: At) -> bool
+pub fn was_mapped(layout: &Layout, pages: &[List<Entry>], all: &[Repeats<Glance>], at: At) -> bool
     requires { AreGlances layout.now pages.now all.now }
     ensures { IsTrue result ↔ HadState layout.now pages.now at IsMapped }
 {
@@ -146,7 +169,7 @@ pub fn was_mapped(layout: &Layout, pages: &[List<Entry>], all: &[List<Glance>], 
 pub fn was_unused(
     layout: &Layout,
     pages: &[List<Entry>],
-    all: &[List<Glance>],
+    all: &[Repeats<Glance>],
     at: At,
     slot: VSlot,
 ) -> bool

@@ -9,6 +9,7 @@ mod firsts;
 mod glances;
 mod marked;
 mod named;
+mod repeats;
 mod windows;
 
 pub use ample::is_ample;
@@ -20,4 +21,5 @@ pub use marked::{
     came_to, marks_of, reported, was_hardware_seen, was_moved, was_taken_back, was_taken_free,
 };
 pub use named::{is_elsewhere, others};
+pub use repeats::Repeats;
 pub use windows::{Span, is_in_span, is_not_below, no_floors, raise, spans};

@@ -1,15 +1,21 @@
 -- What a verdict on a text says of the law.
-use Rattle.std.proofs.Common.{◌≡◌, ℕ, List, inl, inr, refl, subst, arith}
+use Rattle.std.proofs.Common.{◌≡◌, ℕ, ◌<◌, ◌≤◌, ◌^◌, List, Result, Ok, Err, IfOk, IfErr, length, inl, inr, refl, sym, subst, arith}
 use Rattle.hwp_script.specs.declared.Script.{Script}
+use Rattle.hwp_script.specs.Reads.{Reads}
 use Rattle.hwp_script.specs.Valid.{IsValid}
 use Rattle.hwp_report.specs.declared.Report.{Report}
-use Rattle.hwp_report_read.specs.Texts.{IsFaultAt, IsReportOf}
+use Rattle.hwp_report_read.specs.declared.reading.BadReport.{BadReport}
+use Rattle.hwp_report_read.specs.declared.reading.BadReport.TheVariants as faults
+use Rattle.hwp_report_read.specs.Texts.{IsFaultAt, IsFaultOf, IsReportOf}
 use Rattle.hwp_law.specs.Law.{IsLawful}
 use Rattle.hwp_check_rules.specs.declared.verdicts.Verdict.{Verdict}
 use Rattle.hwp_check_rules.specs.declared.verdicts.Verdict.TheVariants as verdicts
+use Rattle.hwp_check_rules.specs.Standing.{last_line}
 use Rattle.hwp_check_rules.specs.Verdicts.{IsVerdict}
 use Rattle.hwp_check_rules.proofs.Lawful.{lawful-holds}
-use Rattle.hwp_judge.specs.Judging.{IsJudged, IsLegal}
+use Rattle.hwp_judge.specs.Judging.{IsJudged, IsJudgedInput, IsLegal, IsSaid}
+use Rattle.hwp_judge.specs.Parting.{IsParted}
+use Rattle.hwp_judge.proofs.LineCounts.{last-within}
 
 -- a verdict that isn't `Legal`
 abbrev IsNot : Verdict → Type 0
@@ -36,3 +42,30 @@ on-report script bytes report (verdicts.Not place n) valid text broken = record 
   legal = λ legal. absurd (broken.3.broken (lawful-holds script report valid.one_each (subst (λ (r : Report). IsLawful script r) (text.only legal.report legal.text) legal.lawful) broken.0));
   lawful = λ is. absurd (subst IsNot is tt);
 }
+
+-- the verdict on what was read of a text is that on the text
+pub said-judged : (script : Script) (bytes : List ℕ) (text : Result Report BadReport) (verdict : Verdict) → IsValid script → IfOk text (IsReportOf bytes) → IfErr text (IsFaultOf bytes)
+    → IsSaid script text verdict → IsJudged script bytes verdict
+said-judged script bytes (Ok report) verdict valid is fault told = on-report script bytes report verdict valid is told
+said-judged script bytes (Err (faults.Line place)) verdict valid is fault told = subst (λ (v : Verdict). IsJudged script bytes v) (sym told) (no-report script bytes place fault)
+said-judged script bytes (Err faults.OutOfMemory) verdict valid is fault told = absurd told
+
+-- a report that was read has few lines
+pub read-fits : (bytes : List ℕ) (text : Result Report BadReport) → length bytes < 2 ^ 64 → IfOk text (IsReportOf bytes) → IfOk text (λ (r : Report). last_line r < 2 ^ 64)
+read-fits bytes (Ok report) few is =
+    let within : last_line report ≤ length bytes = last-within bytes report is.text in
+    omega (arith, few, within)
+read-fits bytes (Err fault) few is = tt
+
+-- the verdict on an input, by what was read of it
+pub judged-input : {E F : Type 0} (input first behind : List ℕ) (script : Script) (text : Result Report BadReport) (judged : Result Verdict E) (told : Result Verdict F) → IsParted input first behind → Reads first script
+    → IsValid script → IfOk text (IsReportOf behind) → IfErr text (IsFaultOf behind) → IfOk judged (IsSaid script text) → IfOk told (λ (v : Verdict). judged ≡ Ok v) → IfOk told (IsJudgedInput input)
+judged-input {E = E} input first behind script text judged (Ok verdict) parted reads valid is fault said same = record {
+  first = first;
+  behind = behind;
+  parted = parted;
+  script = script;
+  reads = reads;
+  judged = said-judged script behind text verdict valid is fault (subst (λ (j : Result Verdict E). IfOk j (IsSaid script text)) same said);
+}
+judged-input input first behind script text judged (Err fault_told) parted reads valid is fault said same = tt

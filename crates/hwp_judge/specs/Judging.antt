@@ -1,9 +1,11 @@
 -- What is said of a text on a script.
-use Rattle.std.specs.Prelude.{◌≡◌, ℕ, ◌⊎◌, List}
+use Rattle.std.specs.Prelude.{◌≡◌, ℕ, ◌⊎◌, List, Result, Ok, Err}
 use Rattle.hwp_script.specs.declared.Refused.{Refused}
 use Rattle.hwp_script.specs.declared.Script.{Script}
 use Rattle.hwp_script.specs.Reads.{IsRefused, Reads}
 use Rattle.hwp_report.specs.declared.Report.{Report}
+use Rattle.hwp_report_read.specs.declared.reading.BadReport.{BadReport}
+use Rattle.hwp_report_read.specs.declared.reading.BadReport.TheVariants as faults
 use Rattle.hwp_report_read.specs.Texts.{IsFaultAt, IsReportOf, IsTextOf}
 use Rattle.hwp_law.specs.Law.{IsLawful}
 use Rattle.hwp_check_rules.specs.declared.verdicts.Verdict.{Verdict}
@@ -27,6 +29,12 @@ pub record IsOnReport (script : Script) (bytes : List ℕ) (verdict : Verdict) :
 abbrev pub IsNoReport : List ℕ → Verdict → Type 0
 IsNoReport bytes verdicts.Legal = ⊥
 IsNoReport bytes (verdicts.Not place rule) = (rule ≡ 1) × IsFaultAt bytes place
+
+-- the verdict on what was read of a text: the report, or the line at fault, which breaks the first rule
+abbrev pub IsSaid : Script → Result Report BadReport → Verdict → Type 0
+IsSaid script (Ok report) verdict = IsVerdict script report verdict
+IsSaid script (Err (faults.Line place)) verdict = verdict ≡ verdicts.Not place 1
+IsSaid script (Err faults.OutOfMemory) verdict = ⊥
 
 -- the verdict on the bytes; it is `Legal` exactly where they are the text of a report that keeps the law
 pub record IsJudged (script : Script) (bytes : List ℕ) (verdict : Verdict) : Type 0 where

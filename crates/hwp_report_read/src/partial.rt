@@ -1,4 +1,4 @@
-ghost use Rattle.std.specs.Prelude.{◌≡◌, IfOk};
+ghost use Rattle.std.specs.Prelude.{◌≡◌, [], IfOk};
 ghost use Rattle.hwp_report_read.specs.Follows.{add_entry, add_line, after_entry, after_files, after_frame, after_head, after_line, after_nothing, after_seen, after_signal, after_stop, entry_of, follow, open_cpu, open_frame, open_page, report_of, seen_so_far, signals_so_far};
 
 use hwp_geom::{List, OutOfMemory};
@@ -7,6 +7,9 @@ use hwp_page::{Entry, What};
 use hwp_report::{CpuLine, FrameLine, Report, Stop};
 use hwp_report_lines::{Failure, Form};
 use std::alloc::Global;
+
+/// The most items for which a list has room before any was read.
+const MOST_ROOM: u64 = 65_536;
 
 /// What stands before the frames.
 #[derive(Drop)]
@@ -143,6 +146,14 @@ impl Partial {
     }
 }
 
+/// The empty list, with room for as many items as a heading says, up to a bound.
+fn with_room<T>(alloc: Global, count: u64) -> Result<List<T>, OutOfMemory>
+    ensures { IfOk result (λ list. list ≡ []) }
+{
+    let room = count.min(MOST_ROOM) as usize;
+    Ok(List::from_vec(Vec::with_capacity(alloc, room)?))
+}
+
 /// The head of a report.
 fn begun(line: Form) -> Option<Partial>
     ensures { result ≡ after_nothing line }
@@ -192,7 +203,7 @@ fn with_file(alloc: Global, front: Front, line: Form) -> Result<Option<Partial>,
         }
         line => {
             let frames = List::new(alloc);
-            Ok(frame_begun(alloc, Framed { front, frames }, line))
+            frame_begun(alloc, Framed { front, frames }, line)
         }
     }
 }
@@ -215,14 +226,14 @@ fn with_mark(
         line => {
             let mut framed = framed;
             framed.frames.push(frame)?;
-            Ok(frame_begun(alloc, framed, line))
+            frame_begun(alloc, framed, line)
         }
     }
 }
 
 /// The next frame, or what stands behind the frames.
-fn frame_begun(alloc: Global, framed: Framed, line: Form) -> Option<Partial>
-    ensures { result ≡ open_frame framed line }
+fn frame_begun(alloc: Global, framed: Framed, line: Form) -> Result<Option<Partial>, OutOfMemory>
+    ensures { IfOk result (λ next. next ≡ open_frame framed line) }
 {
     match line {
         Form::Frame {
@@ -232,7 +243,7 @@ fn frame_begun(alloc: Global, framed: Framed, line: Form) -> Option<Partial>
             weak,
         } => {
             if number != framed.frames.len() as u64 {
-                return None;
+                return Ok(None);
             }
             let marks = List::new(alloc);
             let frame = FrameLine {
@@ -241,7 +252,7 @@ fn frame_begun(alloc: Global, framed: Framed, line: Form) -> Option<Partial>
                 weak,
                 marks,
             };
-            Some(Partial::Frames(framed, frame))
+            Ok(Some(Partial::Frames(framed, frame)))
         }
         line => {
             let pages = List::new(alloc);
@@ -251,19 +262,28 @@ fn frame_begun(alloc: Global, framed: Framed, line: Form) -> Option<Partial>
 }
 
 /// The next page, or what stands behind the pages.
-fn page_begun(alloc: Global, paged: Paged, line: Form) -> Option<Partial>
-    ensures { result ≡ open_page paged line }
+fn page_begun(alloc: Global, paged: Paged, line: Form) -> Result<Option<Partial>, OutOfMemory>
+    ensures { IfOk result (λ next. next ≡ open_page paged line) }
 {
     match line {
-        Form::Page { number, entries } => {
+        Form::Page {
+            number,
+            entries: count,
+        } => {
             if number != paged.pages.len() as u64 {
-                return None;
+                return Ok(None);
             }
-            Some(Partial::Pages(OpenPage {
-                paged,
-                count: entries,
-                entries: List::new(alloc),
-            }))
+            match with_room(alloc, count) {
+                Ok(entries) => Ok(Some(Partial::Pages(OpenPage {
+                    paged,
+                    count,
+                    entries,
+                }))),
+                Err(refused) => {
+                    drop(paged);
+                    Err(refused)
+                }
+            }
         }
         line => {
             let cpus = List::new(alloc);
@@ -273,22 +293,27 @@ fn page_begun(alloc: Global, paged: Paged, line: Form) -> Option<Partial>
 }
 
 /// The next processor, or the end.
-fn cpu_begun(alloc: Global, ran: Ran, line: Form) -> Option<Partial>
-    ensures { result ≡ open_cpu ran line }
+fn cpu_begun(alloc: Global, ran: Ran, line: Form) -> Result<Option<Partial>, OutOfMemory>
+    ensures { IfOk result (λ next. next ≡ open_cpu ran line) }
 {
     match line {
-        Form::Cpu { number, lines } => {
+        Form::Cpu {
+            number,
+            lines: count,
+        } => {
             if number != ran.cpus.len() as u64 {
-                return None;
+                return Ok(None);
             }
-            Some(Partial::Cpus(OpenCpu {
-                ran,
-                count: lines,
-                lines: List::new(alloc),
-            }))
+            match with_room(alloc, count) {
+                Ok(lines) => Ok(Some(Partial::Cpus(OpenCpu { ran, count, lines }))),
+                Err(refused) => {
+                    drop(ran);
+                    Err(refused)
+                }
+            }
         }
-        Form::End => Some(Partial::Whole(ran.into_report())),
-        _ => None,
+        Form::End => Ok(Some(Partial::Whole(ran.into_report()))),
+        _ => Ok(None),
     }
 }
 
@@ -300,7 +325,7 @@ fn with_entry(alloc: Global, page: OpenPage, line: Form) -> Result<Option<Partia
         let OpenPage { paged, entries, .. } = page;
         let mut paged = paged;
         paged.pages.push(entries)?;
-        Ok(page_begun(alloc, paged, line))
+        page_begun(alloc, paged, line)
     } else {
         entry_added(alloc, page, line)
     }
@@ -400,7 +425,7 @@ fn with_cpu_line(alloc: Global, cpu: OpenCpu, line: Form) -> Result<Option<Parti
         let OpenCpu { ran, lines, .. } = cpu;
         let mut ran = ran;
         ran.cpus.push(lines)?;
-        Ok(cpu_begun(alloc, ran, line))
+        cpu_begun(alloc, ran, line)
     } else {
         line_added(cpu, line)
     }

@@ -49,7 +49,7 @@ pub(crate) fn checked<S: Source>(alloc: Global, src: &mut S) -> Result<Output, I
     ensures fault { IsErrOf result InputFault.ReadFault → Rose (S.faults src.old) (S.faults src.new) }
 {
     let bytes = take_input(alloc, src)?;
-    let verdict = match judge(alloc, bytes.as_slice()) {
+    let verdict = match judge(alloc, bytes) {
         Ok(verdict) => verdict,
         Err(ReadScript::Refused(refused)) => return Err(InputFault::Refused(refused)),
         Err(ReadScript::OutOfMemory) => return Err(InputFault::OutOfMemory),

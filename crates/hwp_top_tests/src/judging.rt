@@ -2,6 +2,7 @@
 
 use crate::helpers::step;
 use hwp_check_rules::Verdict;
+use hwp_io::{MemSource, read_all};
 use hwp_judge::judge;
 use std::alloc::Global;
 use std::process::Abort;
@@ -29,7 +30,10 @@ pub fn scheduled(rt: &impl Abort, alloc: Global, front: &str, turns: u32, number
 pub fn are_legal(rt: &impl Abort, alloc: Global, script: &str, report: &[u8]) {
     let mut input = script.as_bytes().to_vec(alloc).expect(rt, "memory");
     input.extend_from_slice(report).expect(rt, "memory");
-    let verdict = judge(alloc, input.as_slice()).expect(rt, "a script");
+    let limit = input.len();
+    let mut src = MemSource::new(input, Vec::new(alloc));
+    let input = read_all(alloc, &mut src, limit).expect(rt, "the input");
+    let verdict = judge(alloc, input).expect(rt, "a script");
     assert!(rt; matches!(verdict, Verdict::Legal));
 }
 

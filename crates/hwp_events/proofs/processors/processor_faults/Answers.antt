@@ -1,5 +1,6 @@
 use Rattle.std.proofs.Common.{List, length, subst}
 use Rattle.hwp_report.specs.declared.CpuLine.{CpuLine}
+use Rattle.hwp_report.specs.declared.Report.{Report}
 use Rattle.hwp_events.specs.Walked.{IsWalked}
 use Rattle.hwp_events.proofs.Verdicts.{processor-judged}
 use Rattle.hwp_events.proofs.processors.processor_faults.Goals as goal
@@ -7,4 +8,5 @@ use Rattle.hwp_events.proofs.processors.processor_faults.Goals as goal
 pub returns : goal.returns
 returns c =
     processor-judged c.args.script.now c.args.report.now c.args.cpu c.args.commands.now c.requires.valid c.small_masks.ensures c.requires.of_script c.walk.result
-    (subst (λ (rows : List CpuLine). IsWalked c.args.script.now c.args.report.now c.args.cpu c.args.commands.now rows (length c.args.commands.now) c.walk.result) c.rows_on-rows.ensures c.walk.ensures)
+    (subst (λ (rows : List CpuLine). IsWalked c.args.script.now c.args.report.now c.args.cpu c.args.commands.now rows (length c.args.commands.now) c.walk.result) c.rows_on-rows.ensures
+    (subst (λ (told : Report). IsWalked c.args.script.now told c.args.cpu c.args.commands.now c.rows_on-rows.result.now (length c.args.commands.now) c.walk.result) c.new-traced.ensures c.walk.ensures))

@@ -1,0 +1,4 @@
+mod NearLaws
+mod RunLaws
+mod WindowLaws
+mod PastLaws

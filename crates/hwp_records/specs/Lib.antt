@@ -1,0 +1,2 @@
+pub mod Nears
+pub mod Windows

@@ -1,0 +1,9 @@
+//! The records of frames: whether a frame was poisoned, or wasn't, while a command ran. What is asked is kept for all commands of
+//! a processor, so that an answer doesn't walk over the record.
+#![tactic(auto)]
+
+mod nears;
+mod windows;
+
+pub use nears::{Nears, Past, past_of};
+pub use windows::was_poisoned;
