@@ -22,8 +22,8 @@ usage: hwp step < SCRIPT > REPORT
 Simulates Linux memory failure (hwpoison) behind machine-check banks, on a
 machine of its own. docs/FORMATS.md has the formats.
 
-  hwp step     reads a fault script from standard input, runs it, and writes the
-               report to standard output
+  hwp step     reads a fault script from standard input, runs it on its
+               schedule, and writes the report to standard output
   hwp run      does the same with each processor on a thread of its own, in
                whatever order they come; the schedule isn't used
   hwp check    reads a script and the report behind it, and writes `legal`, or
@@ -35,7 +35,10 @@ machine of its own. docs/FORMATS.md has the formats.
 
 Exit status: 0 done, 1 done and the report isn't legal, 8 done and the machine
 stopped, 2 wrong words, 3 the script is refused, 4 a read failed, 5 a write
-failed, 6 out of memory.";
+failed, 6 out of memory.
+
+docs/TUTORIAL.md makes a race in ten steps, and `hwp-trace --help` tells of the
+program that shows each turn of a run.";
 
 /// The exit status of a program that is out of memory.
 const OUT_OF_MEMORY: u8 = 6;

@@ -22,7 +22,7 @@ use Rattle.hwp_hold.specs.declared.give_up.GiveUpAt.TheVariants as give_up_at
 use Rattle.hwp_hold.specs.GiveUps as give_ups
 use Rattle.hwp_hold.specs.Unholds as unholds
 use Rattle.hwp_hold.specs.Unlocks as unlocks
-use Rattle.hwp_hold.proofs.FillCosts.{give-up-falls, give-up-mild, give-up-ranked}
+use Rattle.hwp_hold.proofs.GiveUpCosts.{give-up-falls, give-up-mild, give-up-ranked}
 use Rattle.hwp_hold.proofs.Ranking.{unhold-small}
 use Rattle.hwp_hold.proofs.Unlocking.{unlock-small}
 use Rattle.hwp_evict.specs.declared.clear.Clear.{Clear}

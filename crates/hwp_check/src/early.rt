@@ -9,7 +9,7 @@ use hwp_report::Report;
 use hwp_script::Script;
 
 /// The verdict, where one of the rules before that of answers is broken.
-pub fn early_verdict(script: &Script, report: &Report) -> Option<Verdict>
+pub(crate) fn early_verdict(script: &Script, report: &Report) -> Option<Verdict>
     requires valid { IsValid script.now }
     requires room { last_line report.now < 2 ^ 64 }
     ensures { MatchOption result (HoldBelow 3 script.now report.now) (IsVerdict script.now report.now) }

@@ -50,7 +50,11 @@ fn counted_verdict(script: &Script, report: &Report) -> Option<Verdict>
 }
 
 /// The verdict, where the rule of answers and those before it hold.
-pub fn late_verdict(alloc: Global, script: &Script, report: &Report) -> Result<Verdict, OutOfMemory>
+pub(crate) fn late_verdict(
+    alloc: Global,
+    script: &Script,
+    report: &Report,
+) -> Result<Verdict, OutOfMemory>
     requires valid { IsValid script.now }
     requires room { last_line report.now < 2 ^ 64 }
     requires below { HoldBelow 4 script.now report.now }

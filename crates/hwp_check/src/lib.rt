@@ -7,5 +7,3 @@ mod early;
 mod late;
 
 pub use deciding::check;
-pub use early::early_verdict;
-pub use late::late_verdict;

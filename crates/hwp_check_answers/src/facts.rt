@@ -1,14 +1,15 @@
 ghost use Rattle.std.specs.Prelude.{◌≡◌, ◌≤◌, IfOk, false, length, slice_index_or};
 ghost use Rattle.hwp_kill.specs.declared.Policy.TheVariants.{Default};
 ghost use Rattle.hwp_check_answers.specs.Facts.{AreFacts, AreNamings};
+ghost use Rattle.hwp_check_causes.specs.Knowing.{IsOwn};
 
 use crate::judging::Naming;
-use hwp_check_causes::{Told, policies_before};
-use hwp_evidence::{entries_named, event_counts, event_ends, first_answers, others};
+use hwp_check_causes::{Own, Told, own_of, policies_before};
+use hwp_evidence::{entries_named, event_counts, event_ends, first_answers};
 use hwp_geom::{Cpu, OutOfMemory};
 use hwp_kill::Policy;
 use hwp_report::{CpuLine, Report};
-use hwp_script::Command;
+use hwp_script::{Command, Script};
 use std::alloc::Global;
 
 /// What is known of the commands of one processor by their numbers.
@@ -40,28 +41,25 @@ pub(crate) fn facts_of(
     })
 }
 
-/// The entries that the commands' answers name.
+/// What is known of a report for the answers of a processor, and the entries that its commands' answers name.
 #[tactic(auto, using(crate::proofs::FactLaws::namings))]
-pub(crate) fn naming_of(
+pub(crate) fn own_and_naming(
     alloc: Global,
+    script: &Script,
     report: &Report,
     cpu: Cpu,
     commands: &[Command],
     rows: &[CpuLine],
-) -> Result<Naming, OutOfMemory>
+) -> Result<(Own, Naming), OutOfMemory>
     requires { length report.now.pages ≤ 256 }
-    ensures { IfOk result (λ naming. AreNamings report.now cpu commands.now rows.now naming) }
+    ensures own { IfOk result (λ known. IsOwn script.now report.now cpu known.0) }
+    ensures naming { IfOk result (λ known. AreNamings report.now cpu commands.now rows.now known.1) }
 {
     let answers = first_answers(alloc, commands.len(), rows)?;
     let named = entries_named(alloc, answers.as_slice())?;
-    let others = others(
-        alloc,
-        commands.len(),
-        named.as_slice(),
-        cpu,
-        report.pages.as_slice(),
-    )?;
-    Ok(Naming { named, others })
+    let count = commands.len();
+    let (own, others) = own_of(alloc, script, report, cpu, count, named.as_slice())?;
+    Ok((own, Naming { named, others }))
 }
 
 /// The policy at a number.

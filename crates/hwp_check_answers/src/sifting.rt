@@ -7,10 +7,10 @@ ghost use Rattle.hwp_check_rules.specs.Standing.{last_line};
 ghost use Rattle.hwp_check_rules.specs.Verdicts.{HoldBelow};
 
 use crate::course::begin;
-use crate::facts::{facts_of, naming_of};
+use crate::facts::{facts_of, own_and_naming};
 use crate::placing::first_out;
 use crate::walk::first_bad;
-use hwp_check_causes::{Known, known_of, own_of};
+use hwp_check_causes::{Known, known_of};
 use hwp_check_rules::{commands_of, cpu_at, rows_on};
 use hwp_geom::{Cpu, OutOfMemory};
 use hwp_report::{CpuLine, Report};
@@ -46,9 +46,8 @@ fn first_wrong(
     requires cut { IsCut commands.now rows.now end }
     ensures { IfOk result (λ found. MatchOption found (AreGoodRows script.now report.now cpu commands.now rows.now end) (λ row. IsFirstBad script.now report.now cpu commands.now rows.now end row)) }
 {
-    let own = own_of(alloc, script, report, cpu)?;
+    let (own, naming) = own_and_naming(alloc, script, report, cpu, commands, rows)?;
     let facts = facts_of(alloc, commands, rows)?;
-    let naming = naming_of(alloc, report, cpu, commands, rows)?;
     let start = begin(alloc, script, report, cpu)?;
     let found = first_bad(
         script, report, known, &own, &facts, &naming, cpu, commands, rows, end, start,

@@ -1,13 +1,15 @@
-ghost use Rattle.std.specs.Prelude.{◌≡◌, IfOk, length};
+ghost use Rattle.std.specs.Prelude.{◌≡◌, ◌≤◌, false, replicate, IfOk, length};
 ghost use Rattle.hwp_evidence.specs.Glances.{AreLegalSteps};
+ghost use Rattle.hwp_evidence.specs.Named.{flagged_pages};
 ghost use Rattle.hwp_check_causes.specs.Knowing.{IsKnown, IsOwn};
 ghost use Rattle.hwp_check_rules.specs.Verdicts.{HoldBelow};
 ghost use Rattle.hwp_script.specs.Valid.{IsValid};
 
 use crate::known::Known;
 use crate::right::Own;
-use hwp_evidence::{glances_of, is_ample, own_ends, page_ends, reported, spans};
+use hwp_evidence::{Findings, findings_of, glances_of, is_ample, reported};
 use hwp_geom::{Cpu, OutOfMemory};
+use hwp_page::At;
 use hwp_records::past_of;
 use hwp_report::Report;
 use hwp_script::Script;
@@ -25,21 +27,37 @@ pub fn known_of(alloc: Global, script: &Script, report: &Report) -> Result<Known
     Ok(Known { ample, glances })
 }
 
-/// What is known of it for the answers of one processor.
-pub fn own_of(alloc: Global, script: &Script, report: &Report, cpu: Cpu) -> Result<Own, OutOfMemory>
-    ensures { IfOk result (λ own. IsOwn script.now report.now cpu own) }
+/// What is known of it for the answers of so many commands of one processor, which name these places; and which of the commands
+/// have an entry that their answers have to name, and don't.
+pub fn own_of(
+    alloc: Global,
+    script: &Script,
+    report: &Report,
+    cpu: Cpu,
+    commands: usize,
+    named: &[Option<At>],
+) -> Result<(Own, Vec<bool>), OutOfMemory>
+    requires { length report.now.pages ≤ 256 }
+    ensures own { IfOk result (λ known. IsOwn script.now report.now cpu known.0) }
+    ensures others { IfOk result (λ known. known.1.items ≡ flagged_pages named.now cpu (replicate commands false) 0 report.now.pages) }
+    ensures many { IfOk result (λ known. length known.1.items ≡ commands) }
 {
     let pages = report.pages.as_slice();
-    let ends = page_ends(alloc, &script.layout, cpu, pages)?;
-    let ended = own_ends(alloc, &script.layout, cpu, pages)?;
-    let spans = spans(alloc, cpu, pages)?;
     let reported = reported(cpu, report.frames.as_slice());
     let past = past_of(alloc, cpu, report.frames.as_slice())?;
-    Ok(Own {
+    let found = findings_of(alloc, &script.layout, cpu, commands, named, pages)?;
+    let Findings {
+        ends,
+        ended,
+        spans,
+        others,
+    } = found;
+    let own = Own {
         ends,
         ended,
         spans,
         reported,
         past,
-    })
+    };
+    Ok((own, others))
 }

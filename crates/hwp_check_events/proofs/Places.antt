@@ -6,7 +6,7 @@ use Rattle.std.proofs.lemmas.Option.{none-some, same_Some}
 use Rattle.hwp_report.specs.declared.CpuLine.{CpuLine}
 use Rattle.hwp_report.specs.declared.CpuLine.TheVariants as lines
 use Rattle.hwp_events.specs.Indexed.{shown_from}
-use Rattle.hwp_events.specs.declared.Shown.{Shown}
+use Rattle.hwp_event_lines.specs.declared.Shown.{Shown}
 use Rattle.hwp_check_rules.specs.AnswerFaults.{events_before}
 use Rattle.hwp_check_rules.specs.Answered.{is_answer, seq_of}
 

@@ -29,7 +29,7 @@ fn line_of(found: Misfits, heading: u64) -> Option<u64>
 }
 
 /// The first line of a report that shows a wrong event line, or the heading of a processor where a command lacks one.
-pub fn event_lines(
+pub(crate) fn event_lines(
     alloc: Global,
     script: &Script,
     report: &Report,

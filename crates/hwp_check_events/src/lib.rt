@@ -4,5 +4,4 @@
 mod events;
 mod rule;
 
-pub use events::event_lines;
 pub use rule::answers_fault;

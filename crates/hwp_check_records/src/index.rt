@@ -15,8 +15,11 @@ use std::alloc::Global;
 /// beyond their marks.
 #[derive(Drop)]
 pub(crate) struct Index {
+    /// The answers of commands.
     pub given: Given,
+    /// What is noted of their event lines with a result.
     pub said: Said,
+    /// Which frames have event lines of a command beyond its marks.
     pub beyond: Vec<bool>,
 }
 

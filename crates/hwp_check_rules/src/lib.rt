@@ -15,7 +15,6 @@ pub use pasts::{Past, done_of, pasts_of};
 pub use policies::setting_of;
 pub use rows::{answer_among, answer_of, commands_of, is_answer, rows_of, rows_on};
 pub use standing::{
-    cpu_at, cpus_height, entries_height, entry_height, file_at, first_page_line, frame_at,
-    frames_height, page_at, pages_height,
+    cpu_at, entries_height, entry_height, file_at, first_page_line, frame_at, page_at,
 };
 pub use verdicts::Verdict;

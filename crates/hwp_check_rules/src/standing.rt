@@ -30,7 +30,7 @@ pub fn entries_height(entries: &[Entry]) -> u64
 }
 
 /// The lines of some frames.
-pub fn frames_height(frames: &[FrameLine]) -> u64
+fn frames_height(frames: &[FrameLine]) -> u64
     requires small { sum_by frame_height frames.now < 2 ^ 64 }
     ensures { result ≡ sum_by frame_height frames.now }
 {
@@ -42,7 +42,7 @@ pub fn frames_height(frames: &[FrameLine]) -> u64
 }
 
 /// The lines of some pages.
-pub fn pages_height(pages: &[List<Entry>]) -> u64
+fn pages_height(pages: &[List<Entry>]) -> u64
     requires small { sum_by page_height pages.now < 2 ^ 64 }
     ensures { result ≡ sum_by page_height pages.now }
 {
@@ -54,7 +54,7 @@ pub fn pages_height(pages: &[List<Entry>]) -> u64
 }
 
 /// The lines of some processors.
-pub fn cpus_height(cpus: &[List<CpuLine>]) -> u64
+fn cpus_height(cpus: &[List<CpuLine>]) -> u64
     requires small { sum_by cpu_height cpus.now < 2 ^ 64 }
     ensures { result ≡ sum_by cpu_height cpus.now }
 {

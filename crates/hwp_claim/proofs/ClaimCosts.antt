@@ -42,10 +42,10 @@ use Rattle.hwp_hold.specs.declared.release.ReleaseAt.{ReleaseAt}
 use Rattle.hwp_hold.specs.declared.release.ReleaseAt.TheVariants as release_at
 use Rattle.hwp_claim.specs.Grabs as grabs
 use Rattle.hwp_claim.specs.Meets as meets
-use Rattle.hwp_claim.specs.Claims.{plan, plan_at, put, put_at, bare, bare_at, stopped, poisoned, is_done, looked, after_grab, after_grab_by, after_meet, after_unlock, next, next_at, stop_turn, turn, turn_at, IsGrabbing, IsMeeting, Fits, FitsAt, class, class_at, claims, aborts, aborts_at, cost, cost_with}
+use Rattle.hwp_claim.specs.Claims.{plan, plan_at, put, put_at, bare, bare_at, stopped, poisoned, is_done, looked, after_grab, after_grab_by, after_meet, after_unlock, next, next_at, stop_turn, turn, turn_at, Fits, FitsAt, class, class_at, claims, aborts, aborts_at, cost, cost_with}
 use Rattle.hwp_claim.proofs.GrabCosts as grabbing
-use Rattle.hwp_claim.proofs.GrabCosts.{grab-member, grab-falls, grab-leaves, grab-small, grab-waits, class-within}
-use Rattle.hwp_claim.proofs.MeetCosts.{meet-member, meet-class, meet-falls, meet-mild, meet-small, never-waits}
+use Rattle.hwp_claim.proofs.GrabCosts.{grab-falls, grab-made, grab-leaves, grab-small, grab-waits, class-within}
+use Rattle.hwp_claim.proofs.MeetCosts.{meet-class, meet-falls, meet-made, meet-mild, meet-small, never-waits}
 
 abbrev pub claim-member : Member Claim
 claim-member = member (λ c. c.who) plan put bare (λ layout c found got after result. (after ≡ next c found got) × (result ≡ turn c found)) Fits class cost aborts claims
@@ -116,37 +116,6 @@ module _ {layout : Layout} {seat : ℕ} {a b : State} {s t : Claim} {turned : Tu
   abbrev Moves : Option BodyValue → Type 0
   Moves given = Move layout seat (rec_of layout s.who made.step (logs given) made.found made.got) a b
 
-  -- ---- the steps of the parts
-
-  grab-made : (g : Grab) → IsGrabbing layout (view_of a seat) s.who s.frame g → grabs.plan g ≡ Some made.step → Moves None → Made grab-member layout seat a b g (grabs.next g made.found) (grabs.turn g made.found)
-  grab-made g has e move = record {
-    step = made.step;
-    found = made.found;
-    got = made.got;
-    rule = made.rule;
-    kept = made.kept;
-    fits = has.grab;
-    planned = e;
-    move = subst (λ (w : Who). Move layout seat (rec_of layout w made.step None made.found made.got) a b) (sym has.own) move;
-    brings = made.brings;
-    follows = (refl, refl);
-  }
-
-  meet-made : (cycle : ℕ) (m : Meet) → IsMeeting layout (view_of a seat) s.who s.frame cycle m → meets.plan m ≡ Some made.step → Moves (meets.put m)
-      → Made meet-member layout seat a b m (meets.next (meets.bare m) made.found made.got) (meets.turn (meets.bare m) made.found)
-  meet-made cycle m has e move = record {
-    step = made.step;
-    found = made.found;
-    got = made.got;
-    rule = made.rule;
-    kept = made.kept;
-    fits = has.meet;
-    planned = e;
-    move = subst (λ (w : Who). Move layout seat (rec_of layout w made.step (logs (meets.put m)) made.found made.got) a b) (sym has.own) move;
-    brings = made.brings;
-    follows = (refl, refl);
-  }
-
   -- ---- the frame's word
 
   pub seen-word : {other : Step} → Some other ≡ Some made.step → read (place_of other) (words_at layout a) ≡ made.found
@@ -191,12 +160,12 @@ module _ {layout : Layout} {seat : ℕ} {a b : State} {s t : Claim} {turned : Tu
     falls-at (at.Count cycle) has e move goes = inl (omega arith)
     falls-at (at.Look cycle) has e move goes = look-ends cycle e
     falls-at (at.Grab cycle g) has e move goes =
-        let less : grabs.cost_with 5 (rest + 11) g.frame (grabs.next_at g.frame g.at made.found) (words_at layout b) < grabs.cost_with 5 (rest + 11) g.frame g.at (words_at layout a) = grab-falls (grab-made g has.0 e move) 5 (rest + 11) few goes in
+        let less : grabs.cost_with 5 (rest + 11) g.frame (grabs.next_at g.frame g.at made.found) (words_at layout b) < grabs.cost_with 5 (rest + 11) g.frame g.at (words_at layout a) = grab-falls (grab-made made g s.who has.0.grab has.0.own e move) 5 (rest + 11) few goes in
         let ends : cost_with rest (after_grab s.who s.frame cycle (grabs.next g made.found)) (words_at layout b) ≤ grabs.cost_with 5 (rest + 11) g.frame (grabs.next_at g.frame g.at made.found) (words_at layout b) = grab-ends rest (words_at layout b) s.who s.frame cycle g (grabs.next_at g.frame g.at made.found) in
         inl (omega (arith, less, ends))
     falls-at (at.Meet cycle m) has e move goes =
         let less : meets.cost_with (rest + 2) (rest + 11) m.frame (meets.next (meets.bare m) made.found made.got).at (words_at layout b) < meets.cost_with (rest + 2) (rest + 11) m.frame m.at (words_at layout a)
-        = meet-falls (meet-made cycle m has.0 e move) (rest + 2) (rest + 11) (omega arith) goes in
+        = meet-falls (meet-made made m s.who has.0.meet has.0.own e move) (rest + 2) (rest + 11) (omega arith) goes in
         let ends : cost_with rest (after_meet cycle (meets.next (meets.bare m) made.found made.got)) (words_at layout b) ≤ meets.cost_with (rest + 2) (rest + 11) m.frame (meets.next (meets.bare m) made.found made.got).at (words_at layout b)
         = meet-ends rest (words_at layout b) cycle m (meets.next (meets.bare m) made.found made.got).at in
         inl (omega (arith, less, ends))
@@ -237,13 +206,13 @@ module _ {layout : Layout} {seat : ℕ} {a b : State} {s t : Claim} {turned : Tu
     waits-at at.Poison has e move waits quiet = absurd (both_ways true (sym waits) refl)
     waits-at (at.Count cycle) has e move waits quiet = absurd (both_ways true (sym waits) refl)
     waits-at (at.Look cycle) has e move waits quiet = absurd (both_ways true (sym waits) refl)
-    waits-at (at.Grab cycle g) has e move waits quiet = elim (grab-waits (grab-made g has.0 e move) 5 (rest + 11) few waits (λ second i other some. quiet.frames (omega (arith, second)) i other some)) [
+    waits-at (at.Grab cycle g) has e move waits quiet = elim (grab-waits (grab-made made g s.who has.0.grab has.0.own e move) 5 (rest + 11) few waits (λ second i other some. quiet.frames (omega (arith, second)) i other some)) [
       | inl less ↦
           let ends : cost_with rest (after_grab s.who s.frame cycle (grabs.next g made.found)) (words_at layout b) ≤ grabs.cost_with 5 (rest + 11) g.frame (grabs.next_at g.frame g.at made.found) (words_at layout b) = grab-ends rest (words_at layout b) s.who s.frame cycle g (grabs.next_at g.frame g.at made.found) in
           inl (omega (arith, less, ends))
       | inr gives ↦ inr (aborting s.who s.frame cycle g (grabs.next_at g.frame g.at made.found) gives.0, gives.1)
     ]
-    waits-at (at.Meet cycle m) has e move waits quiet = absurd (never-waits (meet-made cycle m has.0 e move) waits (class_at (at.Meet cycle m)) (omega arith) quiet)
+    waits-at (at.Meet cycle m) has e move waits quiet = absurd (never-waits (meet-made made m s.who has.0.meet has.0.own e move) waits (class_at (at.Meet cycle m)) (omega arith) quiet)
     waits-at (at.Unlock cycle u) has e move waits quiet = absurd (both_ways true (sym waits) refl)
     waits-at (at.Retire cycle) has e move waits quiet = absurd (both_ways true (sym waits) refl)
     waits-at at.GaveUp has e move waits quiet = absurd (none-some made.step e)

@@ -55,7 +55,6 @@ use Rattle.hwp_claim.specs.declared.grab.GrabAt.{GrabAt}
 use Rattle.hwp_claim.specs.declared.grab.GrabAt.TheVariants as grab_at
 use Rattle.hwp_claim.specs.declared.meet.Meet.{Meet}
 use Rattle.hwp_claim.specs.declared.meet.MeetAt.{MeetAt}
-use Rattle.hwp_claim.specs.declared.meet.MeetAt.TheVariants as meet_at
 use Rattle.hwp_claim.specs.declared.meet.MeetAnswer.{MeetAnswer}
 use Rattle.hwp_claim.specs.declared.meet.MeetAnswer.TheVariants as meet_answers
 use Rattle.hwp_claim.specs.Grabs as grabs
@@ -369,37 +368,17 @@ module _ {layout : Layout} {who : Who} {new : View} (frame : Frame) (hardware : 
     after-meet-is : (m : Meet) → meets.Fits layout new m → m.who ≡ who → m.frame ≡ frame → m.cycle ≡ Some cycle → FitsAt layout new who frame hardware (after_meet cycle m)
     after-meet-is m fits own frame_is cycle_is = which (meets.answer m) refl
       where
-        goes-on : (x : MeetAt) → meets.FitsAt layout new m.who m.frame m.cycle x → meets.answer_at x ≡ None → is_none (meets.plan_at m.frame x) ≡ false
-        goes-on (meet_at.GetRef seen) has none = refl
-        goes-on meet_at.LockFree has none = refl
-        goes-on (meet_at.LockPage page) has none = refl
-        goes-on (meet_at.LockOwned page shelf) has none = refl
-        goes-on (meet_at.Unlock body ended) has none = refl
-        goes-on (meet_at.UnlockFrame page shelf body ended) has none = refl
-        goes-on (meet_at.UnlockPage page shelf ended) has none = refl
-        goes-on (meet_at.Release r ended) has none = has.under_way
-        goes-on (meet_at.Back ended) has none = absurd (none-some _ (sym none))
-        goes-on meet_at.Free has none = absurd (none-some _ (sym none))
-        goes-on (meet_at.Owned page body) has none = absurd (none-some _ (sym none))
-
         owned : (page : Page) (x : MeetAt) → (meets.is_owned_at x ≡ true) × ((body : BodyValue) → meets.IsBodyAt x body → meets.HoldsMet layout new m.who page m.frame m.cycle body) → FitsAt layout new who frame hardware (owned_by cycle m page x)
-        owned page (meet_at.Owned own-page body) has = (subst (λ (w : Who). meets.HoldsMet layout new w page frame (Some cycle) body) own (subst (λ (f : Frame). meets.HoldsMet layout new m.who page f (Some cycle) body) frame_is (subst (λ (o : Option ℕ). meets.HoldsMet layout new m.who page m.frame o body) cycle_is (has.1 body refl))), users)
-        owned page (meet_at.GetRef seen) has = absurd (both_ways true (sym has.0) refl)
-        owned page meet_at.LockFree has = absurd (both_ways true (sym has.0) refl)
-        owned page (meet_at.LockPage own-page) has = absurd (both_ways true (sym has.0) refl)
-        owned page (meet_at.LockOwned own-page shelf) has = absurd (both_ways true (sym has.0) refl)
-        owned page (meet_at.Unlock body ended) has = absurd (both_ways true (sym has.0) refl)
-        owned page (meet_at.UnlockFrame own-page shelf body ended) has = absurd (both_ways true (sym has.0) refl)
-        owned page (meet_at.UnlockPage own-page shelf ended) has = absurd (both_ways true (sym has.0) refl)
-        owned page (meet_at.Release r ended) has = absurd (both_ways true (sym has.0) refl)
-        owned page (meet_at.Back ended) has = absurd (both_ways true (sym has.0) refl)
-        owned page meet_at.Free has = absurd (both_ways true (sym has.0) refl)
+        owned page x has =
+            let met = meeting.owned-state x has.0 in
+            subst (λ (y : MeetAt). FitsAt layout new who frame hardware (owned_by cycle m page y)) (sym met.2)
+            (subst (λ (w : Who). meets.HoldsMet layout new w page frame (Some cycle) met.1) own (subst (λ (f : Frame). meets.HoldsMet layout new m.who page f (Some cycle) met.1) frame_is (subst (λ (o : Option ℕ). meets.HoldsMet layout new m.who page m.frame o met.1) cycle_is (has.1 met.1 (subst (λ (y : MeetAt). meets.IsBodyAt y met.1) (sym met.2) refl)))), users)
 
         free : meets.HoldsFree new m.frame m.cycle → hand_of new ≡ empty_frame frame false true
         free has = has.hand_is ∙ ap (empty_frame m.frame false) (subst (λ (o : Option ℕ). meets.IsFailed o has.poisoned) cycle_is has.failed) ∙ ap (λ (f : Frame). empty_frame f false true) frame_is
 
         which : (x : Option MeetAnswer) → meets.answer m ≡ x → FitsAt layout new who frame hardware (after_meet_by cycle m x)
-        which None e = (record { meet = fits; own = own; frame_is = frame_is; cycle_is = cycle_is; under_way = goes-on m.at fits.at e }, users)
+        which None e = (record { meet = fits; own = own; frame_is = frame_is; cycle_is = cycle_is; under_way = meeting.goes-on layout new m fits e }, users)
         which (Some meet_answers.LookAgain) e = (meeting.is-met layout new m meet_answers.LookAgain fits e, users.poisoned)
         which (Some meet_answers.Ended) e = (meeting.is-met layout new m meet_answers.Ended fits e, users)
         which (Some meet_answers.Free) e = (free (meeting.is-met layout new m meet_answers.Free fits e), users)

@@ -6,6 +6,7 @@ use Rattle.std.specs.Int.{from_bool}
 use Rattle.std.specs.List.{sum_by}
 use Rattle.hwp_geom.specs.declared.Frame.{Frame}
 use Rattle.hwp_geom.specs.declared.Layout.{Layout}
+use Rattle.hwp_geom.specs.declared.Who.{Who}
 use Rattle.hwp_words.specs.Frames.{count_of}
 use Rattle.hwp_rule.specs.declared.FrameInHand.{FrameInHand}
 use Rattle.hwp_rule.specs.declared.Place.TheVariants as places
@@ -14,6 +15,7 @@ use Rattle.hwp_rule.specs.declared.Step.{Step}
 use Rattle.hwp_rule.specs.declared.Step.TheVariants as steps
 use Rattle.hwp_rule.specs.declared.View.{View}
 use Rattle.hwp_rule.specs.Lists.{SomeMember}
+use Rattle.hwp_rule.specs.Moves.{Move}
 use Rattle.hwp_rule.specs.Opening.{opening_view}
 use Rattle.hwp_rule.specs.Rule.{Holds}
 use Rattle.hwp_rule.specs.Lasting.{IsMild}
@@ -26,6 +28,7 @@ use Rattle.hwp_rule.proofs.Moving.{shaped}
 use Rattle.hwp_step.specs.declared.Turn.{Turn}
 use Rattle.hwp_step.specs.declared.Turn.TheVariants.{Moved, Changed, Waits}
 use Rattle.hwp_step.specs.Boards.{view_of}
+use Rattle.hwp_step.specs.Calls.{rec_of}
 use Rattle.hwp_step.specs.Hands.{Hand, hand_of}
 use Rattle.hwp_step.specs.Ranks.{HasFrame, IsRanked, Made, Member, OtherHand, is_waits, member, stale, words_at}
 use Rattle.hwp_step.proofs.Ranking.{met, pending-kept, words-after}
@@ -156,6 +159,23 @@ falls-on w now g step found rest back few is met after goes = which g.at is goes
 
 abbrev pub grab-member : Member Grab
 grab-member = member (λ g. g.who) plan (λ g. None) (λ g. g) (λ layout g found got after result. (after ≡ next g found) × (result ≡ turn g found)) Fits class cost aborts (λ g. None)
+
+-- a step of a grab that is a part of a task is one of the grab itself
+module _ {S : Type 0} {m : Member S} {layout : Layout} {seat : ℕ} {a b : State} {s t : S} {turned : Turn} (made : Made m layout seat a b s t turned) where
+  pub grab-made : (g : Grab) (who : Who) → Fits layout (view_of a seat) g → g.who ≡ who → plan g ≡ Some made.step → Move layout seat (rec_of layout who made.step None made.found made.got) a b
+      → Made grab-member layout seat a b g (next g made.found) (turn g made.found)
+  grab-made g who fits own e move = record {
+    step = made.step;
+    found = made.found;
+    got = made.got;
+    rule = made.rule;
+    kept = made.kept;
+    fits = fits;
+    planned = e;
+    move = subst (λ (w : Who). Move layout seat (rec_of layout w made.step None made.found made.got) a b) (sym own) move;
+    brings = made.brings;
+    follows = (refl, refl);
+  }
 
 -- ---- what a parent cites: whatever is left once the frame is grabbed, and whatever is left where its word is looked at again, as long
 -- as that is less than a test that fails counts

@@ -1,7 +1,7 @@
 -- The laws of `Grab`.
-use Rattle.std.proofs.Common.{◌≡◌, ℕ, ◌+◌, ◌<◌, ◌≤◌, ◌==◌, Bool, true, false, cond, [], ◌∷◌, ◌++◌, Option, Some, None, map, length, get_or, slice_get, slice_index, refl, sym, ap, ◌∙◌, subst, arith}
+use Rattle.std.proofs.Common.{◌≡◌, ℕ, ◌+◌, ◌<◌, ◌≤◌, ◌==◌, Bool, true, false, cond, [], ◌∷◌, ◌++◌, Option, Some, None, map, length, slice_get, refl, sym, ap, ◌∙◌, subst, arith}
 use Rattle.std.proofs.lemmas.Bool.{eqb-false}
-use Rattle.std.proofs.lemmas.Option.{none-some, slice_get-get_or}
+use Rattle.std.proofs.lemmas.Option.{none-some}
 use Rattle.hwp_geom.specs.declared.Frame.{Frame}
 use Rattle.hwp_geom.specs.declared.Layout.{Layout}
 use Rattle.hwp_page.specs.History.{BodyValue}
@@ -9,15 +9,13 @@ use Rattle.hwp_words.specs.Frames.{count_of, is_handled, is_kernel, is_poisoned}
 use Rattle.hwp_rule.specs.declared.FrameInHand.{FrameInHand}
 use Rattle.hwp_rule.specs.declared.FrameLock.{FrameLock}
 use Rattle.hwp_rule.specs.declared.Place.TheVariants as places
-use Rattle.hwp_rule.specs.declared.State.{State}
 use Rattle.hwp_rule.specs.declared.Step.{Step}
 use Rattle.hwp_rule.specs.declared.Step.TheVariants as steps
 use Rattle.hwp_rule.specs.declared.View.{View}
 use Rattle.hwp_rule.specs.Asks.{CanRetire, HasInHand}
 use Rattle.hwp_rule.specs.Lists.{SomeMember}
-use Rattle.hwp_rule.specs.Rule.{Holds}
 use Rattle.hwp_rule.specs.Views.{is_hand_of, lock_found, unpoisoned, with_refs, without}
-use Rattle.hwp_rule.specs.Words.{index, words_of}
+use Rattle.hwp_rule.specs.Words.{words_of}
 use Rattle.hwp_rule.specs.parts.Places.{IsBare, in_hand}
 use Rattle.hwp_rule.proofs.FramesInHand.{in_hand-mine}
 use Rattle.hwp_rule.proofs.Lists.{at_map, same-number}
@@ -27,7 +25,7 @@ use Rattle.hwp_step.specs.Calls.{CanMake, Steps}
 use Rattle.hwp_step.specs.Hands.{Hand, hand_of, empty}
 use Rattle.hwp_step.proofs.Stepping.{on-turn-after, hand-planned, steps-planned, can-make}
 use Rattle.hwp_known.proofs.Seeing.{saw-adopt}
-use Rattle.hwp_hold.specs.Takes.{adopted_lock}
+use Rattle.hwp_hold.specs.Releases.{adopted_lock}
 use Rattle.hwp_hold.proofs.Telling.{Tells, empty-tells, frame-tells}
 use Rattle.hwp_claim.specs.declared.grab.Grab.{Grab}
 use Rattle.hwp_claim.specs.declared.grab.GrabAt.{GrabAt}
@@ -131,17 +129,6 @@ module _ {layout : Layout} {old new : View} {step : Step} {found : ℕ} {got : O
 pub stays : (layout : Layout) (old new : View) (g : Grab) (step : Step) (found : ℕ) (got : Option BodyValue) → Fits layout old g → plan g ≡ Some step → Steps layout g.who step None old new found got
     → Unit {0} × ((after : Grab) (result : Turn) → (after ≡ next g found) × (result ≡ turn g found) → Fits layout new after × (after.who.cpu ≡ g.who.cpu))
 stays layout old new g step found got fits is made = (tt, λ after result follows. (subst (Fits layout new) (sym follows.0) (moved g is made fits), ap (λ (x : Grab). x.who.cpu) follows.0))
-
--- a frame whose word isn't the kernel's is one that can be free
-pub users-word : (layout : Layout) (s : State) → Holds layout s → (frame : Frame) (found : ℕ) → frame.0 < layout.frames → found ≡ slice_index s.words (index layout (places.Frame frame)) → is_kernel found ≡ false
-    → slice_get layout.kernel frame.0 ≡ Some false
-users-word layout s h frame found inside met user = kernel ∙ ap (λ (b : Bool). Some b) (sym (h.rule.frames.places.declared frame.0 found declared (frame-word layout s h frame found inside met) kernel) ∙ user)
-  where
-    declared : Bool
-    declared = get_or layout.kernel frame.0 false
-
-    kernel : slice_get layout.kernel frame.0 ≡ Some declared
-    kernel = slice_get-get_or layout.kernel frame.0 false (subst (λ (n : ℕ). frame.0 < n) (sym h.sound.kernel) inside)
 
 -- its class tells what is held
 pub grab-tells : (layout : Layout) (view : View) (g : Grab) → Fits layout view g → Tells view (class g)

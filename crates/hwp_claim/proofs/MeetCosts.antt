@@ -5,6 +5,7 @@ use Rattle.std.proofs.lemmas.Option.{get_or_from_slice_get, none-some, same_Some
 use Rattle.hwp_geom.specs.declared.Frame.{Frame}
 use Rattle.hwp_geom.specs.declared.Layout.{Layout}
 use Rattle.hwp_geom.specs.declared.Page.{Page}
+use Rattle.hwp_geom.specs.declared.Who.{Who}
 use Rattle.hwp_page.specs.History.{BodyValue}
 use Rattle.hwp_words.specs.Frames.{count_of, cycle_of, handled_of, is_handled, kernel_of, lock_of, owner_of, poison_of}
 use Rattle.hwp_words.specs.Names.{page_named}
@@ -13,6 +14,7 @@ use Rattle.hwp_rule.specs.declared.Place.TheVariants as places
 use Rattle.hwp_rule.specs.declared.State.{State}
 use Rattle.hwp_rule.specs.declared.Step.{Step}
 use Rattle.hwp_rule.specs.declared.Step.TheVariants as steps
+use Rattle.hwp_rule.specs.Moves.{Move}
 use Rattle.hwp_rule.specs.Rule.{Holds}
 use Rattle.hwp_rule.specs.Steps.{place_of, word_after}
 use Rattle.hwp_rule.specs.Words.{Words, index, put, words_of}
@@ -24,6 +26,7 @@ use Rattle.hwp_rule.proofs.bounds.RefBounds.{count-fits}
 use Rattle.hwp_step.specs.declared.Turn.{Turn}
 use Rattle.hwp_step.specs.declared.Turn.TheVariants.{Moved, Changed, Waits}
 use Rattle.hwp_step.specs.Boards.{view_of}
+use Rattle.hwp_step.specs.Calls.{logs, rec_of}
 use Rattle.hwp_step.specs.Hands.{Hand}
 use Rattle.hwp_step.specs.Ranks.{Member, member, Made, IsRanked, Quiet, is_waits, stale, words_at}
 use Rattle.hwp_step.proofs.Ranking.{met, no-lock, no-page, rank-of, steps-on, words-after}
@@ -77,6 +80,23 @@ module _ {S : Type 0} {m : Member S} {layout : Layout} {seat : ℕ} {a b : State
 
   pub met-at : {other : Step} → Some other ≡ Some made.step → made.found ≡ slice_index a.words (index layout (place_of other))
   met-at {other} e = made.move.met ∙ ap (λ (x : Step). slice_index a.words (index layout (place_of x))) (sym (same_Some other made.step e))
+
+-- a step of a meeting that is a part of a task is one of the meeting itself
+module _ {S : Type 0} {m : Member S} {layout : Layout} {seat : ℕ} {a b : State} {s t : S} {turned : Turn} (made : Made m layout seat a b s t turned) where
+  pub meet-made : (x : Meet) (who : Who) → Fits layout (view_of a seat) x → x.who ≡ who → plan x ≡ Some made.step → Move layout seat (rec_of layout who made.step (logs (given x)) made.found made.got) a b
+      → Made meet-member layout seat a b x (next (bare x) made.found made.got) (turn (bare x) made.found)
+  meet-made x who fits own e move = record {
+    step = made.step;
+    found = made.found;
+    got = made.got;
+    rule = made.rule;
+    kept = made.kept;
+    fits = fits;
+    planned = e;
+    move = subst (λ (w : Who). Move layout seat (rec_of layout w made.step (logs (given x)) made.found made.got) a b) (sym own) move;
+    brings = made.brings;
+    follows = (refl, refl);
+  }
 
 module _ {layout : Layout} {seat : ℕ} {a b : State} {s t : Meet} {turn : Turn} (made : Made meet-member layout seat a b s t turn) where
   module _ (rest again : ℕ) (few : again ≤ rest + 4096) where

@@ -48,7 +48,7 @@ use Rattle.hwp_claim.specs.declared.meet.MeetAt.{MeetAt}
 use Rattle.hwp_claim.specs.declared.meet.MeetAt.TheVariants as at
 use Rattle.hwp_claim.specs.declared.meet.MeetAnswer.{MeetAnswer}
 use Rattle.hwp_claim.specs.declared.meet.MeetAnswer.TheVariants as answers
-use Rattle.hwp_claim.specs.Meets.{AsTaken, is_ended, has_ended, IsFailed, HoldsMet, is_owner, is_taken, owner_in, plan, plan_at, put, put_at, bare, bare_at, referenced, free_at, owned_at, released_at, next, next_at, ShowsAt, Shows, turn, paged, reference, IsPaged, IsLeaving, Fits, FitsAt, Met, MetAt, answer, answer_at, back, class, class_at, released_answer}
+use Rattle.hwp_claim.specs.Meets.{AsTaken, is_ended, has_ended, IsFailed, HoldsMet, is_owner, is_taken, owner_in, plan, plan_at, put, put_at, bare, bare_at, referenced, free_at, owned_at, released_at, next, next_at, ShowsAt, Shows, turn, paged, reference, IsPaged, IsLeaving, Fits, FitsAt, Met, MetAt, answer, answer_at, back, is_owned_at, class, class_at, released_answer}
 use Rattle.hwp_claim.proofs.FrameSlots
 use Rattle.hwp_claim.proofs.Leaving
 
@@ -511,6 +511,37 @@ is-met layout view m x fits answered = which m.at fits.at answered
         by false = has
     which at.Free has is = subst (MetAt layout view m.who m.frame m.cycle at.Free) (same_Some answers.Free x is) has
     which (at.Owned page body) has is = subst (MetAt layout view m.who m.frame m.cycle (at.Owned page body)) (same_Some (answers.Owned page) x is) (refl, λ b own. subst (HoldsMet layout view m.who page m.frame m.cycle) (sym own) has)
+
+-- the page that was met is held with a body
+pub owned-state : (x : MeetAt) → is_owned_at x ≡ true → (page : Page) × (body : BodyValue) × (x ≡ at.Owned page body)
+owned-state (at.Owned page body) is = (page, body, refl)
+owned-state (at.GetRef seen) is = absurd (both_ways true (sym is) refl)
+owned-state at.LockFree is = absurd (both_ways true (sym is) refl)
+owned-state (at.LockPage page) is = absurd (both_ways true (sym is) refl)
+owned-state (at.LockOwned page shelf) is = absurd (both_ways true (sym is) refl)
+owned-state (at.Unlock body ended) is = absurd (both_ways true (sym is) refl)
+owned-state (at.UnlockFrame page shelf body ended) is = absurd (both_ways true (sym is) refl)
+owned-state (at.UnlockPage page shelf ended) is = absurd (both_ways true (sym is) refl)
+owned-state (at.Release r ended) is = absurd (both_ways true (sym is) refl)
+owned-state (at.Back ended) is = absurd (both_ways true (sym is) refl)
+owned-state at.Free is = absurd (both_ways true (sym is) refl)
+
+-- a task that has come to nothing yet isn't over
+pub goes-on : (layout : Layout) (view : View) (m : Meet) → Fits layout view m → answer m ≡ None → is_none (plan m) ≡ false
+goes-on layout view m fits none = which m.at fits.at none
+  where
+    which : (x : MeetAt) → FitsAt layout view m.who m.frame m.cycle x → answer_at x ≡ None → is_none (plan_at m.frame x) ≡ false
+    which (at.GetRef seen) has none = refl
+    which at.LockFree has none = refl
+    which (at.LockPage page) has none = refl
+    which (at.LockOwned page shelf) has none = refl
+    which (at.Unlock body ended) has none = refl
+    which (at.UnlockFrame page shelf body ended) has none = refl
+    which (at.UnlockPage page shelf ended) has none = refl
+    which (at.Release r ended) has none = has.under_way
+    which (at.Back ended) has none = absurd (none-some _ (sym none))
+    which at.Free has none = absurd (none-some _ (sym none))
+    which (at.Owned page body) has none = absurd (none-some _ (sym none))
 
 -- its class tells what is held
 pub meet-tells : (layout : Layout) (view : View) (m : Meet) → Fits layout view m → Tells view (class m)

@@ -18,7 +18,7 @@ use Rattle.hwp_step.specs.Calls.{IsOnTurn}
 use Rattle.hwp_step.specs.Hands.{Hand, hand_of, empty}
 use Rattle.hwp_step.specs.Ranks.{stale}
 use Rattle.hwp_known.specs.Known.{Saw}
-use Rattle.hwp_hold.specs.Takes.{adopted_lock}
+use Rattle.hwp_hold.specs.Releases.{adopted_lock}
 use Rattle.hwp_claim.specs.declared.grab.Grab.{Grab}
 use Rattle.hwp_claim.specs.declared.grab.GrabAt.{GrabAt}
 use Rattle.hwp_claim.specs.declared.grab.GrabAt.TheVariants as at

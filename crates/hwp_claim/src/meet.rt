@@ -171,6 +171,7 @@ fn is_free(word: u64) -> bool
     word & 1 == 0
 }
 
+/// The failure of this cycle has ended: the frame isn't poisoned, or is so in another cycle.
 pub(crate) fn is_ended(cycle: u32, word: u64) -> bool
     ensures { result ≡ is_ended cycle word }
 {
@@ -178,6 +179,7 @@ pub(crate) fn is_ended(cycle: u32, word: u64) -> bool
     !(frame.poisoned && frame.cycle == cycle)
 }
 
+/// The failure that the frame is met for, if it is met for one, has ended.
 fn has_ended(cycle: Option<u32>, word: u64) -> bool
     ensures { result ≡ has_ended cycle word }
 {
@@ -187,6 +189,7 @@ fn has_ended(cycle: Option<u32>, word: u64) -> bool
     }
 }
 
+/// The frame is out of use already, or a page's.
 fn is_taken(word: u64) -> bool
     ensures { result ≡ is_taken word }
 {
@@ -194,6 +197,7 @@ fn is_taken(word: u64) -> bool
     frame.handled || frame.owner.is_some()
 }
 
+/// The page is in the frame.
 fn is_owner(page: Page, word: u64) -> bool
     ensures { result ≡ is_owner page word }
 {

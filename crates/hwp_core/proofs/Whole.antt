@@ -1,8 +1,6 @@
 -- The report of a run is lawful, and the law of the run holds of it.
-use Rattle.std.proofs.Common.{◌≡◌, ℕ, List, [], Some, length, sym, ap, ◌∙◌, subst}
+use Rattle.std.proofs.Common.{◌≡◌, List, [], Some, length, sym, ap, ◌∙◌, subst}
 use Rattle.std.proofs.lemmas.List.{length-map}
-use Rattle.hwp_page.specs.declared.Entry.{Entry}
-use Rattle.hwp_script.specs.declared.Command.{Command}
 use Rattle.hwp_script.specs.declared.Script.{Script}
 use Rattle.hwp_script.specs.Valid.{IsValid}
 use Rattle.hwp_report.specs.declared.CpuLine.{CpuLine}
@@ -23,25 +21,19 @@ use Rattle.hwp_served.proofs.lines.Gathering.{gathered}
 use Rattle.hwp_served.proofs.Holding.{report-of-run}
 use Rattle.hwp_served.proofs.Lawful.{law-holds}
 use Rattle.hwp_served.proofs.Showing.{report-shown, scrubs-shown}
-use Rattle.hwp_closing.specs.Ends.{AreHistories}
 use Rattle.hwp_table.specs.Ends.{EndValue}
 use Rattle.hwp_outcome.specs.Closing.{IsClosing}
-use Rattle.hwp_core.specs.Runs.{HasClosed, HasEnded, IsCoreRun, IsPlayed, IsTableRun, own_seat}
-use Rattle.hwp_core.proofs.Came.{Closes, last-came}
+use Rattle.hwp_core.specs.Runs.{HasClosed, HasEnded, HasEndedAt, IsCoreRun, IsFinished, IsPlayed, IsReportOf, IsTablePlayed, IsTableRun, own_seat}
 use Rattle.hwp_core.proofs.Led.{last-holds, last-noted}
 
 -- of any run that has ended
 module _ (script : Script) (turns : List Played) (state : State) (rows : List (List Row)) (valid : IsValid script) (ended : HasEnded script turns state rows)
-    (given : List (List Command)) (told : List (List Row)) (given_are : given ≡ script.lists) (told_are : told ≡ rows) (report : Report) (closing : IsClosing script.layout state given told report) where
-  closed : IsClosing script.layout state script.lists rows report
-  closed = subst (λ (r : List (List Row)). IsClosing script.layout state script.lists r report) told_are
-      (subst (λ (c : List (List Command)). IsClosing script.layout state c told report) given_are closing)
-
+    (report : Report) (closing : IsClosing script.layout state script.lists rows report) where
   caused : (stop : Stop) → report.stop ≡ Some stop → HasStopCause script rows stop
-  caused stop is = let by = closed.cause stop is in record { command = by.command; row = by.row; command_is = by.command_is; row_is = by.row_is; cause = by.cause }
+  caused stop is = let by = closing.cause stop is in record { command = by.command; row = by.row; command_is = by.command_is; row_is = by.row_is; cause = by.cause }
 
-  lines-served : AreServed script own_seat state rows report.cpus
-  lines-served = subst (AreServed script own_seat state rows) (sym closed.lines) ended.served
+  pub lines-served : AreServed script own_seat state rows report.cpus
+  lines-served = subst (AreServed script own_seat state rows) (sym closing.lines) ended.served
 
   pub run-of : IsRunOf script own_seat turns state report
   run-of = record {
@@ -52,15 +44,15 @@ module _ (script : Script) (turns : List Played) (state : State) (rows : List (L
     rows = rows;
     served = lines-served;
     records = λ frame line there.
-        let on = closed.ends.frames frame line there in
-        gathered script.layout own_seat state (last-holds script turns state rows valid ended) ended.seated (notes_of 0 rows) (last-noted script turns state rows valid ended) frame on.word on.there line.marks (closed.marks frame line there);
-    ends = closed.ends;
+        let on = closing.ends.frames frame line there in
+        gathered script.layout own_seat state (last-holds script turns state rows valid ended) ended.seated (notes_of 0 rows) (last-noted script turns state rows valid ended) frame on.word on.there line.marks (closing.marks frame line there);
+    ends = closing.ends;
     lengths = record {
       lists = valid.one_each;
-      cpus = ap (λ (c : List (List CpuLine)). length c) closed.lines ∙ length-map rows (lines_from 0) ∙ ended.count;
+      cpus = ap (λ (c : List (List CpuLine)). length c) closing.lines ∙ length-map rows (lines_from 0) ∙ ended.count;
       rows_fit = ended.count;
-      frames = closed.frames;
-      pages = closed.pages;
+      frames = closing.frames;
+      pages = closing.pages;
     };
     cause = caused;
   }
@@ -73,11 +65,11 @@ module _ (script : Script) (turns : List Played) (state : State) (rows : List (L
 
 -- and of one whose tasks made their turns in the script's order
 module _ (script : Script) (log : List Played) (state : State) (rows : List (List Row)) (valid : IsValid script) (played : IsPlayed script log state rows)
-    (given : List (List Command)) (told : List (List Row)) (given_are : given ≡ script.lists) (told_are : told ≡ rows) (report : Report) (closing : IsClosing script.layout state given told report) where
+    (report : Report) (closing : IsClosing script.layout state script.lists rows report) where
   of-run : IsRunOf script own_seat played.turns state report
-  of-run = run-of script played.turns state rows valid played.ended given told given_are told_are report closing
+  of-run = run-of script played.turns state rows valid played.ended report closing
 
-  pub run-core : IsCoreRun script report
+  run-core : IsCoreRun script report
   run-core = record {
     tasks = played.tasks;
     begin = played.begin;
@@ -93,32 +85,45 @@ module _ (script : Script) (log : List Played) (state : State) (rows : List (Lis
       scrubs = scrubs-shown script own_seat played.turns state report of-run;
     };
     rows = rows;
-    served = subst (λ (s : State). AreServed script own_seat s rows report.cpus) (sym played.state_is) (lines-served script played.turns state rows valid played.ended given told given_are told_are report closing);
+    served = subst (λ (s : State). AreServed script own_seat s rows report.cpus) (sym played.state_is) (lines-served script played.turns state rows valid played.ended report closing);
+  }
+
+  -- the report is of the run whose turns the log has
+  pub reported : IsReportOf script log report
+  unfolding run-core
+  reported = record {
+    run = run-of-run script played.turns state rows valid played.ended report closing;
+    lawful = run-lawful script played.turns state rows valid played.ended report closing;
+    core = run-core;
+    log_is = played.log_is;
   }
 
   -- and the table was closed with that run's last board
-  pub run-at-table : (ended : EndValue) → HasClosed script log state ended → IsTableRun script report ended
+  run-at-table : (ended : EndValue) → HasClosed script log state ended → IsTableRun script report ended
   unfolding run-core
   run-at-table ended is = record {
     of_run = run-core;
     closed = subst (λ (s : State). HasClosed script (logged played.turns []) s ended) (sym played.state_is) (subst (λ (l : List Played). HasClosed script l state ended) played.log_is is);
   }
 
--- the same of a report that is told of the words and histories to which the run came
-module _ (script : Script) (log : List Played) (state : State) (rows : List (List Row)) (valid : IsValid script) (played : IsPlayed script log state rows)
-    (words : List ℕ) (pages : List (List Entry)) (given : List (List Command)) (told : List (List Row)) (words_are : words ≡ state.words) (histories : AreHistories state.homes pages) (one_each : length pages ≡ length script.layout.pages)
-    (given_are : given ≡ script.lists) (told_are : told ≡ rows) (report : Report) (closes : Closes script.layout words pages given told report) where
-  closing : IsClosing script.layout state given told report
-  closing = closes state (last-came script played.turns state rows valid played.ended words pages given told words_are histories one_each given_are told_are)
+-- of a run that was made at a table
+module _ (script : Script) (closed : EndValue) (rows : List (List Row)) (valid : IsValid script) (played : IsTablePlayed script closed rows) where
+  abbrev at : HasEndedAt script closed rows
+  at = record {
+    turns = played.played.turns;
+    state = played.state;
+    run = played.played.ended;
+    layout_is = played.closed.layout_is;
+    words_are = played.closed.words_are;
+    bodies_are = played.closed.bodies_are;
+  }
 
-  pub told-of-run : IsOfRun script report
-  told-of-run = run-of-run script played.turns state rows valid played.ended given told given_are told_are report closing
+  pub table-ended : HasEndedAt script closed rows
+  table-ended = at
 
-  pub told-lawful : IsLawful script report
-  told-lawful = run-lawful script played.turns state rows valid played.ended given told given_are told_are report closing
+  module _ (report : Report) (ended : EndValue) (is : IsFinished script closed rows report ended) where
+    pub table-core : IsCoreRun script report
+    table-core = run-core script played.log played.state rows valid played.played report (is.closing at)
 
-  pub told-core : IsCoreRun script report
-  told-core = run-core script log state rows valid played given told given_are told_are report closing
-
-  pub told-table : (ended : EndValue) → HasClosed script log state ended → IsTableRun script report ended
-  told-table ended closed = run-at-table script log state rows valid played given told given_are told_are report closing ended closed
+    pub table-run : IsTableRun script report ended
+    table-run = subst (IsTableRun script report) (sym is.same) (run-at-table script played.log played.state rows valid played.played report (is.closing at) closed played.closed)

@@ -17,6 +17,8 @@ use Rattle.hwp_script.specs.declared.Command.{Command}
 use Rattle.hwp_script.specs.declared.Script.{Script}
 use Rattle.hwp_sched.specs.Order.{InOrder, Running, logged, running}
 use Rattle.hwp_report.specs.declared.Report.{Report}
+use Rattle.hwp_law.specs.Law.{IsLawful}
+use Rattle.hwp_law.specs.Runs.{IsOfRun}
 use Rattle.hwp_runs.specs.Run.{CoreRun}
 use Rattle.hwp_runs.specs.Turns.{Leads}
 use Rattle.hwp_row.specs.declared.Row.{Row}
@@ -24,7 +26,7 @@ use Rattle.hwp_served.specs.Runs.{AreServed}
 use Rattle.hwp_processor.specs.declared.Processor.{Processor}
 use Rattle.hwp_processor.specs.Processors.{AtBeginning, Next, aborts, bare, claims, class, cost, plan, put, who}
 use Rattle.hwp_processor.specs.Serving.{Fits}
-use Rattle.hwp_outcome.specs.Closing.{lines_of_all}
+use Rattle.hwp_outcome.specs.Closing.{IsClosing, lines_of_all}
 
 -- a processor as a task
 abbrev pub processors : Member Processor
@@ -81,7 +83,28 @@ pub record IsCoreRun (script : Script) (report : Report) : Type 0 where
   pub rows : List (List Row)
   pub served : AreServed script own_seat run.last.state rows report.cpus
 
+-- the report is of the run whose turns are those of this log, and lawful
+pub record IsReportOf (script : Script) (log : List Played) (report : Report) : Type 0 where
+  pub run : IsOfRun script report
+  pub lawful : IsLawful script report
+  pub core : IsCoreRun script report
+  pub log_is : log ≡ logged core.run.turns []
+
 -- ---- at a table
+
+-- The table was closed with the words and the bodies of a board on which a run has ended. It says nothing of the order of its turns.
+pub record HasEndedAt (script : Script) (ended : EndValue) (rows : List (List Row)) : Type 0 where
+  pub turns : List Played
+  pub state : State
+  pub run : HasEnded script turns state rows
+  pub layout_is : ended.layout ≡ script.layout
+  pub words_are : ended.words ≡ state.words
+  pub bodies_are : map home_with ended.slots ≡ state.homes
+
+-- the report is that of each such board with which the table was closed, and what it was closed with is handed on
+pub record IsFinished (script : Script) (closed : EndValue) (rows : List (List Row)) (report : Report) (ended : EndValue) : Type 0 where
+  pub closing : (at : HasEndedAt script closed rows) → IsClosing script.layout at.state script.lists rows report
+  pub same : ended ≡ closed
 
 -- One seat has the views of all processors, none of which holds anything, and knows the board to which the processors' turns
 -- led, and their moves.

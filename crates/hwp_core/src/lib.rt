@@ -8,6 +8,6 @@ mod playing;
 mod running;
 
 pub use crew::{Rows, crew_of, rows_of};
-pub use plain::run_plain;
+pub use plain::{report_of, run_plain};
 pub use playing::play;
-pub use running::{Finished, pages_of, run};
+pub use running::{Finished, finish_run, run_in_turns};

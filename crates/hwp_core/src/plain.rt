@@ -2,8 +2,9 @@ ghost use Rattle.std.specs.Prelude.{◌≡◌, IfOk};
 ghost use Rattle.hwp_law.specs.Law.{IsLawful};
 ghost use Rattle.hwp_law.specs.Runs.{IsOfRun};
 ghost use Rattle.hwp_script.specs.Valid.{IsValid};
-ghost use Rattle.hwp_core.specs.Runs.{IsCoreRun};
+ghost use Rattle.hwp_core.specs.Runs.{IsCoreRun, IsPlayed, IsReportOf};
 
+use crate::crew::Rows;
 use crate::playing::play;
 use hwp_geom::OutOfMemory;
 use hwp_outcome::report;
@@ -12,15 +13,18 @@ use hwp_report::Report;
 use hwp_script::Script;
 use std::alloc::Global;
 
-/// The run of a script on one plain board: the reference for `run`, whose processors make the same turns at a table.
-pub fn run_plain(alloc: Global, script: &Script) -> Result<Report, OutOfMemory>
+/// The report of a run in turns that was made on a plain board.
+pub fn report_of(
+    alloc: Global,
+    script: &Script,
+    board: PlainBoard,
+    rows: &Rows,
+) -> Result<Report, OutOfMemory>
     requires valid { IsValid script.now }
-    ensures of_run { IfOk result (IsOfRun script.now) }
-    ensures lawful { IfOk result (IsLawful script.now) }
-    ensures core { IfOk result (IsCoreRun script.now) }
+    requires layout { board.layout ≡ script.now.layout }
+    requires played { IsPlayed script.now board.log board.state rows.now }
+    ensures { IfOk result (IsReportOf script.now board.log) }
 {
-    let mut board = PlainBoard::new(alloc, &script.layout)?;
-    let rows = play(alloc, script, &mut board)?;
     let words = Vec::from_slice(alloc, board.words())?;
     let pages = board.histories(alloc)?;
     let lists = script.lists.as_slice();
@@ -32,4 +36,16 @@ pub fn run_plain(alloc: Global, script: &Script) -> Result<Report, OutOfMemory>
         lists,
         rows.as_slice(),
     )
+}
+
+/// The run of a script on one plain board: the reference for `run_in_turns`, whose processors make the same turns at a table.
+pub fn run_plain(alloc: Global, script: &Script) -> Result<Report, OutOfMemory>
+    requires valid { IsValid script.now }
+    ensures of_run { IfOk result (IsOfRun script.now) }
+    ensures lawful { IfOk result (IsLawful script.now) }
+    ensures core { IfOk result (IsCoreRun script.now) }
+{
+    let mut board = PlainBoard::new(alloc, &script.layout)?;
+    let rows = play(alloc, script, &mut board)?;
+    report_of(alloc, script, board, &rows)
 }

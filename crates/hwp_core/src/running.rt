@@ -6,7 +6,7 @@ ghost use Rattle.hwp_opening.specs.Openings.{home_with};
 ghost use Rattle.hwp_closing.specs.Ends.{AreHistories};
 ghost use Rattle.hwp_table.specs.Known.{first_known};
 ghost use Rattle.hwp_table.specs.Seats.{IsTableOf};
-ghost use Rattle.hwp_core.specs.Runs.{IsCoreRun, IsTablePlayed, IsTableRun, KnowsRun};
+ghost use Rattle.hwp_core.specs.Runs.{HasEndedAt, IsCoreRun, IsFinished, IsTablePlayed, IsTableRun, KnowsRun};
 
 use crate::crew::Rows;
 use crate::playing::play;
@@ -67,7 +67,7 @@ fn play_at_table(alloc: Global, script: &Script) -> Result<(Ended, Vec<Slot>, Ro
 }
 
 /// The histories of the bodies of a table that was closed, in the order of the pages.
-pub fn pages_of(
+fn pages_of(
     alloc: Global,
     ended: &Ended,
     bodies: Vec<Slot>,
@@ -85,17 +85,23 @@ pub fn pages_of(
     histories(alloc, bodies, usize::from(layout.frames), caches)
 }
 
-/// The run of a script: its processors make their turns in the order of the schedule, and then in the finishing order, until
-/// each of their commands is answered. They make them at one table of atomic words, and the report is of what it is closed with.
-pub fn run(alloc: Global, script: &Script) -> Result<Finished, OutOfMemory>
+/// What a run came to, in whatever order its processors made their turns: the report, which is of the words and the bodies with
+/// which the table was closed and of the processors' rows, and what the table was closed with.
+pub fn finish_run(
+    alloc: Global,
+    script: &Script,
+    ended: Ended,
+    bodies: Vec<Slot>,
+    rows: &Rows,
+) -> Result<Finished, OutOfMemory>
     requires valid { IsValid script.now }
+    requires run { HasEndedAt script.now ended rows.now }
+    requires bodies { ended.slots ≡ bodies.items }
     ensures of_run { IfOk result (λ run. IsOfRun script.now run.report) }
     ensures lawful { IfOk result (λ run. IsLawful script.now run.report) }
-    ensures core { IfOk result (λ run. IsCoreRun script.now run.report) }
-    ensures ended { IfOk result (λ run. IsTableRun script.now run.report run.ended) }
+    ensures closing { IfOk result (λ run. IsFinished script.now ended rows.now run.report run.ended) }
 {
-    let (ended, slots, rows) = play_at_table(alloc, script)?;
-    let pages = pages_of(alloc, &ended, slots, &script.layout)?;
+    let pages = pages_of(alloc, &ended, bodies, &script.layout)?;
     let lists = script.lists.as_slice();
     let report = report(
         alloc,
@@ -106,4 +112,17 @@ pub fn run(alloc: Global, script: &Script) -> Result<Finished, OutOfMemory>
         rows.as_slice(),
     )?;
     Ok(Finished { report, ended })
+}
+
+/// The run of a script in turns: its processors make them in the order of the schedule, and then in the finishing order, until each
+/// of their commands is answered. They make them at one table of atomic words, and the report is of what it is closed with.
+pub fn run_in_turns(alloc: Global, script: &Script) -> Result<Finished, OutOfMemory>
+    requires valid { IsValid script.now }
+    ensures of_run { IfOk result (λ run. IsOfRun script.now run.report) }
+    ensures lawful { IfOk result (λ run. IsLawful script.now run.report) }
+    ensures core { IfOk result (λ run. IsCoreRun script.now run.report) }
+    ensures ended { IfOk result (λ run. IsTableRun script.now run.report run.ended) }
+{
+    let (ended, bodies, rows) = play_at_table(alloc, script)?;
+    finish_run(alloc, script, ended, bodies, &rows)
 }

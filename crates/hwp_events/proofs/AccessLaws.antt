@@ -14,10 +14,10 @@ use Rattle.hwp_law.specs.Checks.{AreLinesOf, Banks, IsCheck, IsLineOf, held_from
 use Rattle.hwp_law.specs.Commands.{Arrival}
 use Rattle.hwp_law.specs.Events.{AreAccessChecks, IsDamaged}
 use Rattle.hwp_law.specs.Lines.{EventLine}
-use Rattle.hwp_events.specs.Accesses.{Access, IsAccessLine, IsOwnLine, IsRawLine, asked_by_access, asked_first, begins_in_panic}
-use Rattle.hwp_events.specs.Firsts.{AreRight}
-use Rattle.hwp_events.specs.Found.{beside, has_stopper, of_access, own_found, resting}
-use Rattle.hwp_events.proofs.FoundLaws.{banks_at, found-is, held_raw, one-line, stop-is, two-lines}
+use Rattle.hwp_events.specs.Accesses.{Access, IsAccessLine, IsOwnLine, asked_by_access, asked_first, begins_in_panic}
+use Rattle.hwp_event_lines.specs.Found.{IsRawLine, beside, has_stopper, of_access, own_found, resting}
+use Rattle.hwp_event_lines.specs.Firsts.{AreRight}
+use Rattle.hwp_event_lines.proofs.FoundLaws.{banks_at, found-is, held_raw, one-line, stop-is, two-lines}
 
 beside-none : (origin : Origin) → beside origin None ≡ None
 beside-none origins.Access = refl

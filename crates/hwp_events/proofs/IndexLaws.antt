@@ -7,8 +7,8 @@ use Rattle.hwp_report.specs.declared.CpuLine.{CpuLine}
 use Rattle.hwp_report.specs.declared.CpuLine.TheVariants as lines
 use Rattle.hwp_law.specs.Lines.{EventLine, events_among}
 use Rattle.hwp_events.specs.Indexed.{AreShown, own_shown, shown_at, shown_from, with_shown}
-use Rattle.hwp_events.specs.Told.{told}
-use Rattle.hwp_events.specs.declared.shown.Shown.{Shown}
+use Rattle.hwp_event_lines.specs.Told.{told}
+use Rattle.hwp_event_lines.specs.declared.Shown.{Shown}
 
 append-none : (l : List Shown) → l ++ [] ≡ l
 append-none [] = refl

@@ -1,5 +1,5 @@
 -- What is wrong about the lines of a command, by its kind.
-use Rattle.std.proofs.Common.{◌≡◌, ℕ, ◌<◌, ◌≤◌, ◌==◌, ◌+◌, ◌-◌, Bool, true, false, cond, List, Option, None, MatchBool, is_some, length, map, sym, ap, ◌∙◌, subst, arith}
+use Rattle.std.proofs.Common.{◌≡◌, ◌⊎◌, inl, inr, ℕ, ◌<◌, ◌≤◌, ◌==◌, ◌+◌, ◌-◌, Bool, true, false, cond, List, Option, None, MatchBool, is_some, length, map, sym, ap, ◌∙◌, subst, arith}
 use Rattle.std.specs.Bool.{nat_lt}
 use Rattle.std.specs.Int.{from_bool}
 use Rattle.std.proofs.lemmas.Bool.{ltb-false, ltb-true}
@@ -22,16 +22,16 @@ use Rattle.hwp_law.specs.Events.{is_check, is_raised}
 use Rattle.hwp_law.specs.Lines.{EventLine, answer_of}
 use Rattle.hwp_law.specs.Pairings.{entries_of}
 use Rattle.hwp_law.specs.Policies.{commands_before}
-use Rattle.hwp_events.specs.Accesses.{Access, IsAccessLine, IsRaisedLine, asked_by_access}
-use Rattle.hwp_events.specs.Firsts.{IsScanned}
+use Rattle.hwp_events.specs.Accesses.{Access, IsAccessLine, IsRaisedLine, access_by, asked_by_access}
+use Rattle.hwp_event_lines.specs.Firsts.{IsScanned}
 use Rattle.hwp_events.specs.Judged.{IsAccessJudged, IsJudged, IsScrubJudged, IsTable}
-use Rattle.hwp_events.specs.Misfits.{access_of, course_of, is_scrubbed, low_of, reach_from}
-use Rattle.hwp_events.specs.Scrubbing.{IsRightIn, course_by, low_of as low_by}
-use Rattle.hwp_events.specs.Scrubs.{Course, after_all, bound_from, lacking, lowest}
-use Rattle.hwp_events.specs.Told.{access_by, told}
-use Rattle.hwp_events.specs.declared.faults.Faults.{Faults}
-use Rattle.hwp_events.specs.declared.shown.Checks.{Checks}
-use Rattle.hwp_events.specs.declared.shown.Shown.{Shown}
+use Rattle.hwp_events.specs.Misfits.{access_of, course_of, is_scrubbed, low_of}
+use Rattle.hwp_scrub_events.specs.Scrubs.{Course, after_all, bound_from, lacking, lowest, reach_from}
+use Rattle.hwp_scrub_events.specs.Scrubbing.{IsRightIn, course_by, low_of as low_by}
+use Rattle.hwp_event_lines.specs.Told.{told}
+use Rattle.hwp_event_lines.specs.declared.Faults.{Faults}
+use Rattle.hwp_events.specs.declared.known.Checks.{Checks}
+use Rattle.hwp_event_lines.specs.declared.Shown.{Shown}
 
 less-decides : (a b : ℕ) (t : Bool) → t ≡ nat_lt a b → MatchBool t (a < b) (a < b → ⊥)
 less-decides a b true is = ltb-true a b (sym is)
@@ -97,20 +97,28 @@ module _ (script : Script) (report : Report) (who : Who) (command : Command) (ra
   abbrev Judged : Command → Type 0
   Judged c = IsJudged script report who c raw left lines faults
 
-  pub load-judged : (thread : Thread) (slot : VSlot) (at : ℕ) → command ≡ commands.Load thread slot at → IsAccessJudged script report who how origins.Access at raw left lines faults → Judged command
+  load-judged : (thread : Thread) (slot : VSlot) (at : ℕ) → command ≡ commands.Load thread slot at → IsAccessJudged script report who how origins.Access at raw left lines faults → Judged command
   load-judged thread slot at is judged =
       let j = subst (λ (h : Arrival). IsAccessJudged script report who h origins.Access at raw left lines faults) (how_is ∙ ap arrival_of is) judged in
       subst Judged (sym is) (record { scanned = j.scanned; lacks = j.lacks; left_is = j.left_is })
 
-  pub kload-judged : (thread : Thread) (slot : VSlot) (at : ℕ) → command ≡ commands.KLoad thread slot at → IsAccessJudged script report who how origins.Access at raw left lines faults → Judged command
+  kload-judged : (thread : Thread) (slot : VSlot) (at : ℕ) → command ≡ commands.KLoad thread slot at → IsAccessJudged script report who how origins.Access at raw left lines faults → Judged command
   kload-judged thread slot at is judged =
       let j = subst (λ (h : Arrival). IsAccessJudged script report who h origins.Access at raw left lines faults) (how_is ∙ ap arrival_of is) judged in
       subst Judged (sym is) (record { scanned = j.scanned; lacks = j.lacks; left_is = j.left_is })
 
-  pub store-judged : (thread : Thread) (slot : VSlot) (at word : ℕ) → command ≡ commands.Store thread slot at word → IsAccessJudged script report who how origins.Access at raw left lines faults → Judged command
+  store-judged : (thread : Thread) (slot : VSlot) (at word : ℕ) → command ≡ commands.Store thread slot at word → IsAccessJudged script report who how origins.Access at raw left lines faults → Judged command
   store-judged thread slot at word is judged =
       let j = subst (λ (h : Arrival). IsAccessJudged script report who h origins.Access at raw left lines faults) (how_is ∙ ap arrival_of is) judged in
       subst Judged (sym is) (record { scanned = j.scanned; lacks = j.lacks; left_is = j.left_is })
+
+  -- any of the three
+  pub accessed-judged : (at : ℕ) → ((thread : Thread) × (slot : VSlot) × (command ≡ commands.Load thread slot at))
+      ⊎ (((thread : Thread) × (slot : VSlot) × (command ≡ commands.KLoad thread slot at)) ⊎ ((thread : Thread) × (slot : VSlot) × (word : ℕ) × (command ≡ commands.Store thread slot at word)))
+      → IsAccessJudged script report who how origins.Access at raw left lines faults → Judged command
+  accessed-judged at (inl (thread, slot, is)) judged = load-judged thread slot at is judged
+  accessed-judged at (inr (inl (thread, slot, is))) judged = kload-judged thread slot at is judged
+  accessed-judged at (inr (inr (thread, slot, word, is))) judged = store-judged thread slot at word is judged
 
   pub scrubbed-judged : (first last : Frame) → command ≡ commands.Scrub first last → IsScrubJudged script report who how first last raw left lines faults → Judged command
   scrubbed-judged first last is judged =

@@ -21,8 +21,8 @@ use Rattle.hwp_law.specs.Lines.{answer_of}
 use Rattle.hwp_law.specs.Places.{command_at}
 use Rattle.hwp_law.specs.Policies.{commands_before}
 use Rattle.hwp_events.specs.Misfits.{is_scrubbed, low_of}
-use Rattle.hwp_events.specs.Scrubs.{lowest, marked_at, place_of}
-use Rattle.hwp_events.proofs.ScrubForth.{MeetsLow}
+use Rattle.hwp_scrub_events.specs.Scrubs.{lowest, marked_at, place_of}
+use Rattle.hwp_scrub_events.proofs.ScrubForth.{MeetsLow}
 
 -- items of the beginning of a list
 get-take : {X : Type 0} (xs : List X) (n i : ℕ) (x : X) → slice_get xs i ≡ Some x → i < n → slice_get (take n xs) i ≡ Some x

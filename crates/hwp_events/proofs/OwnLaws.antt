@@ -1,5 +1,5 @@
 -- The line of an own event of a machine check of an access: the frame that its address says decides, or any that is bad there.
-use Rattle.std.proofs.Common.{◌≡◌, ◌⊎◌, ◌↔◌, inl, inr, ℕ, ◌<◌, ◌*◌, ◌+◌, ◌||◌, Bool, true, Option, Some, None, true≢false, refl, sym, ap, ◌∙◌, subst, arith}
+use Rattle.std.proofs.Common.{◌≡◌, ◌⊎◌, ◌↔◌, inl, inr, ℕ, ◌<◌, ◌||◌, Bool, true, Option, Some, None, true≢false, refl, sym, ap, ◌∙◌, subst}
 use Rattle.std.specs.Int.{IsBitSet}
 use Rattle.hwp_geom.specs.declared.Frame.{Frame}
 use Rattle.hwp_geom.specs.declared.Who.{Who}
@@ -16,8 +16,9 @@ use Rattle.hwp_law.specs.Commands.{Arrival}
 use Rattle.hwp_law.specs.Events.{IsDamaged}
 use Rattle.hwp_law.specs.Lines.{EventLine, bad_lines_of}
 use Rattle.hwp_events.specs.Accesses.{IsOwnLine}
-use Rattle.hwp_events.specs.Found.{IsCandidate, beside, has_stopper, may_stop, of_access, own_found, stops}
-use Rattle.hwp_events.proofs.FoundLaws.{same-stop}
+use Rattle.hwp_event_lines.specs.Found.{IsCandidate, beside, has_stopper, may_stop, of_access, own_found, stops}
+use Rattle.hwp_event_lines.proofs.FoundLaws.{same-stop}
+use Rattle.hwp_event_lines.proofs.LineLaws.{frame-of-line}
 
 is-bad : (report : Report) (origin : Origin) → of_access origin ≡ true → (frame at : ℕ) → IsDamaged report origin frame at → IsBitSet (bad_lines_of report frame) at
 is-bad report origins.Access is frame at set = set
@@ -50,9 +51,6 @@ same-or-told origins.Fetch is None at = inr (λ f. refl)
 same-or-told origins.Fetch is (Some event) at = by-class (class_of event.status) event at
 same-or-told origins.BadLine is raw at = absurd (true≢false (sym is))
 same-or-told origins.WeakLine is raw at = absurd (true≢false (sym is))
-
-pub frame-of-line : (f : Frame) (at addr : ℕ) → at < 64 → addr ≡ line_address f at → frame_at addr ≡ f.0
-frame-of-line f at addr small is = let sum : addr ≡ f.0 * 4096 + at * 64 = is in omega (arith, sum, small)
 
 abbrev frame_of : ℕ → Frame
 frame_of n = record { 0 = n }

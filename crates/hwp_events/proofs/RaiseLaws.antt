@@ -9,12 +9,12 @@ use Rattle.hwp_report.specs.declared.Report.{Report}
 use Rattle.hwp_law.specs.Checks.{IsCheck}
 use Rattle.hwp_law.specs.Commands.{Arrival}
 use Rattle.hwp_law.specs.Lines.{EventLine}
-use Rattle.hwp_events.specs.Accesses.{IsRaisedLine, IsRawLine}
-use Rattle.hwp_events.specs.Firsts.{AreRight, AreRightTo, IsFirstWrong}
-use Rattle.hwp_events.specs.Found.{may_stop, resting, stops}
-use Rattle.hwp_events.specs.Told.{told}
-use Rattle.hwp_events.specs.declared.shown.Shown.{Shown}
-use Rattle.hwp_events.proofs.FoundLaws.{one-line, or-none}
+use Rattle.hwp_events.specs.Accesses.{IsRaisedLine}
+use Rattle.hwp_event_lines.specs.Found.{IsRawLine, may_stop, resting, stops}
+use Rattle.hwp_event_lines.specs.Firsts.{AreRight, AreRightTo, IsFirstWrong}
+use Rattle.hwp_event_lines.specs.Told.{told}
+use Rattle.hwp_event_lines.specs.declared.Shown.{Shown}
+use Rattle.hwp_event_lines.proofs.FoundLaws.{one-line, or-none}
 
 module _ (script : Script) (report : Report) (who : Who) (how : Arrival) where
   abbrev Right : Option Event → ℕ → EventLine → Type 0

@@ -6,7 +6,7 @@ use Rattle.std.proofs.lemmas.List.Sums.{fold-append}
 use Rattle.hwp_geom.specs.Limits.{line_limit}
 use Rattle.hwp_script.specs.declared.Command.{Command}
 use Rattle.hwp_script.specs.declared.Command.TheVariants as commands
-use Rattle.hwp_events.specs.Scrubs.{lowest, marked_at}
+use Rattle.hwp_scrub_events.specs.Scrubs.{lowest, marked_at}
 use Rattle.hwp_events.specs.Walked.{HasPlace, IsTableOf, noted, with_mark}
 use Rattle.hwp_events.proofs.Lowest.{from-start}
 

@@ -23,7 +23,7 @@ use Rattle.hwp_law.specs.Events.{AreEventsFrom, IsDamaged}
 use Rattle.hwp_events.specs.Misfits.{AreTold}
 use Rattle.hwp_events.specs.Walked.{AllRight, IsFirstRow, IsProcessorJudged, IsTableOf, IsWalked, IsWrongRow, LacksSome}
 use Rattle.hwp_events.specs.declared.misfits.Misfits.{Misfits}
-use Rattle.hwp_events.proofs.LineLaws.{no-line}
+use Rattle.hwp_event_lines.proofs.LineLaws.{no-line}
 use Rattle.hwp_events.proofs.ValidLaws.{fits, has-lines}
 use Rattle.hwp_events.proofs.Walks.{processor-law}
 use Rattle.hwp_events.proofs.Whole.{AreMasks}

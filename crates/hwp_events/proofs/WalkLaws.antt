@@ -12,15 +12,15 @@ use Rattle.hwp_report.specs.declared.CpuLine.{CpuLine}
 use Rattle.hwp_report.specs.declared.CpuLine.TheVariants as rowkinds
 use Rattle.hwp_report.specs.declared.Report.{Report}
 use Rattle.hwp_law.specs.Lines.{EventLine, events_of}
-use Rattle.hwp_events.specs.Firsts.{AreRight, IsFirstWrong}
+use Rattle.hwp_event_lines.specs.Firsts.{AreRight, IsFirstWrong}
 use Rattle.hwp_events.specs.Indexed.{shown_from}
 use Rattle.hwp_events.specs.Judged.{IsJudged}
 use Rattle.hwp_events.specs.Misfits.{IsRightLine, IsWrong, Lacks, found_by, leaves, left_by}
-use Rattle.hwp_events.specs.Told.{told}
+use Rattle.hwp_event_lines.specs.Told.{told}
 use Rattle.hwp_events.specs.Walked.{AllRight, IsFirstRow, IsWalked, IsWrongRow, LacksSome, joined, joined_wrong, place_at}
-use Rattle.hwp_events.specs.declared.faults.Faults.{Faults}
+use Rattle.hwp_event_lines.specs.declared.Faults.{Faults}
 use Rattle.hwp_events.specs.declared.misfits.Misfits.{Misfits}
-use Rattle.hwp_events.specs.declared.shown.Shown.{Shown}
+use Rattle.hwp_event_lines.specs.declared.Shown.{Shown}
 
 -- the places of a command's event lines rise
 from-place : (seq : ℕ) (rows : List CpuLine) (place i : ℕ) (s : Shown) → slice_get (shown_from seq place rows) i ≡ Some s → place ≤ s.place

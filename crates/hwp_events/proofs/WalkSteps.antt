@@ -19,11 +19,11 @@ use Rattle.hwp_law.specs.Pairings.{entries_of}
 use Rattle.hwp_events.specs.Indexed.{AreChecks, AreFirst, AreShown, checks_in, shown_from}
 use Rattle.hwp_events.specs.Judged.{IsJudged, IsTable}
 use Rattle.hwp_events.specs.Misfits.{IsFit, found_by, leaves, left_by}
-use Rattle.hwp_events.specs.Told.{told}
+use Rattle.hwp_event_lines.specs.Told.{told}
 use Rattle.hwp_events.specs.Walked.{HasPlace, IsTableOf, IsWalked, joined, with_mark}
-use Rattle.hwp_events.specs.declared.faults.Faults.{Faults}
+use Rattle.hwp_event_lines.specs.declared.Faults.{Faults}
 use Rattle.hwp_events.specs.declared.misfits.Misfits.{Misfits}
-use Rattle.hwp_events.specs.declared.shown.Shown.{Shown}
+use Rattle.hwp_event_lines.specs.declared.Shown.{Shown}
 use Rattle.hwp_events.proofs.IndexLaws.{told-is}
 use Rattle.hwp_events.proofs.TableLaws.{table-next, table-size}
 use Rattle.hwp_events.proofs.ValidLaws.{command-of, fits}

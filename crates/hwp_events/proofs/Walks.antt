@@ -10,7 +10,7 @@ use Rattle.hwp_report.specs.declared.Report.{Report}
 use Rattle.hwp_law.specs.Checks.{empty_banks}
 use Rattle.hwp_law.specs.Events.{AreEventsFrom}
 use Rattle.hwp_law.specs.Lines.{events_of}
-use Rattle.hwp_events.specs.Found.{resting}
+use Rattle.hwp_event_lines.specs.Found.{resting}
 use Rattle.hwp_events.specs.Misfits.{AreTold, IsFit, IsTold, found_by, leaves, left_by}
 use Rattle.hwp_events.proofs.Lowest.{HasLines}
 use Rattle.hwp_events.proofs.Whole.{AreMasks, whole-back, whole-forth}

@@ -20,19 +20,19 @@ use Rattle.hwp_law.specs.Events.{AreEventsOf, AreScrubbed, IsAccessChecked, IsDa
 use Rattle.hwp_law.specs.Lines.{EventLine, answer_of}
 use Rattle.hwp_law.specs.Pairings.{entries_of}
 use Rattle.hwp_events.specs.Accesses.{IsAccessLine, IsRaisedLine, asked_by_access}
-use Rattle.hwp_events.specs.Firsts.{AreRight}
-use Rattle.hwp_events.specs.Found.{of_access, resting}
-use Rattle.hwp_events.specs.Misfits.{IsFit, IsRightLine, Lacks, access_of, course_of, leaves, logged_if, reach_from}
-use Rattle.hwp_events.specs.Scrubs.{Course, IsScrubbedLine, after, after_all, lacking, marked_from, turn}
-use Rattle.hwp_events.specs.Scrubbing.{IsRightIn}
-use Rattle.hwp_events.specs.declared.reach.Reach.{Reach}
-use Rattle.hwp_events.specs.declared.reach.Turn.{Turn}
-use Rattle.hwp_events.specs.declared.reach.Turn.TheVariants as turns
+use Rattle.hwp_event_lines.specs.Firsts.{AreRight}
+use Rattle.hwp_event_lines.specs.Found.{of_access, resting}
+use Rattle.hwp_events.specs.Misfits.{IsFit, IsRightLine, Lacks, access_of, course_of, leaves, logged_if}
+use Rattle.hwp_scrub_events.specs.Scrubs.{Course, IsScrubbedLine, after, after_all, lacking, marked_from, reach_from, turn}
+use Rattle.hwp_scrub_events.specs.Scrubbing.{IsRightIn}
+use Rattle.hwp_scrub_events.specs.declared.Reach.{Reach}
+use Rattle.hwp_scrub_events.specs.declared.Turn.{Turn}
+use Rattle.hwp_scrub_events.specs.declared.Turn.TheVariants as turns
 use Rattle.hwp_events.proofs.AccessLaws.{access-back, access-forth}
 use Rattle.hwp_events.proofs.Lowest.{HasLines, backs, lows, most}
 use Rattle.hwp_events.proofs.RaiseLaws.{check-back, check-forth}
-use Rattle.hwp_events.proofs.ScrubBack.{frames-back}
-use Rattle.hwp_events.proofs.ScrubForth.{AllGood, Ready, bound-has, can-meet, frames-forth, step}
+use Rattle.hwp_scrub_events.proofs.ScrubBack.{frames-back}
+use Rattle.hwp_scrub_events.proofs.ScrubForth.{AllGood, Ready, bound-has, can-meet, frames-forth, step}
 
 -- lines that can be damaged are lines
 abbrev pub AreMasks : Report → Type 0

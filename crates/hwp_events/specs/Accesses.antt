@@ -1,5 +1,5 @@
 -- The event lines that the machine checks of an access ask, and the one line of a machine check that is raised.
-use Rattle.std.specs.Prelude.{◌≡◌, ℕ, ◌+◌, ◌-◌, ◌<◌, ◌==◌, ◌&&◌, ◌||◌, Bool, false, cond, List, [], ◌∷◌, Option, Some, None, MatchBool, is_some}
+use Rattle.std.specs.Prelude.{◌≡◌, ℕ, ◌+◌, ◌-◌, ◌<◌, ◌==◌, ◌&&◌, ◌||◌, Bool, false, cond, List, [], ◌∷◌, Option, None, MatchBool, is_some}
 use Rattle.hwp_geom.specs.declared.Frame.{Frame}
 use Rattle.hwp_geom.specs.declared.Who.{Who}
 use Rattle.hwp_banks.specs.Events.{bank_of}
@@ -9,9 +9,10 @@ use Rattle.hwp_script.specs.declared.Script.{Script}
 use Rattle.hwp_report.specs.declared.Report.{Report}
 use Rattle.hwp_law.specs.Checks.{IsLineOf, is_panic}
 use Rattle.hwp_law.specs.Commands.{Arrival}
-use Rattle.hwp_law.specs.Events.{IsDamaged, raw_bank}
+use Rattle.hwp_law.specs.Events.{IsDamaged}
 use Rattle.hwp_law.specs.Lines.{EventLine}
-use Rattle.hwp_events.specs.Found.{beside, has_stopper, may_stop, own_found}
+use Rattle.hwp_event_lines.specs.Found.{IsRawLine, beside, has_stopper, may_stop, own_found}
+use Rattle.hwp_events.specs.declared.known.Checks.{Checks}
 
 -- so many machine checks of an access, at a line, of which the first finds this in bank 1
 pub record Access : Type 0 where
@@ -20,16 +21,15 @@ pub record Access : Type 0 where
   pub checks : ℕ
   pub raw : Option Event
 
+-- the machine checks of an access, of which the first finds this in bank 1
+abbrev pub access_by : Checks → Option Event → Access
+access_by checks raw = record { origin = checks.origin; at = checks.at; checks = checks.count; raw = raw }
+
 -- the line tells the own event of a machine check of an access, whose line is bad in some frame
 pub record IsOwnLine (script : Script) (report : Report) (who : Who) (how : Arrival) (origin : Origin) (at : ℕ) (raw : Option Event) (line : EventLine) : Type 0 where
   pub frame : Frame
   pub damaged : IsDamaged report origin frame.0 at
   pub is : IsLineOf script report who how (has_stopper how origin raw) (bank_of origin) (own_found origin raw frame at) line
-
--- the line tells what bank 1 held, where it held something; `held` says that failures are held back
-abbrev pub IsRawLine : Script → Report → Who → Arrival → Bool → Option Event → EventLine → Type 0
-IsRawLine script report who how held None line = ⊥
-IsRawLine script report who how held (Some event) line = IsLineOf script report who how held raw_bank event line
 
 -- the first line is a panic
 abbrev pub begins_in_panic : List EventLine → Bool

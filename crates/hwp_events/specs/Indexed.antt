@@ -7,7 +7,7 @@ use Rattle.hwp_report.specs.declared.CpuLine.{CpuLine}
 use Rattle.hwp_report.specs.declared.CpuLine.TheVariants as lines
 use Rattle.hwp_law.specs.Events.{is_check}
 use Rattle.hwp_law.specs.Lines.{answer_among, is_same_command}
-use Rattle.hwp_events.specs.declared.shown.Shown.{Shown}
+use Rattle.hwp_event_lines.specs.declared.Shown.{Shown}
 
 -- the event that a line shows, which stands at this place
 abbrev pub shown_at : ℕ → CpuLine → Option Shown

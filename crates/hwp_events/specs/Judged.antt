@@ -14,12 +14,12 @@ use Rattle.hwp_law.specs.Lines.{EventLine}
 use Rattle.hwp_law.specs.Pairings.{entries_of}
 use Rattle.hwp_law.specs.Policies.{commands_before}
 use Rattle.hwp_events.specs.Accesses.{IsAccessLine, asked_by_access}
-use Rattle.hwp_events.specs.Firsts.{IsScanned}
-use Rattle.hwp_events.specs.Misfits.{IsRightLine, Lacks, access_of, course_of, leaves, reach_from}
-use Rattle.hwp_events.specs.Scrubs.{after_all, lacking, lowest}
-use Rattle.hwp_events.specs.Scrubbing.{IsRightIn}
-use Rattle.hwp_events.specs.declared.reach.Reach.{Reach}
-use Rattle.hwp_events.specs.declared.faults.Faults.{Faults}
+use Rattle.hwp_event_lines.specs.Firsts.{IsScanned}
+use Rattle.hwp_events.specs.Misfits.{IsRightLine, Lacks, access_of, course_of, leaves}
+use Rattle.hwp_scrub_events.specs.Scrubs.{after_all, lacking, lowest, reach_from}
+use Rattle.hwp_scrub_events.specs.Scrubbing.{IsRightIn}
+use Rattle.hwp_scrub_events.specs.declared.Reach.{Reach}
+use Rattle.hwp_event_lines.specs.declared.Faults.{Faults}
 
 -- where a command found `raw` in bank 1, and leaves `left` there: the first of its lines that is wrong, and whether it lacks some
 pub record IsJudged (script : Script) (report : Report) (who : Who) (command : Command) (raw left : Option Event) (lines : List EventLine) (faults : Faults) : Type 0 where

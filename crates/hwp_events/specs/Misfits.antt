@@ -1,5 +1,5 @@
 -- Which event line of a command isn't the one that its machine checks ask, whether some lack, and what the command leaves in bank 1.
-use Rattle.std.specs.Prelude.{◌≡◌, ℕ, ◌+◌, ◌-◌, ◌*◌, ◌<◌, ◌≤◌, ◌==◌, Bool, true, false, cond, List, [], ◌∷◌, Option, Some, None, MatchBool, is_some, length, slice_get, take}
+use Rattle.std.specs.Prelude.{◌≡◌, ℕ, ◌+◌, ◌-◌, ◌<◌, ◌≤◌, ◌==◌, Bool, true, false, cond, List, [], ◌∷◌, Option, Some, None, MatchBool, is_some, length, slice_get, take}
 use Rattle.std.specs.Int.{from_bool}
 use Rattle.hwp_geom.specs.Limits.{line_limit}
 use Rattle.hwp_geom.specs.declared.Cpu.{Cpu}
@@ -20,10 +20,10 @@ use Rattle.hwp_law.specs.Events.{is_check, is_raised, raw_event}
 use Rattle.hwp_law.specs.Lines.{EventLine, answer_of, events_of}
 use Rattle.hwp_law.specs.Pairings.{entries_of}
 use Rattle.hwp_law.specs.Policies.{commands_before}
-use Rattle.hwp_events.specs.Firsts.{AreRight}
+use Rattle.hwp_event_lines.specs.Firsts.{AreRight}
 use Rattle.hwp_events.specs.Accesses.{Access, IsAccessLine, IsRaisedLine, asked_by_access}
-use Rattle.hwp_events.specs.Scrubs.{Course, IsScrubbedLine, after_all, bound_from, lacking, lowest, turn}
-use Rattle.hwp_events.specs.declared.reach.Reach.{Reach}
+use Rattle.hwp_scrub_events.specs.Scrubs.{Course, IsScrubbedLine, after_all, bound_from, lacking, lowest, reach_from, turn}
+use Rattle.hwp_scrub_events.specs.declared.Reach.{Reach}
 
 -- the machine checks of an access, by the entries that they left
 abbrev pub access_of : Report → Who → Origin → ℕ → Option Event → Access
@@ -40,10 +40,6 @@ low_of script report who place = cond (is_scrubbed (answer_of report who)) (lowe
 abbrev pub course_of : Script → Report → Who → Frame → Frame → Course
 course_of script report who first last =
     record { low = low_of script report who; last = last.0; bound = bound_from report (low_of script report who) 0 first.0 (last.0 + 1 - first.0) }
-
--- where a scrub begins
-abbrev pub reach_from : Frame → Option Event → Reach
-reach_from first raw = record { next = 2 * first.0; raw = raw; begun = None; passed = 0; strays = 0 }
 
 abbrev pub IsScrubLine : Script → Report → Who → Course → Reach → EventLine → Type 0
 IsScrubLine script report who course reach line = IsScrubbedLine script report who (arrival_of (commands.Scrub (record { 0 = 0 }) (record { 0 = 0 }))) reach line (turn report course reach line)

@@ -10,12 +10,12 @@ use Rattle.hwp_report.specs.declared.Report.{Report}
 use Rattle.hwp_law.specs.Checks.{empty_banks}
 use Rattle.hwp_law.specs.Events.{AreEventsFrom}
 use Rattle.hwp_law.specs.Lines.{events_of}
-use Rattle.hwp_events.specs.Firsts.{AreRight}
+use Rattle.hwp_event_lines.specs.Firsts.{AreRight}
 use Rattle.hwp_events.specs.Indexed.{shown_from}
 use Rattle.hwp_events.specs.Misfits.{IsRightLine, IsWrong, Lacks, found_by}
-use Rattle.hwp_events.specs.Scrubs.{lowest, place_of}
-use Rattle.hwp_events.specs.declared.faults.Faults.{Faults}
-use Rattle.hwp_events.specs.declared.shown.Shown.{Shown}
+use Rattle.hwp_scrub_events.specs.Scrubs.{lowest, place_of}
+use Rattle.hwp_event_lines.specs.declared.Faults.{Faults}
+use Rattle.hwp_event_lines.specs.declared.Shown.{Shown}
 use Rattle.hwp_events.specs.declared.misfits.Misfits.{Misfits}
 use Rattle.hwp_banks.specs.declared.Origin.TheVariants as origins
 

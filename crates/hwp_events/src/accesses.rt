@@ -1,26 +1,18 @@
 ghost use Rattle.std.specs.Prelude.{◌≡◌, ◌↔◌, ◌<◌, ◌≤◌, ◌+◌, ◌^◌, ◌||◌, ℕ, true, None, IsTrue, IsBitSet, MatchOption, length, map};
 ghost use Rattle.hwp_law.specs.Checks.{is_panic};
 ghost use Rattle.hwp_law.specs.Lines.{bad_lines_of};
-ghost use Rattle.hwp_events.specs.Accesses.{IsAccessLine, IsOwnLine, IsRawLine, asked_by_access, begins_in_panic};
-ghost use Rattle.hwp_events.specs.Firsts.{IsScanned};
-ghost use Rattle.hwp_events.specs.Found.{IsCandidate, beside, may_stop, of_access, own_found, stops};
-ghost use Rattle.hwp_events.specs.Told.{access_by, coming, told};
+ghost use Rattle.hwp_event_lines.specs.Firsts.{IsScanned};
+ghost use Rattle.hwp_event_lines.specs.Found.{IsCandidate, beside, may_stop, of_access, own_found, stops};
+ghost use Rattle.hwp_event_lines.specs.Told.{coming, told};
+ghost use Rattle.hwp_events.specs.Accesses.{IsAccessLine, IsOwnLine, access_by, asked_by_access, begins_in_panic};
 
-use crate::acts::{is_line_of, is_panic, stops};
-use crate::lines::{bad_lines_of, has_line};
-use crate::shown::{Arrival, Checks, Shown};
-use crate::traced::Traced;
+use crate::known::Checks;
 use hwp_banks::{Bank, Event, Origin};
+use hwp_event_lines::{
+    Arrival, Shown, Traced, has_stopper, is_bad_at, is_line_of, is_panic, is_raw_line,
+};
 use hwp_geom::{Frame, Line, Who};
 use hwp_script::Script;
-
-/// Whether a frame is bad at a line.
-#[tactic(auto, using(crate::proofs::LineLaws::has_line_is))]
-fn is_bad_at(report: &Traced<'_>, frame: u64, at: Line) -> bool
-    ensures { IsTrue result ↔ IsBitSet (bad_lines_of report.now frame) at }
-{
-    has_line(bad_lines_of(report, frame), at.get())
-}
 
 /// The lowest frame that is bad at a line.
 fn first_bad(report: &Traced<'_>, at: Line) -> Option<Frame>
@@ -76,47 +68,12 @@ fn beside(origin: Origin, raw: Option<Event>) -> Option<Event>
     }
 }
 
-/// Whether an event that there may be would stop the machine.
-pub(crate) fn may_stop(how: Arrival, event: Option<Event>) -> bool
-    ensures { result ≡ may_stop (coming how) event }
-{
-    match event {
-        Some(event) => stops(how, event),
-        None => false,
-    }
-}
-
-/// Whether the own event or what is found beside it would stop the machine.
-pub(crate) fn has_stopper(how: Arrival, own: Event, beside: Option<Event>) -> bool
-    ensures { result ≡ (stops (coming how) own || may_stop (coming how) beside) }
-{
-    stops(how, own) || may_stop(how, beside)
-}
-
 /// Whether failures are held back in the second line of an access's first machine check.
 fn is_held(how: Arrival, checks: &Checks, beside: Option<Event>, lines: &[Shown]) -> bool
     ensures { result ≡ ((stops (coming how) (own_found checks.now.origin None (record { 0 = 0 }) checks.now.at) || may_stop (coming how) beside) || begins_in_panic (map told lines.now)) }
 {
     let own = own_found(checks.origin, &mut Bank::new(), Frame(0), checks.at);
     has_stopper(how, own, beside) || begins_in_panic(lines)
-}
-
-/// Whether the line tells what bank 1 held, where it held something.
-pub(crate) fn is_raw_line(
-    script: &Script,
-    report: &Traced<'_>,
-    who: Who,
-    how: Arrival,
-    held: bool,
-    raw: Option<Event>,
-    line: &Shown,
-) -> bool
-    ensures { IsTrue result ↔ IsRawLine script.now report.now who (coming how) held raw (told line.now) }
-{
-    match raw {
-        Some(event) => is_line_of(script, report, who, how, held, 1, event, line),
-        None => false,
-    }
 }
 
 /// Whether the line tells the own event of a machine check of an access. Bank 1 is given up.

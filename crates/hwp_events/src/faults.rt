@@ -1,26 +1,18 @@
 ghost use Rattle.std.specs.Prelude.{◌≡◌, ◌≤◌, ◌+◌, ◌<◌, ◌==◌, ◌^◌, true, None, cond, nat_lt, is_some, length, map, MatchBool};
 ghost use Rattle.std.specs.Int.{from_bool};
 ghost use Rattle.hwp_law.specs.Events.{is_raised};
-ghost use Rattle.hwp_events.specs.Accesses.{IsAccessLine, IsRaisedLine, asked_by_access};
-ghost use Rattle.hwp_events.specs.Firsts.{IsScanned};
-ghost use Rattle.hwp_events.specs.Found.{of_access};
-ghost use Rattle.hwp_events.specs.Told.{access_by, coming, told};
+ghost use Rattle.hwp_event_lines.specs.Firsts.{IsScanned};
+ghost use Rattle.hwp_event_lines.specs.Found.{of_access};
+ghost use Rattle.hwp_event_lines.specs.Told.{coming, told};
+ghost use Rattle.hwp_events.specs.Accesses.{IsAccessLine, IsRaisedLine, access_by, asked_by_access};
 
-use crate::accesses::{access_wrong, asked_by_access, is_raw_line, may_stop};
-use crate::shown::{Arrival, Checks, Shown};
-use crate::traced::Traced;
+use crate::accesses::{access_wrong, asked_by_access};
+use crate::known::Checks;
 use hwp_banks::{Bank, Event};
+use hwp_event_lines::{Arrival, Faults, Shown, Traced, is_raw_line, may_stop};
 use hwp_geom::Who;
 use hwp_report::Answer;
 use hwp_script::Script;
-
-/// What is wrong about the event lines of a command: the first that isn't the one that its machine checks ask at its place, if
-/// there is one, and whether there are fewer than they ask.
-#[derive(Clone, Copy)]
-pub struct Faults {
-    pub wrong: Option<usize>,
-    pub lacks: bool,
-}
 
 /// The first line where none is asked.
 pub(crate) fn any(lines: &[Shown]) -> Option<usize>

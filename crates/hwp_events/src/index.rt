@@ -1,7 +1,7 @@
 ghost use Rattle.std.specs.Prelude.{◌≡◌, [], replicate, IfOk, OnOk};
 ghost use Rattle.hwp_events.specs.Indexed.{AreFirst, AreShown, first_answer, shown_at, with_answer, with_shown};
 
-use crate::shown::Shown;
+use hwp_event_lines::Shown;
 use hwp_geom::{List, OutOfMemory};
 use hwp_report::{Answer, CpuLine};
 use std::alloc::Global;

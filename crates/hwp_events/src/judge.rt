@@ -3,20 +3,20 @@ ghost use Rattle.hwp_law.specs.Commands.{arrival_of};
 ghost use Rattle.hwp_law.specs.Events.{is_check};
 ghost use Rattle.hwp_law.specs.Lines.{answer_of};
 ghost use Rattle.hwp_law.specs.Pairings.{entries_of};
-ghost use Rattle.hwp_events.specs.Firsts.{IsScanned};
-ghost use Rattle.hwp_events.specs.Found.{of_access};
+ghost use Rattle.hwp_event_lines.specs.Firsts.{IsScanned};
+ghost use Rattle.hwp_event_lines.specs.Found.{of_access};
+ghost use Rattle.hwp_event_lines.specs.Told.{coming, told};
 ghost use Rattle.hwp_events.specs.Judged.{IsAccessJudged, IsJudged, IsScrubJudged, IsTable};
 ghost use Rattle.hwp_events.specs.Misfits.{IsFit, is_scrubbed, logged_if};
-ghost use Rattle.hwp_events.specs.Told.{coming, told};
 
-use crate::faults::{Faults, access_faults, any, raise_faults};
-use crate::scrub_faults::scrub_faults;
-use crate::shown::{Arrival, Checks, Shown};
-use crate::traced::Traced;
+use crate::faults::{access_faults, any, raise_faults};
+use crate::known::{Checks, Known};
 use hwp_banks::{Bank, Event, Origin, Status};
+use hwp_event_lines::{Arrival, Faults, Shown, Traced};
 use hwp_geom::{Frame, Line, Mode, Who};
 use hwp_report::Answer;
 use hwp_script::{Command, Script};
+use hwp_scrub_events::scrub_faults;
 use hwp_severity::McgBits;
 
 /// How the machine checks of a command arrive.
@@ -33,13 +33,6 @@ fn arrival_of(command: &Command) -> Arrival
         mcg: McgBits { ripv, eipv },
         mode,
     }
-}
-
-/// What the report says of a command: how many machine checks of an access its entries show, and its answer.
-#[derive(Clone, Copy)]
-pub struct Known {
-    pub checks: u64,
-    pub answer: Option<Answer>,
 }
 
 /// The machine checks of an access at a line.
@@ -127,7 +120,7 @@ fn judge_scrub(
 }
 
 /// What is wrong about the event lines of a command, where bank 1 holds this; bank 1 is left as the command leaves it.
-pub fn command_faults(
+pub(crate) fn command_faults(
     script: &Script,
     report: &Traced<'_>,
     who: Who,
@@ -147,33 +140,7 @@ pub fn command_faults(
 {
     let how = arrival_of(command);
     match *command {
-        Command::Load { line, .. } => {
-            judge_access(
-                script,
-                report,
-                who,
-                how,
-                Origin::Access,
-                line,
-                known,
-                raw,
-                lines,
-            )
-        }
-        Command::KLoad { line, .. } => {
-            judge_access(
-                script,
-                report,
-                who,
-                how,
-                Origin::Access,
-                line,
-                known,
-                raw,
-                lines,
-            )
-        }
-        Command::Store { line, .. } => {
+        Command::Load { line, .. } | Command::KLoad { line, .. } | Command::Store { line, .. } => {
             judge_access(
                 script,
                 report,

@@ -3,26 +3,15 @@
 #![tactic(auto)]
 
 mod accesses;
-mod acts;
 mod checks;
 mod faults;
 mod index;
 mod judge;
-mod lines;
+mod known;
 mod misfits;
 mod processors;
-mod reach;
-mod records;
-mod scrub_faults;
-mod scrubs;
-mod shown;
 mod tables;
-mod traced;
 mod walk;
 
-pub use faults::Faults;
-pub use judge::{Known, command_faults};
 pub use misfits::Misfits;
 pub use processors::{processor_faults, small_masks};
-pub use shown::Shown;
-pub use traced::Traced;

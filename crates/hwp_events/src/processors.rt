@@ -6,10 +6,10 @@ ghost use Rattle.hwp_events.specs.Walked.{IsProcessorJudged};
 use crate::checks::checks_by_command;
 use crate::index::{answers_by_command, events_by_command};
 use crate::misfits::Misfits;
-use crate::traced::Traced;
 use crate::walk::walk;
+use hwp_event_lines::Traced;
 use hwp_geom::{Cpu, OutOfMemory};
-use hwp_records::past_of;
+use hwp_records::{past_of, results_of};
 use hwp_report::{CpuLine, Report};
 use hwp_script::{Command, Script};
 use std::alloc::Global;
@@ -64,7 +64,8 @@ pub fn processor_faults(
     let mut table = Vec::new(alloc);
     table.resize(2 * usize::from(script.layout.frames), 64)?;
     let past = past_of(alloc, cpu, report.frames.as_slice())?;
-    let traced = Traced::new(cpu, report, &past);
+    let results = results_of(alloc, cpu, report.frames.as_slice())?;
+    let traced = Traced::new(cpu, report, &past, &results);
     Ok(walk(
         script,
         &traced,

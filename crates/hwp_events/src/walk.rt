@@ -3,13 +3,12 @@ ghost use Rattle.hwp_script.specs.Valid.{IsValid};
 ghost use Rattle.hwp_events.specs.Indexed.{AreChecks, AreFirst, AreShown};
 ghost use Rattle.hwp_events.specs.Walked.{IsTableOf, IsWalked, joined, place_at, sooner};
 
-use crate::faults::Faults;
-use crate::judge::{Known, command_faults};
+use crate::judge::command_faults;
+use crate::known::Known;
 use crate::misfits::Misfits;
-use crate::shown::Shown;
 use crate::tables::mark;
-use crate::traced::Traced;
 use hwp_banks::Bank;
+use hwp_event_lines::{Faults, Shown, Traced};
 use hwp_geom::{Cpu, List, Who};
 use hwp_report::{Answer, CpuLine};
 use hwp_script::{Command, Script};

@@ -39,7 +39,7 @@ use Rattle.hwp_hold.specs.GiveUps as give_ups
 use Rattle.hwp_hold.specs.Holds as holds
 use Rattle.hwp_hold.specs.Unholds as unholds
 use Rattle.hwp_hold.specs.Unlocks as unlocks
-use Rattle.hwp_hold.proofs.FillCosts.{give-up-falls, give-up-mild, give-up-ranked}
+use Rattle.hwp_hold.proofs.GiveUpCosts.{give-up-falls, give-up-mild, give-up-ranked}
 use Rattle.hwp_hold.proofs.Unlocking.{unlock-small}
 use Rattle.hwp_hold.proofs.Ranking.{hold-falls, hold-mild, hold-small, hold-class, hold-ranked, unhold-falls, unhold-mild, unhold-small, unhold-class}
 use Rattle.hwp_hold.proofs.Telling.{Tells, hold-tells, unhold-tells, give-up-tells, frame-tells, no-frame, no-page}

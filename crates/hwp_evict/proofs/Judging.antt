@@ -23,7 +23,7 @@ use Rattle.hwp_page.specs.Step.{Allowed, after, opening_of, is_file}
 use Rattle.hwp_rule.specs.Logs.{log_of, state_of}
 use Rattle.hwp_rule.proofs.OwedLosses.{after-kind}
 use Rattle.hwp_hold.specs.Holds.{IsBodyOf}
-use Rattle.hwp_hold.proofs.Bringing.{replay-state, replay-unused}
+use Rattle.hwp_hold.proofs.Replaying.{replay-state, replay-unused}
 use Rattle.hwp_evict.specs.declared.evict.Eviction.{Eviction}
 use Rattle.hwp_evict.specs.declared.evict.Eviction.TheVariants as evictions
 use Rattle.hwp_evict.specs.declared.evict.Refusal.{Refusal}

@@ -10,3 +10,4 @@ mod MarkLaws
 pub mod NamedLaws
 mod CountLaws
 mod FirstLaws
+mod FindingLaws

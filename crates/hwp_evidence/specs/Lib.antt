@@ -1,6 +1,7 @@
 pub mod Ample
 pub mod Counts
 pub mod Ends
+pub mod Findings
 pub mod Firsts
 pub mod Glances
 pub mod Marked

@@ -1,7 +1,7 @@
 ghost use Rattle.std.specs.Prelude.{◌≡◌, ◌↔◌, ℕ, List as Items, fold, replicate, slice_get, slice_index_or, IsTrue, IfOk, length};
 ghost use Rattle.std.specs.Option.{option_copied};
 ghost use Rattle.hwp_law.specs.Endings.{HasEnding};
-ghost use Rattle.hwp_evidence.specs.Ends.{ArePageEnds, HadEnded, any_ended, ended_by, ended_in, never, own_ended, own_ends as own_ends_of, own_page_ends, page_ends as page_ends_of, process_numbers, signalled};
+ghost use Rattle.hwp_evidence.specs.Ends.{ArePageEnds, HadEnded, any_ended, ended_by, ended_in, never, own_ended, own_ends as own_ends_of, process_numbers, signalled};
 
 use hwp_geom::{Cpu, Layout, List, OutOfMemory, Page, Proc, Thread, ThreadDecl, Who};
 use hwp_kill::Signal;
@@ -14,7 +14,7 @@ use std::alloc::Global;
 const NEVER: u64 = 4_294_967_296;
 
 /// The numbers that a process can have.
-const PROCESS_NUMBERS: usize = 256;
+pub(crate) const PROCESS_NUMBERS: usize = 256;
 
 /// Notes that the command with this number sent a signal to the thread, which ends its process where it has no handler.
 fn end_by(ends: &mut Vec<u64>, number: u64, thread: Option<ThreadDecl>)
@@ -75,7 +75,7 @@ fn end_in(ends: &mut Vec<u64>, layout: &Layout, number: u64, what: &What)
 }
 
 /// Notes what an entry ends, if it is of the processor.
-fn end_own(ends: &mut Vec<u64>, layout: &Layout, cpu: Cpu, entry: &Entry)
+pub(crate) fn end_own(ends: &mut Vec<u64>, layout: &Layout, cpu: Cpu, entry: &Entry)
     requires { length ends.old.items ≡ process_numbers }
     ensures end { ends.new.items ≡ own_ended layout.now cpu ends.old.items entry.now }
     ensures many { length ends.new.items ≡ process_numbers }
@@ -86,7 +86,7 @@ fn end_own(ends: &mut Vec<u64>, layout: &Layout, cpu: Cpu, entry: &Entry)
 }
 
 /// Notes what an entry ends; one of another processor comes before all commands of this one.
-fn end_any(ends: &mut Vec<u64>, layout: &Layout, cpu: Cpu, entry: &Entry)
+pub(crate) fn end_any(ends: &mut Vec<u64>, layout: &Layout, cpu: Cpu, entry: &Entry)
     requires { length ends.old.items ≡ process_numbers }
     ensures end { ends.new.items ≡ any_ended layout.now cpu ends.old.items entry.now }
     ensures many { length ends.new.items ≡ process_numbers }
@@ -100,69 +100,10 @@ fn end_any(ends: &mut Vec<u64>, layout: &Layout, cpu: Cpu, entry: &Entry)
 }
 
 /// That no process ended, of so many.
-fn no_ends(alloc: Global, processes: usize) -> Result<Vec<u64>, OutOfMemory>
+pub(crate) fn no_ends(alloc: Global, processes: usize) -> Result<Vec<u64>, OutOfMemory>
     ensures { IfOk result (λ ends. ends.items ≡ replicate processes never) }
 {
     Ok(vec![in alloc; NEVER; processes]?)
-}
-
-/// The commands by which processes ended in a page's history.
-fn ends_in_page(
-    alloc: Global,
-    layout: &Layout,
-    cpu: Cpu,
-    entries: &[Entry],
-) -> Result<List<u64>, OutOfMemory>
-    ensures { IfOk result (λ ends. ends ≡ page_ends_of layout.now cpu entries.now) }
-{
-    let mut ends = no_ends(alloc, PROCESS_NUMBERS)?;
-    for entry in entries {
-        end_any(&mut ends, layout, cpu, entry);
-    }
-    Ok(List::from_vec(ends))
-}
-
-/// The same of each page.
-pub fn page_ends(
-    alloc: Global,
-    layout: &Layout,
-    cpu: Cpu,
-    pages: &[List<Entry>],
-) -> Result<Vec<List<u64>>, OutOfMemory>
-    ensures { IfOk result (λ all. ArePageEnds layout.now cpu pages.now all.items) }
-{
-    let mut all = Vec::new(alloc);
-    for number in 0..pages.len() {
-        all.push(ends_in_page(alloc, layout, cpu, pages[number].as_slice())?)?;
-    }
-    Ok(all)
-}
-
-/// Notes what the processor's entries of a page end.
-fn end_page(ends: &mut Vec<u64>, layout: &Layout, cpu: Cpu, entries: &[Entry])
-    requires { length ends.old.items ≡ process_numbers }
-    ensures end { ends.new.items ≡ own_page_ends layout.now cpu ends.old.items entries.now }
-    ensures many { length ends.new.items ≡ process_numbers }
-{
-    for entry in entries {
-        end_own(ends, layout, cpu, entry);
-    }
-}
-
-/// The commands of the processor by which processes ended.
-pub fn own_ends(
-    alloc: Global,
-    layout: &Layout,
-    cpu: Cpu,
-    pages: &[List<Entry>],
-) -> Result<Vec<u64>, OutOfMemory>
-    ensures { IfOk result (λ ends. ends.items ≡ own_ends_of layout.now cpu pages.now) }
-{
-    let mut ends = no_ends(alloc, PROCESS_NUMBERS)?;
-    for entries in pages {
-        end_page(&mut ends, layout, cpu, entries.as_slice());
-    }
-    Ok(ends)
 }
 
 /// By which command the process had ended.

@@ -5,6 +5,7 @@
 mod ample;
 mod counts;
 mod ends;
+mod findings;
 mod firsts;
 mod glances;
 mod marked;
@@ -14,12 +15,13 @@ mod windows;
 
 pub use ample::is_ample;
 pub use counts::{event_counts, event_ends};
-pub use ends::{had_ended, has_ending, own_ends, page_ends};
+pub use ends::{had_ended, has_ending};
+pub use findings::{Findings, findings_of};
 pub use firsts::{entries_named, first_answers};
 pub use glances::{Glance, glances_of, was_away, was_cached, was_dirty, was_mapped, was_unused};
 pub use marked::{
     came_to, marks_of, reported, was_hardware_seen, was_moved, was_taken_back, was_taken_free,
 };
-pub use named::{is_elsewhere, others};
+pub use named::is_elsewhere;
 pub use repeats::Repeats;
-pub use windows::{Span, is_in_span, is_not_below, no_floors, raise, spans};
+pub use windows::{Span, is_in_span, is_not_below, no_floors, raise};

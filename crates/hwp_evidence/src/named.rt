@@ -1,10 +1,9 @@
-ghost use Rattle.std.specs.Prelude.{◌≡◌, ◌↔◌, ◌<◌, ◌≤◌, false, None, IfOk, IsTrue, length, replicate, slice_index_or};
+ghost use Rattle.std.specs.Prelude.{◌≡◌, ◌↔◌, ◌<◌, false, None, IsTrue, length, replicate, slice_index_or};
 ghost use Rattle.hwp_law.specs.Answers.{is_answering};
-ghost use Rattle.hwp_evidence.specs.Named.{HasOther, flagged, flagged_page, flagged_pages, is_at, is_other};
+ghost use Rattle.hwp_evidence.specs.Named.{HasOther, flagged, flagged_pages, is_at, is_other};
 
-use hwp_geom::{Cpu, List, OutOfMemory, Page, Who};
+use hwp_geom::{Cpu, List, Who};
 use hwp_page::{At, Entry, What};
-use std::alloc::Global;
 
 /// Whether the command's answer has to name the entry.
 fn is_answering(what: &What) -> bool
@@ -46,7 +45,7 @@ fn is_other(named: &[Option<At>], cpu: Cpu, at: At, entry: &Entry) -> bool
 }
 
 /// Sets the flag of the entry's command, if its answer doesn't name the entry.
-fn flag(flags: &mut Vec<bool>, named: &[Option<At>], cpu: Cpu, at: At, entry: &Entry)
+pub(crate) fn flag(flags: &mut Vec<bool>, named: &[Option<At>], cpu: Cpu, at: At, entry: &Entry)
     ensures { flags.new.items ≡ flagged named.now cpu flags.old.items at entry.now }
 {
     if is_other(named, cpu, at, entry) {
@@ -55,47 +54,6 @@ fn flag(flags: &mut Vec<bool>, named: &[Option<At>], cpu: Cpu, at: At, entry: &E
             flags[seq] = true;
         }
     }
-}
-
-/// The same of the entries of a page.
-fn flag_page(flags: &mut Vec<bool>, named: &[Option<At>], cpu: Cpu, page: Page, entries: &[Entry])
-    ensures { flags.new.items ≡ flagged_page named.now cpu page flags.old.items 0 entries.now }
-{
-    let mut number = 0;
-    for entry in entries {
-        flag(
-            flags,
-            named,
-            cpu,
-            At {
-                page,
-                entry: number,
-            },
-            entry,
-        );
-        number += 1;
-    }
-}
-
-/// For each of so many commands of the processor whether it has an entry that its answer has to name, and doesn't.
-pub fn others(
-    alloc: Global,
-    commands: usize,
-    named: &[Option<At>],
-    cpu: Cpu,
-    pages: &[List<Entry>],
-) -> Result<Vec<bool>, OutOfMemory>
-    requires { length pages.now ≤ 256 }
-    ensures flags { IfOk result (λ flags. flags.items ≡ flagged_pages named.now cpu (replicate commands false) 0 pages.now) }
-    ensures many { IfOk result (λ flags. length flags.items ≡ commands) }
-{
-    let mut flags = vec![in alloc; false; commands]?;
-    let mut number = 0;
-    for entries in pages {
-        flag_page(&mut flags, named, cpu, Page(number), entries.as_slice());
-        number += 1;
-    }
-    Ok(flags)
 }
 
 /// Whether the command has an entry that its answer has to name, and that is elsewhere.

@@ -42,11 +42,18 @@ fn starts_with(cpu: Cpu, start: u64, entry: &Entry) -> u64
     }
 }
 
+/// The empty list, with room for so many numbers.
+fn with_room(alloc: Global, numbers: usize) -> Result<List<u64>, OutOfMemory>
+    ensures { IfOk result (λ list. list ≡ []) }
+{
+    Ok(List::from_vec(Vec::with_capacity(alloc, numbers)?))
+}
+
 /// One more than the highest command number of the processor before each entry, and behind the last.
 fn ends(alloc: Global, cpu: Cpu, entries: &[Entry]) -> Result<List<u64>, OutOfMemory>
     ensures { IfOk result (λ list. list ≡ ends_from cpu 0 entries.now) }
 {
-    let mut list = List::new(alloc);
+    let mut list = with_room(alloc, entries.len() + 1)?;
     let mut end = 0;
     for entry in entries {
         list.push(end)?;
@@ -61,7 +68,7 @@ fn starts(alloc: Global, cpu: Cpu, entries: &[Entry]) -> Result<List<u64>, OutOf
     ensures many { IfOk result (λ list. length list ≡ length entries.now + 1) }
     ensures starts { IfOk result (λ list. AreStarts cpu entries.now list) }
 {
-    let mut list = List::new(alloc);
+    let mut list = with_room(alloc, entries.len() + 1)?;
     let mut start = NONE;
     for back in 0..entries.len() {
         list.push(start)?;
@@ -72,23 +79,12 @@ fn starts(alloc: Global, cpu: Cpu, entries: &[Entry]) -> Result<List<u64>, OutOf
 }
 
 /// Where the commands of the processor stand in a page's history.
-fn page_span(alloc: Global, cpu: Cpu, entries: &[Entry]) -> Result<Span, OutOfMemory>
+pub(crate) fn page_span(alloc: Global, cpu: Cpu, entries: &[Entry]) -> Result<Span, OutOfMemory>
     ensures { IfOk result (λ span. IsSpan cpu entries.now span) }
 {
     let ends = ends(alloc, cpu, entries)?;
     let starts = starts(alloc, cpu, entries)?;
     Ok(Span { ends, starts })
-}
-
-/// Where they stand in all histories.
-pub fn spans(alloc: Global, cpu: Cpu, pages: &[List<Entry>]) -> Result<Vec<Span>, OutOfMemory>
-    ensures { IfOk result (λ spans. AreSpans cpu pages.now spans.items) }
-{
-    let mut spans = Vec::new(alloc);
-    for number in 0..pages.len() {
-        spans.push(page_span(alloc, cpu, pages[number].as_slice())?)?;
-    }
-    Ok(spans)
 }
 
 /// One more than the highest command number before a place of a page's history.

@@ -53,7 +53,7 @@ use Rattle.hwp_hold.specs.Pins.{is_gone}
 use Rattle.hwp_hold.specs.Releases as releases
 use Rattle.hwp_hold.specs.Unholds as unholds
 use Rattle.hwp_hold.specs.Unlocks as unlocks
-use Rattle.hwp_hold.proofs.FillCosts.{give-up-falls, give-up-mild, give-up-ranked}
+use Rattle.hwp_hold.proofs.GiveUpCosts.{give-up-falls, give-up-mild, give-up-ranked}
 use Rattle.hwp_hold.proofs.Pinning as pinning
 use Rattle.hwp_hold.proofs.Ranking.{met-own, left-own, pin-falls, pin-mild, pin-small, pin-goes, stale-most, unhold-small}
 use Rattle.hwp_hold.proofs.Unlocking.{mild as unlock-mild, unlock-falls, unlock-small, unlock-class}

@@ -64,7 +64,7 @@ use Rattle.hwp_hold.specs.Pins as pins
 use Rattle.hwp_hold.specs.Pins.{is_gone}
 use Rattle.hwp_hold.specs.Releases as releases
 use Rattle.hwp_hold.specs.Unlocks as unlocks
-use Rattle.hwp_hold.proofs.Bringing.{replay-state}
+use Rattle.hwp_hold.proofs.Replaying.{replay-state}
 use Rattle.hwp_hold.proofs.GivingUp as giving_up
 use Rattle.hwp_hold.proofs.Pinning as pinning
 use Rattle.hwp_hold.proofs.Ranking.{pin-lists, release-lists}

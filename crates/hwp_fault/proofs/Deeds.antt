@@ -33,9 +33,9 @@ use Rattle.hwp_step.specs.Hands.{body_in, hand_of}
 use Rattle.hwp_step.proofs.Stepping.{hand-planned, steps-planned}
 use Rattle.hwp_known.specs.Known.{HasMade, HasOnly, IsAt, IsOnTheWay, Precedes, deeds, is_by}
 use Rattle.hwp_known.proofs.Listing.{Lists, ListsNone, deeds-none, deeds-one, deeds-same, each-filter, frame-lists, has-made, has-made-stays, has-only-stays, page-lists}
-use Rattle.hwp_hold.specs.declared.Fill.{Fill}
-use Rattle.hwp_hold.specs.declared.fill.FillAt.{FillAt}
-use Rattle.hwp_hold.specs.declared.fill.FillAt.TheVariants as fill_at
+use Rattle.hwp_fill.specs.declared.Fill.{Fill}
+use Rattle.hwp_fill.specs.declared.fill.FillAt.{FillAt}
+use Rattle.hwp_fill.specs.declared.fill.FillAt.TheVariants as fill_at
 use Rattle.hwp_hold.specs.declared.GiveUp.{GiveUp}
 use Rattle.hwp_hold.specs.declared.give_up.GiveUpAt.{GiveUpAt}
 use Rattle.hwp_hold.specs.declared.give_up.GiveUpAt.TheVariants as give_up_at
@@ -48,22 +48,22 @@ use Rattle.hwp_hold.specs.declared.refer.ReferAt.TheVariants as refer_at
 use Rattle.hwp_hold.specs.declared.Release.{Release}
 use Rattle.hwp_hold.specs.declared.release.ReleaseAt.{ReleaseAt}
 use Rattle.hwp_hold.specs.declared.release.ReleaseAt.TheVariants as release_at
-use Rattle.hwp_hold.specs.declared.Take.{Take}
-use Rattle.hwp_hold.specs.declared.take.TakeAt.{TakeAt}
-use Rattle.hwp_hold.specs.declared.take.TakeAt.TheVariants as take_at
+use Rattle.hwp_fill.specs.declared.Take.{Take}
+use Rattle.hwp_fill.specs.declared.take.TakeAt.{TakeAt}
+use Rattle.hwp_fill.specs.declared.take.TakeAt.TheVariants as take_at
 use Rattle.hwp_hold.specs.declared.Unhold.{Unhold}
 use Rattle.hwp_hold.specs.declared.unhold.UnholdAt.{UnholdAt}
 use Rattle.hwp_hold.specs.declared.unhold.UnholdAt.TheVariants as unhold_at
 use Rattle.hwp_hold.specs.declared.Unlock.{Unlock}
 use Rattle.hwp_hold.specs.declared.unlock.UnlockAt.{UnlockAt}
 use Rattle.hwp_hold.specs.declared.unlock.UnlockAt.TheVariants as unlock_at
-use Rattle.hwp_hold.specs.Fills as fills
+use Rattle.hwp_fill.specs.Fills as fills
 use Rattle.hwp_hold.specs.GiveUps as give_ups
 use Rattle.hwp_hold.specs.Holds as holds
 use Rattle.hwp_hold.specs.Holds.{HoldsPage}
 use Rattle.hwp_hold.specs.Refers as refers
 use Rattle.hwp_hold.specs.Releases as releases
-use Rattle.hwp_hold.specs.Takes as takes
+use Rattle.hwp_fill.specs.Takes as takes
 use Rattle.hwp_hold.specs.Unholds as unholds
 use Rattle.hwp_hold.specs.Unlocks as unlocks
 use Rattle.hwp_hold.proofs.Ranking.{hold-lists, release-lists}

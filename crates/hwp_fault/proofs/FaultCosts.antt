@@ -32,9 +32,9 @@ use Rattle.hwp_step.specs.Boards.{view_of}
 use Rattle.hwp_step.specs.Calls.{logs, rec_of}
 use Rattle.hwp_step.specs.Ranks.{Member, member, Made, CostFalls, HasFailed, IsRanked, Quiet, failures_left, is_waits, stale, words_at}
 use Rattle.hwp_step.proofs.Ranking.{me, met, words-after, words-kept, failed, rank-failing}
-use Rattle.hwp_hold.specs.declared.Fill.{Fill}
-use Rattle.hwp_hold.specs.declared.fill.FillAt.{FillAt}
-use Rattle.hwp_hold.specs.declared.fill.FillAt.TheVariants as fill_at
+use Rattle.hwp_fill.specs.declared.Fill.{Fill}
+use Rattle.hwp_fill.specs.declared.fill.FillAt.{FillAt}
+use Rattle.hwp_fill.specs.declared.fill.FillAt.TheVariants as fill_at
 use Rattle.hwp_hold.specs.declared.GiveUp.{GiveUp}
 use Rattle.hwp_hold.specs.declared.give_up.GiveUpAt.{GiveUpAt}
 use Rattle.hwp_hold.specs.declared.give_up.GiveUpAt.TheVariants as give_up_at
@@ -47,20 +47,21 @@ use Rattle.hwp_hold.specs.declared.refer.ReferAt.TheVariants as refer_at
 use Rattle.hwp_hold.specs.declared.Release.{Release}
 use Rattle.hwp_hold.specs.declared.release.ReleaseAt.{ReleaseAt}
 use Rattle.hwp_hold.specs.declared.release.ReleaseAt.TheVariants as release_at
-use Rattle.hwp_hold.specs.declared.Take.{Take}
-use Rattle.hwp_hold.specs.declared.take.TakeAt.{TakeAt}
-use Rattle.hwp_hold.specs.declared.take.TakeAt.TheVariants as take_at
+use Rattle.hwp_fill.specs.declared.Take.{Take}
+use Rattle.hwp_fill.specs.declared.take.TakeAt.{TakeAt}
+use Rattle.hwp_fill.specs.declared.take.TakeAt.TheVariants as take_at
 use Rattle.hwp_hold.specs.declared.Unhold.{Unhold}
 use Rattle.hwp_hold.specs.declared.unhold.UnholdAt.{UnholdAt}
 use Rattle.hwp_hold.specs.declared.unhold.UnholdAt.TheVariants as unhold_at
-use Rattle.hwp_hold.specs.Fills as fills
+use Rattle.hwp_fill.specs.Fills as fills
 use Rattle.hwp_hold.specs.GiveUps as give_ups
 use Rattle.hwp_hold.specs.Holds as holds
 use Rattle.hwp_hold.specs.Refers as refers
 use Rattle.hwp_hold.specs.Releases as releases
-use Rattle.hwp_hold.specs.Takes as takes
+use Rattle.hwp_fill.specs.Takes as takes
 use Rattle.hwp_hold.specs.Unholds as unholds
-use Rattle.hwp_hold.proofs.FillCosts.{fill-mild, fill-ranked, give-up-mild, give-up-ranked}
+use Rattle.hwp_hold.proofs.GiveUpCosts.{give-up-mild, give-up-ranked}
+use Rattle.hwp_fill.proofs.FillCosts.{fill-mild, fill-ranked}
 use Rattle.hwp_hold.proofs.Ranking.{left-own, met-own, hold-mild, hold-ranked, hold-small, stale-most, unhold-mild, unhold-ranked, unhold-small}
 use Rattle.hwp_hold.proofs.Unlocking.{unlock-small}
 use Rattle.hwp_fault.specs.declared.fault.Fault.{Fault}

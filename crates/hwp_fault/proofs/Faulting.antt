@@ -38,9 +38,9 @@ use Rattle.hwp_step.proofs.Stepping.{on-turn-after, hand-planned, steps-planned,
 use Rattle.hwp_step.specs.Ranks.{HasFrame, HasPage}
 use Rattle.hwp_known.specs.Known.{SawLog, HasOnly, Precedes}
 use Rattle.hwp_known.proofs.Seeing.{saw-stays, saw-log-stays, saw-state-stays}
-use Rattle.hwp_hold.specs.declared.Fill.{Fill}
-use Rattle.hwp_hold.specs.declared.fill.FillAt.{FillAt}
-use Rattle.hwp_hold.specs.declared.fill.FillAt.TheVariants as fill_at
+use Rattle.hwp_fill.specs.declared.Fill.{Fill}
+use Rattle.hwp_fill.specs.declared.fill.FillAt.{FillAt}
+use Rattle.hwp_fill.specs.declared.fill.FillAt.TheVariants as fill_at
 use Rattle.hwp_hold.specs.declared.GiveUp.{GiveUp}
 use Rattle.hwp_hold.specs.declared.give_up.GiveUpAt.{GiveUpAt}
 use Rattle.hwp_hold.specs.declared.give_up.GiveUpAt.TheVariants as give_up_at
@@ -50,22 +50,22 @@ use Rattle.hwp_hold.specs.declared.hold.HoldAt.TheVariants as hold_at
 use Rattle.hwp_hold.specs.declared.Refer.{Refer}
 use Rattle.hwp_hold.specs.declared.refer.ReferAt.{ReferAt}
 use Rattle.hwp_hold.specs.declared.refer.ReferAt.TheVariants as refer_at
-use Rattle.hwp_hold.specs.declared.Take.{Take}
-use Rattle.hwp_hold.specs.declared.take.TakeAt.{TakeAt}
-use Rattle.hwp_hold.specs.declared.take.TakeAt.TheVariants as take_at
+use Rattle.hwp_fill.specs.declared.Take.{Take}
+use Rattle.hwp_fill.specs.declared.take.TakeAt.{TakeAt}
+use Rattle.hwp_fill.specs.declared.take.TakeAt.TheVariants as take_at
 use Rattle.hwp_hold.specs.declared.Unhold.{Unhold}
-use Rattle.hwp_hold.specs.Fills as fills
-use Rattle.hwp_hold.specs.Fills.{CanBring, brought}
+use Rattle.hwp_fill.specs.Fills as fills
+use Rattle.hwp_fill.specs.Fills.{CanBring, brought}
 use Rattle.hwp_hold.specs.GiveUps as give_ups
 use Rattle.hwp_hold.specs.Holds as holds
 use Rattle.hwp_hold.specs.Holds.{HoldsPage, IsBodyOf}
 use Rattle.hwp_hold.specs.Refers as refers
-use Rattle.hwp_hold.specs.Takes as takes
+use Rattle.hwp_fill.specs.Takes as takes
 use Rattle.hwp_hold.specs.Unholds as unholds
 use Rattle.hwp_hold.specs.Unholds.{HoldsAhead}
 use Rattle.hwp_hold.specs.Unlocks as unlocks
-use Rattle.hwp_hold.proofs.Bringing.{replay-state}
-use Rattle.hwp_hold.proofs.Filling as filling
+use Rattle.hwp_hold.proofs.Replaying.{replay-state}
+use Rattle.hwp_fill.proofs.Filling as filling
 use Rattle.hwp_hold.proofs.GivingUp as giving_up
 use Rattle.hwp_hold.proofs.Holding as holding
 use Rattle.hwp_hold.proofs.Linking.{ahead-unholds, held-ahead, held-unholds, nothing-left}

@@ -33,7 +33,7 @@ use Rattle.hwp_rule.proofs.WordsByKind.{words-read}
 use Rattle.hwp_step.specs.Hands.{Hand, body_in}
 use Rattle.hwp_hold.specs.Holds as holds
 use Rattle.hwp_hold.specs.Holds.{HoldsPage, held, page_lock}
-use Rattle.hwp_hold.proofs.Bringing.{replay-state, replay-unused}
+use Rattle.hwp_hold.proofs.Replaying.{replay-state, replay-unused}
 use Rattle.hwp_fault.specs.Faults.{IsFree}
 use Rattle.hwp_fault.proofs.MappingIn.{declared}
 

@@ -15,7 +15,7 @@ use Rattle.hwp_hold.specs.declared.Refer.{Refer}
 use Rattle.hwp_hold.specs.declared.refer.ReferAt.{ReferAt}
 use Rattle.hwp_hold.specs.declared.refer.ReferAt.TheVariants as refer_at
 use Rattle.hwp_hold.specs.Refers as refers
-use Rattle.hwp_hold.proofs.FillCosts.{refer-falls, refer-mild}
+use Rattle.hwp_hold.proofs.ReferCosts.{refer-falls, refer-mild}
 use Rattle.hwp_hold.proofs.Ranking.{stale-most}
 use Rattle.hwp_fault.specs.declared.map_in.MapIn.{MapIn}
 use Rattle.hwp_fault.specs.declared.map_in.MapInAt.{MapInAt}

@@ -35,7 +35,7 @@ use Rattle.hwp_step.specs.Calls.{Steps}
 use Rattle.hwp_step.specs.Hands.{Hand, hand_of, body_in}
 use Rattle.hwp_rule.specs.declared.Step.TheVariants as steps
 use Rattle.hwp_hold.specs.Unlocks.{HoldsFrame}
-use Rattle.hwp_hold.proofs.Bringing.{replay-state}
+use Rattle.hwp_hold.proofs.Replaying.{replay-state}
 use Rattle.hwp_hold.proofs.Linking.{as-taken, none-more}
 use Rattle.hwp_fault.specs.declared.touch.AccessKind.{AccessKind}
 use Rattle.hwp_fault.specs.declared.touch.AccessKind.TheVariants as kinds

@@ -1,5 +1,5 @@
--- What follows a step of a fault: the parts that go on with the room that was made for an entry, and the page let go.
-use Rattle.std.proofs.Common.{◌≡◌, ℕ, ◌≤◌, Option, Some, None, length, sym, ap, ◌∙◌}
+-- What follows a step of a fault: the parts that go on with the room that was made for an entry, and the task in all.
+use Rattle.std.proofs.Common.{◌≡◌, ℕ, ◌≤◌, Option, Some, None, length, sym, ap, ◌∙◌, subst}
 use Rattle.std.specs.declared.snapshot.Snapshot.{Snapshot}
 use Rattle.hwp_geom.specs.declared.Frame.{Frame}
 use Rattle.hwp_geom.specs.declared.Layout.{Layout}
@@ -8,19 +8,15 @@ use Rattle.hwp_geom.specs.declared.VSlot.{VSlot}
 use Rattle.hwp_geom.specs.declared.Who.{Who}
 use Rattle.hwp_page.specs.History.{BodyValue}
 use Rattle.hwp_rule.specs.declared.Step.TheVariants as steps
-use Rattle.hwp_hold.specs.declared.Fill.{Fill}
-use Rattle.hwp_hold.specs.declared.Unhold.{Unhold}
-use Rattle.hwp_hold.specs.Fills as fills
-use Rattle.hwp_hold.specs.Unholds as unholds
+use Rattle.hwp_fill.specs.declared.Fill.{Fill}
+use Rattle.hwp_fill.specs.Fills as fills
 use Rattle.hwp_step.specs.declared.Turn.{Turn}
-use Rattle.hwp_step.specs.declared.Turn.TheVariants.{Moved}
 use Rattle.hwp_fault.specs.declared.fault.Fault.{Fault}
-use Rattle.hwp_fault.specs.declared.fault.FaultAnswer.{FaultAnswer}
 use Rattle.hwp_fault.specs.declared.fault.FaultAt.{FaultAt}
 use Rattle.hwp_fault.specs.declared.fault.FaultAt.TheVariants as at
 use Rattle.hwp_fault.specs.declared.map_in.MapIn.{MapIn}
 use Rattle.hwp_fault.specs.declared.touch.Touch.{Touch}
-use Rattle.hwp_fault.specs.Faults.{after_refusal, bring, plan, plan_at, refuse, with_room, Roomed, after_unhold, next_at, turn_at, Follows}
+use Rattle.hwp_fault.specs.Faults.{after_refusal, bring, plan, plan_at, refuse, with_room, IsRoom, Roomed, next_at, turn_at, Follows, FollowsAt}
 use Rattle.hwp_fault.specs.MapIns as map_ins
 use Rattle.hwp_fault.specs.Touches.{as_snapshot, refused}
 
@@ -49,12 +45,25 @@ pub kill-planned : (f : Fault) (frame : Option Frame) (body : BodyValue) (place 
 kill-planned f frame body place named is same =
     ap (λ (b : BodyValue). Some (steps.Kill f.touch.process f.page (as_snapshot b))) same ∙ sym (ap (λ (x : FaultAt). plan_at f.page f.slot f.touch x) is)
 
--- a step of the page that is let go
-pub unhold-follows : (layout : Layout) (f : Fault) (found : ℕ) (got : Option BodyValue) (u next_u : Unhold) (answer : FaultAnswer) (y : FaultAt) (turn : Turn) → f.at ≡ at.Unhold u answer → next_u ≡ unholds.next u found → turn ≡ Moved
-    → y ≡ after_unhold next_u answer → Follows layout f found got (record f { at = y }) turn
-unhold-follows layout f found got u next_u answer y turn here moved is then = record {
-  spare = None;
-  room = tt;
-  after_is = ap (λ (x : FaultAt). record f { at = x }) (then ∙ ap (λ (x : Unhold). after_unhold x answer) moved ∙ sym (ap (λ (x : FaultAt). next_at layout f.who f.page f.slot f.touch x found got None) here));
-  turn_is = is ∙ sym (ap (λ (x : FaultAt). turn_at x found) here);
-}
+-- the state that follows from this one, where room was made, or refused
+record Settles (layout : Layout) (f : Fault) (x : FaultAt) (found : ℕ) (got : Option BodyValue) (y : FaultAt) (turn : Turn) : Type 0 where
+  spare : Option ℕ
+  room : IsRoom spare
+  is : y ≡ next_at layout f.who f.page f.slot f.touch x found got spare
+  turn_is : turn ≡ turn_at x found
+
+settles : (layout : Layout) (f : Fault) (x : FaultAt) (found : ℕ) (got : Option BodyValue) (y : FaultAt) (turn : Turn) → FollowsAt layout f.who f.page f.slot f.touch x found got y turn → Settles layout f x found got y turn
+settles layout f (at.Hold h) found got y turn e = record { spare = None; room = tt; is = e.0; turn_is = e.1 }
+settles layout f (at.LoadPte frame body) found got y turn e = record { spare = e.0.spare; room = e.0.room; is = e.0.is; turn_is = e.1 }
+settles layout f (at.Kill frame body place) found got y turn e = record { spare = None; room = tt; is = e.0; turn_is = e.1 }
+settles layout f (at.Fill g) found got y turn e = record { spare = e.0.spare; room = e.0.room; is = e.0.is; turn_is = e.1 }
+settles layout f (at.MapIn m) found got y turn e = record { spare = None; room = tt; is = e.0; turn_is = e.1 }
+settles layout f (at.Unhold u answer) found got y turn e = record { spare = None; room = tt; is = e.0; turn_is = e.1 }
+settles layout f (at.GiveUp g) found got y turn e = record { spare = None; room = tt; is = e.0; turn_is = e.1 }
+settles layout f (at.Over answer) found got y turn e = record { spare = None; room = tt; is = e.0; turn_is = e.1 }
+
+-- the task with the state that follows is the one that follows
+pub follows : (layout : Layout) (f : Fault) (x : FaultAt) (found : ℕ) (got : Option BodyValue) (y : FaultAt) (turn : Turn) → x ≡ f.at → FollowsAt layout f.who f.page f.slot f.touch x found got y turn → Follows layout f found got (record f { at = y }) turn
+follows layout f x found got y turn here e =
+    let all = settles layout f f.at found got y turn (subst (λ (z : FaultAt). FollowsAt layout f.who f.page f.slot f.touch z found got y turn) here e) in
+    record { spare = all.spare; room = all.room; after_is = ap (λ (x : FaultAt). record f { at = x }) all.is; turn_is = all.turn_is }

@@ -245,15 +245,22 @@ pub record FaultStepped (layout : Layout) (page : Page) (f : Fault) (found : ℕ
   pub follows : faults.Follows layout f found got after turn
   pub next_is : next ≡ after_fault page after
 
+-- what follows the frame's lock: the translation is read again under it, or it is waited for
+abbrev pub LocksFrame : Frame → ℕ → Option BodyValue → AccessAt → Turn → Type 0
+LocksFrame frame found got next turn = (next ≡ cond (is_locked found) (at.LockFrame frame) (at.LoadAgain frame got)) × (turn ≡ cond (is_locked found) (Waits found) Moved)
+
+-- the entry is made, and the frame let go
+abbrev pub let_go : Request → Frame → BodyValue → ℕ → AccessAt
+let_go a frame body found = at.Unlock (unlocks.begin a.who frame (Some (reached a found body))) (Some (reply a frame found body))
+
 abbrev pub NextAt : Layout → Request → AccessAt → ℕ → Option BodyValue → AccessAt → Turn → Type 0
 NextAt layout a at.LoadStop found got next turn = (next ≡ at_start found) × (turn ≡ Moved)
 NextAt layout a at.LoadProcess found got next turn = (next ≡ at_process found) × (turn ≡ Moved)
 NextAt layout a at.LoadTranslation found got next turn = (next ≡ at_translation a found) × (turn ≡ Moved)
 NextAt layout a (at.Pin p) found got next turn = (next ≡ pinned (pins.next p found)) × (turn ≡ pins.turn p found)
-NextAt layout a (at.LockFrame frame) found got next turn =
-    (next ≡ cond (is_locked found) (at.LockFrame frame) (at.LoadAgain frame got)) × (turn ≡ cond (is_locked found) (Waits found) Moved)
+NextAt layout a (at.LockFrame frame) found got next turn = LocksFrame frame found got next turn
 NextAt layout a (at.LoadAgain frame body) found got next turn = LooksAgain a frame body found next × (turn ≡ Moved)
-NextAt layout a (at.LoadBad frame body) found got next turn = (next ≡ at.Unlock (unlocks.begin a.who frame (Some (reached a found body))) (Some (reply a frame found body))) × (turn ≡ Moved)
+NextAt layout a (at.LoadBad frame body) found got next turn = (next ≡ let_go a frame body found) × (turn ≡ Moved)
 NextAt layout a (at.Unlock u then) found got next turn = (next ≡ unlocked (unlocks.next u found) then) × (turn ≡ Moved)
 NextAt layout a (at.Fault f) found got next turn = FaultStepped layout a.page f found got next turn
 NextAt layout a (at.GiveUp g) found got next turn = (next ≡ at.GiveUp (give_ups.next g found)) × (turn ≡ give_ups.turn g)

@@ -31,15 +31,15 @@ use Rattle.hwp_step.specs.Hands.{hand_of, empty}
 use Rattle.hwp_step.specs.Ranks.{stale}
 use Rattle.hwp_known.specs.Known.{Saw, SawLog, HasOnly, HasMade, Precedes}
 use Rattle.hwp_known.specs.Pages.{SawState}
-use Rattle.hwp_hold.specs.declared.Fill.{Fill}
-use Rattle.hwp_hold.specs.declared.fill.FillAt.{FillAt}
-use Rattle.hwp_hold.specs.declared.fill.FillAt.TheVariants as fill_at
+use Rattle.hwp_fill.specs.declared.Fill.{Fill}
+use Rattle.hwp_fill.specs.declared.fill.FillAt.{FillAt}
+use Rattle.hwp_fill.specs.declared.fill.FillAt.TheVariants as fill_at
 use Rattle.hwp_hold.specs.declared.GiveUp.{GiveUp}
 use Rattle.hwp_hold.specs.declared.Hold.{Hold}
 use Rattle.hwp_hold.specs.declared.hold.HoldAt.{HoldAt}
 use Rattle.hwp_hold.specs.declared.hold.HoldAt.TheVariants as hold_at
 use Rattle.hwp_hold.specs.declared.Unhold.{Unhold}
-use Rattle.hwp_hold.specs.Fills as fills
+use Rattle.hwp_fill.specs.Fills as fills
 use Rattle.hwp_hold.specs.GiveUps as give_ups
 use Rattle.hwp_hold.specs.Holds as holds
 use Rattle.hwp_hold.specs.Holds.{HoldsPage}
@@ -221,6 +221,17 @@ IsRefusal layout who page slot touch frame body result = Roomed (refuse layout w
 
 abbrev pub IsFilled : Who → Page → VSlot → Fill → FaultAt → Type 0
 IsFilled who page slot f result = Roomed (after_fill who page slot f) result
+
+-- which state follows a step, and which turn it was
+abbrev pub FollowsAt : Layout → Who → Page → VSlot → Touch → FaultAt → ℕ → Option BodyValue → FaultAt → Turn → Type 0
+FollowsAt layout who page slot touch (at.Hold h) found got x turn = (x ≡ after_hold (holds.next h found got)) × (turn ≡ holds.turn h found)
+FollowsAt layout who page slot touch (at.LoadPte frame body) found got x turn = IsLoaded layout who page slot touch frame body (pte_reading found) x × (turn ≡ Moved)
+FollowsAt layout who page slot touch (at.Kill frame body place) found got x turn = (x ≡ let_go who page frame body (answers.Sigbus place)) × (turn ≡ Moved)
+FollowsAt layout who page slot touch (at.Fill f) found got x turn = IsFilled who page slot (fills.next layout f found) x × (turn ≡ fills.turn f found)
+FollowsAt layout who page slot touch (at.MapIn m) found got x turn = (x ≡ after_map_in who page (map_ins.next m found)) × (turn ≡ map_ins.turn m found)
+FollowsAt layout who page slot touch (at.Unhold u answer) found got x turn = (x ≡ after_unhold (unholds.next u found) answer) × (turn ≡ Moved)
+FollowsAt layout who page slot touch (at.GiveUp g) found got x turn = (x ≡ after_give_up (give_ups.next g found)) × (turn ≡ give_ups.turn g)
+FollowsAt layout who page slot touch (at.Over answer) found got x turn = (x ≡ at.Over answer) × (turn ≡ Moved)
 
 -- which task follows a step, and which turn it was
 pub record Follows (layout : Layout) (f : Fault) (found : ℕ) (got : Option BodyValue) (after : Fault) (result : Turn) : Type 0 where

@@ -1,4 +1,9 @@
 ghost use Rattle.std.specs.Prelude.{◌≡◌, ◌↔◌, Option, IsBitSet, IsTrue, is_none};
+ghost use Rattle.hwp_hold.specs.GiveUps as give_ups;
+ghost use Rattle.hwp_hold.specs.Pins as pins;
+ghost use Rattle.hwp_hold.specs.Unlocks as unlocks;
+ghost use Rattle.hwp_fault.specs.declared.access.AccessAt.TheVariants as states;
+ghost use Rattle.hwp_fault.specs.Faults as faults;
 
 use crate::fault::{Fault, FaultAnswer};
 use crate::touch::{AccessKind, Touch};
@@ -206,7 +211,7 @@ impl Access {
 
 impl Request {
     ghost use Rattle.std.specs.Prelude.{is_some, true};
-    ghost use Rattle.hwp_fault.specs.Accesses.{at_translation, LooksAgain, Prepares, Reaches, check_of, checked, entered, entry_of, leads_to, reached, reply, touch_of, what_of, word_in, word_reply};
+    ghost use Rattle.hwp_fault.specs.Accesses.{at_translation, LooksAgain, NextAt, Prepares, Reaches, ShowsAt, check_of, checked, entered, entry_of, leads_to, let_go, reached, reply, touch_of, what_of, word_in, word_reply};
 
     fn at_translation(&self, found: u64) -> AccessAt
         ensures { result ≡ at_translation self.now found }
@@ -260,6 +265,19 @@ impl Request {
             Err(_) => AccessAt::GiveUp {
                 give_up: GiveUp::with_frame(self.who, frame, body),
             },
+        }
+    }
+
+    /// Makes the entry of the access, and lets the frame go; `mask` has the frame's bad lines.
+    fn let_go(&self, frame: Frame, body: Body, mask: u64) -> AccessAt
+        requires { Reaches self.now body }
+        ensures { result ≡ let_go self.now frame body mask }
+    {
+        let mut body = body;
+        let answer = self.reach(frame, &mut body, mask);
+        AccessAt::Unlock {
+            unlock: Unlock::new(self.who, frame, Some(body)),
+            then: Some(answer),
         }
     }
 
@@ -347,9 +365,99 @@ impl Request {
             },
         }
     }
+
+    /// Where the access is after its step, with the turn that brought it there.
+    fn settled(
+        &self,
+        layout: &Layout,
+        at: AccessAt,
+        found: u64,
+        got: Option<Body>,
+    ) -> (AccessAt, Turn)
+        requires { ShowsAt self.now at found got }
+        ensures { NextAt layout.now self.now at found got result.0 result.1 }
+    {
+        match at {
+            AccessAt::LoadStop => (Access::at_start(found), Turn::Moved),
+            AccessAt::LoadProcess => (Access::at_process(found), Turn::Moved),
+            AccessAt::LoadTranslation => (self.at_translation(found), Turn::Moved),
+            AccessAt::Pin { pin } => pin_more(layout, pin, found, got),
+            AccessAt::LockFrame { frame } => lock_more(frame, found, got),
+            AccessAt::LoadAgain { frame, body } => {
+                (self.at_again(frame, body, found), Turn::Moved)
+            }
+            AccessAt::LoadBad { frame, body } => (self.let_go(frame, body, found), Turn::Moved),
+            AccessAt::Unlock { unlock, then } => {
+                (unlock_more(layout, unlock, found, got, then), Turn::Moved)
+            }
+            AccessAt::Fault { fault } => fault_more(layout, self.page, fault, found, got),
+            AccessAt::GiveUp { give_up } => give_up_more(layout, give_up, found, got),
+            AccessAt::Over { answer } => (AccessAt::Over { answer }, Turn::Moved),
+        }
+    }
 }
 
-ghost use Rattle.hwp_fault.specs.Accesses.{is_bad, leads_to};
+ghost use Rattle.hwp_fault.specs.Accesses.{FaultStepped, LocksFrame, is_bad, leads_to, pinned, unlocked};
+
+/// The frame goes on being pinned.
+fn pin_more(layout: &Layout, pin: Pin, found: u64, got: Option<Body>) -> (AccessAt, Turn)
+    ensures { (result.0 ≡ pinned (pins.next pin found)) × (result.1 ≡ pins.turn pin found) }
+{
+    let mut pin = pin;
+    let turn = pin.settle(layout, found, got);
+    (Access::pinned(pin), turn)
+}
+
+/// The frame is locked, or its lock waited for.
+fn lock_more(frame: Frame, found: u64, got: Option<Body>) -> (AccessAt, Turn)
+    ensures { LocksFrame frame found got result.0 result.1 }
+{
+    if FrameWord::unpack(found).locked {
+        (AccessAt::LockFrame { frame }, Turn::Waits(found))
+    } else {
+        (AccessAt::LoadAgain { frame, body: got }, Turn::Moved)
+    }
+}
+
+/// The frame goes on being let go.
+fn unlock_more(
+    layout: &Layout,
+    unlock: Unlock,
+    found: u64,
+    got: Option<Body>,
+    then: Option<AccessAnswer>,
+) -> AccessAt
+    ensures { result ≡ unlocked (unlocks.next unlock found) then }
+{
+    let mut unlock = unlock;
+    let _turn = unlock.settle(layout, found, got);
+    Access::unlocked(unlock, then)
+}
+
+/// The page goes on being brought in.
+fn fault_more(
+    layout: &Layout,
+    page: Page,
+    fault: Fault,
+    found: u64,
+    got: Option<Body>,
+) -> (AccessAt, Turn)
+    requires { faults.Shows fault found got }
+    ensures { FaultStepped layout.now page fault found got result.0 result.1 }
+{
+    let mut fault = fault;
+    let turn = fault.settle(layout, found, got);
+    (Access::after_fault(page, fault), turn)
+}
+
+/// The command goes on giving up.
+fn give_up_more(layout: &Layout, give_up: GiveUp, found: u64, got: Option<Body>) -> (AccessAt, Turn)
+    ensures { (result.0 ≡ states.GiveUp (give_ups.next give_up found)) × (result.1 ≡ give_ups.turn give_up) }
+{
+    let mut give_up = give_up;
+    let turn = give_up.settle(layout, found, got);
+    (AccessAt::GiveUp { give_up }, turn)
+}
 
 /// The line is one of the bad ones, which `mask` has.
 fn is_bad(mask: u64, line: Line) -> bool
@@ -428,65 +536,10 @@ impl Machine for Access {
     }
 
     fn settle(&mut self, layout: &Layout, found: u64, body: Option<Body>) -> Turn {
-        match mem::replace(&mut self.at, AccessAt::LoadStop) {
-            AccessAt::LoadStop => {
-                self.at = Access::at_start(found);
-                Turn::Moved
-            }
-            AccessAt::LoadProcess => {
-                self.at = Access::at_process(found);
-                Turn::Moved
-            }
-            AccessAt::LoadTranslation => {
-                self.at = self.request.at_translation(found);
-                Turn::Moved
-            }
-            AccessAt::Pin { mut pin } => {
-                let turn = pin.settle(layout, found, body);
-                self.at = Access::pinned(pin);
-                turn
-            }
-            AccessAt::LockFrame { frame } => {
-                if FrameWord::unpack(found).locked {
-                    self.at = AccessAt::LockFrame { frame };
-                    Turn::Waits(found)
-                } else {
-                    self.at = AccessAt::LoadAgain { frame, body };
-                    Turn::Moved
-                }
-            }
-            AccessAt::LoadAgain { frame, body } => {
-                self.at = self.request.at_again(frame, body, found);
-                Turn::Moved
-            }
-            AccessAt::LoadBad { frame, mut body } => {
-                let answer = self.request.reach(frame, &mut body, found);
-                self.at = AccessAt::Unlock {
-                    unlock: Unlock::new(self.request.who, frame, Some(body)),
-                    then: Some(answer),
-                };
-                Turn::Moved
-            }
-            AccessAt::Unlock { mut unlock, then } => {
-                let turn = unlock.settle(layout, found, body);
-                self.at = Access::unlocked(unlock, then);
-                turn
-            }
-            AccessAt::Fault { mut fault } => {
-                let turn = fault.settle(layout, found, body);
-                self.at = Access::after_fault(self.request.page, fault);
-                turn
-            }
-            AccessAt::GiveUp { mut give_up } => {
-                let turn = give_up.settle(layout, found, body);
-                self.at = AccessAt::GiveUp { give_up };
-                turn
-            }
-            AccessAt::Over { answer } => {
-                self.at = AccessAt::Over { answer };
-                Turn::Moved
-            }
-        }
+        let at = mem::replace(&mut self.at, AccessAt::LoadStop);
+        let (after, turn) = self.request.settled(layout, at, found, body);
+        self.at = after;
+        turn
     }
 }
 

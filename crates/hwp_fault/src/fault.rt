@@ -1,9 +1,15 @@
 ghost use Rattle.std.specs.Prelude.{◌≡◌, false, is_none};
+ghost use Rattle.hwp_hold.specs.GiveUps as give_ups;
+ghost use Rattle.hwp_hold.specs.Holds as holds;
+ghost use Rattle.hwp_hold.specs.Unholds as unholds;
+ghost use Rattle.hwp_fill.specs.Fills as fills;
+ghost use Rattle.hwp_fault.specs.MapIns as map_ins;
 
 use crate::map_in::MapIn;
 use crate::touch::Touch;
+use hwp_fill::{Fill, FillAnswer};
 use hwp_geom::{Frame, Layout, Page, VSlot, Who};
-use hwp_hold::{Fill, FillAnswer, GiveUp, Hold, Unhold};
+use hwp_hold::{GiveUp, Hold, Unhold};
 use hwp_page::{Body, Entry};
 use hwp_rule::{Place, Step};
 use hwp_step::{Machine, Ranked, Turn};
@@ -70,7 +76,7 @@ impl Fault {
     ghost use Rattle.std.specs.Prelude.{true};
     ghost use Rattle.hwp_page.specs.Step.{IsRefused};
     ghost use Rattle.hwp_fault.specs.Touches.{refused};
-    ghost use Rattle.hwp_fault.specs.Faults.{begin, plan, answer, let_go, CanRefuse, IsRoomed, after_hold, after_map_in, after_refusal, after_unhold, after_give_up, is_refused, IsLoaded, IsRefusal, IsFilled};
+    ghost use Rattle.hwp_fault.specs.Faults.{begin, plan, answer, let_go, CanRefuse, FollowsAt, IsRoomed, ShowsAt, after_hold, after_map_in, after_refusal, after_unhold, after_give_up, is_refused, IsLoaded, IsRefusal, IsFilled};
 
     /// The command brings the page in, and the translation, which is one of the page, into use; or else the touch, by a
     /// process of the translation, is refused.
@@ -273,6 +279,113 @@ impl Fault {
             FaultAt::GiveUp { give_up }
         }
     }
+
+    /// Where the fault is after its step, with the turn that brought it there.
+    fn settled(
+        &self,
+        layout: &Layout,
+        at: FaultAt,
+        found: u64,
+        got: Option<Body>,
+    ) -> (FaultAt, Turn)
+        requires { ShowsAt self.now.slot self.now.touch at found got }
+        ensures { FollowsAt layout.now self.now.who self.now.page self.now.slot self.now.touch at found got result.0 result.1 }
+    {
+        match at {
+            FaultAt::Hold { hold } => hold_more(layout, hold, found, got),
+            FaultAt::LoadPte { frame, body } => {
+                let pte = Pte::unpack(found);
+                (self.after_pte(layout, frame, body, pte), Turn::Moved)
+            }
+            FaultAt::Kill { frame, body, place } => {
+                let answer = FaultAnswer::Sigbus { place };
+                let next = Fault::let_go(self.who, self.page, frame, body, answer);
+                (next, Turn::Moved)
+            }
+            FaultAt::Fill { fill } => {
+                fill_more(self.who, self.page, self.slot, layout, fill, found, got)
+            }
+            FaultAt::MapIn { map_in } => {
+                map_in_more(self.who, self.page, layout, map_in, found, got)
+            }
+            FaultAt::Unhold { unhold, answer } => {
+                (unhold_more(layout, unhold, found, got, answer), Turn::Moved)
+            }
+            FaultAt::GiveUp { give_up } => give_up_more(layout, give_up, found, got),
+            FaultAt::Over { answer } => (FaultAt::Over { answer }, Turn::Moved),
+        }
+    }
+}
+
+ghost use Rattle.hwp_fault.specs.Faults.{after_give_up, after_hold, after_map_in, after_unhold, IsFilled};
+
+/// The page goes on being held.
+fn hold_more(layout: &Layout, hold: Hold, found: u64, got: Option<Body>) -> (FaultAt, Turn)
+    requires { holds.Shows hold found got }
+    ensures { (result.0 ≡ after_hold (holds.next hold found got)) × (result.1 ≡ holds.turn hold found) }
+{
+    let mut hold = hold;
+    let turn = hold.settle(layout, found, got);
+    (Fault::after_hold(hold), turn)
+}
+
+/// The page goes on being put into a frame.
+fn fill_more(
+    who: Who,
+    page: Page,
+    slot: VSlot,
+    layout: &Layout,
+    fill: Fill,
+    found: u64,
+    got: Option<Body>,
+) -> (FaultAt, Turn)
+    requires { fills.Shows fill found got }
+    ensures { IsFilled who page slot (fills.next layout.now fill found) result.0 × (result.1 ≡ fills.turn fill found) }
+{
+    let mut fill = fill;
+    let turn = fill.settle(layout, found, got);
+    (Fault::after_fill(who, page, slot, fill), turn)
+}
+
+/// The translation goes on coming into use.
+fn map_in_more(
+    who: Who,
+    page: Page,
+    layout: &Layout,
+    map_in: MapIn,
+    found: u64,
+    got: Option<Body>,
+) -> (FaultAt, Turn)
+    requires { map_ins.Shows map_in }
+    ensures { (result.0 ≡ after_map_in who page (map_ins.next map_in found)) × (result.1 ≡ map_ins.turn map_in found) }
+{
+    let mut map_in = map_in;
+    let turn = map_in.settle(layout, found, got);
+    (Fault::after_map_in(who, page, map_in), turn)
+}
+
+/// The page goes on being let go.
+fn unhold_more(
+    layout: &Layout,
+    unhold: Unhold,
+    found: u64,
+    got: Option<Body>,
+    answer: FaultAnswer,
+) -> FaultAt
+    ensures { result ≡ after_unhold (unholds.next unhold found) answer }
+{
+    let mut unhold = unhold;
+    let _turn = unhold.settle(layout, found, got);
+    Fault::after_unhold(unhold, answer)
+}
+
+/// The command goes on giving up.
+fn give_up_more(layout: &Layout, give_up: GiveUp, found: u64, got: Option<Body>) -> (FaultAt, Turn)
+    ensures { (result.0 ≡ after_give_up (give_ups.next give_up found)) × (result.1 ≡ give_ups.turn give_up) }
+{
+    let mut give_up = give_up;
+    let turn = give_up.settle(layout, found, got);
+    (Fault::after_give_up(give_up), turn)
 }
 
 impl Machine for Fault {
@@ -330,47 +443,10 @@ impl Machine for Fault {
     }
 
     fn settle(&mut self, layout: &Layout, found: u64, body: Option<Body>) -> Turn {
-        match mem::replace(&mut self.at, FaultAt::Over { answer: None }) {
-            FaultAt::Hold { mut hold } => {
-                let turn = hold.settle(layout, found, body);
-                self.at = Fault::after_hold(hold);
-                turn
-            }
-            FaultAt::LoadPte { frame, body } => {
-                let pte = Pte::unpack(found);
-                self.at = self.after_pte(layout, frame, body, pte);
-                Turn::Moved
-            }
-            FaultAt::Kill { frame, body, place } => {
-                let answer = FaultAnswer::Sigbus { place };
-                self.at = Fault::let_go(self.who, self.page, frame, body, answer);
-                Turn::Moved
-            }
-            FaultAt::Fill { mut fill } => {
-                let turn = fill.settle(layout, found, body);
-                self.at = Fault::after_fill(self.who, self.page, self.slot, fill);
-                turn
-            }
-            FaultAt::MapIn { mut map_in } => {
-                let turn = map_in.settle(layout, found, body);
-                self.at = Fault::after_map_in(self.who, self.page, map_in);
-                turn
-            }
-            FaultAt::Unhold { mut unhold, answer } => {
-                let turn = unhold.settle(layout, found, body);
-                self.at = Fault::after_unhold(unhold, answer);
-                turn
-            }
-            FaultAt::GiveUp { mut give_up } => {
-                let turn = give_up.settle(layout, found, body);
-                self.at = Fault::after_give_up(give_up);
-                turn
-            }
-            FaultAt::Over { answer } => {
-                self.at = FaultAt::Over { answer };
-                Turn::Moved
-            }
-        }
+        let at = mem::replace(&mut self.at, FaultAt::Over { answer: None });
+        let (after, turn) = self.settled(layout, at, found, body);
+        self.at = after;
+        turn
     }
 }
 

@@ -10,4 +10,3 @@ pub mod SentenceLaws
 pub mod Decoding
 pub mod Shapes
 pub mod LineLaws
-pub mod PrintLaws

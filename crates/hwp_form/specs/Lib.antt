@@ -2,5 +2,4 @@ pub mod Numbers
 pub mod Kinds
 pub mod Grammar
 pub mod Lines
-pub mod Printed
 pub mod Misfits

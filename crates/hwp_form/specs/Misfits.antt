@@ -61,6 +61,33 @@ number_count w = 1
 abbrev pub log_word : CommandWord
 log_word = words.Log
 
+-- the first words of accesses
+abbrev pub is_access_word : CommandWord → Bool
+is_access_word words.Load = true
+is_access_word words.Fetch = true
+is_access_word words.KLoad = true
+is_access_word words.Store = true
+is_access_word w = false
+
+-- the first words of commands about a translation, a page or a file
+abbrev pub is_page_word : CommandWord → Bool
+is_page_word words.Free = true
+is_page_word words.Drop = true
+is_page_word words.Sync = true
+is_page_word words.Out = true
+is_page_word words.Fsync = true
+is_page_word w = false
+
+-- the first words of commands about frames
+abbrev pub is_frame_word : CommandWord → Bool
+is_frame_word words.Bad = true
+is_frame_word words.Weak = true
+is_frame_word words.Scrub = true
+is_frame_word words.Inject = true
+is_frame_word words.Soft = true
+is_frame_word words.Unpoison = true
+is_frame_word w = false
+
 -- the command of a first word behind which these numbers stand; a log and a raise have others
 abbrev pub command_with : CommandWord → List ℕ → Command
 command_with words.Load ns = commands.Load (record { 0 = get_or ns 0 0 }) (record { 0 = get_or ns 1 0 }) (get_or ns 2 0)

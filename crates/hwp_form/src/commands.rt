@@ -1,7 +1,7 @@
-ghost use Rattle.std.specs.Prelude.{◌≡◌, ◌≢◌, ◌<◌, ◌≤◌, ◌⊎◌, ◌∷◌, map, codes, MatchOption, MatchResult};
+ghost use Rattle.std.specs.Prelude.{◌≡◌, ◌≢◌, ◌<◌, ◌≤◌, ◌⊎◌, ◌∷◌, map, codes, true, MatchOption, MatchResult};
 ghost use Rattle.hwp_geom.specs.Limits.{line_limit, frame_limit, file_limit, thread_limit, page_limit, translation_limit};
 ghost use Rattle.hwp_form.specs.Grammar.{bit, CommandFits, IsAccessWithin, IsCommand, raise_word};
-ghost use Rattle.hwp_form.specs.Misfits.{IsCommandMisfit, command_with, log_word};
+ghost use Rattle.hwp_form.specs.Misfits.{IsCommandMisfit, command_with, is_access_word, is_frame_word, is_page_word, log_word};
 
 use crate::command::{Command, PrctlArgs};
 use crate::keywords::CommandWord;
@@ -167,12 +167,12 @@ fn read_raise(words: &[&[u8]]) -> Result<Command, Misfit>
     }
 }
 
-/// The command of this first word behind which these numbers stand, if each is within its range.
-fn command_with(word: CommandWord, numbers: [u64; 6]) -> Option<Command>
-    requires { (word ≢ log_word) × (word ≢ raise_word) }
+/// The access of this first word behind which these numbers stand, if each is within its range.
+fn access_with(word: CommandWord, numbers: [u64; 6]) -> Option<Command>
+    requires { is_access_word word ≡ true }
     ensures { MatchOption result (CommandFits (command_with word numbers) → ⊥) (λ c. (c ≡ command_with word numbers) × CommandFits (command_with word numbers)) }
 {
-    let [first, second, third, fourth, fifth, sixth] = numbers;
+    let [first, second, third, fourth, _, _] = numbers;
     match word {
         CommandWord::Load => {
             let (thread, slot, line) = access_of(first, second, third)?;
@@ -196,61 +196,106 @@ fn command_with(word: CommandWord, numbers: [u64; 6]) -> Option<Command>
                 word,
             })
         }
+        _ => unreachable!(),
+    }
+}
+
+/// The command of this first word about a translation, a page or a file, if the number behind it is within its range.
+fn page_with(word: CommandWord, numbers: [u64; 6]) -> Option<Command>
+    requires { is_page_word word ≡ true }
+    ensures { MatchOption result (CommandFits (command_with word numbers) → ⊥) (λ c. (c ≡ command_with word numbers) × CommandFits (command_with word numbers)) }
+{
+    match word {
         CommandWord::Free => {
-            let slot = slot_of(first)?;
+            let slot = slot_of(numbers[0])?;
             Some(Command::Free { slot })
         }
         CommandWord::Drop => {
-            let page = page_of(first)?;
+            let page = page_of(numbers[0])?;
             Some(Command::Drop { page })
         }
         CommandWord::Sync => {
-            let page = page_of(first)?;
+            let page = page_of(numbers[0])?;
             Some(Command::Sync { page })
         }
         CommandWord::Out => {
-            let page = page_of(first)?;
+            let page = page_of(numbers[0])?;
             Some(Command::Out { page })
         }
         CommandWord::Fsync => {
-            let file = file_of(first)?;
+            let file = file_of(numbers[0])?;
             Some(Command::Fsync { file })
         }
-        CommandWord::Prctl => {
-            let thread = thread_of(first)?;
-            let args = PrctlArgs {
-                operation: second,
-                arg2: third,
-                arg3: fourth,
-                arg4: fifth,
-                arg5: sixth,
-            };
-            Some(Command::Prctl { thread, args })
-        }
+        _ => unreachable!(),
+    }
+}
+
+/// The command of this first word about frames behind which these numbers stand, if each is within its range.
+fn frame_with(word: CommandWord, numbers: [u64; 6]) -> Option<Command>
+    requires { is_frame_word word ≡ true }
+    ensures { MatchOption result (CommandFits (command_with word numbers) → ⊥) (λ c. (c ≡ command_with word numbers) × CommandFits (command_with word numbers)) }
+{
+    match word {
         CommandWord::Bad => {
-            let (frame, line) = place_of(first, second)?;
+            let (frame, line) = place_of(numbers[0], numbers[1])?;
             Some(Command::Bad { frame, line })
         }
         CommandWord::Weak => {
-            let (frame, line) = place_of(first, second)?;
+            let (frame, line) = place_of(numbers[0], numbers[1])?;
             Some(Command::Weak { frame, line })
         }
         CommandWord::Scrub => {
-            let (first, last) = range_of(first, second)?;
+            let (first, last) = range_of(numbers[0], numbers[1])?;
             Some(Command::Scrub { first, last })
         }
         CommandWord::Inject => {
-            let frame = frame_of(first)?;
+            let frame = frame_of(numbers[0])?;
             Some(Command::Inject { frame })
         }
         CommandWord::Soft => {
-            let frame = frame_of(first)?;
+            let frame = frame_of(numbers[0])?;
             Some(Command::Soft { frame })
         }
         CommandWord::Unpoison => {
-            let frame = frame_of(first)?;
+            let frame = frame_of(numbers[0])?;
             Some(Command::Unpoison { frame })
         }
+        _ => unreachable!(),
+    }
+}
+
+/// The command of this first word behind which these numbers stand, if each is within its range.
+fn command_with(word: CommandWord, numbers: [u64; 6]) -> Option<Command>
+    requires { (word ≢ log_word) × (word ≢ raise_word) }
+    ensures { MatchOption result (CommandFits (command_with word numbers) → ⊥) (λ c. (c ≡ command_with word numbers) × CommandFits (command_with word numbers)) }
+{
+    match word {
+        CommandWord::Load | CommandWord::Fetch | CommandWord::KLoad | CommandWord::Store => {
+            access_with(word, numbers)
+        }
+        CommandWord::Free
+        | CommandWord::Drop
+        | CommandWord::Sync
+        | CommandWord::Out
+        | CommandWord::Fsync => page_with(word, numbers),
+        CommandWord::Prctl => {
+            let [first, operation, arg2, arg3, arg4, arg5] = numbers;
+            let thread = thread_of(first)?;
+            let args = PrctlArgs {
+                operation,
+                arg2,
+                arg3,
+                arg4,
+                arg5,
+            };
+            Some(Command::Prctl { thread, args })
+        }
+        CommandWord::Bad
+        | CommandWord::Weak
+        | CommandWord::Scrub
+        | CommandWord::Inject
+        | CommandWord::Soft
+        | CommandWord::Unpoison => frame_with(word, numbers),
         CommandWord::Log | CommandWord::Raise => unreachable!(),
     }
 }

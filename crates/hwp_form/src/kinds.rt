@@ -45,8 +45,8 @@ const KINDS: [Kind; 36] = [
     Kind::ReportLost,
 ];
 
-/// The name of a kind of step.
-pub(crate) fn kind_name(kind: Kind) -> &'static str
+/// The name of a kind of step, as schedules and traces say it (this project's rule).
+pub fn kind_name(kind: Kind) -> &'static str
     ensures { result.now ≡ kind_text kind }
 {
     match kind {

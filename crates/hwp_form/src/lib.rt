@@ -1,4 +1,4 @@
-//! The lines of a fault script: their kinds and its commands, their reading from bytes, and their text.
+//! The lines of a fault script: their kinds and its commands, and their reading from bytes.
 #![tactic(auto)]
 
 mod command;
@@ -8,12 +8,13 @@ mod keywords;
 mod kinds;
 mod lines;
 mod numbers;
-mod printing;
 mod sentences;
 mod turns;
 mod words;
 
 pub use command::{Command, Go, PrctlArgs, Until};
 pub use form::{Backing, Form, LineRead, Numbered};
+pub use kinds::kind_name;
 pub use lines::read_lines;
-pub use printing::put_form;
+pub use numbers::read_number;
+pub use words::is_text;

@@ -17,8 +17,8 @@ pub(crate) enum Misfit {
     OverLimit,
 }
 
-/// The number that a word is: `0` or decimal digits without a leading zero, below 2^64.
-pub(crate) fn read_number(word: &[u8]) -> Option<u64>
+/// The number that a word is: `0` or decimal digits without a leading zero, below 2^64 (this project's rule).
+pub fn read_number(word: &[u8]) -> Option<u64>
     ensures some { IfSome result (IsNumber word.now) }
     ensures none { IfNone result ((n : ℕ) → IsNumber word.now n → ⊥) }
 {

@@ -6,8 +6,8 @@ ghost use Rattle.std.specs.List.{slice_split};
 use hwp_geom::OutOfMemory;
 use std::alloc::Global;
 
-/// Whether a word has this text.
-pub(crate) fn is_text(word: &[u8], text: &str) -> bool
+/// Whether a word has this text, byte for byte.
+pub fn is_text(word: &[u8], text: &str) -> bool
     ensures { IsTrue result ↔ (word.now ≡ text.now) }
 {
     word == text.as_bytes()

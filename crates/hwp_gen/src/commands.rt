@@ -8,7 +8,7 @@ use hwp_geom::{FileNo, Frame, Line, Page, Thread, VSlot};
 use rand_pcg::Lcg64Xsh32;
 
 /// A command of a processor, whose kind is drawn first.
-pub fn draw_command(cpu: u8, rng: &mut Lcg64Xsh32) -> Command
+pub(crate) fn draw_command(cpu: u8, rng: &mut Lcg64Xsh32) -> Command
     requires cpu { cpu < 4 }
     ensures { (result, rng.new) ≡ command cpu rng.old }
 {

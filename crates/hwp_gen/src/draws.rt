@@ -5,7 +5,7 @@ use rand_core::utils::NextWord;
 use rand_pcg::Lcg64Xsh32;
 
 /// The next word of the generator.
-pub fn draw_word(rng: &mut Lcg64Xsh32) -> u32
+pub(crate) fn draw_word(rng: &mut Lcg64Xsh32) -> u32
     ensures word { result ≡ word rng.old }
     ensures after { rng.new ≡ after rng.old }
 {
@@ -13,7 +13,7 @@ pub fn draw_word(rng: &mut Lcg64Xsh32) -> u32
 }
 
 /// A number below a bound: the rest of the next word.
-pub fn draw(rng: &mut Lcg64Xsh32, bound: u8) -> u8
+pub(crate) fn draw(rng: &mut Lcg64Xsh32, bound: u8) -> u8
     requires some { 0 < bound }
     ensures drawn { result ≡ drawn bound rng.old }
     ensures after { rng.new ≡ after rng.old }

@@ -7,7 +7,7 @@ use hwp_geom::{
 use std::alloc::Global;
 
 /// The machine of all generated scripts.
-pub fn machine(alloc: Global) -> Result<Layout, OutOfMemory>
+pub(crate) fn machine(alloc: Global) -> Result<Layout, OutOfMemory>
     ensures { IfOk result (λ layout. layout ≡ machine) }
 {
     Ok(Layout {

@@ -6,21 +6,21 @@ use crate::list::List;
 use crate::numbers::{Cpu, FileNo, Page, Proc};
 use std::alloc::Global;
 
-/// The most processors of a machine.
+/// The most processors of a machine (this project's rule).
 pub const MAX_CPUS: u8 = 8;
-/// The most frames of a machine.
+/// The most frames of a machine (this project's rule).
 pub const MAX_FRAMES: u16 = 256;
-/// The most files of a script.
+/// The most files of a script (this project's rule).
 pub const MAX_FILES: u8 = 16;
-/// The most processes of a script.
+/// The most processes of a script (this project's rule).
 pub const MAX_PROCS: u8 = 16;
-/// The most threads of a script.
+/// The most threads of a script (this project's rule).
 pub const MAX_THREADS: u8 = 32;
-/// The most pages of a script.
+/// The most pages of a script (this project's rule).
 pub const MAX_PAGES: u16 = 256;
-/// The most translations of a script.
+/// The most translations of a script (this project's rule).
 pub const MAX_TRANS: u16 = 512;
-/// The most commands of a script, over all processors.
+/// The most commands of a script, over all processors (this project's rule).
 pub const MAX_COMMANDS: u32 = 4096;
 
 /// These are the limits that the definitions name.

@@ -3,7 +3,7 @@ ghost use Rattle.hwp_geom.specs.Limits.{line_limit};
 
 use std::marker::Model;
 
-/// How many lines a frame and a page have.
+/// How many lines a frame and a page have (this project's rule).
 pub const LINES: usize = 64;
 
 /// A line of a frame or a page, 0 to 63.

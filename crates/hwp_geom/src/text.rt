@@ -24,6 +24,7 @@ impl Text {
         }
     }
 
+    /// The bytes in their order.
     pub fn as_slice(&self) -> &[u8]
         ensures { result.now ≡ self.now }
     {

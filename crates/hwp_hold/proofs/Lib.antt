@@ -4,14 +4,11 @@ pub mod Holding
 pub mod Unholding
 pub mod Linking
 pub mod Ranking
-pub mod Making
 pub mod Freeing
-pub mod Taking
-pub mod TakeCosts
 pub mod Referring
-pub mod Bringing
-pub mod Filling
+pub mod Replaying
 pub mod Unlocking
 pub mod GivingUp
-pub mod FillCosts
+pub mod ReferCosts
+pub mod GiveUpCosts
 pub mod Telling

@@ -27,7 +27,6 @@ use Rattle.hwp_rule.specs.parts.Entries.{HasSeen}
 use Rattle.hwp_rule.specs.parts.Fits.{FitsWords}
 use Rattle.hwp_rule.proofs.FittingWords.{fitting-at}
 use Rattle.hwp_rule.proofs.Lists.{same-number}
-use Rattle.hwp_known.specs.Known.{SawLog}
 use Rattle.hwp_hold.specs.declared.hold.Hold.{Hold}
 use Rattle.hwp_hold.specs.declared.hold.HoldAt.{HoldAt}
 use Rattle.hwp_hold.specs.declared.hold.HoldAt.TheVariants as at
@@ -179,15 +178,9 @@ held-at : (a : HoldAt) (frame : Option Frame) (body : BodyValue) → answer_at a
 held-at (at.Held f b) frame body answered is = λ i. at.Held (same_Some f frame answered i) (sym is i)
 held-at a frame body answered is = absurd is
 
--- with what it answers
-pub answered-lets-go : (h : Hold) (u : Unhold) (frame : Option Frame) (body : BodyValue) → answer h ≡ Some frame → IsBody h body → u ≡ begin h.who h.page frame 1 body → LetsGo h u
-answered-lets-go h u frame body answered is begun = over-lets-go h u frame body (held-at h.at frame body answered is) begun
-
+-- what a hold that is over answers is held, with its body
 pub answered-holds : (layout : Layout) (view : View) (h : Hold) (frame : Option Frame) (body : BodyValue) → answer h ≡ Some frame → IsBody h body → holds.Fits layout view h → HoldsPage layout view h.page frame body
 answered-holds layout view h frame body answered is fits = (subst (FitsAt layout view h.who h.page) (held-at h.at frame body answered is) fits.at).0
-
-pub answered-saw : (layout : Layout) (view : View) (h : Hold) (frame : Option Frame) (body : BodyValue) → answer h ≡ Some frame → IsBody h body → holds.Fits layout view h → SawLog view h.who (log_of body)
-answered-saw layout view h frame body answered is fits = (subst (FitsAt layout view h.who h.page) (held-at h.at frame body answered is) fits.at).1
 
 -- an unhold that is over has left nothing held
 pub nothing-left : (layout : Layout) (view : View) (u : Unhold) → is_none (plan u) ≡ true → Fits layout view u → hand_of view ≡ empty

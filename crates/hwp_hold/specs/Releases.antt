@@ -1,5 +1,5 @@
 -- References given back: the task's states, its steps and what they come to.
-use Rattle.std.specs.Prelude.{◌≡◌, ℕ, ◌+◌, ◌-◌, ◌<◌, ◌≤◌, true, false, cond, [], ◌∷◌, ◌++◌, Option, Some, None, length}
+use Rattle.std.specs.Prelude.{Bool, ◌≡◌, ℕ, ◌+◌, ◌-◌, ◌<◌, ◌≤◌, true, false, cond, [], ◌∷◌, ◌++◌, Option, Some, None, length}
 use Rattle.hwp_geom.specs.declared.Frame.{Frame}
 use Rattle.hwp_geom.specs.declared.Layout.{Layout}
 use Rattle.hwp_geom.specs.declared.Who.{Who}
@@ -65,9 +65,17 @@ pub record Fits (layout : Layout) (view : View) (r : Release) : Type 0 where
   pub frame : r.frame.0 < layout.frames
   pub at : FitsAt view r.frame r.count r.at
 
--- the lock of a frame that was adopted because it is poisoned
+-- the lock of a frame just adopted: it has no owner, and isn't handled
+abbrev pub adopted_lock : Frame → Bool → FrameLock
+adopted_lock frame poisoned = record { frame = frame; owner = 0; handled = false; poisoned = poisoned }
+
+-- that of a frame that was adopted because it is poisoned
 abbrev pub poisoned_lock : Frame → FrameLock
-poisoned_lock frame = record { frame = frame; owner = 0; handled = false; poisoned = true }
+poisoned_lock frame = adopted_lock frame true
+
+-- that of a frame just taken isn't poisoned
+abbrev pub new_lock : Frame → FrameLock
+new_lock frame = adopted_lock frame false
 
 -- what is held after a step
 abbrev pub hand_next_at : Frame → ℕ → ReleaseAt → ℕ → Hand → Hand

@@ -27,7 +27,9 @@ enum HoldAt {
 }
 
 impl Hold {
-    ghost use Rattle.hwp_hold.specs.Holds.{begin, answer, pinned, IsBody};
+    ghost use Rattle.std.specs.Prelude.{None};
+    ghost use Rattle.hwp_rule.specs.Views.{frame_in};
+    ghost use Rattle.hwp_hold.specs.Holds.{begin, answer, named_at, pinned, locked_at, IsBody};
     ghost use Rattle.hwp_hold.specs.Unholds.{LetsGo};
 
     /// The command holds the page.
@@ -83,12 +85,40 @@ impl Hold {
         }
     }
 
+    fn at_cache(who: Who, body: Option<Body>, found: u64) -> HoldAt
+        requires { frame_in found ≡ None → is_some body ≡ true }
+        ensures { result ≡ named_at who body (frame_in found) }
+    {
+        match frame_in(found) {
+            Some(frame) => HoldAt::Pin {
+                pin: Pin::new(who, frame),
+            },
+            None => match body {
+                Some(body) => HoldAt::Held { frame: None, body },
+                None => unreachable!(),
+            },
+        }
+    }
+
     fn at_pinned(pin: Pin) -> HoldAt
         ensures { result ≡ pinned pin }
     {
         match pin.answer() {
             Some(PinAnswer::Held(_)) => HoldAt::LockFrame { frame: pin.frame() },
             Some(PinAnswer::Gone(_)) | None => HoldAt::Pin { pin },
+        }
+    }
+
+    fn at_locked(frame: Frame, body: Option<Body>) -> HoldAt
+        requires { is_some body ≡ true }
+        ensures { result ≡ locked_at frame body }
+    {
+        match body {
+            Some(body) => HoldAt::Held {
+                frame: Some(frame),
+                body,
+            },
+            None => unreachable!(),
         }
     }
 }
@@ -151,15 +181,7 @@ impl Machine for Hold {
                 }
             }
             HoldAt::LoadCache { body } => {
-                self.at = match frame_in(found) {
-                    Some(frame) => HoldAt::Pin {
-                        pin: Pin::new(self.who, frame),
-                    },
-                    None => match body {
-                        Some(body) => HoldAt::Held { frame: None, body },
-                        None => unreachable!(),
-                    },
-                };
+                self.at = Hold::at_cache(self.who, body, found);
                 Turn::Moved
             }
             HoldAt::Pin { mut pin } => {
@@ -169,13 +191,7 @@ impl Machine for Hold {
             }
             HoldAt::LockFrame { frame } => {
                 if is_free(found) {
-                    self.at = match body {
-                        Some(body) => HoldAt::Held {
-                            frame: Some(frame),
-                            body,
-                        },
-                        None => unreachable!(),
-                    };
+                    self.at = Hold::at_locked(frame, body);
                     Turn::Moved
                 } else {
                     self.at = HoldAt::LockFrame { frame };

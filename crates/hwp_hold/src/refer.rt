@@ -37,7 +37,7 @@ impl Refer {
     }
 
     /// The frame.
-    pub(crate) fn frame(&self) -> Frame
+    pub fn frame(&self) -> Frame
         ensures { result ≡ self.now.frame }
     {
         self.frame

@@ -3,21 +3,21 @@ use Rattle.std.proofs.Common.{ℕ}
 use Rattle.hwp_geom.specs.declared.Frame.{Frame}
 use Rattle.hwp_geom.specs.declared.Page.{Page}
 use Rattle.hwp_geom.specs.declared.VSlot.{VSlot}
-use Rattle.hwp_hold.specs.declared.fill.FillAt.{FillAt}
-use Rattle.hwp_hold.specs.declared.fill.FillAt.TheVariants as fill_at
+use Rattle.hwp_fill.specs.declared.fill.FillAt.{FillAt}
+use Rattle.hwp_fill.specs.declared.fill.FillAt.TheVariants as fill_at
 use Rattle.hwp_hold.specs.declared.hold.HoldAt.{HoldAt}
 use Rattle.hwp_hold.specs.declared.hold.HoldAt.TheVariants as hold_at
 use Rattle.hwp_hold.specs.declared.pin.PinAt.{PinAt}
 use Rattle.hwp_hold.specs.declared.pin.PinAt.TheVariants as pin_at
 use Rattle.hwp_hold.specs.declared.refer.ReferAt.{ReferAt}
 use Rattle.hwp_hold.specs.declared.refer.ReferAt.TheVariants as refer_at
-use Rattle.hwp_hold.specs.declared.take.TakeAt.{TakeAt}
-use Rattle.hwp_hold.specs.declared.take.TakeAt.TheVariants as take_at
-use Rattle.hwp_hold.specs.Fills as fills
+use Rattle.hwp_fill.specs.declared.take.TakeAt.{TakeAt}
+use Rattle.hwp_fill.specs.declared.take.TakeAt.TheVariants as take_at
+use Rattle.hwp_fill.specs.Fills as fills
 use Rattle.hwp_hold.specs.Holds as holds
 use Rattle.hwp_hold.specs.Pins as pins
 use Rattle.hwp_hold.specs.Refers as refers
-use Rattle.hwp_hold.specs.Takes as takes
+use Rattle.hwp_fill.specs.Takes as takes
 use Rattle.hwp_fault.specs.declared.Request.{Request}
 use Rattle.hwp_fault.specs.declared.Touch.{Touch}
 use Rattle.hwp_fault.specs.declared.access.AccessAt.{AccessAt}

@@ -39,9 +39,9 @@ use Rattle.hwp_handler.specs.declared.Handler.{Handler}
 use Rattle.hwp_handler.specs.declared.handler.HandlerAt.{HandlerAt}
 use Rattle.hwp_handler.specs.declared.handler.HandlerAt.TheVariants as handler_at
 use Rattle.hwp_handler.specs.Handlers as handlers
-use Rattle.hwp_hold.specs.declared.take.TakeAt.{TakeAt}
-use Rattle.hwp_hold.specs.declared.take.TakeAt.TheVariants as take_at
-use Rattle.hwp_hold.specs.Takes as takes
+use Rattle.hwp_fill.specs.declared.take.TakeAt.{TakeAt}
+use Rattle.hwp_fill.specs.declared.take.TakeAt.TheVariants as take_at
+use Rattle.hwp_fill.specs.Takes as takes
 use Rattle.hwp_soft.specs.declared.Soft.{Soft}
 use Rattle.hwp_soft.specs.declared.soft.SoftAt.{SoftAt}
 use Rattle.hwp_soft.specs.declared.soft.SoftAt.TheVariants as soft_at

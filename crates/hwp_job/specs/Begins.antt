@@ -66,6 +66,19 @@ pub record BeginsAccess (layout : Layout) (who : Who) (thread : Thread) (slot : 
   pub alloc : Global
   pub job_is : j ≡ begun_access alloc (request_of who thread slot line kind page process) origin mode banks
 
+-- a load of data by the program, of an instruction, or of data by the kernel; a store
+abbrev pub BeginsLoad : Layout → Who → Thread → VSlot → ℕ → Banks → Job → Type 0
+BeginsLoad layout who thread slot line banks j = BeginsAccess layout who thread slot line kinds.Load origins.Access modes.User banks j
+
+abbrev pub BeginsFetch : Layout → Who → Thread → VSlot → ℕ → Banks → Job → Type 0
+BeginsFetch layout who thread slot line banks j = BeginsAccess layout who thread slot line kinds.Load origins.Fetch modes.User banks j
+
+abbrev pub BeginsKernelLoad : Layout → Who → Thread → VSlot → ℕ → Banks → Job → Type 0
+BeginsKernelLoad layout who thread slot line banks j = BeginsAccess layout who thread slot line kinds.Load origins.Access modes.Kernel banks j
+
+abbrev pub BeginsStore : Layout → Who → Thread → VSlot → ℕ → ℕ → Banks → Job → Type 0
+BeginsStore layout who thread slot line word banks j = BeginsAccess layout who thread slot line (kinds.Store word) origins.Access modes.User banks j
+
 -- an eviction of a page of the layout that is of the command's kind
 pub record BeginsEviction (layout : Layout) (who : Who) (page : Page) (what : Eviction) (j : Job) : Type 0 where
   pub within : page.0 < length layout.pages
@@ -135,10 +148,10 @@ pub record BeginsUnpoison (layout : Layout) (who : Who) (frame : Frame) (j : Job
 
 -- the task is at the beginning of the command, of a processor whose banks hold this
 abbrev pub Begins : Layout → Who → Command → Banks → Job → Type 0
-Begins layout who (commands.Load thread slot line) banks j = BeginsAccess layout who thread slot line kinds.Load origins.Access modes.User banks j
-Begins layout who (commands.Fetch thread slot line) banks j = BeginsAccess layout who thread slot line kinds.Load origins.Fetch modes.User banks j
-Begins layout who (commands.KLoad thread slot line) banks j = BeginsAccess layout who thread slot line kinds.Load origins.Access modes.Kernel banks j
-Begins layout who (commands.Store thread slot line word) banks j = BeginsAccess layout who thread slot line (kinds.Store word) origins.Access modes.User banks j
+Begins layout who (commands.Load thread slot line) banks j = BeginsLoad layout who thread slot line banks j
+Begins layout who (commands.Fetch thread slot line) banks j = BeginsFetch layout who thread slot line banks j
+Begins layout who (commands.KLoad thread slot line) banks j = BeginsKernelLoad layout who thread slot line banks j
+Begins layout who (commands.Store thread slot line word) banks j = BeginsStore layout who thread slot line word banks j
 Begins layout who (commands.Free slot) banks j = (page : Page) × BeginsEviction layout who page (evictions.Free slot) j
 Begins layout who (commands.Drop page) banks j = BeginsEviction layout who page evictions.Drop j
 Begins layout who (commands.Sync page) banks j = BeginsEviction layout who page evictions.Sync j

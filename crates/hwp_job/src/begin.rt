@@ -1,4 +1,4 @@
-ghost use Rattle.std.specs.Prelude.{◌≡◌, ◌<◌, length, true};
+ghost use Rattle.std.specs.Prelude.{◌≡◌, ◌<◌, None, length};
 ghost use Rattle.hwp_geom.specs.Layout.{IsSound};
 ghost use Rattle.hwp_geom.specs.Limits.{line_limit};
 ghost use Rattle.hwp_page.specs.Step.{IsOf};
@@ -7,8 +7,12 @@ ghost use Rattle.hwp_script.specs.Valid.{IsAccess, IsCommandOf, IsThreadOf};
 ghost use Rattle.hwp_law.specs.Checks.{empty_banks};
 ghost use Rattle.hwp_law.specs.Events.{raw_event};
 ghost use Rattle.hwp_law.specs.Policies.{arguments};
-ghost use Rattle.hwp_job.specs.Begins.{Begins, BeginsPrctl, BeginsRaiseUser, begun_access, request_of};
+ghost use Rattle.hwp_control.specs.Spoils as spoils;
+ghost use Rattle.hwp_raise.specs.Logs as logs;
+ghost use Rattle.hwp_raise.specs.Raises as raises;
+ghost use Rattle.hwp_job.specs.Begins.{Begins, BeginsFetch, BeginsKernelLoad, BeginsLoad, BeginsPrctl, BeginsRaiseUser, BeginsStore, begun_access, request_of};
 ghost use Rattle.hwp_job.specs.Jobs.{left_in};
+ghost use Rattle.hwp_job.specs.declared.job.Job.TheVariants as jobs;
 
 use crate::job::Job;
 use hwp_banks::{BANKS, Bank, Event, Origin, Status};
@@ -17,7 +21,7 @@ use hwp_evict::{Evict, Fsync};
 use hwp_fail::Inject;
 use hwp_fault::{AccessKind, Request};
 use hwp_form::{Command, PrctlArgs};
-use hwp_geom::{Damage, Layout, Line, Mode, Page, Thread, VSlot, Who};
+use hwp_geom::{Damage, Frame, Layout, Line, Mode, Page, Thread, VSlot, Who};
 use hwp_handler::no_events;
 use hwp_instr::Instruction;
 use hwp_raise::{Log, Raise, Raiser};
@@ -43,28 +47,21 @@ impl Job {
         ensures banks { banks.new ≡ left_in result banks.old }
     {
         match command {
-            Command::Load { thread, slot, line } => {
-                let request = request(layout, who, thread, slot, line, AccessKind::Load);
-                access(alloc, request, Origin::Access, Mode::User, banks)
-            }
+            Command::Load { thread, slot, line } => load(
+                alloc, layout, who, thread, slot, line, banks,
+            ),
             Command::Fetch { thread, slot, line } => {
-                let request = request(layout, who, thread, slot, line, AccessKind::Load);
-                access(alloc, request, Origin::Fetch, Mode::User, banks)
+                fetch(alloc, layout, who, thread, slot, line, banks)
             }
             Command::KLoad { thread, slot, line } => {
-                let request = request(layout, who, thread, slot, line, AccessKind::Load);
-                access(alloc, request, Origin::Access, Mode::Kernel, banks)
+                kernel_load(alloc, layout, who, thread, slot, line, banks)
             }
             Command::Store {
                 thread,
                 slot,
                 line,
                 word,
-            } => {
-                let kind = AccessKind::Store { word };
-                let request = request(layout, who, thread, slot, line, kind);
-                access(alloc, request, Origin::Access, Mode::User, banks)
-            }
+            } => store(alloc, layout, who, thread, slot, line, word, banks),
             Command::Free { slot } => {
                 Job::Evict(Evict::free_slot(who, slot, page_of(layout, slot)))
             }
@@ -73,26 +70,16 @@ impl Job {
             Command::Out { page } => Job::Evict(Evict::out_page(who, page)),
             Command::Fsync { file } => Job::Fsync(Fsync::new(who, file)),
             Command::Prctl { thread, args } => call(layout, who, thread, args),
-            Command::Bad { frame, line } => {
-                Job::Spoil(Spoil::new(who, frame, line, Damage::Bad))
-            }
-            Command::Weak { frame, line } => {
-                Job::Spoil(Spoil::new(who, frame, line, Damage::Weak))
-            }
+            Command::Bad { frame, line } => spoil_line(who, frame, line, Damage::Bad),
+            Command::Weak { frame, line } => spoil_line(who, frame, line, Damage::Weak),
             Command::Scrub { first, last } => {
                 Job::Scrub(Scrub::new(alloc, who, first, last, taken(banks)))
             }
-            Command::Log { status, addr, misc } => {
-                let event = raw_event(status, addr, misc);
-                Job::Log(Log::new(who, event, taken(banks)))
-            }
+            Command::Log { status, addr, misc } => log_event(who, status, addr, misc, banks),
             Command::RaiseUser { thread, ripv, eipv } => {
                 raise_user(alloc, layout, who, thread, McgBits { ripv, eipv }, banks)
             }
-            Command::RaiseKernel { ripv, eipv } => {
-                let mcg = McgBits { ripv, eipv };
-                Job::Raise(Raise::new(alloc, who, None, mcg, taken(banks)))
-            }
+            Command::RaiseKernel { ripv, eipv } => raise_kernel(alloc, who, ripv, eipv, banks),
             Command::RaiseNested => Job::Nested(Nested::new(who)),
             Command::Inject { frame } => Job::Inject(Inject::new(alloc, who, frame)),
             Command::Soft { frame } => Job::Soft(Soft::new(who, frame)),
@@ -146,6 +133,88 @@ fn request(
     }
 }
 
+/// A load by the program, at its beginning.
+fn load(
+    alloc: Global,
+    layout: &Layout,
+    who: Who,
+    thread: Thread,
+    slot: VSlot,
+    line: Line,
+    banks: &mut [Bank; BANKS],
+) -> Job
+    requires sound { IsSound layout.now }
+    requires of { IsAccess layout.now who.cpu.0 thread slot }
+    requires line { line < line_limit }
+    ensures begins { BeginsLoad layout.now who thread slot line banks.old result }
+    ensures banks { banks.new ≡ empty_banks }
+{
+    let request = request(layout, who, thread, slot, line, AccessKind::Load);
+    access(alloc, request, Origin::Access, Mode::User, banks)
+}
+
+/// A load of an instruction, at its beginning.
+fn fetch(
+    alloc: Global,
+    layout: &Layout,
+    who: Who,
+    thread: Thread,
+    slot: VSlot,
+    line: Line,
+    banks: &mut [Bank; BANKS],
+) -> Job
+    requires sound { IsSound layout.now }
+    requires of { IsAccess layout.now who.cpu.0 thread slot }
+    requires line { line < line_limit }
+    ensures begins { BeginsFetch layout.now who thread slot line banks.old result }
+    ensures banks { banks.new ≡ empty_banks }
+{
+    let request = request(layout, who, thread, slot, line, AccessKind::Load);
+    access(alloc, request, Origin::Fetch, Mode::User, banks)
+}
+
+/// A load by the kernel, at its beginning.
+fn kernel_load(
+    alloc: Global,
+    layout: &Layout,
+    who: Who,
+    thread: Thread,
+    slot: VSlot,
+    line: Line,
+    banks: &mut [Bank; BANKS],
+) -> Job
+    requires sound { IsSound layout.now }
+    requires of { IsAccess layout.now who.cpu.0 thread slot }
+    requires line { line < line_limit }
+    ensures begins { BeginsKernelLoad layout.now who thread slot line banks.old result }
+    ensures banks { banks.new ≡ empty_banks }
+{
+    let request = request(layout, who, thread, slot, line, AccessKind::Load);
+    access(alloc, request, Origin::Access, Mode::Kernel, banks)
+}
+
+/// A store by the program, at its beginning.
+fn store(
+    alloc: Global,
+    layout: &Layout,
+    who: Who,
+    thread: Thread,
+    slot: VSlot,
+    line: Line,
+    word: u64,
+    banks: &mut [Bank; BANKS],
+) -> Job
+    requires sound { IsSound layout.now }
+    requires of { IsAccess layout.now who.cpu.0 thread slot }
+    requires line { line < line_limit }
+    ensures begins { BeginsStore layout.now who thread slot line word banks.old result }
+    ensures banks { banks.new ≡ empty_banks }
+{
+    let kind = AccessKind::Store { word };
+    let request = request(layout, who, thread, slot, line, kind);
+    access(alloc, request, Origin::Access, Mode::User, banks)
+}
+
 /// The access at its beginning, which takes what the banks hold.
 fn access(
     alloc: Global,
@@ -158,6 +227,22 @@ fn access(
     ensures banks { banks.new ≡ empty_banks }
 {
     Job::Instruction(Instruction::new(alloc, request, origin, mode, taken(banks)))
+}
+
+/// A line of the frame is damaged.
+fn spoil_line(who: Who, frame: Frame, line: Line, damage: Damage) -> Job
+    ensures { result ≡ jobs.Spoil (spoils.begin who frame line damage) }
+{
+    Job::Spoil(Spoil::new(who, frame, line, damage))
+}
+
+/// A raw event is logged, with what the banks hold.
+fn log_event(who: Who, status: u64, addr: u64, misc: u64, banks: &mut [Bank; BANKS]) -> Job
+    ensures begins { result ≡ jobs.Log (logs.begin who (raw_event status addr misc) banks.old) }
+    ensures banks { banks.new ≡ empty_banks }
+{
+    let event = raw_event(status, addr, misc);
+    Job::Log(Log::new(who, event, taken(banks)))
 }
 
 /// A raw event of these registers.
@@ -191,6 +276,15 @@ fn raise_user(
         process: decl.process,
     };
     Job::Raise(Raise::new(alloc, who, Some(raiser), mcg, taken(banks)))
+}
+
+/// A machine check by the kernel, at its beginning, which takes what the banks hold.
+fn raise_kernel(alloc: Global, who: Who, ripv: bool, eipv: bool, banks: &mut [Bank; BANKS]) -> Job
+    ensures begins { result ≡ jobs.Raise (raises.begin alloc who None (record { ripv = ripv; eipv = eipv }) banks.old) }
+    ensures banks { banks.new ≡ empty_banks }
+{
+    let mcg = McgBits { ripv, eipv };
+    Job::Raise(Raise::new(alloc, who, None, mcg, taken(banks)))
 }
 
 /// A call of prctl(2) by a thread of the processor, at its beginning.

@@ -13,7 +13,7 @@ use Rattle.hwp_check_rules.specs.declared.verdicts.Verdict.TheVariants as verdic
 use Rattle.hwp_check_rules.specs.Standing.{last_line}
 use Rattle.hwp_check_rules.specs.Verdicts.{IsVerdict}
 use Rattle.hwp_check_rules.proofs.Lawful.{lawful-holds}
-use Rattle.hwp_judge.specs.Judging.{IsJudged, IsJudgedInput, IsLegal, IsSaid}
+use Rattle.hwp_judge.specs.Judging.{IsJudged, IsJudgedInput, IsSaid}
 use Rattle.hwp_judge.specs.Parting.{IsParted}
 use Rattle.hwp_judge.proofs.LineCounts.{last-within}
 

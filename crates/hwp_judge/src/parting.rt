@@ -2,6 +2,7 @@ ghost use Rattle.std.specs.Prelude.{◌≡◌, ◌↔◌, ◌∷◌, [], codes, 
 ghost use Rattle.hwp_form.specs.Lines.{words_of};
 ghost use Rattle.hwp_judge.specs.Parting.{IsEnd, IsParted};
 
+use hwp_form::is_text;
 use hwp_geom::OutOfMemory;
 use hwp_report_read::first_line;
 use std::alloc::Global;
@@ -13,13 +14,6 @@ fn words_in(alloc: Global, line: &[u8]) -> Result<Vec<&[u8]>, OutOfMemory>
     line.split(|b| *b == b' ')
         .filter(|word| !word.is_empty())
         .collect(alloc)
-}
-
-/// Whether a word has this text.
-fn is_text(word: &[u8], text: &str) -> bool
-    ensures { IsTrue result ↔ (word.now ≡ text.now) }
-{
-    word == text.as_bytes()
 }
 
 /// Whether `end` is the one word.

@@ -7,15 +7,15 @@ use crate::types::{Policy, Reply};
 pub const PR_MCE_KILL: u64 = 33;
 /// The operation of prctl(2) that answers the policy of a thread.
 pub const PR_MCE_KILL_GET: u64 = 34;
-/// How PR_MCE_KILL sets the policy back to the system default.
+/// How PR_MCE_KILL sets the policy back to the system default (prctl(2)).
 pub const PR_MCE_KILL_CLEAR: u64 = 0;
-/// How PR_MCE_KILL sets the policy that its next argument names.
+/// How PR_MCE_KILL sets the policy that its next argument names (prctl(2)).
 pub const PR_MCE_KILL_SET: u64 = 1;
-/// The number of the policy `Late`.
+/// The number of the policy `Late` (prctl(2)).
 pub const PR_MCE_KILL_LATE: u64 = 0;
-/// The number of the policy `Early`.
+/// The number of the policy `Early` (prctl(2)).
 pub const PR_MCE_KILL_EARLY: u64 = 1;
-/// The number of the policy `Default`.
+/// The number of the policy `Default` (prctl(2)).
 pub const PR_MCE_KILL_DEFAULT: u64 = 2;
 
 impl Policy {

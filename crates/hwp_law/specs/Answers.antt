@@ -101,13 +101,6 @@ IsAnswer script pages stop who (commands.Prctl thread args) answer = answer ≡ 
 IsAnswer script pages stop who (commands.Log status addr misc) answers.Done = Unit {0}
 IsAnswer script pages stop who _ _ = ⊥
 
--- the commands from number n on have exactly one answer each, in order, and the report shows its cause
-abbrev pub AreAnswers : Script → List (List Entry) → Option Stop → Cpu → ℕ → List Command → List CpuLine → Type 0
-AreAnswers script pages stop cpu n [] [] = Unit {0}
-AreAnswers script pages stop cpu n (command ∷ commands) (lines.Answer seq answer ∷ rest) =
-    (seq ≡ n) × IsAnswer script pages stop (record { cpu = cpu; seq = n }) command answer × AreAnswers script pages stop cpu (n + 1) commands rest
-AreAnswers script pages stop cpu n _ _ = ⊥
-
 -- an entry that its command's answer has to name
 abbrev pub is_answering : What → Bool
 is_answering entries.FaultIn = false

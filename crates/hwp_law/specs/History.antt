@@ -70,10 +70,6 @@ Names layout _ page = ⊥
 abbrev pub IsMade : Script → Page → Entry → Type 0
 IsMade script page e = IsSomeAnd (command_at script e.who) (λ (command : Command). Fits command e.what × Names script.layout command page)
 
--- each entry is one that its command makes
-abbrev pub AreMade : Script → List (List Entry) → Type 0
-AreMade script pages = (at : At) (e : Entry) → entry_at pages at ≡ Some e → IsMade script at.page e
-
 -- in each history the entries of one processor have command numbers that do not fall
 abbrev pub AreOrdered : List (List Entry) → Type 0
 AreOrdered pages =

@@ -9,7 +9,7 @@ use Rattle.hwp_rule.proofs.Lists.{at_map}
 use Rattle.hwp_rule.proofs.OpeningWords.{below-at}
 use Rattle.hwp_step.specs.Boards.{view_of}
 use Rattle.hwp_step.specs.Calls.{IsOnTurn}
-use Rattle.hwp_hold.specs.Takes as takes
+use Rattle.hwp_fill.specs.Takes as takes
 
 pub view-open : (layout : Layout) (c : ℕ) → c < layout.cpus → view_of (opening layout) c ≡ opening_view c
 view-open layout c less = get_or_from_slice_get (map opening_view (below layout.cpus)) c (opening_view c) (opening_view c) (at_map opening_view (below layout.cpus) c c (below-at layout.cpus c less))

@@ -4,10 +4,10 @@ ghost use Rattle.std.specs.Prelude.{◌≡◌, ℕ, ◌<◌};
 ghost use Rattle.hwp_geom.specs.Layout.{IsSound};
 ghost use Rattle.hwp_rule.specs.Opening.{opening_view};
 ghost use Rattle.hwp_step.specs.Boards.{view_of};
-ghost use Rattle.hwp_hold.specs.Takes.{Fits};
+ghost use Rattle.hwp_fill.specs.Takes.{Fits};
 
+use hwp_fill::{Take, TakeAnswer};
 use hwp_geom::{Cpu, Kind, Layout, List, PageKind, Who};
-use hwp_hold::{Take, TakeAnswer};
 use hwp_plain::PlainBoard;
 use hwp_step::{Board, Machine, Turn};
 use std::alloc::Global;

@@ -25,7 +25,7 @@ use Rattle.hwp_hold.specs.declared.release.ReleaseAt.{ReleaseAt}
 use Rattle.hwp_hold.specs.declared.release.ReleaseAt.TheVariants as release_at
 use Rattle.hwp_hold.specs.Refers as refers
 use Rattle.hwp_hold.specs.Releases as releases
-use Rattle.hwp_hold.proofs.FillCosts.{refer-falls, refer-mild}
+use Rattle.hwp_hold.proofs.ReferCosts.{refer-falls, refer-mild}
 use Rattle.hwp_hold.proofs.Ranking.{release-falls, release-mild, release-small, stale-most}
 use Rattle.hwp_hold.proofs.Telling.{Tells, frame-tells, page-tells}
 use Rattle.hwp_move.specs.declared.relocate.Relocate.{Relocate}

@@ -44,7 +44,7 @@ use Rattle.hwp_hold.specs.declared.release.ReleaseAt.TheVariants as release_at
 use Rattle.hwp_hold.specs.Holds.{named, one_ref, page_lock, refs_to}
 use Rattle.hwp_hold.specs.Refers as refers
 use Rattle.hwp_hold.specs.Releases as releases
-use Rattle.hwp_hold.specs.Takes.{new_lock}
+use Rattle.hwp_hold.specs.Releases.{new_lock}
 use Rattle.hwp_evict.specs.Vacates.{page_held}
 use Rattle.hwp_evict.proofs.Growing.{Grown, length-grown}
 use Rattle.hwp_evict.proofs.Vacating.{refs-are, refs-gone}

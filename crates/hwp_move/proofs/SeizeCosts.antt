@@ -3,7 +3,6 @@ use Rattle.std.proofs.Common.{◌≡◌, ◌⊎◌, inl, inr, ℕ, ◌+◌, ◌<
 use Rattle.std.proofs.lemmas.Bool.{both_ways}
 use Rattle.std.proofs.lemmas.Option.{none-some, same_Some}
 use Rattle.hwp_geom.specs.declared.Layout.{Layout}
-use Rattle.hwp_geom.specs.declared.Who.{Who}
 use Rattle.hwp_page.specs.History.{BodyValue}
 use Rattle.hwp_words.specs.Frames.{count_of, is_kernel, is_poisoned}
 use Rattle.hwp_rule.specs.declared.Place.TheVariants as places
@@ -29,15 +28,15 @@ use Rattle.hwp_claim.specs.declared.grab.GrabAt.TheVariants as grab_at
 use Rattle.hwp_claim.specs.declared.meet.Meet.{Meet}
 use Rattle.hwp_claim.specs.declared.meet.MeetAt.{MeetAt}
 use Rattle.hwp_claim.specs.declared.meet.MeetAt.TheVariants as meet_at
-use Rattle.hwp_claim.specs.Claims.{IsGrabbing, has_ended_at}
+use Rattle.hwp_claim.specs.Claims.{has_ended_at}
 use Rattle.hwp_claim.specs.Grabs as grabs
 use Rattle.hwp_claim.specs.Meets as meets
-use Rattle.hwp_claim.proofs.GrabCosts.{grab-member, grab-falls, grab-leaves, grab-small, grab-waits, class-within, mild}
-use Rattle.hwp_claim.proofs.MeetCosts.{meet-member, meet-class, meet-falls, meet-mild, meet-small, never-waits}
+use Rattle.hwp_claim.proofs.GrabCosts.{grab-falls, grab-made, grab-leaves, grab-small, grab-waits, class-within, mild}
+use Rattle.hwp_claim.proofs.MeetCosts.{meet-class, meet-falls, meet-made, meet-mild, meet-small, never-waits}
 use Rattle.hwp_move.specs.declared.seize.Seize.{Seize}
 use Rattle.hwp_move.specs.declared.seize.SeizeAt.{SeizeAt}
 use Rattle.hwp_move.specs.declared.seize.SeizeAt.TheVariants as at
-use Rattle.hwp_move.specs.Seizes.{plan, plan_at, put, put_at, bare, bare_at, looked, after_grab, after_grab_by, after_meet, next, next_at, turn, turn_at, IsMeeting, Fits, FitsAt, class, class_at, aborts, aborts_at, cost, cost_with}
+use Rattle.hwp_move.specs.Seizes.{plan, plan_at, put, put_at, bare, bare_at, looked, after_grab, after_grab_by, after_meet, next, next_at, turn, turn_at, Fits, FitsAt, class, class_at, aborts, aborts_at, cost, cost_with}
 use Rattle.hwp_move.proofs.Seizing.{lasts-on}
 
 abbrev pub seize-member : Member Seize
@@ -82,37 +81,6 @@ module _ {layout : Layout} {seat : ℕ} {a b : State} {s t : Seize} {turned : Tu
   abbrev Moves : Option BodyValue → Type 0
   Moves given = Move layout seat (rec_of layout s.who made.step (logs given) made.found made.got) a b
 
-  -- ---- the steps of the parts
-
-  grab-made : (g : Grab) → IsGrabbing layout (view_of a seat) s.who s.frame g → grabs.plan g ≡ Some made.step → Moves None → Made grab-member layout seat a b g (grabs.next g made.found) (grabs.turn g made.found)
-  grab-made g has e move = record {
-    step = made.step;
-    found = made.found;
-    got = made.got;
-    rule = made.rule;
-    kept = made.kept;
-    fits = has.grab;
-    planned = e;
-    move = subst (λ (w : Who). Move layout seat (rec_of layout w made.step None made.found made.got) a b) (sym has.own) move;
-    brings = made.brings;
-    follows = (refl, refl);
-  }
-
-  meet-made : (m : Meet) → IsMeeting layout (view_of a seat) s.who s.frame m → meets.plan m ≡ Some made.step → Moves (meets.put m)
-      → Made meet-member layout seat a b m (meets.next (meets.bare m) made.found made.got) (meets.turn (meets.bare m) made.found)
-  meet-made m has e move = record {
-    step = made.step;
-    found = made.found;
-    got = made.got;
-    rule = made.rule;
-    kept = made.kept;
-    fits = has.meet;
-    planned = e;
-    move = subst (λ (w : Who). Move layout seat (rec_of layout w made.step (logs (meets.put m)) made.found made.got) a b) (sym has.own) move;
-    brings = made.brings;
-    follows = (refl, refl);
-  }
-
   -- ---- the frame's word
 
   looked-word : Some (steps.Load (places.Frame s.frame)) ≡ Some made.step → slice_index (words_at layout b).frames s.frame.0 ≡ made.found
@@ -135,12 +103,12 @@ module _ {layout : Layout} {seat : ℕ} {a b : State} {s t : Seize} {turned : Tu
         → cost_with rest (next_at s.who s.frame (bare_at x) made.found made.got) (words_at layout b) < cost_with rest x (words_at layout a)
     falls-at at.Look has e move goes = look-ends e
     falls-at (at.Grab g) has e move goes =
-        let less : grabs.cost_with rest (rest + 9) g.frame (grabs.next_at g.frame g.at made.found) (words_at layout b) < grabs.cost_with rest (rest + 9) g.frame g.at (words_at layout a) = grab-falls (grab-made g has.0 e move) rest (rest + 9) few goes in
+        let less : grabs.cost_with rest (rest + 9) g.frame (grabs.next_at g.frame g.at made.found) (words_at layout b) < grabs.cost_with rest (rest + 9) g.frame g.at (words_at layout a) = grab-falls (grab-made made g s.who has.0.grab has.0.own e move) rest (rest + 9) few goes in
         let ends : cost_with rest (after_grab (grabs.next g made.found)) (words_at layout b) ≤ grabs.cost_with rest (rest + 9) g.frame (grabs.next_at g.frame g.at made.found) (words_at layout b) = grab-ends rest (words_at layout b) g (grabs.next_at g.frame g.at made.found) in
         omega (arith, less, ends)
     falls-at (at.Meet m) has e move goes =
         let less : meets.cost_with rest (rest + 9) m.frame (meets.next (meets.bare m) made.found made.got).at (words_at layout b) < meets.cost_with rest (rest + 9) m.frame m.at (words_at layout a)
-        = meet-falls (meet-made m has.0 e move) rest (rest + 9) (omega arith) goes in
+        = meet-falls (meet-made made m s.who has.0.meet has.0.own e move) rest (rest + 9) (omega arith) goes in
         let ends : cost_with rest (after_meet (meets.next (meets.bare m) made.found made.got)) (words_at layout b) ≤ meets.cost_with rest (rest + 9) m.frame (meets.next (meets.bare m) made.found made.got).at (words_at layout b)
         = meet-ends rest (words_at layout b) m (meets.next (meets.bare m) made.found made.got).at (lasts-on m made.found made.got has.0.cycle_is has.0.lasts) in
         omega (arith, less, ends)
@@ -171,13 +139,13 @@ module _ {layout : Layout} {seat : ℕ} {a b : State} {s t : Seize} {turned : Tu
     waits-at : (x : SeizeAt) → FitsAt layout (view_of a seat) s.who s.frame x → plan_at s.frame x ≡ Some made.step → Moves (put_at x) → is_waits (turn_at (bare_at x) made.found) ≡ true → Quiet (class_at x) layout a seat
         → Waits x (next_at s.who s.frame (bare_at x) made.found made.got)
     waits-at at.Look has e move waits quiet = absurd (both_ways true (sym waits) refl)
-    waits-at (at.Grab g) has e move waits quiet = elim (grab-waits (grab-made g has.0 e move) rest (rest + 9) few waits quiet.frames) [
+    waits-at (at.Grab g) has e move waits quiet = elim (grab-waits (grab-made made g s.who has.0.grab has.0.own e move) rest (rest + 9) few waits quiet.frames) [
       | inl less ↦
           let ends : cost_with rest (after_grab (grabs.next g made.found)) (words_at layout b) ≤ grabs.cost_with rest (rest + 9) g.frame (grabs.next_at g.frame g.at made.found) (words_at layout b) = grab-ends rest (words_at layout b) g (grabs.next_at g.frame g.at made.found) in
           inl (omega (arith, less, ends))
       | inr gives ↦ inr (aborting g (grabs.next_at g.frame g.at made.found) gives.0, gives.1)
     ]
-    waits-at (at.Meet m) has e move waits quiet = absurd (never-waits (meet-made m has.0 e move) waits (class_at (at.Meet m)) (omega arith) quiet)
+    waits-at (at.Meet m) has e move waits quiet = absurd (never-waits (meet-made made m s.who has.0.meet has.0.own e move) waits (class_at (at.Meet m)) (omega arith) quiet)
     waits-at at.Kernel has e move waits quiet = absurd (none-some made.step e)
     waits-at at.Already has e move waits quiet = absurd (none-some made.step e)
     waits-at at.Grabbed has e move waits quiet = absurd (none-some made.step e)

@@ -1,6 +1,6 @@
 -- The laws of `Seize`.
 use Rattle.std.proofs.Common.{◌≡◌, ℕ, ◌<◌, ◌==◌, Bool, true, false, cond, Option, Some, None, is_none, slice_get, slice_index, refl, sym, ap, ◌∙◌, subst, arith}
-use Rattle.std.proofs.lemmas.Bool.{both_ways, eqb-false, ne_eqb}
+use Rattle.std.proofs.lemmas.Bool.{eqb-false, ne_eqb}
 use Rattle.std.proofs.lemmas.Option.{none-some}
 use Rattle.hwp_geom.specs.declared.Frame.{Frame}
 use Rattle.hwp_geom.specs.declared.Layout.{Layout}
@@ -188,37 +188,14 @@ module _ {layout : Layout} {who : Who} {new : View} (frame : Frame) (inside : fr
     after-meet-is : (m : Meet) → meets.Fits layout new m → m.who ≡ who → m.frame ≡ frame → m.cycle ≡ None → has_ended_at m.at ≡ false → FitsAt layout new who frame (after_meet m)
     after-meet-is m fits own frame_is cycle_is lasts = which (meets.answer m) refl
       where
-        goes-on : (x : MeetAt) → meets.FitsAt layout new m.who m.frame m.cycle x → meets.answer_at x ≡ None → is_none (meets.plan_at m.frame x) ≡ false
-        goes-on (meet_at.GetRef seen) has none = refl
-        goes-on meet_at.LockFree has none = refl
-        goes-on (meet_at.LockPage page) has none = refl
-        goes-on (meet_at.LockOwned page shelf) has none = refl
-        goes-on (meet_at.Unlock body ended) has none = refl
-        goes-on (meet_at.UnlockFrame page shelf body ended) has none = refl
-        goes-on (meet_at.UnlockPage page shelf ended) has none = refl
-        goes-on (meet_at.Release r ended) has none = has.under_way
-        goes-on (meet_at.Back ended) has none = absurd (none-some _ (sym none))
-        goes-on meet_at.Free has none = absurd (none-some _ (sym none))
-        goes-on (meet_at.Owned page body) has none = absurd (none-some _ (sym none))
-
         owned : (page : Page) (x : MeetAt) → (meets.is_owned_at x ≡ true) × ((body : BodyValue) → meets.IsBodyAt x body → HoldsMet layout new m.who page m.frame m.cycle body) → FitsAt layout new who frame (owned_by m page x)
-        owned page (meet_at.Owned own-page body) has = (
-          subst (λ (w : Who). HoldsMet layout new w page frame None body) own (subst (λ (f : Frame). HoldsMet layout new m.who page f None body) frame_is (subst (λ (o : Option ℕ). HoldsMet layout new m.who page m.frame o body) cycle_is (has.1 body refl))),
-          users,
-        )
-        owned page (meet_at.GetRef seen) has = absurd (both_ways true (sym has.0) refl)
-        owned page meet_at.LockFree has = absurd (both_ways true (sym has.0) refl)
-        owned page (meet_at.LockPage own-page) has = absurd (both_ways true (sym has.0) refl)
-        owned page (meet_at.LockOwned own-page shelf) has = absurd (both_ways true (sym has.0) refl)
-        owned page (meet_at.Unlock body ended) has = absurd (both_ways true (sym has.0) refl)
-        owned page (meet_at.UnlockFrame own-page shelf body ended) has = absurd (both_ways true (sym has.0) refl)
-        owned page (meet_at.UnlockPage own-page shelf ended) has = absurd (both_ways true (sym has.0) refl)
-        owned page (meet_at.Release r ended) has = absurd (both_ways true (sym has.0) refl)
-        owned page (meet_at.Back ended) has = absurd (both_ways true (sym has.0) refl)
-        owned page meet_at.Free has = absurd (both_ways true (sym has.0) refl)
+        owned page x has =
+            let met = meeting.owned-state x has.0 in
+            subst (λ (y : MeetAt). FitsAt layout new who frame (owned_by m page y)) (sym met.2)
+            (subst (λ (w : Who). HoldsMet layout new w page frame None met.1) own (subst (λ (f : Frame). HoldsMet layout new m.who page f None met.1) frame_is (subst (λ (o : Option ℕ). HoldsMet layout new m.who page m.frame o met.1) cycle_is (has.1 met.1 (subst (λ (y : MeetAt). meets.IsBodyAt y met.1) (sym met.2) refl)))), users)
 
         which : (x : Option MeetAnswer) → meets.answer m ≡ x → FitsAt layout new who frame (after_meet_by m x)
-        which None e = (record { meet = fits; own = own; frame_is = frame_is; cycle_is = cycle_is; lasts = lasts; under_way = goes-on m.at fits.at e }, users)
+        which None e = (record { meet = fits; own = own; frame_is = frame_is; cycle_is = cycle_is; lasts = lasts; under_way = meeting.goes-on layout new m fits e }, users)
         which (Some meet_answers.LookAgain) e = meeting.is-met layout new m meet_answers.LookAgain fits e
         which (Some meet_answers.Ended) e = meeting.is-met layout new m meet_answers.Ended fits e
         which (Some meet_answers.Free) e = (subst (λ (f : Frame). HoldsFree new f None) frame_is (subst (λ (o : Option ℕ). HoldsFree new m.frame o) cycle_is (meeting.is-met layout new m meet_answers.Free fits e)), users)

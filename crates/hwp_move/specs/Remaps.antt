@@ -22,7 +22,7 @@ use Rattle.hwp_rule.specs.Logs.{state_of}
 use Rattle.hwp_rule.specs.Words.{Words}
 use Rattle.hwp_step.specs.Calls.{IsOnTurn}
 use Rattle.hwp_step.specs.Hands.{Hand, hand_of}
-use Rattle.hwp_hold.specs.Takes.{new_lock}
+use Rattle.hwp_hold.specs.Releases.{new_lock}
 use Rattle.hwp_evict.specs.Clears.{IsNextFrom, is_done}
 use Rattle.hwp_evict.specs.Vacates.{page_held}
 use Rattle.hwp_move.specs.declared.remap.Remap.{Remap}

@@ -14,7 +14,7 @@ use hwp_words::FrameWord;
 use std::alloc::Global;
 
 /// The lines of all frames, each with what processors noted of it.
-pub fn frame_lines(
+pub(crate) fn frame_lines(
     alloc: Global,
     layout: &Layout,
     words: &[u64],
@@ -64,7 +64,7 @@ fn place_in(word: u64) -> Place
 }
 
 /// The number of poisoned frames.
-pub fn poisoned_frames(layout: &Layout, words: &[u64]) -> u64
+pub(crate) fn poisoned_frames(layout: &Layout, words: &[u64]) -> u64
     requires whole { AreWordsOf layout.now words.now }
     ensures { result ≡ sum_by poison_of (words_of layout.now words.now).frames }
 {

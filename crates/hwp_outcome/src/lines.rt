@@ -9,7 +9,10 @@ use hwp_row::Row;
 use std::alloc::Global;
 
 /// The lines of all processors.
-pub fn all_lines(alloc: Global, rows: &[List<Row>]) -> Result<List<List<CpuLine>>, OutOfMemory>
+pub(crate) fn all_lines(
+    alloc: Global,
+    rows: &[List<Row>],
+) -> Result<List<List<CpuLine>>, OutOfMemory>
     requires tellable { AreTellable rows.now }
     ensures { IfOk result (λ cpus. cpus ≡ lines_of_all rows.now) }
 {

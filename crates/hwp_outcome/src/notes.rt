@@ -16,7 +16,7 @@ use std::alloc::Global;
 type Note = (Frame, MarkLine);
 
 /// What each processor's commands add to the records of frames, in order.
-pub fn all_notes(alloc: Global, rows: &[List<Row>]) -> Result<List<List<Note>>, OutOfMemory>
+pub(crate) fn all_notes(alloc: Global, rows: &[List<Row>]) -> Result<List<List<Note>>, OutOfMemory>
     requires cpus { length rows.now ≤ cpu_limit }
     requires tellable { AreTellable rows.now }
     ensures { IfOk result (λ notes. notes ≡ notes_of 0 rows.now) }
@@ -114,7 +114,7 @@ fn offlined(moved: bool) -> How
 }
 
 /// The frame that an event names.
-pub fn frame_of(held: &Held) -> Frame
+pub(crate) fn frame_of(held: &Held) -> Frame
     requires small { (frame_of held.now).0 < 2 ^ 16 }
     ensures { result ≡ frame_of held.now }
 {

@@ -40,7 +40,7 @@ fn add_all(records: &mut Vec<List<MarkLine>>, own: &[(Frame, MarkLine)]) -> Resu
 }
 
 /// The record of each frame: the lines that processors noted of it.
-pub fn gather(
+pub(crate) fn gather(
     alloc: Global,
     count: usize,
     notes: &[List<(Frame, MarkLine)>],
@@ -55,7 +55,10 @@ pub fn gather(
 }
 
 /// The lines of a record in the order of their places.
-pub fn ordered(alloc: Global, gathered: &List<MarkLine>) -> Result<List<MarkLine>, OutOfMemory>
+pub(crate) fn ordered(
+    alloc: Global,
+    gathered: &List<MarkLine>,
+) -> Result<List<MarkLine>, OutOfMemory>
     ensures { IfOk result (λ list. AreSorted gathered.now list) }
 {
     let copied = gathered.copy(alloc)?;

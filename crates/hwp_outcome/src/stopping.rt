@@ -20,7 +20,7 @@ use hwp_words::StopWord;
 
 /// The stop record: the processor that the stop word names, the first of its commands that was answered `stopped`, and why that
 /// one stopped the machine.
-pub fn stop_of(word: u64, lists: &[List<Command>], rows: &[List<Row>]) -> Option<Stop>
+pub(crate) fn stop_of(word: u64, lists: &[List<Command>], rows: &[List<Row>]) -> Option<Stop>
     requires stopper { HasStopper word rows.now }
     requires tellable { AreTellable rows.now }
     ensures { IsStopBy word lists.now rows.now result }

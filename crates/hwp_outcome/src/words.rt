@@ -6,7 +6,7 @@ use hwp_geom::Layout;
 use hwp_rule::{Place, index};
 
 /// The word of a place, among the words in the frame rule's order.
-pub fn word(layout: &Layout, words: &[u64], place: Place) -> u64
+pub(crate) fn word(layout: &Layout, words: &[u64], place: Place) -> u64
     requires whole { AreWordsOf layout.now words.now }
     requires inside { IsPlace layout.now place }
     ensures { result ≡ read place (words_of layout.now words.now) }

@@ -14,7 +14,7 @@ pub fn is_of(layout: &Layout, page: Page, slot: VSlot) -> bool
 }
 
 /// Whether the thread is one of the translation's process.
-pub fn is_thread_of(layout: &Layout, thread: Thread, slot: VSlot) -> bool
+pub(crate) fn is_thread_of(layout: &Layout, thread: Thread, slot: VSlot) -> bool
     ensures { IsTrue result ↔ IsThreadOf layout.now thread slot }
 {
     let threads = layout.threads.as_slice();

@@ -7,7 +7,7 @@ use hwp_geom::{Layout, List, Thread};
 use hwp_kill::{Seen, Signal, SignalList, Slots, are_policies_read, signals};
 
 /// Whether these are the threads whose policies a memory failure reads, for the policies that the list names.
-pub fn is_seen_list(
+pub(crate) fn is_seen_list(
     layout: &Layout,
     maps: &Slots,
     signals_at_all: bool,
@@ -25,7 +25,7 @@ pub fn is_seen_list(
 }
 
 /// Whether these are the signals of a memory failure, by the kill table.
-pub fn are_signals(
+pub(crate) fn are_signals(
     layout: &Layout,
     maps: &Slots,
     signals_at_all: bool,

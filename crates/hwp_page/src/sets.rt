@@ -12,7 +12,7 @@ pub fn is_empty(slots: &Slots) -> bool
 }
 
 /// Puts all members of a set into another.
-pub fn put_all(into: &mut Slots, slots: &Slots)
+pub(crate) fn put_all(into: &mut Slots, slots: &Slots)
     ensures { into.new ≡ set.union into.old slots.now }
 {
     let mut at = VSlot(0);

@@ -18,7 +18,7 @@ pub fn slots_of(alloc: Global, bodies: Vec<Option<Body>>) -> Result<Vec<Slot>, O
 }
 
 /// What is in the slots.
-pub fn bodies_of(alloc: Global, slots: Vec<Slot>) -> Result<Vec<Option<Body>>, OutOfMemory>
+pub(crate) fn bodies_of(alloc: Global, slots: Vec<Slot>) -> Result<Vec<Option<Body>>, OutOfMemory>
     ensures { IfOk result (λ bodies. bodies.items ≡ map body_in slots.items) }
 {
     let mut bodies = Vec::with_capacity(alloc, slots.len())?;

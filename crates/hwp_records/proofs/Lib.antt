@@ -2,3 +2,4 @@ mod NearLaws
 mod RunLaws
 mod WindowLaws
 mod PastLaws
+mod ResultLaws

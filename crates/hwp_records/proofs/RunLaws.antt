@@ -1,11 +1,10 @@
 -- How many marks say the same tells whether a record ends so behind some number of its marks.
-use Rattle.std.proofs.Common.{◌≡◌, ◌⊎◌, inl, inr, ℕ, zero, suc, ◌+◌, ◌-◌, ◌<◌, ◌≤◌, cond, Bool, true, false, not, List, [], ◌∷◌, Some, fold, length, slice_get, slice_index_or, take, drop, true≢false, refl, sym, ap, ◌∙◌, subst, arith}
-use Rattle.std.proofs.lemmas.Bool.{not-true, not_from_false}
+use Rattle.std.proofs.Common.{◌≡◌, ℕ, zero, suc, ◌+◌, ◌-◌, ◌<◌, ◌≤◌, cond, Bool, true, false, not, List, [], ◌∷◌, Some, fold, length, slice_get, slice_index_or, take, drop, true≢false, refl, sym, ap, ◌∙◌, subst, arith}
+use Rattle.std.proofs.lemmas.Bool.{not-true}
 use Rattle.std.proofs.lemmas.Option.{none-some, same_Some, slice_get-get_or, slice_get_within}
 use Rattle.hwp_report.specs.declared.MarkLine.{MarkLine}
-use Rattle.hwp_law.specs.Records.{ends_poisoned, is_poisoning}
+use Rattle.hwp_law.specs.Records.{is_poisoning}
 use Rattle.hwp_records.specs.Nears.{run, runs, says}
-use Rattle.hwp_records.specs.Windows.{same}
 
 -- the record ends so, where it is so before these marks
 abbrev pub ends_from : Bool → List MarkLine → Bool

@@ -1,16 +1,15 @@
 -- What is asked between the edges is what the law asks.
-use Rattle.std.proofs.Common.{◌≡◌, ◌⊎◌, ◌↔◌, inl, inr, ℕ, zero, suc, ◌+◌, ◌-◌, ◌<◌, ◌≤◌, ◌&&◌, ◌||◌, Bool, true, false, not, List, [], ◌∷◌, Some, IsTrue, length, slice_get, take, drop, true≢false, refl, sym, ap, ◌∙◌, subst, arith}
+use Rattle.std.proofs.Common.{◌≡◌, ◌↔◌, inl, inr, ℕ, zero, suc, ◌+◌, ◌-◌, ◌<◌, ◌≤◌, ◌||◌, Bool, true, false, not, List, [], ◌∷◌, IsTrue, length, take, drop, true≢false, refl, sym, ap, ◌∙◌, subst, arith}
 use Rattle.std.specs.Bool.{nat_le, nat_lt}
 use Rattle.std.proofs.lemmas.Bool.{and_from, and_parts, le-leb, leb-true, lt-ltb, ltb-true, or_cases, or_left, or_right}
-use Rattle.std.proofs.lemmas.Option.{none-some}
 use Rattle.hwp_geom.specs.declared.Who.{Who}
 use Rattle.hwp_report.specs.declared.MarkLine.{MarkLine}
-use Rattle.hwp_law.specs.Records.{WasPoisoned, ends_poisoned, who_in}
+use Rattle.hwp_law.specs.Records.{WasPoisoned, ends_poisoned}
 use Rattle.hwp_records.specs.declared.nears.Nears.{Nears}
 use Rattle.hwp_records.specs.Nears.{AreNears, highs, lows, run, top}
 use Rattle.hwp_records.specs.Windows.{IsEdge, may_end, same}
 use Rattle.hwp_records.proofs.NearLaws.{earlier-below, first-least, highs-long, last-most, later-behind}
-use Rattle.hwp_records.proofs.RunLaws.{ends-split, ends_from, not-self, run-turn, turn-run}
+use Rattle.hwp_records.proofs.RunLaws.{ends-split, ends_from, run-turn, turn-run}
 
 same-is : (p b : Bool) → same p b ≡ true → b ≡ p
 same-is true b is = is

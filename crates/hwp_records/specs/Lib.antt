@@ -1,2 +1,3 @@
 pub mod Nears
 pub mod Windows
+pub mod Results

@@ -13,10 +13,10 @@ use Rattle.hwp_page.specs.declared.Outcome.TheVariants as outcomes
 use Rattle.hwp_report.specs.declared.lines.Acted.{Acted}
 use Rattle.hwp_report.specs.declared.lines.Acted.TheVariants as acts
 
--- a bit
-abbrev pub bit_word : Bool → ℕ
-bit_word true = 1
-bit_word false = 0
+-- the number of a yes or no
+abbrev pub flag_number : Bool → ℕ
+flag_number true = 1
+flag_number false = 0
 
 -- a mode
 abbrev pub mode_word : Mode → List ℕ
@@ -50,10 +50,10 @@ outcome_word outcomes.Recovered = codes "recovered"
 outcome_word outcomes.Delayed = codes "delayed"
 outcome_word outcomes.Ignored = codes "ignored"
 
--- what caused a memory failure: a bank's event, or a command
-abbrev pub cause_word : Bool → List ℕ
-cause_word true = codes "hw"
-cause_word false = codes "sw"
+-- what a memory failure came from: a bank's event, or a command
+abbrev pub origin_word : Bool → List ℕ
+origin_word true = codes "hw"
+origin_word false = codes "sw"
 
 -- what was done about an event
 abbrev pub acted_word : Acted → List ℕ

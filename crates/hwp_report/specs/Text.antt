@@ -28,7 +28,7 @@ use Rattle.hwp_report.specs.declared.lines.Answer.{Answer}
 use Rattle.hwp_report.specs.declared.lines.Answer.TheVariants as answers
 use Rattle.hwp_report.specs.declared.lines.CpuLine.{CpuLine}
 use Rattle.hwp_report.specs.declared.lines.CpuLine.TheVariants as lines
-use Rattle.hwp_report.specs.Terms.{acted_word, bit_word, cause_word, code_word, mode_word, outcome_word, policy_word, situation_word}
+use Rattle.hwp_report.specs.Terms.{acted_word, code_word, flag_number, mode_word, origin_word, outcome_word, policy_word, situation_word}
 
 -- the lines of each item of a list, with its number, counted from n
 abbrev pub numbered : {A : Type 0} → (ℕ → A → List (List (List ℕ))) → ℕ → List A → List (List (List ℕ))
@@ -42,7 +42,7 @@ row_word row = codes "S" ++ decimal row
 -- what the severity table graded: `BANK STATUS RIPV EIPV MODE`
 abbrev pub graded_words : ℕ → ℕ → McgBits → Mode → List (List ℕ)
 graded_words bank status mcg mode =
-    decimal bank ∷ hex status ∷ decimal (bit_word mcg.ripv) ∷ decimal (bit_word mcg.eipv) ∷ mode_word mode ∷ []
+    decimal bank ∷ hex status ∷ decimal (flag_number mcg.ripv) ∷ decimal (flag_number mcg.eipv) ∷ mode_word mode ∷ []
 
 -- what stopped the machine: `severity ROW BANK STATUS RIPV EIPV MODE`, `shutdown`, or `panic F`
 abbrev pub cause_words : StopCause → List (List ℕ)
@@ -79,7 +79,7 @@ frame_words number frame =
 
 -- how a frame came to be poisoned: `CAUSE SITUATION RESULT`
 abbrev pub how_words : How → List (List ℕ)
-how_words (hows.Failure hardware situation outcome) = cause_word hardware ∷ situation_word situation ∷ outcome_word outcome ∷ []
+how_words (hows.Failure hardware situation outcome) = origin_word hardware ∷ situation_word situation ∷ outcome_word outcome ∷ []
 how_words hows.Moved = codes "soft" ∷ codes "moved" ∷ codes "recovered" ∷ []
 how_words hows.TakenFree = codes "soft" ∷ codes "free" ∷ codes "recovered" ∷ []
 

@@ -12,7 +12,7 @@ use hwp_geom::{List, Mask, Mode, OutOfMemory, Page, Text, Who};
 use hwp_page::Entry;
 use hwp_severity::McgBits;
 use std::alloc::Global;
-use terms::{bit, cause_word, mode_word, outcome_word, situation_word};
+use terms::{flag_number, mode_word, origin_word, outcome_word, situation_word};
 
 mod answers;
 mod entries;
@@ -87,8 +87,8 @@ fn put_graded(
 ) -> Result<(), OutOfMemory>
     ensures { OnOk result (string_bytes out.new ≡ string_bytes out.old ++ line (graded_words bank status mcg mode)) }
 {
-    let ripv = bit(mcg.ripv);
-    let eipv = bit(mcg.eipv);
+    let ripv = flag_number(mcg.ripv);
+    let eipv = flag_number(mcg.eipv);
     let mode = mode_word(mode);
     writeln!(out, "{bank} {status:x} {ripv} {eipv} {mode}")
 }
@@ -195,13 +195,13 @@ fn put_poisoned(out: &mut String, cycle: u32, who: Who, how: How) -> Result<(), 
     ensures { OnOk result (string_bytes out.new ≡ string_bytes out.old
         ++ line (codes "poisoned" ∷ decimal cycle ∷ decimal who.cpu.0 ∷ decimal who.seq ∷ how_words how)) }
 {
-    let (cause, situation, outcome) = match how {
+    let (origin, situation, outcome) = match how {
         How::Failure {
             hardware,
             situation,
             outcome,
         } => (
-            cause_word(hardware),
+            origin_word(hardware),
             situation_word(situation),
             outcome_word(outcome),
         ),
@@ -210,7 +210,7 @@ fn put_poisoned(out: &mut String, cycle: u32, who: Who, how: How) -> Result<(), 
     };
     writeln!(
         out,
-        "poisoned {cycle} {} {} {cause} {situation} {outcome}",
+        "poisoned {cycle} {} {} {origin} {situation} {outcome}",
         who.cpu.0, who.seq
     )
 }

@@ -6,15 +6,16 @@ use Rattle.hwp_page.specs.declared.What.TheVariants as whats
 use Rattle.hwp_report.specs.declared.CpuLine.{CpuLine}
 use Rattle.hwp_report.specs.declared.MarkLine.TheVariants as marks
 use Rattle.hwp_report.specs.Text.{entry_words, cpu_line_words}
+use Rattle.hwp_report_words.proofs.SameWords.{tag, word_at}
+use Rattle.hwp_page_lines.specs.declared.Verb.TheVariants as verbs
+use Rattle.hwp_page_lines.specs.Verbs.{verb_of, verb_text}
+use Rattle.hwp_cpu_lines.specs.Fits.{CpuLineFits}
 use Rattle.hwp_report_lines.specs.declared.form.Form.{Form}
 use Rattle.hwp_report_lines.specs.declared.form.Form.TheVariants as forms
 use Rattle.hwp_report_lines.specs.declared.heads.Head.{Head}
 use Rattle.hwp_report_lines.specs.declared.heads.Head.TheVariants as heads
-use Rattle.hwp_report_lines.specs.declared.heads.Verb.TheVariants as verbs
-use Rattle.hwp_report_lines.specs.Fits.{CpuLineFits}
 use Rattle.hwp_report_lines.specs.Forms.{FormFits, IsFormRead, IsRestRead, form_words}
-use Rattle.hwp_report_lines.specs.Heads.{head_of, head_text, verb_of, verb_text}
-use Rattle.hwp_report_lines.proofs.SameWords.{tag, word_at}
+use Rattle.hwp_report_lines.specs.Heads.{head_of, head_text}
 use Rattle.hwp_report_lines.proofs.SameForms.{cpu_line_low}
 
 -- the first word that has this tag

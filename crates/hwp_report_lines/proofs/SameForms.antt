@@ -11,12 +11,16 @@ use Rattle.hwp_report.specs.declared.CpuLine.{CpuLine}
 use Rattle.hwp_report.specs.declared.CpuLine.TheVariants as lines
 use Rattle.hwp_report.specs.declared.MarkLine.TheVariants as marks
 use Rattle.hwp_report.specs.Text.{cpu_line_words}
-use Rattle.hwp_report_lines.specs.declared.form.Failure.{Failure}
+use Rattle.hwp_report_words.proofs.SameWords.{tag, tag_at, word_at, same_u8, same_u16, same_u32, same_u64, same_mask, same_policy, same_code, same_situation, same_who}
+use Rattle.hwp_page_lines.specs.declared.Failure.{Failure}
+use Rattle.hwp_page_lines.specs.Fits.{FailFits, PlainFits}
+use Rattle.hwp_page_lines.specs.Words.{failure_words}
+use Rattle.hwp_page_lines.proofs.SameWords.{same_place, same_mark, same_required, same_entry}
+use Rattle.hwp_cpu_lines.specs.Fits.{CpuLineFits}
+use Rattle.hwp_cpu_lines.proofs.SameWords.{same_stop, same_cpu_line}
 use Rattle.hwp_report_lines.specs.declared.form.Form.{Form}
 use Rattle.hwp_report_lines.specs.declared.form.Form.TheVariants as forms
-use Rattle.hwp_report_lines.specs.Fits.{CpuLineFits}
-use Rattle.hwp_report_lines.specs.Forms.{FormFits, FailFits, PlainFits, form_words, failure_words}
-use Rattle.hwp_report_lines.proofs.SameWords.{tag, tag_at, word_at, same_u8, same_u16, same_u32, same_u64, same_mask, same_policy, same_code, same_situation, same_who, same_stop, same_place, same_mark, same_required, same_entry, same_cpu_line}
+use Rattle.hwp_report_lines.specs.Forms.{FormFits, form_words}
 
 -- the kind of a line, by its first word
 abbrev class_of_tag : ℕ → ℕ

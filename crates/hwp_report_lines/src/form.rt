@@ -1,17 +1,8 @@
-use hwp_geom::{Mask, Thread, Who};
+use hwp_geom::Mask;
 use hwp_kill::{Seen, Signal};
-use hwp_page::{Entry, Situation};
+use hwp_page::Entry;
+use hwp_page_lines::Failure;
 use hwp_report::{CpuLine, MarkLine, Place, Stop};
-
-/// The line of a memory failure, with the numbers of policies and of signals whose lines follow it.
-#[derive(Clone, Copy)]
-pub struct Failure {
-    pub who: Who,
-    pub situation: Situation,
-    pub required: Option<Thread>,
-    pub seen: u64,
-    pub signals: u64,
-}
 
 /// A line of a report.
 #[derive(Drop)]

@@ -1,24 +1,8 @@
-ghost use Rattle.std.specs.Prelude.{◌≡◌};
-ghost use Rattle.hwp_report_lines.specs.Reads.{IsNamedBy};
-ghost use Rattle.hwp_report_lines.specs.Heads.{head_text, verb_text};
+ghost use Rattle.hwp_report_words.specs.Reads.{IsNamedBy};
+ghost use Rattle.hwp_report_lines.specs.Heads.{head_text};
 
-use crate::words::{HasWord, named};
-
-/// The first word of an entry.
-#[derive(Clone, Copy)]
-pub(crate) enum Verb {
-    Load,
-    Store,
-    In,
-    Map,
-    Free,
-    Drop,
-    Sync,
-    Out,
-    Mce,
-    Fail,
-    Soft,
-}
+use hwp_page_lines::Verb;
+use hwp_report_words::{HasWord, named};
 
 /// The first word of a line, other than a processor's, whose lines begin with a number.
 #[derive(Clone, Copy)]
@@ -64,27 +48,6 @@ const HEADS: [Head; 23] = [
     Head::Entry(Verb::Fail),
     Head::Entry(Verb::Soft),
 ];
-
-impl Verb {
-    /// The text of the word.
-    fn text(self) -> &'static str
-        ensures { result.now ≡ verb_text self }
-    {
-        match self {
-            Verb::Load => "load",
-            Verb::Store => "store",
-            Verb::In => "in",
-            Verb::Map => "map",
-            Verb::Free => "free",
-            Verb::Drop => "drop",
-            Verb::Sync => "sync",
-            Verb::Out => "out",
-            Verb::Mce => "mce",
-            Verb::Fail => "fail",
-            Verb::Soft => "soft",
-        }
-    }
-}
 
 impl HasWord for Head {
     ghost text = { head_text };

@@ -1,16 +1,15 @@
 ghost use Rattle.std.specs.Prelude.{◌≡◌, ◌==◌, ◌^◌, [], ◌∷◌, decimal, map, IfOk};
 ghost use Rattle.std.specs.List.{slice_split};
-ghost use Rattle.hwp_report_lines.specs.Reads.{AreBelow, Below, IsReadAs, two_words};
+ghost use Rattle.hwp_report_words.specs.Reads.{AreBelow, Below, IsReadAs, two_words};
 ghost use Rattle.hwp_report_lines.specs.Forms.{IsFormRead, IsLineRead, IsRestRead};
 
-use crate::answers::read_cpu_line;
-use crate::entries::{read_entry, read_seen, read_signal};
 use crate::form::Form;
 use crate::frames::{read_frame, read_poisoned, read_unpoisoned};
 use crate::heads::{Head, read_head};
-use crate::numbers::{is_text, read_number};
-use crate::stops::read_stop;
+use hwp_cpu_lines::{read_cpu_line, read_stop};
 use hwp_geom::OutOfMemory;
+use hwp_page_lines::{Verb, read_failure, read_plain_entry, read_seen, read_signal};
+use hwp_report_words::{is_text, read_number};
 use std::alloc::Global;
 
 /// The parts of a text that the byte `at` parts.
@@ -93,6 +92,22 @@ fn read_page(words: &[&[u8]]) -> Option<Form>
         return None;
     };
     Some(Form::Page { number, entries })
+}
+
+/// An entry, by the words behind its first.
+fn read_entry(verb: Verb, words: &[&[u8]]) -> Option<Form>
+    ensures { IsRestRead (Head.Entry verb) (map (λ w. w.now) words.now) result }
+{
+    if let Verb::Fail = verb {
+        let Some(failure) = read_failure(words) else {
+            return None;
+        };
+        return Some(Form::Fail(failure));
+    }
+    let Some(entry) = read_plain_entry(verb, words) else {
+        return None;
+    };
+    Some(Form::Entry(entry))
 }
 
 /// A processor, by the words behind `cpu`.

@@ -1,7 +1,7 @@
 -- The first line that doesn't follow.
-use Rattle.std.proofs.Common.{◌≡◌, ◌≢◌, ℕ, ◌+◌, ◌-◌, ◌<◌, ◌≤◌, ◌==◌, ◌⊎◌, inl, inr, List, [], ◌∷◌, ◌++◌, zero, suc, length, map, take, drop, Option, Some, None, refl, sym, ap, subst, ◌∙◌, append_assoc, append-nil, arith}
+use Rattle.std.proofs.Common.{◌≡◌, ◌≢◌, ℕ, ◌+◌, ◌-◌, ◌≤◌, ◌==◌, ◌⊎◌, inl, inr, List, [], ◌∷◌, ◌++◌, length, take, drop, Option, Some, None, refl, sym, ap, subst, ◌∙◌, append_assoc, append-nil, arith}
 use Rattle.std.specs.Prelude.{All}
-use Rattle.std.specs.List.{flat_map, slice_split}
+use Rattle.std.specs.List.{flat_map}
 use Rattle.std.proofs.lemmas.Bool.{cases_lt}
 use Rattle.std.proofs.lemmas.List.Splits.{slice_split_at}
 use Rattle.std.proofs.lemmas.List.{append_cancel_left, length-append, length-map, length-take-le, take-append-drop, take-map, take_at}
@@ -9,7 +9,7 @@ use Rattle.std.proofs.lemmas.List.Elements.{All-head, All-tail, All-append, All-
 use Rattle.hwp_geom.specs.Words.{line, pieces, cut}
 use Rattle.hwp_geom.proofs.Cuts.{joined, none_is, line-joined, cut-joined_line, pieces-line}
 use Rattle.hwp_report.specs.declared.Report.{Report}
-use Rattle.hwp_report.specs.Text.{report_lines, report_text}
+use Rattle.hwp_report.specs.Text.{report_lines}
 use Rattle.hwp_report_lines.specs.declared.Form.{Form}
 use Rattle.hwp_report_read.specs.declared.partial.Partial.{Partial}
 use Rattle.hwp_report_read.specs.declared.partial.Partial.TheVariants as partials
@@ -25,7 +25,7 @@ use Rattle.hwp_report_read.proofs.FitsLaws.{report_fits}
 use Rattle.hwp_report_read.proofs.FormsFit.{forms_fit}
 use Rattle.hwp_report_read.proofs.FollowLaws.{adds}
 use Rattle.hwp_report_read.proofs.Onward.{onward, onward-none, onward-append, on_report}
-use Rattle.hwp_report_read.proofs.Finishing.{IsWithin, CanFinish, can_finish}
+use Rattle.hwp_report_read.proofs.Finishing.{IsWithin, can_finish}
 use Rattle.hwp_report_read.proofs.Within.{within}
 use Rattle.hwp_report_lines.proofs.SameForms.{form_unique}
 

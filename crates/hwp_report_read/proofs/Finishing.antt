@@ -1,5 +1,5 @@
 -- What was read of a report so far can be finished.
-use Rattle.std.proofs.Common.{◌≡◌, ◌≢◌, ℕ, ◌+◌, ◌-◌, ◌<◌, ◌≤◌, ◌^◌, ◌==◌, Bool, true, false, if◌then◌else◌, List, [], ◌∷◌, ◌++◌, suc, zero, length, map, replicate, Option, Some, None, refl, sym, ap, ◌∙◌, append_assoc, append-nil, arith}
+use Rattle.std.proofs.Common.{◌≡◌, ℕ, ◌+◌, ◌-◌, ◌<◌, ◌≤◌, ◌==◌, List, [], ◌∷◌, ◌++◌, suc, zero, length, map, replicate, Some, None, refl, sym, ap, ◌∙◌, arith}
 use Rattle.std.specs.Prelude.{All}
 use Rattle.std.specs.List.{flat_map}
 use Rattle.std.proofs.lemmas.List.{length-append, length-replicate}
@@ -17,18 +17,15 @@ use Rattle.hwp_report.specs.declared.CpuLine.TheVariants as lines
 use Rattle.hwp_report.specs.declared.Report.{Report}
 use Rattle.hwp_report_lines.specs.declared.Form.{Form}
 use Rattle.hwp_report_lines.specs.declared.Form.TheVariants as forms
-use Rattle.hwp_report_read.specs.declared.partial.Paged.{Paged}
-use Rattle.hwp_report_read.specs.declared.partial.Ran.{Ran}
 use Rattle.hwp_report_read.specs.declared.partial.OpenPage.{OpenPage}
 use Rattle.hwp_report_read.specs.declared.partial.OpenFailure.{OpenFailure}
 use Rattle.hwp_report_read.specs.declared.partial.OpenCpu.{OpenCpu}
 use Rattle.hwp_report_read.specs.declared.partial.Partial.{Partial}
 use Rattle.hwp_report_read.specs.declared.partial.Partial.TheVariants as partials
-use Rattle.hwp_report_lines.specs.Fits.{EntryFits}
+use Rattle.hwp_page_lines.specs.Fits.{EntryFits}
 use Rattle.hwp_report_lines.specs.Forms.{FormFits}
-use Rattle.hwp_report_read.specs.Follows.{report_of, entry_of, signals_so_far, seen_so_far, open_cpu, open_page, follow}
-use Rattle.hwp_report_read.proofs.LinesRead.{entry_forms, lines_read}
-use Rattle.hwp_report_read.proofs.FollowLaws.{adds}
+use Rattle.hwp_report_read.specs.Follows.{entry_of, signals_so_far, seen_so_far}
+use Rattle.hwp_report_read.proofs.LinesRead.{entry_forms}
 use Rattle.hwp_report_read.proofs.Onward.{onward, onward-append, same, differ, if_true, if_false, on_entries, on_policies, on_signals, on_cpu_lines}
 
 -- what is in hand is not more than its heading says

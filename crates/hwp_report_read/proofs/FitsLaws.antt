@@ -1,5 +1,5 @@
 -- A report whose lines fit, fits.
-use Rattle.std.proofs.Common.{◌≡◌, ℕ, ◌+◌, ◌-◌, ◌<◌, ◌≤◌, ◌^◌, List, [], ◌∷◌, ◌++◌, length, map, refl, arith}
+use Rattle.std.proofs.Common.{ℕ, ◌+◌, ◌-◌, ◌<◌, ◌≤◌, ◌^◌, List, [], ◌∷◌, ◌++◌, length, map, arith}
 use Rattle.std.specs.Prelude.{All}
 use Rattle.std.specs.List.{flat_map}
 use Rattle.std.proofs.lemmas.List.Elements.{All-nil, All-cons, All-head, All-tail}
@@ -13,7 +13,8 @@ use Rattle.hwp_report.specs.declared.CpuLine.{CpuLine}
 use Rattle.hwp_report_lines.specs.declared.Form.{Form}
 use Rattle.hwp_report_lines.specs.declared.Form.TheVariants as forms
 use Rattle.hwp_report_read.specs.Fits.{ReportFits, ListFits, FrameFits, most_numbered, most_told}
-use Rattle.hwp_report_lines.specs.Fits.{MarkFits, EntryFits, SeenFits, SignalFits, CpuLineFits, FailureFits}
+use Rattle.hwp_page_lines.specs.Fits.{MarkFits, EntryFits, SeenFits, SignalFits}
+use Rattle.hwp_cpu_lines.specs.Fits.{CpuLineFits}
 use Rattle.hwp_report_lines.specs.Forms.{FormFits}
 use Rattle.hwp_report_read.proofs.LinesRead.{numbered_forms, file_forms, frame_forms, what_forms, entry_forms, page_forms, cpu_forms, parts_of, front_forms, framed_forms, paged_forms, ran_forms, report_forms}
 

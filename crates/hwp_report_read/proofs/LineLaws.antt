@@ -1,7 +1,5 @@
 -- Bytes are read line by line.
-use Rattle.std.proofs.Common.{◌≡◌, ◌≢◌, ℕ, ◌+◌, ◌==◌, List, [], ◌∷◌, ◌++◌, length, inr, Option, Some, None, refl, sym, ap, ◌∙◌, append_assoc, append-nil, arith}
-use Rattle.std.specs.Prelude.{All, MatchOption}
-use Rattle.std.specs.List.{flat_map}
+use Rattle.std.proofs.Common.{◌≡◌, ℕ, ◌+◌, List, [], ◌∷◌, ◌++◌, length, refl, sym, ap, ◌∙◌, append_assoc, append-nil, arith}
 use Rattle.std.proofs.lemmas.List.{length-append}
 use Rattle.std.proofs.lemmas.List.Concat.{flat_map-append}
 use Rattle.std.proofs.lemmas.List.Elements.{All-nil, All-cons, All-append}
@@ -10,7 +8,7 @@ use Rattle.hwp_report_lines.specs.declared.Form.{Form}
 use Rattle.hwp_report_read.specs.declared.partial.Partial.{Partial}
 use Rattle.hwp_report_read.specs.declared.partial.Partial.TheVariants as partials
 use Rattle.hwp_report_lines.specs.Forms.{FormFits, form_words}
-use Rattle.hwp_report_read.specs.Follows.{follow, IsNext, IsRefused}
+use Rattle.hwp_report_read.specs.Follows.{IsNext}
 use Rattle.hwp_report_read.proofs.LinesRead.{forms_text, lines_read, IsReadSoFar}
 use Rattle.hwp_report_read.proofs.FollowLaws.{adds}
 
@@ -37,9 +35,3 @@ more_read bytes rest here behind p q n h cut_at next =
       fits = rw all (All-append FormFits (lines_read p) (next.form ∷ []) h.fits (All-cons FormFits next.form [] next.fits (All-nil FormFits)));
       number = omega (arith, h.number, ap length all, length-append (lines_read p) (next.form ∷ []));
     }
-
--- what is read with a line that was read
-pub next_read : (p : Partial) (bytes : List ℕ) (f : Form) (next : Option Partial) → FormFits f × (bytes ++ 10 ∷ [] ≡ line (form_words f)) → next ≡ follow p f
-    → MatchOption next (IsRefused p bytes) (IsNext p bytes)
-next_read p bytes f None h e = inr (f, h.0, h.1, sym e)
-next_read p bytes f (Some q) h e = record { form = f; fits = h.0; same = h.1; follows = sym e }

@@ -1,5 +1,5 @@
 -- The lines of a report are read to the report, one after the other.
-use Rattle.std.proofs.Common.{◌≡◌, ◌≢◌, ℕ, ◌+◌, ◌<◌, ◌≤◌, ◌^◌, ◌==◌, Bool, true, false, if◌then◌else◌, List, [], ◌∷◌, ◌++◌, length, map, Option, Some, None, refl, sym, ap, ◌∙◌, append_assoc, append-nil, arith}
+use Rattle.std.proofs.Common.{◌≡◌, ℕ, ◌+◌, ◌<◌, ◌≤◌, ◌==◌, Bool, true, false, if◌then◌else◌, List, [], ◌∷◌, ◌++◌, length, map, Option, Some, None, refl, sym, ap, ◌∙◌, append_assoc, append-nil, arith}
 use Rattle.std.specs.Prelude.{All}
 use Rattle.std.specs.List.{flat_map}
 use Rattle.std.proofs.lemmas.Bool.Decides.{nat_tests}
@@ -18,7 +18,7 @@ use Rattle.hwp_report.specs.declared.FrameLine.{FrameLine}
 use Rattle.hwp_report.specs.declared.MarkLine.{MarkLine}
 use Rattle.hwp_report.specs.declared.CpuLine.{CpuLine}
 use Rattle.hwp_report.specs.declared.Place.{Place}
-use Rattle.hwp_report_lines.specs.declared.Failure.{Failure}
+use Rattle.hwp_page_lines.specs.declared.Failure.{Failure}
 use Rattle.hwp_report_lines.specs.declared.Form.{Form}
 use Rattle.hwp_report_lines.specs.declared.Form.TheVariants as forms
 use Rattle.hwp_report_read.specs.declared.partial.Front.{Front}
@@ -30,10 +30,10 @@ use Rattle.hwp_report_read.specs.declared.partial.OpenFailure.{OpenFailure}
 use Rattle.hwp_report_read.specs.declared.partial.OpenCpu.{OpenCpu}
 use Rattle.hwp_report_read.specs.declared.partial.Partial.{Partial}
 use Rattle.hwp_report_read.specs.declared.partial.Partial.TheVariants as partials
-use Rattle.hwp_report_read.specs.Fits.{ReportFits, ListFits, FrameFits, most_told}
-use Rattle.hwp_report_lines.specs.Fits.{EntryFits, CpuLineFits}
-use Rattle.hwp_report_read.specs.Follows.{report_of, entry_of, signals_so_far, seen_so_far, open_cpu, open_page, open_frame, follow}
-use Rattle.hwp_report_read.proofs.LinesRead.{numbered_forms, file_forms, frame_forms, what_forms, entry_forms, page_forms, cpu_forms, parts_of, front_forms, framed_forms, paged_forms, ran_forms, report_forms}
+use Rattle.hwp_report_read.specs.Fits.{ReportFits, ListFits, most_told}
+use Rattle.hwp_page_lines.specs.Fits.{EntryFits}
+use Rattle.hwp_report_read.specs.Follows.{signals_so_far, seen_so_far, open_cpu, open_page, open_frame, follow}
+use Rattle.hwp_report_read.proofs.LinesRead.{numbered_forms, file_forms, frame_forms, what_forms, entry_forms, page_forms, cpu_forms, front_forms, framed_forms, paged_forms, ran_forms, report_forms}
 
 -- what is read with these lines more, if each may follow
 abbrev pub onward : Option Partial → List Form → Option Partial

@@ -1,5 +1,5 @@
 -- The text of a report is the text of its lines.
-use Rattle.std.proofs.Common.{◌≡◌, ℕ, ◌+◌, List, [], ◌∷◌, ◌++◌, length, map, codes, decimal, refl, sym, ap, ◌∙◌, append_assoc, append-nil, arith}
+use Rattle.std.proofs.Common.{◌≡◌, ℕ, ◌+◌, List, [], ◌∷◌, ◌++◌, length, map, codes, decimal, refl, ap, ◌∙◌}
 use Rattle.std.specs.List.{flat_map}
 use Rattle.std.proofs.lemmas.List.{map-append}
 use Rattle.hwp_geom.specs.Words.{line}
@@ -13,7 +13,7 @@ use Rattle.hwp_report.specs.declared.Report.{Report}
 use Rattle.hwp_report.specs.declared.FrameLine.{FrameLine}
 use Rattle.hwp_report.specs.declared.MarkLine.{MarkLine}
 use Rattle.hwp_report.specs.declared.CpuLine.{CpuLine}
-use Rattle.hwp_report.specs.Text.{head_lines, numbered, file_lines, frame_lines, page_lines, cpu_lines, mark_words, entry_words, entry_lines, lines_below, seen_words, signal_words, cpu_line_words, report_lines, report_text}
+use Rattle.hwp_report.specs.Text.{numbered, file_lines, frame_lines, page_lines, cpu_lines, mark_words, entry_words, entry_lines, lines_below, seen_words, signal_words, cpu_line_words, report_lines, report_text}
 use Rattle.hwp_report_lines.specs.declared.Form.{Form}
 use Rattle.hwp_report_lines.specs.declared.Form.TheVariants as forms
 use Rattle.hwp_report_lines.specs.Forms.{form_words}

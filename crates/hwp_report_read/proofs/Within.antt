@@ -1,5 +1,5 @@
 -- What is in hand is never more than its heading says.
-use Rattle.std.proofs.Common.{◌≡◌, ℕ, ◌+◌, ◌<◌, ◌≤◌, ◌==◌, Bool, true, false, if◌then◌else◌, List, [], ◌∷◌, ◌++◌, length, Option, Some, None, refl, sym, ap, subst, ◌∙◌, arith}
+use Rattle.std.proofs.Common.{◌≡◌, ℕ, ◌+◌, ◌<◌, ◌≤◌, ◌==◌, Bool, true, false, if◌then◌else◌, List, [], ◌∷◌, ◌++◌, length, Option, Some, refl, subst, arith}
 use Rattle.std.proofs.lemmas.Bool.Decides.{nat_tests}
 use Rattle.std.proofs.lemmas.List.{length-append}
 use Rattle.hwp_kill.specs.Limits.{signal_limit}
@@ -13,12 +13,11 @@ use Rattle.hwp_report_read.specs.declared.partial.Paged.{Paged}
 use Rattle.hwp_report_read.specs.declared.partial.Ran.{Ran}
 use Rattle.hwp_report_read.specs.declared.partial.OpenPage.{OpenPage}
 use Rattle.hwp_report_read.specs.declared.partial.OpenFailure.{OpenFailure}
-use Rattle.hwp_report_read.specs.declared.partial.OpenCpu.{OpenCpu}
 use Rattle.hwp_report_read.specs.declared.partial.Partial.{Partial}
 use Rattle.hwp_report_read.specs.declared.partial.Partial.TheVariants as partials
 use Rattle.hwp_report_lines.specs.Forms.{FormFits}
-use Rattle.hwp_report_read.specs.Follows.{report_of, entry_of, signals_so_far, seen_so_far, after_nothing, after_head, after_stop, open_cpu, open_page, open_frame, after_files, after_frame, add_entry, after_entry, after_seen, after_signal, add_line, after_line, follow}
-use Rattle.hwp_report_read.proofs.FollowLaws.{chosen, by_choice}
+use Rattle.hwp_report_read.specs.Follows.{entry_of, signals_so_far, seen_so_far, open_cpu, open_page, open_frame, after_files, after_frame, add_entry, add_line, follow}
+use Rattle.hwp_report_read.proofs.FollowLaws.{chosen}
 use Rattle.hwp_report_read.proofs.Finishing.{IsWithin}
 
 given : {p q : Partial} → Some p ≡ Some q → IsWithin p → IsWithin q

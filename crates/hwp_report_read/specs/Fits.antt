@@ -2,7 +2,8 @@
 use Rattle.std.specs.Prelude.{ℕ, ◌^◌, ◌-◌, ◌<◌, ◌≤◌, List, length, All, IfSome}
 use Rattle.hwp_report.specs.declared.Report.{Report}
 use Rattle.hwp_report.specs.declared.FrameLine.{FrameLine}
-use Rattle.hwp_report_lines.specs.Fits.{StopFits, PlaceFits, MarkFits, EntryFits, CpuLineFits}
+use Rattle.hwp_page_lines.specs.Fits.{PlaceFits, MarkFits, EntryFits}
+use Rattle.hwp_cpu_lines.specs.Fits.{StopFits, CpuLineFits}
 
 -- a frame
 pub record FrameFits (frame : FrameLine) : Type 0 where

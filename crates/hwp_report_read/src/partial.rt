@@ -4,8 +4,9 @@ ghost use Rattle.hwp_report_read.specs.Follows.{add_entry, add_line, after_entry
 use hwp_geom::{List, OutOfMemory};
 use hwp_kill::{MAX_SIGNALS, Seen, SignalList};
 use hwp_page::{Entry, What};
+use hwp_page_lines::Failure;
 use hwp_report::{CpuLine, FrameLine, Report, Stop};
-use hwp_report_lines::{Failure, Form};
+use hwp_report_lines::Form;
 use std::alloc::Global;
 
 /// The most items for which a list has room before any was read.
@@ -14,52 +15,69 @@ const MOST_ROOM: u64 = 65_536;
 /// What stands before the frames.
 #[derive(Drop)]
 pub(crate) struct Front {
+    /// What stopped the machine, if it was stopped.
     pub stop: Option<Stop>,
+    /// The number of poisoned frames.
     pub count: u64,
+    /// The losses of each file that no `fsync` has told yet.
     pub files: List<u64>,
 }
 
 /// What stands before the pages.
 #[derive(Drop)]
 pub(crate) struct Framed {
+    /// What stands before the frames.
     pub front: Front,
+    /// The frames, without the one in hand.
     pub frames: List<FrameLine>,
 }
 
 /// What stands before the processors.
 #[derive(Drop)]
 pub(crate) struct Paged {
+    /// What stands before the pages.
     pub framed: Framed,
+    /// The history of each page, without the one in hand.
     pub pages: List<List<Entry>>,
 }
 
 /// What stands before the end.
 #[derive(Drop)]
 pub(crate) struct Ran {
+    /// What stands before the processors.
     pub paged: Paged,
+    /// The lines of each processor, without the one in hand.
     pub cpus: List<List<CpuLine>>,
 }
 
-/// A page in hand: the number of its entries as its heading says it, and its entries so far.
+/// A page in hand.
 #[derive(Drop)]
 pub(crate) struct OpenPage {
+    /// The pages above it, and what stands before them.
     pub paged: Paged,
+    /// The number of its entries, as its heading says it.
     pub count: u64,
+    /// Its entries so far, without a memory failure in hand.
     pub entries: List<Entry>,
 }
 
-/// A memory failure in hand: its line, and its policies so far.
+/// A memory failure in hand.
 #[derive(Drop)]
 pub(crate) struct OpenFailure {
+    /// Its line.
     pub line: Failure,
+    /// Its policies so far.
     pub seen: List<Seen>,
 }
 
-/// A processor in hand: the number of its lines as its heading says it, and its lines so far.
+/// A processor in hand.
 #[derive(Drop)]
 pub(crate) struct OpenCpu {
+    /// The processors above it, and what stands before them.
     pub ran: Ran,
+    /// The number of its lines, as its heading says it.
     pub count: u64,
+    /// Its lines so far.
     pub lines: List<CpuLine>,
 }
 

@@ -1,4 +1,4 @@
-ghost use Rattle.std.specs.Prelude.{◌≡◌};
+ghost use Rattle.std.specs.Prelude.{◌≡◌, ◌+◌, ◌*◌, ◌%◌, ◌^◌, bit_or};
 ghost use Rattle.hwp_rule.specs.Slots.{frame_slot, shelf_slot, slot_move, moved_out};
 ghost use Rattle.hwp_rule.specs.Steps as tables;
 
@@ -6,6 +6,7 @@ use crate::place::Place;
 use crate::slot_move::SlotMove;
 use crate::step::Step;
 use hwp_geom::{Damage, Frame, Kind, Layout, Page};
+use hwp_kill::Policy;
 use hwp_words::{
     CacheWord, FrameWord, HANDLED, LOCK, POISON, PageWord, PolicyWord, REFERENCE, StopWord,
 };
@@ -47,13 +48,7 @@ impl Step {
             Step::GiveBit { frame } => found | free_mask(*frame),
             Step::Unreserve | Step::Lose { .. } => found.wrapping_add(1),
             Step::Adopt { .. } => found.wrapping_add(LOCK + REFERENCE),
-            Step::GetRef { seen, count, .. } => {
-                exchanged(
-                    *seen,
-                    seen.wrapping_add(u64::from(*count) * REFERENCE),
-                    found,
-                )
-            }
+            Step::GetRef { seen, count, .. } => exchanged(*seen, referred(*seen, *count), found),
             Step::PutRef { count, .. } => found.wrapping_sub(u64::from(*count) * REFERENCE),
             Step::LockFrame { .. } | Step::LockPage { .. } => found | LOCK,
             Step::UnlockFrame { .. } | Step::UnlockPage { .. } => found & !LOCK,
@@ -69,22 +64,13 @@ impl Step {
             Step::Uncount => found.wrapping_sub(1),
             Step::Spoil { line, .. } => found | (1 << line.get()),
             Step::Stop { cpu } => exchanged(0, u64::from(cpu.0) + 1, found),
-            Step::GiveUp => found
-                | StopWord {
-                    cpu: None,
-                    no_memory: true,
-                }
-                .pack(),
+            Step::GiveUp => given_up(found),
             Step::Kill { page, .. } => exchanged(0, u64::from(page.0) + 1, found),
             Step::SetPolicy {
                 policy,
                 settings,
                 ..
-            } => PolicyWord {
-                policy: *policy,
-                settings: u64::from(*settings) + 1,
-            }
-            .pack(),
+            } => policy_set(*policy, *settings),
             Step::ReportLost { .. } => 0,
         }
     }
@@ -185,6 +171,35 @@ fn exchanged(seen: u64, new: u64, found: u64) -> u64
     ensures { result ≡ tables.exchanged seen new found }
 {
     if found == seen { new } else { found }
+}
+
+/// The frame word with so many references more.
+fn referred(seen: u64, count: u32) -> u64
+    ensures { result ≡ (seen + count * 16) % 2 ^ 64 }
+{
+    seen.wrapping_add(u64::from(count) * REFERENCE)
+}
+
+/// The stop word, which now says that memory ran out.
+fn given_up(found: u64) -> u64
+    ensures { result ≡ bit_or found (2 ^ 63) }
+{
+    let refused = StopWord {
+        cpu: None,
+        no_memory: true,
+    };
+    found | refused.pack()
+}
+
+/// The policy word after one setting more than so many.
+fn policy_set(policy: Policy, settings: u32) -> u64
+    ensures { result ≡ tables.policy_at (settings + 1) policy }
+{
+    let word = PolicyWord {
+        policy,
+        settings: u64::from(settings) + 1,
+    };
+    word.pack()
 }
 
 /// The frame word of one more cycle (bit 44 up), without POISON, HANDLED and the reference of HANDLED.

@@ -1,10 +1,9 @@
 -- The table was closed with what the workers' runs led to, and the report is of that.
-use Rattle.std.proofs.Common.{◌≡◌, ◌⊎◌, inl, inr, ℕ, ◌<◌, ◌==◌, List, Some, None, length, map, slice_get, sym, ap, ◌∙◌, subst, arith}
+use Rattle.std.proofs.Common.{◌≡◌, ◌⊎◌, inl, inr, ℕ, ◌<◌, ◌==◌, List, Some, None, length, slice_get, refl, sym, ap, ◌∙◌, subst, arith}
 use Rattle.std.specs.Int.{from_bool}
 use Rattle.std.specs.List.{sum_by}
 use Rattle.std.proofs.lemmas.List.{length-map}
 use Rattle.hwp_geom.specs.declared.Layout.{Layout}
-use Rattle.hwp_page.specs.declared.Entry.{Entry}
 use Rattle.hwp_rule.specs.declared.State.{State}
 use Rattle.hwp_rule.specs.declared.View.{View}
 use Rattle.hwp_rule.specs.Opening.{below, opening, opening_view}
@@ -14,27 +13,22 @@ use Rattle.hwp_rule.proofs.OpeningWords.{length-below}
 use Rattle.hwp_step.specs.Boards.{Played}
 use Rattle.hwp_step.specs.Hands.{Hand}
 use Rattle.hwp_interleaved.specs.Parts.{Own}
-use Rattle.hwp_opening.specs.Openings.{home_with}
-use Rattle.hwp_closing.specs.Ends.{AreHistories}
-use Rattle.hwp_script.specs.declared.Command.{Command}
 use Rattle.hwp_script.specs.declared.Script.{Script}
 use Rattle.hwp_script.specs.Valid.{IsValid}
 use Rattle.hwp_report.specs.declared.Report.{Report}
-use Rattle.hwp_law.specs.Law.{IsLawful}
-use Rattle.hwp_law.specs.Runs.{IsOfRun}
 use Rattle.hwp_runs.proofs.Homes.{there-is}
 use Rattle.hwp_row.specs.declared.Row.{Row}
-use Rattle.hwp_served.specs.Runs.{AreServed, IsRunOf}
+use Rattle.hwp_served.specs.Runs.{IsRunOf}
 use Rattle.hwp_served.proofs.Showing.{report-shown, scrubs-shown}
 use Rattle.hwp_processor.specs.declared.Processor.{Processor}
 use Rattle.hwp_processor.specs.Serving.{Fits, FitsAt, IsDone}
 use Rattle.hwp_table.specs.Ends.{EndValue, HasAll, IsEnd, board_of}
 use Rattle.hwp_table.specs.Known.{Known, moves_by}
 use Rattle.hwp_table.specs.Stands.{Content}
-use Rattle.hwp_outcome.specs.Closing.{IsClosing, IsOutcome, lines_of_all}
-use Rattle.hwp_core.specs.Runs.{AreFinished, HasEnded, own_seat}
-use Rattle.hwp_core.proofs.Came.{Closes, last-bare, last-came}
-use Rattle.hwp_core.proofs.Whole.{run-lawful, run-of, run-of-run}
+use Rattle.hwp_outcome.specs.Closing.{IsClosing}
+use Rattle.hwp_core.specs.Runs.{AreFinished, HasEnded, HasEndedAt, IsFinished, own_seat}
+use Rattle.hwp_core.proofs.Came.{last-bare}
+use Rattle.hwp_core.proofs.Whole.{lines-served, run-of}
 use Rattle.hwp_runner.specs.Runs.{AreDone, HaveRun, IsThreadPlayed, IsThreadRun, tasks_then}
 use Rattle.hwp_runner.proofs.Ended.{InTurns, all-ended, in-order}
 use Rattle.hwp_core.proofs.Serving.{finished-over}
@@ -104,8 +98,7 @@ closed-run script ended now rows valid layout_is have finished end =
 
 -- ---- the report
 
-module _ (script : Script) (ended : EndValue) (rows : List (List Row)) (valid : IsValid script) (played : IsThreadPlayed script ended rows) (words : List ℕ) (pages : List (List Entry)) (given : List (List Command)) (told : List (List Row))
-    (words_are : words ≡ ended.words) (histories : AreHistories (map home_with ended.slots) pages) (one_each : length pages ≡ length script.layout.pages) (given_are : given ≡ script.lists) (told_are : told ≡ rows) where
+module _ (script : Script) (ended : EndValue) (rows : List (List Row)) (valid : IsValid script) (played : IsThreadPlayed script ended rows) where
   abbrev last : State
   last = board_of ended.words ended.slots played.views
 
@@ -118,34 +111,34 @@ module _ (script : Script) (ended : EndValue) (rows : List (List Row)) (valid : 
   ended-run : HasEnded script turns last rows
   ended-run = all-ended script last rows valid played.done
 
-  pub came : IsOutcome script.layout words pages given told last
-  came = last-came script turns last rows valid ended-run words pages given told words_are histories one_each given_are told_are
+  abbrev at : HasEndedAt script ended rows
+  at = record { turns = turns; state = last; run = ended-run; layout_is = played.layout_is; words_are = refl; bodies_are = refl }
 
-  module _ (report : Report) (closes : Closes script.layout words pages given told report) where
-    closing : IsClosing script.layout last given told report
-    closing = closes last came
+  pub thread-ended : HasEndedAt script ended rows
+  thread-ended = at
 
-    pub thread-of-run : IsOfRun script report
-    thread-of-run = run-of-run script turns last rows valid ended-run given told given_are told_are report closing
-
-    pub thread-lawful : IsLawful script report
-    thread-lawful = run-lawful script turns last rows valid ended-run given told given_are told_are report closing
+  module _ (report : Report) (now : EndValue) (is : IsFinished script ended rows report now) where
+    closing : IsClosing script.layout last script.lists rows report
+    closing = is.closing at
 
     run : IsRunOf script own_seat turns last report
-    run = run-of script turns last rows valid ended-run given told given_are told_are report closing
+    run = run-of script turns last rows valid ended-run report closing
 
-    pub thread-run : IsThreadRun script report ended
-    thread-run = record {
+    of-end : IsThreadRun script report ended
+    of-end = record {
       rows = rows;
       played = played;
       turns = turns;
       made = ordered.made;
       rule = ended-run.rule;
       leads = ended-run.moves;
-      served = subst (AreServed script own_seat last rows) (sym (closing.lines ∙ ap lines_of_all told_are)) ended-run.served;
+      served = lines-served script turns last rows valid ended-run report closing;
       nothing = last-bare script turns last rows valid ended-run;
       settled = ended-run.settled;
       ends = closing.ends;
       shown = report-shown script own_seat turns last report run;
       scrubs = scrubs-shown script own_seat turns last report run;
     }
+
+    pub thread-run : IsThreadRun script report now
+    thread-run = subst (IsThreadRun script report) (sym is.same) of-end

@@ -6,9 +6,8 @@ ghost use Rattle.hwp_table.specs.Known.{first_known};
 ghost use Rattle.hwp_table.specs.Seats.{IsTableOf};
 ghost use Rattle.hwp_runner.specs.Runs.{HaveRun, IsThreadPlayed, IsThreadRun};
 
-use hwp_core::{Finished, Rows, crew_of, pages_of, rows_of};
+use hwp_core::{Finished, Rows, crew_of, finish_run, rows_of};
 use hwp_geom::OutOfMemory;
-use hwp_outcome::report;
 use hwp_processor::Processor;
 use hwp_script::Script;
 use hwp_table::{Ended, Pass, Sheet, Slot, begin, close};
@@ -78,16 +77,6 @@ pub fn run_on_threads<R: Threads + Wait + Sync, G: Gate + Sync>(
     ensures lawful { IfOk result (λ run. IsLawful script.now run.report) }
     ensures ended { IfOk result (λ run. IsThreadRun script.now run.report run.ended) }
 {
-    let (ended, slots, rows) = play_on_threads(rt, alloc, script, gate)?;
-    let pages = pages_of(alloc, &ended, slots, &script.layout)?;
-    let lists = script.lists.as_slice();
-    let report = report(
-        alloc,
-        &script.layout,
-        ended.words(),
-        pages,
-        lists,
-        rows.as_slice(),
-    )?;
-    Ok(Finished { report, ended })
+    let (ended, bodies, rows) = play_on_threads(rt, alloc, script, gate)?;
+    finish_run(alloc, script, ended, bodies, &rows)
 }

@@ -251,7 +251,12 @@ impl Summary {
     }
 
     /// The summary with one more line.
-    pub fn add(&mut self, alloc: Global, above: &[Form], form: &Form) -> Result<(), OutOfMemory>
+    pub(crate) fn add(
+        &mut self,
+        alloc: Global,
+        above: &[Form],
+        form: &Form,
+    ) -> Result<(), OutOfMemory>
         requires sums { Sums above.now self.old }
         requires clean { IsClean above.now form.now }
         ensures { OnOk result (Sums (above.now ++ form.now ∷ []) self.new) }

@@ -41,7 +41,7 @@ pub(crate) struct Summary {
 
 impl Summary {
     /// The summary of no lines.
-    pub fn new(alloc: Global) -> Summary
+    pub(crate) fn new(alloc: Global) -> Summary
         ensures { Sums [] result }
     {
         Summary {
@@ -65,14 +65,14 @@ impl Summary {
     }
 
     /// Whether a processor's list has begun.
-    pub fn has_list(&self, cpu: u64) -> bool
+    pub(crate) fn has_list(&self, cpu: u64) -> bool
         ensures { IsTrue result ↔ Contains self.now.begun cpu }
     {
         self.begun.as_slice().contains(&cpu)
     }
 
     /// The script that these lines give.
-    pub fn into_script(self, lines: &[Form]) -> Script
+    pub(crate) fn into_script(self, lines: &[Form]) -> Script
         requires { Sums lines.now self }
         ensures { Collects lines.now result }
     {

@@ -1,10 +1,10 @@
 use hwp_form::{Command, Go};
 use hwp_geom::{Layout, List};
 
-/// The most words of a schedule.
+/// The most words of a schedule (this project's rule).
 pub const MAX_SCHEDULE: u32 = 100_000;
 
-/// The most bytes of a script: 1 MiB.
+/// The most bytes of a script: 1 MiB (this project's rule).
 pub const MAX_SCRIPT: usize = 1_048_576;
 
 /// A fault script: the machine that it declares, for each processor its list of commands, and the schedule.

@@ -5,7 +5,7 @@ use Rattle.std.proofs.lemmas.List.FromFn.{map-range_with_len_more}
 use Rattle.std.proofs.lemmas.List.Concat.{flat_map-append}
 use Rattle.hwp_geom.specs.Words.{line}
 use Rattle.hwp_form.specs.Grammar.{form_words}
-use Rattle.hwp_form.specs.Printed.{forms_text}
+use Rattle.hwp_form_print.specs.Printed.{forms_text}
 use Rattle.hwp_form.specs.declared.Form.{Form}
 use Rattle.hwp_form.specs.declared.Form.TheVariants as forms
 use Rattle.hwp_script.specs.declared.Script.{Script}

@@ -15,7 +15,7 @@ use Rattle.hwp_form.specs.Kinds.{kind_text}
 use Rattle.hwp_form.specs.Numbers.{IsRegister, register}
 use Rattle.hwp_form.specs.Grammar.{rest_words, form_words, turn_text, until_text, turn_pieces, pieces_of, command_words, CommandFits, IsTurn, AreRestWords, AreCommandWords, IsForm}
 use Rattle.hwp_form.specs.Lines.{words_of, is_comment, is_skipped, numbered_from, IsNumbered, AreLinesOf}
-use Rattle.hwp_form.specs.Printed.{forms_text}
+use Rattle.hwp_form_print.specs.Printed.{forms_text}
 use Rattle.hwp_form.specs.declared.Form.{Form}
 use Rattle.hwp_form.specs.declared.Command.{Command}
 use Rattle.hwp_form.specs.declared.Go.{Go}

@@ -6,7 +6,7 @@ use Rattle.hwp_geom.specs.declared.ThreadDecl.{ThreadDecl}
 use Rattle.hwp_geom.specs.declared.TransDecl.{TransDecl}
 use Rattle.hwp_geom.specs.declared.PageKind.TheVariants as kinds
 use Rattle.hwp_form.specs.Grammar.{bit}
-use Rattle.hwp_form.specs.Printed.{forms_text}
+use Rattle.hwp_form_print.specs.Printed.{forms_text}
 use Rattle.hwp_form.specs.declared.Form.{Form}
 use Rattle.hwp_form.specs.declared.Command.{Command}
 use Rattle.hwp_form.specs.declared.Backing.{Backing}

@@ -1,13 +1,14 @@
 ghost use Rattle.std.specs.Prelude.{◌≡◌, ◌∷◌, ◌++◌, [], Bool, OnOk, IfOk, length, take, drop, ◌<◌, ◌≤◌, ◌+◌, ◌*◌, ◌⊎◌, string_bytes};
 ghost use Rattle.hwp_geom.specs.Words.{line};
 ghost use Rattle.hwp_form.specs.Grammar.{form_words};
-ghost use Rattle.hwp_form.specs.Printed.{forms_text};
+ghost use Rattle.hwp_form_print.specs.Printed.{forms_text};
 ghost use Rattle.hwp_script.specs.Limits.{script_limit};
 ghost use Rattle.hwp_script.specs.Valid.{IsValid};
 ghost use Rattle.hwp_script_print.specs.Round.{IsTextOf};
 ghost use Rattle.hwp_script_print.specs.Text.{backing_of, head_forms, kernel_forms, setting_forms, thread_forms, page_forms, trans_forms, list_forms, go_row, numbered, counted, file_form, proc_form, rows_of, script_text};
 
-use hwp_form::{Backing, Form, put_form};
+use hwp_form::{Backing, Form};
+use hwp_form_print::put_form;
 use hwp_geom::{List, OutOfMemory, PageKind, Text, ThreadDecl, TransDecl};
 use hwp_script::{Command, Go, Script};
 use std::alloc::Global;

@@ -9,7 +9,7 @@ use hwp_table::{Pass, SeatOps, Sheet, join, split};
 use std::alloc::Global;
 
 /// A seat for each processor, with its view, from the one that has the views of all.
-pub fn deal_seats<'a>(
+pub(crate) fn deal_seats<'a>(
     alloc: Global,
     sheet: &'a Sheet,
     layout: &'a Layout,
@@ -29,7 +29,7 @@ pub fn deal_seats<'a>(
 }
 
 /// The one seat that has what all seats have, none of which holds anything.
-pub fn gather_seats<'a>(sheet: &Sheet, seats: Vec<SeatOps<'a>>) -> Pass
+pub(crate) fn gather_seats<'a>(sheet: &Sheet, seats: Vec<SeatOps<'a>>) -> Pass
     requires can { (g : Gathering) × AreThese g sheet.now.table_id seats.items }
     ensures { (g : Gathering) → AreThese g sheet.now.table_id seats.entry.items → IsGathered g.table g.layout seats.entry.items g.holder g.whole [] result.table_id result.me }
 {

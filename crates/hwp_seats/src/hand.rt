@@ -6,7 +6,7 @@ ghost use Rattle.hwp_seats.specs.Seats.{Handed};
 use hwp_table::SeatOps;
 
 /// All rights go from one seat to another.
-pub fn hand_over<'a>(seats: &mut Vec<SeatOps<'a>>, from: usize, to: usize)
+pub(crate) fn hand_over<'a>(seats: &mut Vec<SeatOps<'a>>, from: usize, to: usize)
     requires there { (from < length seats.old.items) × (to < length seats.old.items) }
     requires one_table { (id : TableId) × EachMember (λ s. s.table ≡ id) seats.old.items }
     ensures { Handed seats.old.items seats.new.items from to }

@@ -33,7 +33,7 @@ use Rattle.hwp_served.proofs.lines.LowWords.{AreOfLines}
 use Rattle.hwp_served.proofs.lines.ScrubBank.{empty-free, row-free}
 use Rattle.hwp_served.proofs.lines.SightedLines.{AreSights}
 use Rattle.hwp_served.proofs.marks.MarkSights.{AreRisingMarks, AreSplit}
-use Rattle.hwp_served.proofs.Spoils.{AreOfParts}
+use Rattle.hwp_served.proofs.lines.Spoils.{AreOfParts}
 
 -- the report is that of the last board of a run, where each processor has served its commands
 pub record IsEnd (script : Script) (seat : Cpu → ℕ) (last : State) (report : Report) : Type 0 where

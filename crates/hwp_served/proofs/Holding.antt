@@ -37,7 +37,7 @@ use Rattle.hwp_served.proofs.marks.MarkSights.{AreRisingMarks, AreSplit, rising-
 use Rattle.hwp_served.proofs.lines.LowWords.{run-low}
 use Rattle.hwp_served.proofs.lines.SightedLines.{AreSights, sights-kept}
 use Rattle.hwp_served.proofs.Seen.{saw-at}
-use Rattle.hwp_served.proofs.Spoils.{AreOfParts, parts-kept}
+use Rattle.hwp_served.proofs.lines.Spoils.{AreOfParts, parts-kept}
 use Rattle.hwp_served.proofs.Stops.{stopper}
 use Rattle.hwp_served.proofs.Windows.{in-window, line-answers}
 

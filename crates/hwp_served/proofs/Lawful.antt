@@ -15,7 +15,7 @@ use Rattle.hwp_served.proofs.lines.Framed.{frames-lawful}
 use Rattle.hwp_served.proofs.Holding.{ended}
 use Rattle.hwp_served.proofs.losses.LossesAgree.{losses-lawful}
 use Rattle.hwp_served.proofs.deeds.Made.{entries-made-by, entries-named}
-use Rattle.hwp_served.proofs.Events.{events-are}
+use Rattle.hwp_served.proofs.lines.Events.{events-are}
 use Rattle.hwp_served.proofs.policies.Policies.{are-seen, never-falls}
 use Rattle.hwp_served.proofs.Windows.{states-in-windows}
 

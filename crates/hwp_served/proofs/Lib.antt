@@ -10,7 +10,6 @@ pub mod Windows
 pub mod Failed
 pub mod Along
 pub mod Adding
-pub mod Spoils
 pub mod Ample
 pub mod Answered
 pub mod Stops
@@ -20,8 +19,6 @@ pub mod Showing
 pub mod Caused
 pub mod Sums
 pub mod HomePages
-pub mod Checks
-pub mod Events
 pub mod Lawful
 pub mod Accounting
 pub mod Telling

@@ -48,7 +48,7 @@ use Rattle.hwp_served.specs.Causes.{FoundGone, FoundNoFrame, FoundPoisoned, Foun
 use Rattle.hwp_served.specs.Served.{IsRowServed}
 use Rattle.hwp_served.proofs.Accounting.{account-stays}
 use Rattle.hwp_served.proofs.Adding.{some-more}
-use Rattle.hwp_served.proofs.Spoils.{spoils-by}
+use Rattle.hwp_served.proofs.lines.Spoils.{spoils-by}
 use Rattle.hwp_served.proofs.Telling.{deeds-stay, entered-stays, row-told-stays}
 
 -- ---- stops

@@ -1,6 +1,8 @@
 pub mod LowWords
+pub mod Spoils
 pub mod SightedLines
 pub mod ScrubBank
+pub mod Checks
 pub mod Scrubbed
 pub mod ScrubLines
 pub mod ScrubShown
@@ -8,6 +10,7 @@ pub mod NamedEvents
 pub mod OfRows
 pub mod RowEvents
 pub mod ToldRight
+pub mod Events
 pub mod SpoiledLines
 pub mod Gathering
 pub mod RecordLines

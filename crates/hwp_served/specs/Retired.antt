@@ -1,4 +1,4 @@
--- Handled frames: out of use for good, on every board of a run.
+-- Handled frames: out of use, on every board of a run.
 use Rattle.std.specs.Prelude.{◌≡◌, ◌≢◌, ℕ, ◌+◌, List, ◌++◌, Some, None, map, slice_get}
 use Rattle.hwp_geom.specs.declared.Frame.{Frame}
 use Rattle.hwp_geom.specs.declared.Layout.{Layout}

@@ -12,12 +12,12 @@ use Rattle.hwp_rule.specs.Asks.{CanUnlockFrame}
 use Rattle.hwp_step.specs.Calls.{CanMake}
 use Rattle.hwp_step.specs.Hands.{Hand}
 use Rattle.hwp_step.proofs.Stepping.{can-make}
-use Rattle.hwp_hold.specs.Takes.{new_lock}
+use Rattle.hwp_hold.specs.Releases.{new_lock}
 use Rattle.hwp_hold.specs.GiveUps as give_ups
 use Rattle.hwp_hold.specs.Unholds as unholds
 use Rattle.hwp_hold.proofs.GivingUp as giving_up
 use Rattle.hwp_hold.proofs.Releasing as releasing_laws
-use Rattle.hwp_hold.proofs.Taking as taking
+use Rattle.hwp_fill.proofs.Taking as taking
 use Rattle.hwp_hold.proofs.Unholding as unholding
 use Rattle.hwp_soft.specs.declared.soft.Soft.{Soft}
 use Rattle.hwp_soft.specs.declared.soft.SoftAt.{SoftAt}

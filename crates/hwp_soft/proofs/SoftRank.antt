@@ -34,21 +34,21 @@ use Rattle.hwp_hold.specs.declared.refer.ReferAt.TheVariants as refer_at
 use Rattle.hwp_hold.specs.declared.release.Release.{Release}
 use Rattle.hwp_hold.specs.declared.release.ReleaseAt.{ReleaseAt}
 use Rattle.hwp_hold.specs.declared.release.ReleaseAt.TheVariants as release_at
-use Rattle.hwp_hold.specs.declared.take.Take.{Take}
-use Rattle.hwp_hold.specs.declared.take.TakeAt.{TakeAt}
-use Rattle.hwp_hold.specs.declared.take.TakeAt.TheVariants as take_at
+use Rattle.hwp_fill.specs.declared.take.Take.{Take}
+use Rattle.hwp_fill.specs.declared.take.TakeAt.{TakeAt}
+use Rattle.hwp_fill.specs.declared.take.TakeAt.TheVariants as take_at
 use Rattle.hwp_hold.specs.declared.unhold.Unhold.{Unhold}
 use Rattle.hwp_hold.specs.GiveUps as give_ups
 use Rattle.hwp_hold.specs.Refers as refers
 use Rattle.hwp_hold.specs.Releases as releases
-use Rattle.hwp_hold.specs.Takes as takes
+use Rattle.hwp_fill.specs.Takes as takes
 use Rattle.hwp_hold.specs.Unholds as unholds
 use Rattle.hwp_hold.specs.Unlocks as unlocks
-use Rattle.hwp_hold.proofs.FillCosts.{give-up-falls, give-up-mild, give-up-ranked}
+use Rattle.hwp_hold.proofs.GiveUpCosts.{give-up-falls, give-up-mild, give-up-ranked}
 use Rattle.hwp_hold.proofs.Freeing.{frees-length}
-use Rattle.hwp_hold.proofs.Making.{is-met, words_then}
+use Rattle.hwp_fill.proofs.Making.{is-met, words_then}
 use Rattle.hwp_hold.proofs.Ranking.{release-falls, release-mild, release-small, unhold-class, unhold-falls, unhold-mild, unhold-small}
-use Rattle.hwp_hold.proofs.TakeCosts as taking
+use Rattle.hwp_fill.proofs.TakeCosts as taking
 use Rattle.hwp_hold.proofs.Unlocking.{unlock-small}
 use Rattle.hwp_claim.specs.declared.grab.Grab.{Grab}
 use Rattle.hwp_claim.specs.declared.grab.GrabAnswer.{GrabAnswer}

@@ -16,9 +16,9 @@ use Rattle.hwp_hold.specs.declared.give_up.GiveUp.{GiveUp}
 use Rattle.hwp_hold.specs.declared.give_up.GiveUpAt.{GiveUpAt}
 use Rattle.hwp_hold.specs.declared.give_up.GiveUpAt.TheVariants as give_up_at
 use Rattle.hwp_hold.specs.GiveUps as give_ups
-use Rattle.hwp_hold.proofs.FillCosts.{give-up-mild}
+use Rattle.hwp_hold.proofs.GiveUpCosts.{give-up-mild}
 use Rattle.hwp_hold.proofs.Ranking.{release-mild, unhold-mild}
-use Rattle.hwp_hold.proofs.TakeCosts as taking
+use Rattle.hwp_fill.proofs.TakeCosts as taking
 use Rattle.hwp_hold.proofs.Telling.{Tells, empty-tells, frame-tells, give-up-tells, no-frame, no-page, unhold-tells}
 use Rattle.hwp_move.specs.declared.discard.Discard.{Discard}
 use Rattle.hwp_move.specs.declared.discard.DiscardAt.{DiscardAt}

@@ -35,16 +35,16 @@ use Rattle.hwp_known.proofs.Seeing.{saw-stays}
 use Rattle.hwp_hold.specs.declared.release.Release.{Release}
 use Rattle.hwp_hold.specs.declared.release.ReleaseAt.{ReleaseAt}
 use Rattle.hwp_hold.specs.declared.release.ReleaseAt.TheVariants as release_at
-use Rattle.hwp_hold.specs.declared.take.Take.{Take}
-use Rattle.hwp_hold.specs.declared.take.TakeAt.{TakeAt}
-use Rattle.hwp_hold.specs.declared.take.TakeAt.TheVariants as take_at
+use Rattle.hwp_fill.specs.declared.take.Take.{Take}
+use Rattle.hwp_fill.specs.declared.take.TakeAt.{TakeAt}
+use Rattle.hwp_fill.specs.declared.take.TakeAt.TheVariants as take_at
 use Rattle.hwp_hold.specs.Holds.{one_ref}
 use Rattle.hwp_hold.specs.Releases as releases
-use Rattle.hwp_hold.specs.Takes as takes
-use Rattle.hwp_hold.specs.Takes.{new_lock}
+use Rattle.hwp_fill.specs.Takes as takes
+use Rattle.hwp_hold.specs.Releases.{new_lock}
 use Rattle.hwp_hold.proofs.Ranking.{release-lists}
 use Rattle.hwp_hold.proofs.Releasing as releasing_laws
-use Rattle.hwp_hold.proofs.Taking as taking
+use Rattle.hwp_fill.proofs.Taking as taking
 use Rattle.hwp_evict.proofs.Freeing.{declared-of}
 use Rattle.hwp_evict.proofs.Growing.{Grown}
 use Rattle.hwp_evict.proofs.Judging.{is-cached, replay-is, replay-own, state-is}

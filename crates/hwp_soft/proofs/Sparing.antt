@@ -34,13 +34,13 @@ use Rattle.hwp_known.proofs.Seeing.{saw-adopt}
 use Rattle.hwp_hold.specs.declared.release.Release.{Release}
 use Rattle.hwp_hold.specs.declared.release.ReleaseAt.{ReleaseAt}
 use Rattle.hwp_hold.specs.declared.release.ReleaseAt.TheVariants as release_at
-use Rattle.hwp_hold.specs.declared.take.Take.{Take}
-use Rattle.hwp_hold.specs.declared.take.TakeAt.{TakeAt}
-use Rattle.hwp_hold.specs.declared.take.TakeAt.TheVariants as take_at
+use Rattle.hwp_fill.specs.declared.take.Take.{Take}
+use Rattle.hwp_fill.specs.declared.take.TakeAt.{TakeAt}
+use Rattle.hwp_fill.specs.declared.take.TakeAt.TheVariants as take_at
 use Rattle.hwp_hold.specs.Holds.{HoldsPage, held, one_ref}
 use Rattle.hwp_hold.specs.Releases as releases
-use Rattle.hwp_hold.specs.Takes as takes
-use Rattle.hwp_hold.specs.Takes.{adopted_lock}
+use Rattle.hwp_fill.specs.Takes as takes
+use Rattle.hwp_hold.specs.Releases.{adopted_lock}
 use Rattle.hwp_hold.specs.Unholds as unholds
 use Rattle.hwp_hold.proofs.Linking.{held-unholds}
 use Rattle.hwp_evict.proofs.Growing.{Grown, length-grown}

@@ -18,15 +18,15 @@ use Rattle.hwp_hold.specs.declared.give_up.GiveUp.{GiveUp}
 use Rattle.hwp_hold.specs.declared.release.Release.{Release}
 use Rattle.hwp_hold.specs.declared.release.ReleaseAt.{ReleaseAt}
 use Rattle.hwp_hold.specs.declared.release.ReleaseAt.TheVariants as release_at
-use Rattle.hwp_hold.specs.declared.take.Take.{Take}
-use Rattle.hwp_hold.specs.declared.take.TakeAt.{TakeAt}
-use Rattle.hwp_hold.specs.declared.take.TakeAt.TheVariants as take_at
+use Rattle.hwp_fill.specs.declared.take.Take.{Take}
+use Rattle.hwp_fill.specs.declared.take.TakeAt.{TakeAt}
+use Rattle.hwp_fill.specs.declared.take.TakeAt.TheVariants as take_at
 use Rattle.hwp_hold.specs.declared.unhold.Unhold.{Unhold}
 use Rattle.hwp_hold.specs.GiveUps as give_ups
 use Rattle.hwp_hold.specs.Holds.{IsBodyOf, held}
 use Rattle.hwp_hold.specs.Releases as releases
-use Rattle.hwp_hold.specs.Takes as takes
-use Rattle.hwp_hold.specs.Takes.{adopted_lock, new_lock}
+use Rattle.hwp_fill.specs.Takes as takes
+use Rattle.hwp_hold.specs.Releases.{adopted_lock, new_lock}
 use Rattle.hwp_hold.specs.Unholds as unholds
 use Rattle.hwp_claim.specs.Claims.{HasMarked, SawPoison}
 use Rattle.hwp_claim.specs.Grabs.{WasFree}

@@ -17,13 +17,13 @@ use Rattle.hwp_rule.specs.Words.{Words}
 use Rattle.hwp_step.specs.declared.Turn.{Turn}
 use Rattle.hwp_step.specs.declared.Turn.TheVariants.{Moved, Answered}
 use Rattle.hwp_hold.specs.declared.release.Release.{Release}
-use Rattle.hwp_hold.specs.declared.take.Take.{Take}
-use Rattle.hwp_hold.specs.declared.take.TakeAnswer.{TakeAnswer}
-use Rattle.hwp_hold.specs.declared.take.TakeAnswer.TheVariants as take_answers
+use Rattle.hwp_fill.specs.declared.take.Take.{Take}
+use Rattle.hwp_fill.specs.declared.take.TakeAnswer.{TakeAnswer}
+use Rattle.hwp_fill.specs.declared.take.TakeAnswer.TheVariants as take_answers
 use Rattle.hwp_hold.specs.declared.unhold.Unhold.{Unhold}
 use Rattle.hwp_hold.specs.GiveUps as give_ups
 use Rattle.hwp_hold.specs.Releases as releases
-use Rattle.hwp_hold.specs.Takes as takes
+use Rattle.hwp_fill.specs.Takes as takes
 use Rattle.hwp_hold.specs.Unholds as unholds
 use Rattle.hwp_move.specs.declared.discard.Discard.{Discard}
 use Rattle.hwp_move.specs.declared.relocate.Relocate.{Relocate}

@@ -1,16 +1,17 @@
-ghost use Rattle.std.specs.Prelude.{◌≡◌, MatchResult, true};
+ghost use Rattle.std.specs.Prelude.{◌≡◌, true};
 ghost use Rattle.hwp_hold.specs.GiveUps as give_ups;
 ghost use Rattle.hwp_hold.specs.Releases as releases;
-ghost use Rattle.hwp_hold.specs.Takes as takes;
 ghost use Rattle.hwp_hold.specs.Unholds as unholds;
+ghost use Rattle.hwp_fill.specs.Takes as takes;
 ghost use Rattle.hwp_soft.specs.declared.soft.SoftAt.TheVariants as states;
 ghost use Rattle.hwp_move.specs.Discards as discards;
 ghost use Rattle.hwp_move.specs.Relocations as relocations;
 ghost use Rattle.hwp_move.specs.Seizes as seizes;
 ghost use Rattle.hwp_soft.specs.Softs.{begin, answer, after_stop, after_seize, after_discard, AfterBad, after_take, AfterPoison, after_relocate, CanMakeEntry, IsRelocated, Moves, after_release, after_unhold, let_go, ended, FollowsAt, ShowsAt};
 
+use hwp_fill::{Take, TakeAnswer};
 use hwp_geom::{Frame, Layout, Mask, Page, Who};
-use hwp_hold::{GiveUp, Release, Take, TakeAnswer, Unhold};
+use hwp_hold::{GiveUp, Release, Unhold};
 use hwp_move::{Discard, Relocate, Seize, SeizeAnswer};
 use hwp_page::{At, Body, Entry, What};
 use hwp_rule::{Place, Step};
@@ -266,6 +267,17 @@ fn after_poison(who: Who, frame: Frame, page: Page, body: Body, to: Frame, found
     }
 }
 
+/// The other frame's lock is given back, and now its reference is to be.
+fn release_spare(who: Who, page: Page, body: Body, to: Frame) -> SoftAt
+    ensures { result ≡ states.ReleaseSpare page body (releases.begin who to 1) }
+{
+    SoftAt::ReleaseSpare {
+        page,
+        body,
+        release: Release::new(who, to, 1),
+    }
+}
+
 fn after_release(who: Who, frame: Frame, page: Page, body: Body, release: Release) -> SoftAt
     ensures { result ≡ after_release who frame page body release }
 {
@@ -442,17 +454,7 @@ fn settled(
             after_poison(who, frame, page, body, to, found),
             Turn::Moved,
         ),
-        SoftAt::UnlockSpare { page, body, to } => {
-            let release = Release::new(who, to, 1);
-            (
-                SoftAt::ReleaseSpare {
-                    page,
-                    body,
-                    release,
-                },
-                Turn::Moved,
-            )
-        }
+        SoftAt::UnlockSpare { page, body, to } => (release_spare(who, page, body, to), Turn::Moved),
         SoftAt::ReleaseSpare {
             page,
             body,

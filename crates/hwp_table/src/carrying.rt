@@ -13,7 +13,7 @@ use hwp_rule::SlotMove;
 pub type Order = ArrayVec<usize, 3>;
 
 /// Before a step that frees a lock: the lock's slot comes to the front, and the body into it.
-pub fn lay(sheet: &Sheet, seat: &mut Pass, order: &mut Order, to: SlotMove, body: Slot)
+pub(crate) fn lay(sheet: &Sheet, seat: &mut Pass, order: &mut Order, to: SlotMove, body: Slot)
     requires fits { seat.old.table_id ≡ sheet.now.table_id }
     requires empty { seat.old.me.1 ≡ vacant order.old.items }
     requires there { IsCarried to order.old.items }

@@ -21,7 +21,7 @@ pub enum Operation {
 }
 
 /// The atomic operation that makes the step.
-pub fn operation_of(step: &Step) -> Operation
+pub(crate) fn operation_of(step: &Step) -> Operation
     ensures { (n : ℕ) → tables.word_after step.now n ≡ applied result n }
 {
     match step {

@@ -8,7 +8,13 @@ use hwp_geom::Who;
 use hwp_rule::Step;
 
 /// A step of any kind, as one atomic operation on the table: it answers the word that it met.
-pub fn step_as<N: Named>(sheet: &Sheet, seat: &mut Pass, word: usize, who: Who, step: &Step) -> u64
+pub(crate) fn step_as<N: Named>(
+    sheet: &Sheet,
+    seat: &mut Pass,
+    word: usize,
+    who: Who,
+    step: &Step,
+) -> u64
     requires named { (N.call.who ≡ who) × (N.call.step ≡ step.now) }
     requires can { CanPlay sheet.now.table_id sheet.now.key N.call seat.old.table_id seat.old.me word }
     ensures same { seat.new.table_id ≡ seat.old.table_id }

@@ -1,6 +1,7 @@
 //! The lines of scripts: each kind as it is read and printed, and what is no line.
 
-use hwp_form::{LineRead, put_form, read_lines};
+use hwp_form::{LineRead, read_lines};
+use hwp_form_print::put_form;
 use std::alloc::Global;
 use std::process::Abort;
 

@@ -50,3 +50,19 @@ output_is_done (calls.Sum seed) left left' status text None ended o = elim o [ ]
 pub output_is_listed : (call : Call) (left left' : Option (List ℕ)) (status n : ℕ) (text : List ℕ) (report : Option Report) (ended : Option EndValue) → IsOutputOf call left left' status text report ended → (n ≡ status) ⊎ (n ≡ 5) → Listed n
 output_is_listed call left left' status n text report ended o (inl whole) = subst Listed (sym whole) (done_is_listed status (output_is_done call left left' status text report ended o))
 output_is_listed call left left' status n text report ended o (inr cut) = subst Listed (sym cut) (5, lit< tt, refl)
+
+-- the statuses of a call that gives one run, by its report or its trace: all of the list but 1, which is a verdict's
+abbrev pub RunStatus : ℕ → Type 0
+RunStatus n = Contains (0 ∷ 2 ∷ 3 ∷ 4 ∷ 5 ∷ 6 ∷ 8 ∷ []) n
+
+pub fault_is_run_status : (n : ℕ) → (n ≡ 3) ⊎ ((n ≡ 4) ⊎ (n ≡ 6)) → RunStatus n
+fault_is_run_status n (inl is) = subst RunStatus (sym is) (2, lit< tt, refl)
+fault_is_run_status n (inr (inl is)) = subst RunStatus (sym is) (3, lit< tt, refl)
+fault_is_run_status n (inr (inr is)) = subst RunStatus (sym is) (5, lit< tt, refl)
+
+pub report_is_run_status : (report : Report) → RunStatus (done_status report)
+report_is_run_status report = by (is_some report.stop)
+  where
+    by : (stopped : Bool) → RunStatus (if stopped then 8 else 0)
+    by true = (6, lit< tt, refl)
+    by false = (0, lit< tt, refl)

@@ -9,11 +9,11 @@ use std::alloc::{AllocError, Global};
 /// The text where the words are no form that is served.
 pub const USAGE: &[u8] = b"usage: hwp step|run|check|gen N|sum N\n";
 /// The text where the source failed.
-pub const READ_FAULT: &[u8] = b"read fault\n";
+pub(crate) const READ_FAULT: &[u8] = b"read fault\n";
 /// The text where the sink failed.
-pub const WRITE_FAULT: &[u8] = b"write fault\n";
+pub(crate) const WRITE_FAULT: &[u8] = b"write fault\n";
 /// The text because memory ran out.
-pub const OUT_OF_MEMORY: &[u8] = b"out of memory\n";
+pub(crate) const OUT_OF_MEMORY: &[u8] = b"out of memory\n";
 
 /// The name of a reason.
 fn name_of(why: Why) -> &'static str
@@ -33,7 +33,7 @@ fn name_of(why: Why) -> &'static str
 }
 
 /// `script line L: WHY`, and a line feed.
-pub fn refusal(alloc: Global, refused: Refused) -> Result<String, AllocError>
+pub(crate) fn refusal(alloc: Global, refused: Refused) -> Result<String, AllocError>
     ensures { IfOk result (λ text. string_bytes text ≡ refusal_text refused) }
 {
     let line = refused.line;

@@ -9,7 +9,7 @@ ghost use Rattle.hwp_top.specs.Top.{Refuses, Reports, done_status};
 use crate::checking::checked;
 use crate::inputs::{InputFault, take_script};
 use crate::served::Call;
-use hwp_core::{Finished, run};
+use hwp_core::{Finished, run_in_turns};
 use hwp_gen::generate;
 use hwp_geom::Text;
 use hwp_io::Source;
@@ -36,7 +36,7 @@ fn report_of<S: Source>(alloc: Global, src: &mut S) -> Result<(Finished, Text), 
     ensures fault { IsErrOf result InputFault.ReadFault → Rose (S.faults src.old) (S.faults src.new) }
 {
     let script = take_script(alloc, src)?;
-    let Ok(run) = run(alloc, &script) else {
+    let Ok(run) = run_in_turns(alloc, &script) else {
         return Err(InputFault::OutOfMemory);
     };
     let Ok(text) = hwp_report::print(alloc, &run.report) else {
@@ -94,7 +94,7 @@ fn summed(alloc: Global, seed: u64) -> Result<Output, InputFault>
     let Ok(script) = generate(alloc, seed) else {
         return Err(InputFault::OutOfMemory);
     };
-    let Ok(run) = run(alloc, &script) else {
+    let Ok(run) = run_in_turns(alloc, &script) else {
         return Err(InputFault::OutOfMemory);
     };
     let Ok(text) = hwp_summary::print(alloc, seed, &summary(&run.report)) else {

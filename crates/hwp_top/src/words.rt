@@ -1,35 +1,9 @@
 //! The words of a command.
-ghost use Rattle.std.specs.Prelude.{◌≡◌, ◌↔◌, ℕ, [], ◌∷◌, map, string_bytes, IfSome, IfNone, IsTrue};
-ghost use Rattle.hwp_form.specs.Numbers.{IsNumber};
+ghost use Rattle.std.specs.Prelude.{[], ◌∷◌, map, string_bytes, IfSome, IfNone};
 ghost use Rattle.hwp_top.specs.Calls.{IsCall, IsNoCall};
 
 use crate::served::Call;
-use itoa::Buffer;
-
-/// Whether a word has this text.
-fn is_text(word: &[u8], text: &str) -> bool
-    ensures { IsTrue result ↔ (word.now ≡ text.now) }
-{
-    word == text.as_bytes()
-}
-
-/// The number that a word is: `0` or decimal digits without a leading zero, below 2^64.
-fn read_number(word: &[u8]) -> Option<u64>
-    ensures some { IfSome result (IsNumber word.now) }
-    ensures none { IfNone result ((n : ℕ) → IsNumber word.now n → ⊥) }
-{
-    let Ok(text) = str::from_utf8(word) else {
-        return None;
-    };
-    let Ok(number) = text.parse::<u64>() else {
-        return None;
-    };
-    if Buffer::new().format(number) == text {
-        Some(number)
-    } else {
-        None
-    }
-}
+use hwp_form::{is_text, read_number};
 
 /// The call that one word is.
 fn call_alone(word: &[u8]) -> Option<Call>

@@ -1,27 +1,12 @@
 -- The statuses of the top call for runs on threads are those of its list.
-use Rattle.std.specs.Prelude.{◌≡◌, ℕ, List, [], ◌∷◌, Contains, Bool, true, false, if◌then◌else◌, is_some, ◌⊎◌, Option, Some, None}
+use Rattle.std.specs.Prelude.{◌≡◌, ℕ, List, ◌⊎◌, Option, Some, None}
 use Rattle.std.proofs.Common.{lit<, refl, subst, sym, inl, inr}
 use Rattle.hwp_report.specs.declared.Report.{Report}
 use Rattle.hwp_table.specs.Ends.{EndValue}
 use Rattle.hwp_top.specs.Outputs.{HasRun}
-use Rattle.hwp_top.specs.Top.{IsDone, done_status}
-use Rattle.hwp_top.proofs.Statuses.{report_is_done}
+use Rattle.hwp_top.specs.Top.{IsDone}
+use Rattle.hwp_top.proofs.Statuses.{RunStatus, report_is_done, report_is_run_status}
 use Rattle.hwp_top_run.specs.Top.{IsThreaded}
-
-abbrev Listed : ℕ → Type 0
-Listed n = Contains (0 ∷ 2 ∷ 3 ∷ 4 ∷ 5 ∷ 6 ∷ 8 ∷ []) n
-
-pub fault-listed : (n : ℕ) → (n ≡ 3) ⊎ ((n ≡ 4) ⊎ (n ≡ 6)) → Listed n
-fault-listed n (inl is) = subst Listed (sym is) (2, lit< tt, refl)
-fault-listed n (inr (inl is)) = subst Listed (sym is) (3, lit< tt, refl)
-fault-listed n (inr (inr is)) = subst Listed (sym is) (5, lit< tt, refl)
-
-report-listed : (report : Report) → Listed (done_status report)
-report-listed report = by (is_some report.stop)
-  where
-    by : (stopped : Bool) → Listed (if stopped then 8 else 0)
-    by true = (6, lit< tt, refl)
-    by false = (0, lit< tt, refl)
 
 module _ (left left' : Option (List ℕ)) (status : ℕ) (text : List ℕ) where
   -- the output of `run` has the status of a report that is written
@@ -31,8 +16,8 @@ module _ (left left' : Option (List ℕ)) (status : ℕ) (text : List ℕ) where
   output-done None ended o = elim o [ ]
 
   -- and where it is written, whole or in part, the call ends with a status of the list
-  pub output-listed : (report : Option Report) (ended : Option EndValue) (n : ℕ) → HasRun report ended (IsThreaded left left' status text) → (n ≡ status) ⊎ (n ≡ 5) → Listed n
-  output-listed (Some report) (Some ended) n o (inl whole) = subst Listed (sym whole) (subst Listed (sym o.status_is) (report-listed report))
+  pub output-listed : (report : Option Report) (ended : Option EndValue) (n : ℕ) → HasRun report ended (IsThreaded left left' status text) → (n ≡ status) ⊎ (n ≡ 5) → RunStatus n
+  output-listed (Some report) (Some ended) n o (inl whole) = subst RunStatus (sym whole) (subst RunStatus (sym o.status_is) (report_is_run_status report))
   output-listed (Some report) None n o (inl whole) = elim o [ ]
   output-listed None ended n o (inl whole) = elim o [ ]
-  output-listed report ended n o (inr cut) = subst Listed (sym cut) (4, lit< tt, refl)
+  output-listed report ended n o (inr cut) = subst RunStatus (sym cut) (4, lit< tt, refl)

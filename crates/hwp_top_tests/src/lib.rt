@@ -1,5 +1,4 @@
-//! Tests of the top call: refusals, faults of the source and the sink, races under every order of turns, reports that are judged,
-//! and scripts made from a seed.
+//! Tests of the top call: refusals, faults of the source and the sink, reports that are judged, and scripts made from a seed.
 #![tactic(auto)]
 
 #[cfg(test)]
@@ -9,10 +8,6 @@ mod checking;
 #[cfg(test)]
 mod helpers;
 #[cfg(test)]
-mod judging;
-#[cfg(test)]
 mod many;
-#[cfg(test)]
-mod meetings;
 #[cfg(test)]
 mod seeds;

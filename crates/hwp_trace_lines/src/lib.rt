@@ -1,7 +1,6 @@
 //! The lines of a trace: one for each turn of a run that made a step, and their one text.
 #![tactic(auto)]
 
-mod kinds;
 mod line;
 mod printing;
 mod values;

@@ -4,10 +4,10 @@ ghost use Rattle.hwp_form.specs.Kinds.{kind_text};
 ghost use Rattle.hwp_geom.specs.Words.{line};
 ghost use Rattle.hwp_trace_lines.specs.Text.{change_words, place_words, spaced, trace_text, turn_line, turn_word};
 
-use crate::kinds::kind_word;
 use crate::line::TraceLine;
 use crate::values::put_value;
 use crate::words::{put_named, put_word};
+use hwp_form::kind_name;
 use hwp_geom::{Kind, OutOfMemory, Text, Who};
 use hwp_rule::Place;
 use hwp_step::Turn;
@@ -48,7 +48,7 @@ fn put_head(out: &mut String, number: usize, who: Who, kind: Kind) -> Result<(),
     ensures { OnOk result (string_bytes out.new ≡ string_bytes out.old
         ++ spaced (decimal number ∷ decimal who.cpu.0 ∷ decimal who.seq ∷ kind_text kind ∷ [])) }
 {
-    let kind = kind_word(kind);
+    let kind = kind_name(kind);
     write!(out, "{number} {} {} {kind} ", who.cpu.0, who.seq)
 }
 

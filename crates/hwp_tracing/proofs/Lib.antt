@@ -1,4 +1,3 @@
 mod StepKinds
 mod Telling
 mod ToldTurns
-mod Reports

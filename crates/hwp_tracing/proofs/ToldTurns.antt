@@ -6,9 +6,10 @@ use Rattle.hwp_plain.specs.Boards.{Board}
 use Rattle.hwp_script.specs.declared.Script.{Script}
 use Rattle.hwp_sched.specs.Order.{logged}
 use Rattle.hwp_report.specs.declared.Report.{Report}
+use Rattle.hwp_core.specs.Runs.{IsReportOf}
 use Rattle.hwp_trace_lines.specs.declared.TraceLine.{TraceLine}
 use Rattle.hwp_tracing.specs.Traced.{AreTold, Tells}
-use Rattle.hwp_tracing.specs.Traces.{IsReportOf, IsTrace}
+use Rattle.hwp_tracing.specs.Traces.{IsTrace}
 
 -- the lines of a log that has these turns more: those of before, and one for each of the turns
 record Split (turns log : List Played) (lines : List TraceLine) : Type 0 where
@@ -38,14 +39,12 @@ all-told turns lines told =
     subst (Pairs Tells turns) (sym (parts.all ∙ ap (λ (ls : List TraceLine). ls ++ parts.later) parts.were)) parts.are
 
 -- the lines of a log are the trace of its run
-pub traced : (script : Script) (was now : Board) (report : Report) (lines : List TraceLine) → now ≡ was → AreTold was.log lines
-    → ((turns : List Played) × (now.log ≡ logged turns []) × IsReportOf script turns report) → IsTrace script report lines
-traced script was now report lines same told is =
-    let of = is.2 in
-    let log-is : was.log ≡ logged is.0 [] = ap (λ (b : Board). b.log) (sym same) ∙ is.1 in
+pub traced : (script : Script) (was now : Board) (report : Report) (lines : List TraceLine) → now ≡ was → AreTold was.log lines → IsReportOf script now.log report → IsTrace script report lines
+traced script was now report lines same told of =
+    let log-is : was.log ≡ logged of.core.run.turns [] = ap (λ (b : Board). b.log) (sym same) ∙ of.log_is in
     record {
       run = of.run;
       lawful = of.lawful;
       core = of.core;
-      told = subst (λ (turns : List Played). Pairs Tells turns lines) (sym of.turns_are) (all-told is.0 lines (subst (λ (log : List Played). AreTold log lines) log-is told));
+      told = all-told of.core.run.turns lines (subst (λ (log : List Played). AreTold log lines) log-is told);
     }

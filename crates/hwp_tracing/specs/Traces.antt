@@ -1,7 +1,6 @@
 -- The lines of a script's run, and its report.
-use Rattle.std.specs.Prelude.{◌≡◌, List}
+use Rattle.std.specs.Prelude.{List}
 use Rattle.hwp_geom.specs.Pairs.{Pairs}
-use Rattle.hwp_step.specs.Boards.{Played}
 use Rattle.hwp_script.specs.declared.Script.{Script}
 use Rattle.hwp_report.specs.declared.Report.{Report}
 use Rattle.hwp_law.specs.Law.{IsLawful}
@@ -9,13 +8,6 @@ use Rattle.hwp_law.specs.Runs.{IsOfRun}
 use Rattle.hwp_core.specs.Runs.{IsCoreRun}
 use Rattle.hwp_trace_lines.specs.declared.TraceLine.{TraceLine}
 use Rattle.hwp_tracing.specs.Traced.{Tells}
-
--- the report is of the run that the script's processors made by these turns
-pub record IsReportOf (script : Script) (turns : List Played) (report : Report) : Type 0 where
-  pub run : IsOfRun script report
-  pub lawful : IsLawful script report
-  pub core : IsCoreRun script report
-  pub turns_are : core.run.turns ≡ turns
 
 -- The script's processors made turns in the order of its schedule, from their beginning to the end of their run. The report is of
 -- this run, and lawful; and the lines tell its turns: one for each and no others, in their order.

@@ -14,7 +14,7 @@ use std::mem;
 
 /// A plain board with a line for each of its moves, in their order, unless memory for one was refused.
 #[derive(Drop)]
-pub struct TracedBoard {
+pub(crate) struct TracedBoard {
     board: PlainBoard,
     lines: Option<List<TraceLine>>,
 }
@@ -35,7 +35,7 @@ impl Model for TracedBoard {
 
 impl TracedBoard {
     /// The board of a sound layout at opening, with no lines.
-    pub fn new(alloc: Global, layout: &Layout) -> Result<TracedBoard, OutOfMemory>
+    pub(crate) fn new(alloc: Global, layout: &Layout) -> Result<TracedBoard, OutOfMemory>
         requires sound { IsSound layout.now }
         ensures layout { IfOk result (λ b. b.board.layout ≡ layout.now) }
         ensures state { IfOk result (λ b. b.board.state ≡ opening layout.now) }
@@ -52,7 +52,7 @@ impl TracedBoard {
     ///
     /// # Errors
     /// `OutOfMemory` where memory for a line was refused.
-    pub fn into_parts(self) -> Result<(PlainBoard, List<TraceLine>), OutOfMemory>
+    pub(crate) fn into_parts(self) -> Result<(PlainBoard, List<TraceLine>), OutOfMemory>
         ensures board { IfOk result (λ parts. parts.0 ≡ self.board) }
         ensures lines { IfOk result (λ parts. AreTold self.board.log parts.1) }
     {

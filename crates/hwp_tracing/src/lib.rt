@@ -5,5 +5,4 @@ mod board;
 mod notes;
 mod tracing;
 
-pub use board::TracedBoard;
 pub use tracing::{Watched, trace};

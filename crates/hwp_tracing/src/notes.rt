@@ -13,8 +13,11 @@ use hwp_trace_lines::TraceLine;
 /// What a task is about to touch, and the word that stands there.
 #[derive(Clone, Copy)]
 pub(crate) struct Sight {
+    /// The command whose turn it is.
     pub who: Who,
+    /// The word that its step is about to touch.
     pub place: Place,
+    /// What stands there.
     pub before: u64,
 }
 

@@ -1,15 +1,10 @@
-ghost use Rattle.std.specs.Prelude.{◌≡◌, List as Items, [], IfOk};
-ghost use Rattle.hwp_step.specs.Boards.{Played};
+ghost use Rattle.std.specs.Prelude.{IfOk};
 ghost use Rattle.hwp_script.specs.Valid.{IsValid};
-ghost use Rattle.hwp_sched.specs.Order.{logged};
-ghost use Rattle.hwp_core.specs.Runs.{IsPlayed};
-ghost use Rattle.hwp_tracing.specs.Traces.{IsReportOf, IsTrace};
+ghost use Rattle.hwp_tracing.specs.Traces.{IsTrace};
 
 use crate::board::TracedBoard;
-use hwp_core::{Rows, play};
+use hwp_core::{play, report_of};
 use hwp_geom::{List, OutOfMemory};
-use hwp_outcome::report;
-use hwp_plain::PlainBoard;
 use hwp_report::Report;
 use hwp_script::Script;
 use hwp_trace_lines::TraceLine;
@@ -20,31 +15,6 @@ use std::alloc::Global;
 pub struct Watched {
     pub report: Report,
     pub lines: List<TraceLine>,
-}
-
-/// The report of a run that was made on a plain board.
-fn report_of(
-    alloc: Global,
-    script: &Script,
-    board: PlainBoard,
-    rows: &Rows,
-) -> Result<Report, OutOfMemory>
-    requires valid { IsValid script.now }
-    requires layout { board.layout ≡ script.now.layout }
-    requires played { IsPlayed script.now board.log board.state rows.now }
-    ensures { IfOk result (λ report. (turns : Items Played) × (board.log ≡ logged turns []) × IsReportOf script.now turns report) }
-{
-    let words = Vec::from_slice(alloc, board.words())?;
-    let pages = board.histories(alloc)?;
-    let lists = script.lists.as_slice();
-    report(
-        alloc,
-        &script.layout,
-        words.as_slice(),
-        pages,
-        lists,
-        rows.as_slice(),
-    )
 }
 
 /// The run of a script, watched: its processors make their turns in the order of the schedule, and then in the finishing order,

@@ -6,11 +6,11 @@ use hwp_geom::Page;
 pub const LOCK: u64 = 1;
 /// Bit 1 of a frame word (Linux PG_hwpoison).
 pub const POISON: u64 = 2;
-/// Bit 2 of a frame word.
+/// Bit 2 of a frame word (this project's rule).
 pub const HANDLED: u64 = 4;
-/// Bit 3 of a frame word.
+/// Bit 3 of a frame word (this project's rule).
 pub const KERNEL: u64 = 8;
-/// One reference in a frame word: the lowest bit of its count.
+/// One reference in a frame word: the lowest bit of its count (this project's rule).
 pub const REFERENCE: u64 = 16;
 
 /// The word of a frame. The fields stand from bit 0 up (this project's rule; the notions are those of Linux's

@@ -15,7 +15,7 @@ pub fn frame_name(frame: Option<Frame>) -> u64
 }
 
 /// The number of a page plus 1, or 0 for none.
-pub fn page_name(page: Option<Page>) -> u64
+pub(crate) fn page_name(page: Option<Page>) -> u64
     ensures value { result ≡ page_name page }
     ensures below { result ≤ 2 ^ 16 }
 {
@@ -26,7 +26,7 @@ pub fn page_name(page: Option<Page>) -> u64
 }
 
 /// The number of a processor plus 1, or 0 for none.
-pub fn cpu_name(cpu: Option<Cpu>) -> u64
+pub(crate) fn cpu_name(cpu: Option<Cpu>) -> u64
     ensures value { result ≡ cpu_name cpu }
     ensures below { result ≤ 2 ^ 8 }
 {
@@ -57,7 +57,7 @@ pub fn page_named(name: u64) -> Option<Page>
 }
 
 /// The processor that a number names. Numbers of processors have 8 bits; a greater one counts modulo 2^8.
-pub fn cpu_named(name: u64) -> Option<Cpu>
+pub(crate) fn cpu_named(name: u64) -> Option<Cpu>
     ensures { result ≡ cpu_named name }
 {
     if name == 0 {

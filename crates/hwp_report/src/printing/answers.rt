@@ -1,14 +1,15 @@
-ghost use Rattle.std.specs.Prelude.{◌≡◌, ◌∷◌, [], ◌++◌, OnOk, string_bytes, decimal, map};
+ghost use Rattle.std.specs.Prelude.{◌≡◌, ◌∷◌, [], ◌++◌, OnOk, string_bytes, codes, decimal, map};
 ghost use Rattle.std.specs.List.{flat_map};
-ghost use Rattle.hwp_geom.specs.Words.{line};
+ghost use Rattle.hwp_geom.specs.Words.{line, hex};
 ghost use Rattle.hwp_report.specs.Text.{answer_words, cpu_line_words, placed};
 
 use super::terms::acted_word;
 use crate::lines::{Answer, CpuLine};
-use hwp_geom::OutOfMemory;
+use hwp_geom::{Frame, Mask, OutOfMemory};
 use hwp_page::At;
 
-pub fn put_cpu_lines(out: &mut String, lines: &[CpuLine]) -> Result<(), OutOfMemory>
+/// The lines below a processor.
+pub(crate) fn put_cpu_lines(out: &mut String, lines: &[CpuLine]) -> Result<(), OutOfMemory>
     ensures { OnOk result (string_bytes out.new ≡ string_bytes out.old ++ flat_map line (map cpu_line_words lines.now)) }
 {
     for item in lines {
@@ -44,11 +45,7 @@ fn put_answer(out: &mut String, seq: u32, answer: Answer) -> Result<(), OutOfMem
     ensures { OnOk result (string_bytes out.new ≡ string_bytes out.old ++ line (decimal seq ∷ answer_words answer)) }
 {
     match answer {
-        Answer::Value { word, at } => writeln!(
-            out,
-            "{seq} value {word} {} {}",
-            at.page.0, at.entry
-        ),
+        Answer::Value { word, at } => put_value(out, seq, word, at),
         Answer::Stored(at) => put_place(out, seq, "stored", at),
         Answer::Sigbus(at) => put_place(out, seq, "sigbus", at),
         Answer::Gone(page) => put_number(out, seq, "gone", u64::from(page.0)),
@@ -60,11 +57,7 @@ fn put_answer(out: &mut String, seq: u32, answer: Answer) -> Result<(), OutOfMem
         Answer::NotMapped(at) => put_place(out, seq, "notmapped", at),
         Answer::Dirty(at) => put_place(out, seq, "dirty", at),
         Answer::Mapped(at) => put_place(out, seq, "mapped", at),
-        Answer::BadLines(mask, at) => writeln!(
-            out,
-            "{seq} badlines {:x} {} {}",
-            mask.0, at.page.0, at.entry
-        ),
+        Answer::BadLines(mask, at) => put_bad_lines(out, seq, mask, at),
         Answer::Eio(lost) => put_number(out, seq, "eio", lost),
         Answer::Is(policy) => put_number(out, seq, "is", policy),
         Answer::Einval => put_word(out, seq, "einval"),
@@ -72,11 +65,7 @@ fn put_answer(out: &mut String, seq: u32, answer: Answer) -> Result<(), OutOfMem
         Answer::Delayed => put_word(out, seq, "delayed"),
         Answer::Ignored => put_word(out, seq, "ignored"),
         Answer::Already => put_word(out, seq, "already"),
-        Answer::Moved(frame, at) => writeln!(
-            out,
-            "{seq} moved {} {} {}",
-            frame.0, at.page.0, at.entry
-        ),
+        Answer::Moved(frame, at) => put_moved(out, seq, frame, at),
         Answer::TakenFree => put_word(out, seq, "takenfree"),
         Answer::Kernel => put_word(out, seq, "kernel"),
         Answer::HasBad(mask) => writeln!(out, "{seq} hasbad {:x}", mask.0),
@@ -104,4 +93,29 @@ fn put_place(out: &mut String, seq: u32, word: &str, at: At) -> Result<(), OutOf
     ensures { OnOk result (string_bytes out.new ≡ string_bytes out.old ++ line (decimal seq ∷ placed word.now at)) }
 {
     writeln!(out, "{seq} {word} {} {}", at.page.0, at.entry)
+}
+
+fn put_value(out: &mut String, seq: u32, word: u64, at: At) -> Result<(), OutOfMemory>
+    ensures { OnOk result (string_bytes out.new ≡ string_bytes out.old
+        ++ line (decimal seq ∷ codes "value" ∷ decimal word ∷ decimal at.page.0 ∷ decimal at.entry ∷ [])) }
+{
+    writeln!(out, "{seq} value {word} {} {}", at.page.0, at.entry)
+}
+
+fn put_bad_lines(out: &mut String, seq: u32, mask: Mask, at: At) -> Result<(), OutOfMemory>
+    ensures { OnOk result (string_bytes out.new ≡ string_bytes out.old
+        ++ line (decimal seq ∷ codes "badlines" ∷ hex mask.0 ∷ decimal at.page.0 ∷ decimal at.entry ∷ [])) }
+{
+    writeln!(
+        out,
+        "{seq} badlines {:x} {} {}",
+        mask.0, at.page.0, at.entry
+    )
+}
+
+fn put_moved(out: &mut String, seq: u32, frame: Frame, at: At) -> Result<(), OutOfMemory>
+    ensures { OnOk result (string_bytes out.new ≡ string_bytes out.old
+        ++ line (decimal seq ∷ codes "moved" ∷ decimal frame.0 ∷ decimal at.page.0 ∷ decimal at.entry ∷ [])) }
+{
+    writeln!(out, "{seq} moved {} {} {}", frame.0, at.page.0, at.entry)
 }

@@ -1,15 +1,16 @@
-ghost use Rattle.std.specs.Prelude.{◌≡◌, ◌∷◌, [], ◌++◌, OnOk, length, string_bytes, codes, decimal, map};
+ghost use Rattle.std.specs.Prelude.{◌≡◌, ◌∷◌, [], ◌++◌, OnOk, string_bytes, codes, decimal, map};
 ghost use Rattle.std.specs.List.{flat_map};
 ghost use Rattle.hwp_geom.specs.Words.{line, hex};
 ghost use Rattle.hwp_report.specs.Terms.{situation_word as situation_text};
-ghost use Rattle.hwp_report.specs.Text.{entry_lines, entry_words, met_words, required_words, seen_words, signal_words, verb_words};
+ghost use Rattle.hwp_report.specs.Text.{entry_lines, met_words, required_words, seen_words, signal_words, verb_words};
 
 use super::terms::{code_word, policy_word, situation_word};
 use hwp_geom::{Line, Mask, OutOfMemory, Thread, VSlot, Who};
 use hwp_kill::{Seen, Signal};
 use hwp_page::{Entry, Met, Situation, What};
 
-pub fn put_entries(out: &mut String, entries: &[Entry]) -> Result<(), OutOfMemory>
+/// The lines below a page.
+pub(crate) fn put_entries(out: &mut String, entries: &[Entry]) -> Result<(), OutOfMemory>
     ensures { OnOk result (string_bytes out.new ≡ string_bytes out.old ++ flat_map line (flat_map entry_lines entries.now)) }
 {
     for entry in entries {

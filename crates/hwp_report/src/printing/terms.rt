@@ -6,13 +6,15 @@ use hwp_geom::Mode;
 use hwp_kill::{Code, Policy};
 use hwp_page::{Outcome, Situation};
 
-pub fn bit(set: bool) -> u8
-    ensures { result ≡ terms.bit_word set }
+/// The number of a yes or no.
+pub(crate) fn flag_number(set: bool) -> u8
+    ensures { result ≡ terms.flag_number set }
 {
     if set { 1 } else { 0 }
 }
 
-pub fn mode_word(mode: Mode) -> &'static str
+/// The word of a mode.
+pub(crate) fn mode_word(mode: Mode) -> &'static str
     ensures { result.now ≡ terms.mode_word mode }
 {
     match mode {
@@ -21,7 +23,8 @@ pub fn mode_word(mode: Mode) -> &'static str
     }
 }
 
-pub fn policy_word(policy: Policy) -> &'static str
+/// The word of a policy.
+pub(crate) fn policy_word(policy: Policy) -> &'static str
     ensures { result.now ≡ terms.policy_word policy }
 {
     match policy {
@@ -31,7 +34,8 @@ pub fn policy_word(policy: Policy) -> &'static str
     }
 }
 
-pub fn code_word(code: Code) -> &'static str
+/// The word of a signal's code.
+pub(crate) fn code_word(code: Code) -> &'static str
     ensures { result.now ≡ terms.code_word code }
 {
     match code {
@@ -40,7 +44,8 @@ pub fn code_word(code: Code) -> &'static str
     }
 }
 
-pub fn situation_word(situation: Situation) -> &'static str
+/// The word of a situation.
+pub(crate) fn situation_word(situation: Situation) -> &'static str
     ensures { result.now ≡ terms.situation_word situation }
 {
     match situation {
@@ -54,7 +59,8 @@ pub fn situation_word(situation: Situation) -> &'static str
     }
 }
 
-pub fn outcome_word(outcome: Outcome) -> &'static str
+/// The word of what came of a memory failure.
+pub(crate) fn outcome_word(outcome: Outcome) -> &'static str
     ensures { result.now ≡ terms.outcome_word outcome }
 {
     match outcome {
@@ -64,13 +70,15 @@ pub fn outcome_word(outcome: Outcome) -> &'static str
     }
 }
 
-pub fn cause_word(hardware: bool) -> &'static str
-    ensures { result.now ≡ terms.cause_word hardware }
+/// The word of what a memory failure came from: a bank's event, or a command.
+pub(crate) fn origin_word(hardware: bool) -> &'static str
+    ensures { result.now ≡ terms.origin_word hardware }
 {
     if hardware { "hw" } else { "sw" }
 }
 
-pub fn acted_word(acted: Acted) -> &'static str
+/// The word of what was done about an event.
+pub(crate) fn acted_word(acted: Acted) -> &'static str
     ensures { result.now ≡ terms.acted_word acted }
 {
     match acted {

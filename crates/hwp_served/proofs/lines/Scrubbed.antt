@@ -35,7 +35,7 @@ use Rattle.hwp_scrub.specs.Visits.{AreVisits, IsBadMet, IsLowest, IsVisit, IsWea
 use Rattle.hwp_served.specs.Causes.{HasSpoiledLine, IsAnswerCaused}
 use Rattle.hwp_served.specs.Served.{spoiling}
 use Rattle.hwp_served.specs.Told.{IsCutShort, IsScrubTold, IsUntold}
-use Rattle.hwp_served.proofs.Checks.{HasResult, check-so, each-first, each-second, lines-so}
+use Rattle.hwp_served.proofs.lines.Checks.{HasResult, check-so, each-first, each-second, lines-so}
 use Rattle.hwp_served.proofs.Ending.{IsEnd, IsOf, command-of, served-of}
 use Rattle.hwp_served.proofs.RowLines.{answer-told, event_at}
 use Rattle.hwp_served.proofs.lines.SpoiledLines.{seen-after, spoil-shown}

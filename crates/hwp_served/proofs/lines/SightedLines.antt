@@ -30,7 +30,7 @@ use Rattle.hwp_rule.proofs.NotLater.{not-later}
 use Rattle.hwp_rule.proofs.WordsByKind.{words-read}
 use Rattle.hwp_served.proofs.Adding.{OneMore, adds-by}
 use Rattle.hwp_served.proofs.Along.{IsKept}
-use Rattle.hwp_served.proofs.Spoils.{spoils-by}
+use Rattle.hwp_served.proofs.lines.Spoils.{spoils-by}
 
 -- the words of bad lines, or of weak ones
 abbrev pub words_at : Damage → Words → List ℕ

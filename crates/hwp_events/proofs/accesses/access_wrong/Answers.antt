@@ -1,8 +1,8 @@
 use Rattle.std.proofs.Common.{rules, arith, Option, map}
 use Rattle.hwp_banks.specs.declared.Event.{Event}
-use Rattle.hwp_events.specs.Accesses.{IsAccessLine}
-use Rattle.hwp_events.specs.Told.{access_by, coming, told}
-use Rattle.hwp_events.proofs.Scanning.{right-all, right-next-by}
+use Rattle.hwp_events.specs.Accesses.{IsAccessLine, access_by}
+use Rattle.hwp_event_lines.specs.Told.{coming, told}
+use Rattle.hwp_event_lines.proofs.Scanning.{right-all, right-next-by}
 use Rattle.hwp_events.proofs.accesses.access_wrong.Goals as goal
 
 pub loop-number-preserved : goal.loop-number-preserved

@@ -1,7 +1,7 @@
 use Rattle.std.proofs.Common.{◌≤◌, map}
-use Rattle.hwp_events.specs.Accesses.{IsAccessLine}
-use Rattle.hwp_events.specs.Firsts.{AreRightTo}
-use Rattle.hwp_events.specs.Told.{access_by, coming, told}
+use Rattle.hwp_events.specs.Accesses.{IsAccessLine, access_by}
+use Rattle.hwp_event_lines.specs.Firsts.{AreRightTo}
+use Rattle.hwp_event_lines.specs.Told.{coming, told}
 use Rattle.hwp_events.proofs.accesses.access_wrong.Given as goal
 
 abbrev pub invariant-loop-number : goal.invariant-loop-number

@@ -1,6 +1,6 @@
 use Rattle.std.proofs.Common.{IsTrue, ap, ◌∙◌}
-use Rattle.hwp_events.specs.Found.{beside}
-use Rattle.hwp_events.specs.Told.{coming, told}
+use Rattle.hwp_event_lines.specs.Found.{beside}
+use Rattle.hwp_event_lines.specs.Told.{coming, told}
 use Rattle.hwp_events.proofs.OwnLaws.{own_is}
 use Rattle.hwp_events.proofs.accesses.is_own_line.Goals as goal
 

@@ -1,5 +1,5 @@
 use Rattle.std.proofs.Common.{rules}
-use Rattle.hwp_events.proofs.Scanning.{some-wrong}
+use Rattle.hwp_event_lines.proofs.Scanning.{some-wrong}
 use Rattle.hwp_events.proofs.faults.any.Goals as goal
 
 pub returns-else-is_empty : goal.returns-else-is_empty

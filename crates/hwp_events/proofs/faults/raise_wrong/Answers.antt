@@ -1,5 +1,5 @@
 use Rattle.std.proofs.Common.{rules}
-use Rattle.hwp_events.specs.Told.{coming}
+use Rattle.hwp_event_lines.specs.Told.{coming}
 use Rattle.hwp_events.proofs.RaiseLaws.{second-wrong}
 use Rattle.hwp_events.proofs.faults.raise_wrong.Goals as goal
 

@@ -1,19 +1,21 @@
 use Rattle.std.proofs.Common.{map}
-use Rattle.hwp_events.specs.Told.{coming, told}
-use Rattle.hwp_events.proofs.JudgeLaws.{kload-judged, load-judged, scrubbed-judged, store-judged}
+use Rattle.hwp_event_lines.specs.Told.{coming, told}
+use Rattle.hwp_events.proofs.JudgeLaws.{accessed-judged, scrubbed-judged}
 use Rattle.hwp_events.proofs.judge.command_faults.Goals as goal
+use Rattle.hwp_events.proofs.judge.command_faults.Goals.{in-Load, in-Load-2, in-Load-3}
 
 pub returns-in-Load : goal.returns-in-Load
-returns-in-Load c =
-    load-judged c.args.script.now c.args.report.now c.args.who c.args.command.now c.args.raw.now c.judge_access.new.raw (map told c.args.lines.now) c.judge_access.result (coming c.arrival_of-how.result) c.arrival_of-how.ensures c.in-Load.thread c.in-Load.slot c.in-Load.line c.in-Load.is c.judge_access.ensures
-
-pub returns-in-KLoad : goal.returns-in-KLoad
-returns-in-KLoad c =
-    kload-judged c.args.script.now c.args.report.now c.args.who c.args.command.now c.args.raw.now c.judge_access-in-KLoad.new.raw (map told c.args.lines.now) c.judge_access-in-KLoad.result (coming c.arrival_of-how.result) c.arrival_of-how.ensures c.in-KLoad.thread c.in-KLoad.slot c.in-KLoad.line c.in-KLoad.is c.judge_access-in-KLoad.ensures
-
-pub returns-in-Store : goal.returns-in-Store
-returns-in-Store c =
-    store-judged c.args.script.now c.args.report.now c.args.who c.args.command.now c.args.raw.now c.judge_access-in-Store.new.raw (map told c.args.lines.now) c.judge_access-in-Store.result (coming c.arrival_of-how.result) c.arrival_of-how.ensures c.in-Store.thread c.in-Store.slot c.in-Store.line c.in-Store.word c.in-Store.is c.judge_access-in-Store.ensures
+returns-in-Load c = elim c.in-Load-1.branch [
+  | in-Load w ↦
+      accessed-judged c.args.script.now c.args.report.now c.args.who c.args.command.now c.args.raw.now c.judge_access-in-Load.new.raw (map told c.args.lines.now) c.judge_access-in-Load.result (coming c.arrival_of-how.result) c.arrival_of-how.ensures w.in-Load.line w.in-Load.is
+      (rw w.line-is at c.judge_access-in-Load.ensures)
+  | in-Load-2 w ↦
+      accessed-judged c.args.script.now c.args.report.now c.args.who c.args.command.now c.args.raw.now c.judge_access-in-Load.new.raw (map told c.args.lines.now) c.judge_access-in-Load.result (coming c.arrival_of-how.result) c.arrival_of-how.ensures w.in-Load.line w.in-Load.is
+      (rw w.line-is at c.judge_access-in-Load.ensures)
+  | in-Load-3 w ↦
+      accessed-judged c.args.script.now c.args.report.now c.args.who c.args.command.now c.args.raw.now c.judge_access-in-Load.new.raw (map told c.args.lines.now) c.judge_access-in-Load.result (coming c.arrival_of-how.result) c.arrival_of-how.ensures w.in-Load.line w.in-Load.is
+      (rw w.line-is at c.judge_access-in-Load.ensures)
+]
 
 pub returns-in-Scrub : goal.returns-in-Scrub
 returns-in-Scrub c =

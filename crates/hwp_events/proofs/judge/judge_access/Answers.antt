@@ -1,5 +1,5 @@
 use Rattle.std.proofs.Common.{◌∙◌, refl}
-use Rattle.hwp_events.specs.Told.{coming}
+use Rattle.hwp_event_lines.specs.Told.{coming}
 use Rattle.hwp_events.proofs.JudgeLaws.{access-judged}
 use Rattle.hwp_events.proofs.judge.judge_access.Goals as goal
 

@@ -1,6 +1,6 @@
 use Rattle.std.proofs.Common.{◌∙◌, ap, refl}
 use Rattle.hwp_events.specs.Misfits.{is_scrubbed}
-use Rattle.hwp_events.specs.Told.{coming}
+use Rattle.hwp_event_lines.specs.Told.{coming}
 use Rattle.hwp_events.proofs.JudgeLaws.{scrub-judged}
 use Rattle.hwp_events.proofs.judge.judge_scrub.Goals as goal
 

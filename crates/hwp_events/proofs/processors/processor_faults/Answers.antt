@@ -1,9 +1,12 @@
-use Rattle.std.proofs.Common.{List, length, subst}
+use Rattle.std.proofs.Common.{rules, List, length, subst}
 use Rattle.hwp_report.specs.declared.CpuLine.{CpuLine}
 use Rattle.hwp_report.specs.declared.Report.{Report}
 use Rattle.hwp_events.specs.Walked.{IsWalked}
-use Rattle.hwp_events.proofs.Verdicts.{processor-judged}
+use Rattle.hwp_events.proofs.Verdicts.{empty-table, processor-judged}
 use Rattle.hwp_events.proofs.processors.processor_faults.Goals as goal
+
+pub walk-requires-clause-empty : goal.walk-requires-clause-empty
+walk-requires-clause-empty c = empty-table c.resize.new.self.items (search rules)
 
 pub returns : goal.returns
 returns c =

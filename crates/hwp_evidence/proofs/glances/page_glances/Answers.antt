@@ -1,4 +1,4 @@
-use Rattle.std.proofs.Common.{[], ◌∷◌, ◌++◌}
+use Rattle.std.proofs.Common.{[]}
 use Rattle.hwp_page.specs.Step.{after, opening_of}
 use Rattle.hwp_evidence.specs.Glances.{glance_of, glances_from}
 use Rattle.hwp_evidence.proofs.GlanceLaws.{begins, goes-on-at, last-pushed}

@@ -2,8 +2,8 @@ use Rattle.std.proofs.Common.{ℕ, sym, subst}
 use Rattle.hwp_geom.specs.declared.Cpu.{Cpu}
 use Rattle.hwp_geom.specs.declared.Who.{Who}
 use Rattle.hwp_rule.specs.declared.View.{View}
-use Rattle.hwp_hold.specs.declared.Take.{Take}
-use Rattle.hwp_hold.specs.Takes.{Fits, begin}
+use Rattle.hwp_fill.specs.declared.Take.{Take}
+use Rattle.hwp_fill.specs.Takes.{Fits, begin}
 use Rattle.hwp_step.specs.Boards.{view_of}
 use Rattle.hwp_model_tests.proofs.Beginning.{take-open}
 use Rattle.hwp_model_tests.proofs.turns.taking.Goals as goal

@@ -1,5 +1,6 @@
 use Rattle.std.proofs.Common.{◌∙◌, sym, ap, drop}
-use Rattle.hwp_report_lines.proofs.NoLines.{no_frame, rest_of}
+use Rattle.hwp_report_words.proofs.Rests.{rest_of}
+use Rattle.hwp_report_lines.proofs.NoLines.{no_frame}
 use Rattle.hwp_report_lines.proofs.frames.read_frame.Goals as goal
 
 pub returns-in_default-read_standing : goal.returns-in_default-read_standing

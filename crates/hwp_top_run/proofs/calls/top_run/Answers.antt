@@ -1,7 +1,8 @@
 use Rattle.std.proofs.Common.{List, ℕ, lit<, refl, subst}
 use Rattle.std.proofs.lemmas.Option.{same_Some}
 use Rattle.hwp_top.specs.Top.{Told, usage_text}
-use Rattle.hwp_top_run.proofs.Statuses.{fault-listed, output-done, output-listed}
+use Rattle.hwp_top.proofs.Statuses.{fault_is_run_status}
+use Rattle.hwp_top_run.proofs.Statuses.{output-done, output-listed}
 use Rattle.hwp_top_run.proofs.calls.top_run.Goals as goal
 
 pub returns-then-not-asks_run-clause-statuses : goal.returns-then-not-asks_run-clause-statuses
@@ -19,4 +20,4 @@ returns-in-Ok-clause-statuses g c =
     output-listed (g.S.Source.left c.args.src.now) (g.S.Source.left c.threaded.new.src) c.in-Ok.output.status c.in-Ok.output.text c.in-Ok.output.report c.in-Ok.output.ended c.deliver.result.status c.in-Ok.ensures.output c.deliver.ensures.statuses
 
 pub returns-in-Err-clause-statuses : goal.returns-in-Err-clause-statuses
-returns-in-Err-clause-statuses g c = fault-listed c.tell_fault.result c.tell_fault.ensures.statuses
+returns-in-Err-clause-statuses g c = fault_is_run_status c.tell_fault.result c.tell_fault.ensures.statuses

@@ -2,7 +2,8 @@ use Rattle.std.proofs.Common.{List, ℕ, lit<, refl, subst}
 use Rattle.std.proofs.lemmas.Option.{same_Some}
 use Rattle.hwp_top.specs.Top.{Told}
 use Rattle.hwp_trace.specs.Shown.{usage_text}
-use Rattle.hwp_trace.proofs.Statuses.{fault-listed, output-done, output-listed}
+use Rattle.hwp_top.proofs.Statuses.{fault_is_run_status}
+use Rattle.hwp_trace.proofs.Statuses.{output-done, output-listed}
 use Rattle.hwp_trace.proofs.calls.show.Goals as goal
 
 pub deliver-requires : goal.deliver-requires
@@ -13,7 +14,7 @@ returns-in-Ok-clause-statuses g c =
     output-listed (g.S.Source.left c.args.src.now) (g.S.Source.left c.traced.new.src) c.in-Ok.output.status c.in-Ok.output.text c.in-Ok.output.report c.deliver.result.status c.in-Ok.ensures.output c.deliver.ensures.statuses
 
 pub returns-in-Err-clause-statuses : goal.returns-in-Err-clause-statuses
-returns-in-Err-clause-statuses g c = fault-listed c.tell_fault.result c.tell_fault.ensures.statuses
+returns-in-Err-clause-statuses g c = fault_is_run_status c.tell_fault.result c.tell_fault.ensures.statuses
 
 pub returns-then-not-is_empty-clause-statuses : goal.returns-then-not-is_empty-clause-statuses
 returns-then-not-is_empty-clause-statuses g c = (1, lit< tt, refl)

@@ -1,4 +1,4 @@
-use Rattle.std.proofs.Common.{sym, ap, ◌∙◌, ℕ, ◌-◌, List, Some, length, slice_get}
+use Rattle.std.proofs.Common.{sym, ap, ◌∙◌, ℕ, ◌-◌, List, length, slice_get}
 use Rattle.hwp_evidence.proofs.RepeatLaws.{last-there, shown-again}
 use Rattle.hwp_evidence.proofs.repeats.Repeats.again.Goals as goal
 

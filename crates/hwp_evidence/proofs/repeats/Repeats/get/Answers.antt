@@ -1,4 +1,4 @@
-use Rattle.std.proofs.Common.{sym, ◌∙◌}
+use Rattle.std.proofs.Common.{sym}
 use Rattle.hwp_evidence.proofs.RepeatLaws.{shown-get}
 use Rattle.hwp_evidence.proofs.repeats.Repeats.get.Goals as goal
 

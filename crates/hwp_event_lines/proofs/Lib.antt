@@ -1,0 +1,5 @@
+mod EndLaws
+mod ActLaws
+pub mod FoundLaws
+pub mod LineLaws
+pub mod Scanning

@@ -1,0 +1,6 @@
+pub mod Making
+pub mod Taking
+pub mod TakeCosts
+pub mod Bringing
+pub mod Filling
+pub mod FillCosts

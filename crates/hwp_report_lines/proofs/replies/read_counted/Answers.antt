@@ -1,7 +1,0 @@
-use Rattle.hwp_report_lines.specs.declared.replies.Counted.TheVariants as counted
-use Rattle.hwp_report_lines.specs.Answers.{counted_text}
-use Rattle.hwp_report_lines.proofs.Naming.{all_counted, counted_listed, named_read}
-use Rattle.hwp_report_lines.proofs.replies.read_counted.Goals as goal
-
-pub returns : goal.returns
-returns c = named_read counted_text all_counted counted.Gone counted_listed c.args.word.now _ c.named.ensures

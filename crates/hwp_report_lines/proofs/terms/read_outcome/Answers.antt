@@ -1,7 +1,0 @@
-use Rattle.hwp_page.specs.declared.Outcome.TheVariants as outcomes
-use Rattle.hwp_report.specs.Terms as terms
-use Rattle.hwp_report_lines.proofs.Naming.{all_outcomes, outcome_listed, named_read}
-use Rattle.hwp_report_lines.proofs.terms.read_outcome.Goals as goal
-
-pub returns : goal.returns
-returns c = named_read terms.outcome_word all_outcomes outcomes.Recovered outcome_listed c.args.word.now _ c.named.ensures

@@ -1,7 +1,0 @@
-use Rattle.hwp_kill.specs.declared.Policy.TheVariants as policies
-use Rattle.hwp_report.specs.Terms as terms
-use Rattle.hwp_report_lines.proofs.Naming.{all_policies, policy_listed, named_read}
-use Rattle.hwp_report_lines.proofs.terms.read_policy.Goals as goal
-
-pub returns : goal.returns
-returns c = named_read terms.policy_word all_policies policies.Late policy_listed c.args.word.now _ c.named.ensures

@@ -1,7 +1,0 @@
-use Rattle.hwp_page.specs.declared.Situation.TheVariants as situations
-use Rattle.hwp_report.specs.Terms as terms
-use Rattle.hwp_report_lines.proofs.Naming.{all_situations, situation_listed, named_read}
-use Rattle.hwp_report_lines.proofs.terms.read_situation.Goals as goal
-
-pub returns : goal.returns
-returns c = named_read terms.situation_word all_situations situations.Free situation_listed c.args.word.now _ c.named.ensures

@@ -1,0 +1,7 @@
+mod MarkLaws
+mod ScrubScans
+mod ScrubLines
+mod ScrubFound
+pub mod ScrubForth
+pub mod ScrubBack
+mod Bounds
