@@ -40,7 +40,7 @@ use Rattle.hwp_rule.specs.declared.Mark.{Mark}
 use Rattle.hwp_rule.specs.declared.Step.{Step}
 use Rattle.hwp_rule.specs.declared.Step.TheVariants as steps
 use Rattle.hwp_rule.specs.declared.View.{View}
-use Rattle.hwp_rule.specs.Asks.{CanFree, CanUnlockPage, HasPage}
+use Rattle.hwp_rule.specs.Asks.{CanUnlockPage, HasPage}
 use Rattle.hwp_rule.specs.Lists.{SomeMember}
 use Rattle.hwp_rule.specs.Logs.{log_of, state_of, file_of, fitting_word}
 use Rattle.hwp_rule.specs.Rule.{losing_of}
@@ -48,13 +48,12 @@ use Rattle.hwp_rule.specs.Views.{is_body_of, listed, listed_of, locks_on, loss_m
 use Rattle.hwp_rule.specs.parts.Counter.{is_poisoning}
 use Rattle.hwp_rule.specs.parts.Losses.{IsPoisonLoss}
 use Rattle.hwp_rule.proofs.Lists.{same-number}
-use Rattle.hwp_rule.proofs.Meeting.{frame-named}
 use Rattle.hwp_step.specs.Calls.{CanMake, FitsLayout, logs}
 use Rattle.hwp_step.specs.Hands.{Hand}
 use Rattle.hwp_step.proofs.Stepping.{can-make, can-put}
 use Rattle.hwp_hold.specs.Holds.{page_lock}
 use Rattle.hwp_evict.proofs.Entering.{put-fits-of}
-use Rattle.hwp_evict.proofs.Vacating.{lock-held, refs-are}
+use Rattle.hwp_evict.proofs.Vacating.{can-uncache, lock-held, refs-are}
 use Rattle.hwp_act.specs.declared.abandon.Abandon.{Abandon}
 use Rattle.hwp_act.specs.declared.abandon.AbandonAt.{AbandonAt}
 use Rattle.hwp_act.specs.declared.abandon.AbandonAt.TheVariants as at
@@ -242,13 +241,7 @@ can layout view a step fits is = which a.at fits.at is
     which : (x : AbandonAt) → FitsAt layout view a x → plan_at a.page a.frame a.count a.body x ≡ Some step → CanMake layout a.who step (put_at a.body x) view
     which at.SetCache has e = can-make fits.on_turn e fits.page (record {
       page_held = page-held a.page a.page (Some a.frame) (ap (λ (h : Hand). h.pages) has.hand_is) (ap (λ (h : Hand). h.bodies) has.hand_is) has.carries.in_hand.own refl;
-      frames = (
-        λ old named. subst (CanFree layout view) (same_Some a.frame old (sym (frame-named a.frame small) ∙ named)) (record {
-          has = lock-held _ (ap (λ (h : Hand). h.locks) has.hand_is) refl;
-          room = subst (λ (n : ℕ). n + 1 ≤ length layout.trans + 2) (sym (ap (λ (h : Hand). refs_on a.frame.0 h.refs) has.hand_is ∙ refs-are a.frame (a.count - 1))) (omega (arith, fits.some, fits.room));
-        }),
-        λ new none. absurd (none-some new none),
-      );
+      frames = can-uncache layout view a.page a.frame (a.count - 1) _ small (ap (λ (h : Hand). h.locks) has.hand_is) refl (ap (λ (h : Hand). h.refs) has.hand_is) (omega (arith, fits.some, fits.room));
     })
     which at.SetOwner has e = can-make fits.on_turn e fits.frame (
       fits.page,

@@ -17,14 +17,8 @@ use Rattle.hwp_step.specs.Boards.{view_of}
 use Rattle.hwp_step.specs.Ranks.{Member, member, IsRanked, is_waits, words_at}
 use Rattle.hwp_step.proofs.Ranking.{rank-of, steps-on}
 use Rattle.hwp_hold.specs.declared.give_up.GiveUp.{GiveUp}
-use Rattle.hwp_hold.specs.declared.give_up.GiveUpAt.{GiveUpAt}
-use Rattle.hwp_hold.specs.declared.give_up.GiveUpAt.TheVariants as give_up_at
 use Rattle.hwp_hold.specs.GiveUps as give_ups
-use Rattle.hwp_hold.specs.Unholds as unholds
-use Rattle.hwp_hold.specs.Unlocks as unlocks
-use Rattle.hwp_hold.proofs.GiveUpCosts.{give-up-falls, give-up-mild, give-up-ranked}
-use Rattle.hwp_hold.proofs.Ranking.{unhold-small}
-use Rattle.hwp_hold.proofs.Unlocking.{unlock-small}
+use Rattle.hwp_hold.proofs.GiveUpCosts.{give-up-falls, give-up-goes, give-up-mild, give-up-ranked, give-up-small}
 use Rattle.hwp_evict.specs.declared.clear.Clear.{Clear}
 use Rattle.hwp_evict.specs.Clears as clears
 use Rattle.hwp_evict.proofs.Clearing.{clear-mild, clear-small, clears-fall}
@@ -99,15 +93,6 @@ act-falls layout view w now a step found next turn fits is shows follows = which
     which (at.GiveUp g) has e shows (is, same) = subst (λ (y : ActAt). cost_at y now < give_ups.cost g w) (sym is) (let k = give-up-cost (give_ups.next (give_ups.bare g) found) now in let less = give-up-falls w now g step found e in omega (arith, k, less))
     which (at.Over failed) has e shows follows = absurd (none-some step e)
 
-give-up-small : (w : Words) (g : GiveUp) → give_ups.cost g w ≤ 6
-give-up-small w g = which g.at
-  where
-    which : (x : GiveUpAt) → give_ups.cost_at x w ≤ 6
-    which (give_up_at.Unhold u) = let few : unholds.cost u w ≤ 5 = unhold-small w u in omega (arith, few)
-    which (give_up_at.Unlock u) = let few : unlocks.cost u w ≤ 4 = unlock-small w u in omega (arith, few)
-    which give_up_at.GiveUp = omega arith
-    which give_up_at.Over = omega arith
-
 pub act-small : (w : Words) (a : Act) → cost a w ≤ 570
 act-small w a = which a.at
   where
@@ -127,15 +112,6 @@ act-classes a = which a.at
     which (at.Abandon x) = abandon-classes x
     which (at.GiveUp g) = give-up-ranked.classes g
     which (at.Over failed) = (omega arith, omega arith)
-
-give-up-goes : (g : GiveUp) → is_waits (give_ups.turn g) ≡ false
-give-up-goes g = which g.at
-  where
-    which : (x : GiveUpAt) → is_waits (give_ups.turn_at x) ≡ false
-    which (give_up_at.Unhold u) = refl
-    which (give_up_at.Unlock u) = refl
-    which give_up_at.GiveUp = refl
-    which give_up_at.Over = refl
 
 -- no turn waits
 pub act-goes : (a : Act) (found : ℕ) (next : Act) (turn : Turn) → Follows (bare a) found next turn → is_waits turn ≡ false

@@ -39,6 +39,7 @@ use Rattle.hwp_hold.proofs.GivingUp as giving-up
 use Rattle.hwp_evict.specs.declared.clear.Clear.{Clear}
 use Rattle.hwp_evict.specs.Clears as clears
 use Rattle.hwp_evict.proofs.Clearing as clearing
+use Rattle.hwp_evict.proofs.Clearing.{same-clear}
 use Rattle.hwp_act.specs.declared.abandon.Abandon.{Abandon}
 use Rattle.hwp_act.specs.declared.abandon.AbandonAt.{AbandonAt}
 use Rattle.hwp_act.specs.declared.abandon.AbandonAt.TheVariants as abandon_at
@@ -49,7 +50,7 @@ use Rattle.hwp_act.specs.declared.act.ActAt.{ActAt}
 use Rattle.hwp_act.specs.declared.act.ActAt.TheVariants as at
 use Rattle.hwp_act.specs.declared.read_policies.ReadPolicies.{ReadPolicies}
 use Rattle.hwp_act.specs.Abandoned as abandoned
-use Rattle.hwp_act.specs.Abandoned.{CanLoseOne, what_of}
+use Rattle.hwp_act.specs.Abandoned.{what_of}
 use Rattle.hwp_act.specs.Abandons as abandons
 use Rattle.hwp_act.specs.Acting.{Fits, FitsAt, IsAbandoning, IsClean, IsClearing, IsReading}
 use Rattle.hwp_act.specs.Acts.{AfterRead, AfterReadAt, Follows, FollowsAt, IsCleared, IsReadOn, IsReady, Shows, ShowsAt, abandoned_at, after_abandon, after_give_up, bare, bare_at, plan, plan_at, put, put_at}
@@ -126,19 +127,6 @@ module _ {layout : Layout} {old new : View} (c : Clear) {step : Step} {found : �
         sights = ap (λ (v : View). v.sights) own.told.next;
       }
       which None e = absurd (none-some step e)
-
-record IsSame (c after : Clear) : Type 0 where
-  who : after.who ≡ c.who
-  page : after.page ≡ c.page
-  frame : after.frame ≡ c.frame
-  barred : after.barred ≡ c.barred
-
-same-clear : (c after : Clear) → clears.Follows c after → IsSame c after
-same-clear c after follows = which c.next follows
-  where
-    which : (n : Option VSlot) → clears.FollowsAt c n after → IsSame c after
-    which None is = record { who = ap (λ (x : Clear). x.who) is; page = ap (λ (x : Clear). x.page) is; frame = ap (λ (x : Clear). x.frame) is; barred = ap (λ (x : Clear). x.barred) is }
-    which (Some slot) is = record { who = ap (λ (x : Clear). x.who) is.0; page = ap (λ (x : Clear). x.page) is.0; frame = ap (λ (x : Clear). x.frame) is.0; barred = ap (λ (x : Clear). x.barred) is.0 }
 
 record IsSameRead (r after : ReadPolicies) : Type 0 where
   who : after.who ≡ r.who

@@ -10,6 +10,8 @@ use Rattle.hwp_geom.specs.declared.VSlot.{VSlot}
 use Rattle.hwp_geom.specs.declared.Who.{Who}
 use Rattle.hwp_kill.specs.declared.Seen.{Seen}
 use Rattle.hwp_kill.specs.declared.Signal.{Signal}
+use Rattle.hwp_page.specs.declared.What.{What}
+use Rattle.hwp_page.specs.declared.What.TheVariants as entries
 use Rattle.hwp_page.specs.History.{BodyValue}
 use Rattle.hwp_rule.specs.declared.InHand.{InHand}
 use Rattle.hwp_rule.specs.declared.Made.{Made}
@@ -17,12 +19,14 @@ use Rattle.hwp_rule.specs.declared.Stamp.{Stamp}
 use Rattle.hwp_rule.specs.declared.Step.{Step}
 use Rattle.hwp_rule.specs.declared.Step.TheVariants as steps
 use Rattle.hwp_rule.specs.declared.View.{View}
+use Rattle.hwp_rule.specs.Lists.{EachMember}
 use Rattle.hwp_rule.specs.Logs.{log_of}
+use Rattle.hwp_rule.proofs.Lists.{each-push}
 use Rattle.hwp_step.specs.declared.Turn.{Turn}
 use Rattle.hwp_step.specs.Calls.{Steps, logs}
 use Rattle.hwp_step.specs.Hands.{Hand}
 use Rattle.hwp_step.proofs.Stepping.{steps-planned}
-use Rattle.hwp_known.specs.Known.{IsAt, deeds}
+use Rattle.hwp_known.specs.Known.{HasOnly, IsAt, deeds, is_failure}
 use Rattle.hwp_known.proofs.Listing.{Lists, deeds-none, deeds-one, deeds-same, frame-lists, kill-lists, loss-lists, page-lists}
 use Rattle.hwp_hold.specs.declared.give_up.GiveUp.{GiveUp}
 use Rattle.hwp_hold.specs.declared.give_up.GiveUpAt.{GiveUpAt}
@@ -47,7 +51,7 @@ use Rattle.hwp_act.specs.declared.act.ActAt.TheVariants as at
 use Rattle.hwp_act.specs.declared.failing.Entered.{Entered}
 use Rattle.hwp_act.specs.declared.read_policies.ReadPolicies.{ReadPolicies}
 use Rattle.hwp_act.specs.Abandoned as abandoned
-use Rattle.hwp_act.specs.Abandoned.{AddsFailure, Carries, IsListedIf, IsPast, IsUnlisted, entry_of, failed_in, failed_of, what_of}
+use Rattle.hwp_act.specs.Abandoned.{AddsFailure, Carries, IsListedIf, entry_of, failed_in, failed_of, what_of}
 use Rattle.hwp_act.specs.Abandons as abandons
 use Rattle.hwp_act.specs.Abandons.{failed_now, has_told, is_listed, kill_at, kill_from, owner_gone, snapshot}
 use Rattle.hwp_act.specs.Acting.{AsTaken, Fits, FitsAt}
@@ -185,6 +189,20 @@ pub starts-none : (who : Who) (page : Page) (frame : Frame) (required : Option T
 starts-none who page frame required body x (spare, inl is) = ap failed_at is
 starts-none who page frame required body x (spare, inr (inl silent)) = enters-none silent.enters
 starts-none who page frame required body x (spare, inr (inr reading)) = read-none who page frame reading.read x reading.next_is
+
+-- ---- a command whose entries are of failures alone
+
+failed-is : (m : Made) (failed : Failed) → failed_in m ≡ Some failed → is_failure m.entry.what ≡ true
+failed-is m failed is = which m.entry.what is
+  where
+    which : (what : What) → failed_of m.page m.place what ≡ Some failed → is_failure what ≡ true
+    which (entries.Fail situation required seen signals) is = refl
+    which _ is = absurd (none-some failed is)
+
+pub only-failed-stays : (who : Who) (old new : View) {before after : List Failed} → AddsFailure who old new before after → HasOnly (λ (m : Made). is_failure m.entry.what ≡ true) old who → HasOnly (λ (m : Made). is_failure m.entry.what ≡ true) new who
+only-failed-stays who old new (inl none) only = subst (EachMember (λ (m : Made). is_failure m.entry.what ≡ true)) (sym none.0) only
+only-failed-stays who old new (inr some) only =
+    subst (EachMember (λ (m : Made). is_failure m.entry.what ≡ true)) (sym some.2) (each-push (λ (m : Made). is_failure m.entry.what ≡ true) (deeds who old) some.0 (failed-is some.0 some.1 some.3) only)
 
 -- ---- each step
 

@@ -27,7 +27,7 @@ abbrev pub IsNextOf : BodyValue → Option Thread → List Seen → Option Threa
 IsNextOf body required seen next = MatchOption next (PoliciesRead body.layout body.state.maps required seen) (IsNextToRead body.layout body.state.maps required seen)
 
 pub record IsBegun (who : Who) (frame : Frame) (required : Option Thread) (body : BodyValue) (capacity : ℕ) (r : ReadPolicies) : Type 0 where
-  pub is : r ≡ record { who = who; frame = frame; required = required; body = body; seen = r.seen; next = r.next }
+  pub is : r ≡ record { who = who; frame = frame; required = required; body = body; seen = r.seen; next = r.next; room = r.room }
   pub items : r.seen.items ≡ []
   pub room : vec_capacity r.seen ≡ capacity
   pub next : IsNextOf body required [] r.next

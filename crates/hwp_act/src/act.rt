@@ -12,7 +12,7 @@ use crate::read_policies::ReadPolicies;
 use hwp_evict::Clear;
 use hwp_geom::{Frame, Layout, List, Page, Thread, Who};
 use hwp_hold::GiveUp;
-use hwp_kill::Seen;
+use hwp_kill::{Seen, SignalRoom};
 use hwp_page::Body;
 use hwp_rule::Step;
 use hwp_step::{Machine, Ranked, Turn};
@@ -108,7 +108,7 @@ fn start(
     }
 }
 
-/// Where the failure signals, room is made for the policies, and they are read; else the entry is made.
+/// Room is made for the signals and, where the failure signals, for the policies, which are read then; else the entry is made.
 fn begin(
     alloc: Global,
     who: Who,
@@ -121,17 +121,20 @@ fn begin(
     requires room { 0 < body.spare }
     ensures { Begins who page frame required body result }
 {
+    let Ok(room) = SignalRoom::new(alloc) else {
+        return given_up(who, page, frame, body);
+    };
     let signalling = body.state().situation().signals();
     if signalling {
         match Vec::with_capacity(alloc, body.layout().threads.len()) {
-            Ok(room) => {
-                let read = ReadPolicies::new(who, frame, required, body, room);
+            Ok(seen) => {
+                let read = ReadPolicies::new(who, frame, required, body, seen, room);
                 after_read(who, page, frame, read)
             }
             Err(_) => given_up(who, page, frame, body),
         }
     } else {
-        go_out(who, page, frame, required, body, List::new(alloc))
+        go_out(who, page, frame, required, body, List::new(alloc), room)
     }
 }
 
@@ -151,8 +154,8 @@ fn after_read(who: Who, page: Page, frame: Frame, read: ReadPolicies) -> ActAt
 {
     if read.is_over() {
         let required = read.required();
-        let (body, seen) = read.into_parts();
-        go_out(who, page, frame, required, body, seen)
+        let (body, seen, room) = read.into_parts();
+        go_out(who, page, frame, required, body, seen, room)
     } else {
         ActAt::Read { read }
     }
@@ -166,13 +169,14 @@ fn go_out(
     required: Option<Thread>,
     body: Body,
     seen: List<Seen>,
+    room: SignalRoom,
 ) -> ActAt
     requires { CanEnter required body seen }
     ensures { Enters who page frame required body seen result }
 {
     let maps = body.state().maps.copy();
     let barred = bars(body.state().situation());
-    let entered = enter(who, required, body, seen);
+    let entered = enter(who, required, body, seen, room);
     let clear = Clear::new(who, page, frame, maps, barred);
     after_clear(who, page, frame, clear, entered)
 }

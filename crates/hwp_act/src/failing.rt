@@ -8,7 +8,7 @@ ghost use Rattle.hwp_act.specs.Failing.{CanEnter, HasMadeEntry, bars_of, lost_of
 
 use crate::abandon::{Failed, Losses};
 use hwp_geom::{FileNo, Layout, List, PageKind, Thread, Who};
-use hwp_kill::{Code, Seen, Signal, SignalList, signals};
+use hwp_kill::{Code, Seen, Signal, SignalList, SignalRoom, signals};
 use hwp_page::{At, Body, Entry, PageState, Situation, What};
 
 /// A body with the entry of its failure, and what the failure costs.
@@ -96,7 +96,13 @@ fn due_signals(body: &Body, required: Option<Thread>, seen: &List<Seen>) -> Sign
 }
 
 /// The body gets the entry of the failure, by the policies that were read.
-pub(crate) fn enter(who: Who, required: Option<Thread>, body: Body, seen: List<Seen>) -> Entered
+pub(crate) fn enter(
+    who: Who,
+    required: Option<Thread>,
+    body: Body,
+    seen: List<Seen>,
+    room: SignalRoom,
+) -> Entered
     requires { CanEnter required body seen }
     ensures { HasMadeEntry who required body seen result }
 {
@@ -123,7 +129,7 @@ pub(crate) fn enter(who: Who, required: Option<Thread>, body: Body, seen: List<S
             situation,
             required,
             seen,
-            signals: due,
+            signals: room.list(&due),
         },
     });
     Entered {

@@ -2,7 +2,7 @@ ghost use Rattle.std.specs.Prelude.{◌≡◌, [], is_none, vec_capacity};
 ghost use Rattle.hwp_act.specs.Reads.{IsBegun, plan};
 
 use hwp_geom::{Frame, Layout, List, Thread, Who};
-use hwp_kill::{Seen, next_to_read};
+use hwp_kill::{Seen, SignalRoom, next_to_read};
 use hwp_page::Body;
 use hwp_rule::{Place, Step};
 use hwp_step::{Machine, Ranked, Turn};
@@ -20,30 +20,34 @@ pub struct ReadPolicies {
     seen: Vec<Seen>,
     /// The thread that comes.
     next: Option<Thread>,
+    /// For the signals, once all policies are read.
+    room: SignalRoom,
 }
 
 impl ReadPolicies {
     /// The command reads the policies for the page of this body, in this frame, where `required` is the thread that needs
-    /// the page now. What it reads it puts into `room`, which is empty.
+    /// the page now. What it reads it puts into `seen`, which is empty; the room for the signals is kept.
     pub fn new(
         who: Who,
         frame: Frame,
         required: Option<Thread>,
         body: Body,
-        room: Vec<Seen>,
+        seen: Vec<Seen>,
+        room: SignalRoom,
     ) -> ReadPolicies
-        requires { room.items ≡ [] }
-        ensures { IsBegun who frame required body (vec_capacity room) result }
+        requires { seen.items ≡ [] }
+        ensures { IsBegun who frame required body (vec_capacity seen) result }
     {
         let maps = &body.state().maps;
-        let next = next_to_read(body.layout(), maps, required, room.as_slice());
+        let next = next_to_read(body.layout(), maps, required, seen.as_slice());
         ReadPolicies {
             who,
             frame,
             required,
             body,
-            seen: room,
+            seen,
             next,
+            room,
         }
     }
 
@@ -61,12 +65,17 @@ impl ReadPolicies {
         self.required
     }
 
-    /// The page's body, and what was read.
-    pub fn into_parts(self) -> (Body, List<Seen>)
+    /// The page's body, what was read, and the room for the signals.
+    pub fn into_parts(self) -> (Body, List<Seen>, SignalRoom)
         ensures { (result.0 ≡ self.body) × (result.1 ≡ self.seen.items) }
     {
-        let ReadPolicies { body, seen, .. } = self;
-        (body, List::from_vec(seen))
+        let ReadPolicies {
+            body,
+            seen,
+            room,
+            ..
+        } = self;
+        (body, List::from_vec(seen), room)
     }
 }
 

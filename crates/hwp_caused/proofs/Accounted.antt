@@ -28,6 +28,7 @@ use Rattle.hwp_control.specs.declared.PrctlAnswer.TheVariants as prctl_answers
 use Rattle.hwp_control.specs.declared.prctl.PrctlAt.{PrctlAt}
 use Rattle.hwp_control.specs.declared.prctl.PrctlAt.TheVariants as prctl_at
 use Rattle.hwp_control.specs.Prctls as prctls
+use Rattle.hwp_control.proofs.Replying.{set-says}
 use Rattle.hwp_evict.specs.declared.Fsync.{Fsync}
 use Rattle.hwp_evict.specs.declared.FsyncAnswer.{FsyncAnswer}
 use Rattle.hwp_evict.specs.declared.FsyncAnswer.TheVariants as fsync_answers
@@ -73,15 +74,14 @@ use Rattle.hwp_row.specs.declared.Own.{Own}
 use Rattle.hwp_job.specs.declared.Job.{Job}
 use Rattle.hwp_job.specs.declared.Job.TheVariants as jobs
 use Rattle.hwp_job.specs.Answers.{fail_answer, fsync_answer, prctl_answer, soft_answer, unpoison_answer}
-use Rattle.hwp_job.specs.Begins.{BeginsPrctl}
 use Rattle.hwp_job.specs.Done.{failed_at, failed_now, marked_now, policies_now, taken_at, taken_now}
 use Rattle.hwp_job.specs.Jobs.{Fits, answer, offlined_by, own_by, own_of, revived_by, row_of, told_of}
 use Rattle.hwp_job.specs.Runs.{Runs, anew}
 use Rattle.hwp_job.specs.Settings.{set_at}
-use Rattle.hwp_job.proofs.Ending.{fsync-over, instruction-over, mapped, prctl-over, raise-over, scrub-over, soft-over, unpoison-over}
+use Rattle.hwp_job.proofs.Ending.{fsync-over, instruction-over, mapped, raise-over, scrub-over, soft-over, unpoison-over}
 use Rattle.hwp_job.proofs.OfKind.{of-evict, of-fsync, of-log, of-nested, of-prctl, of-spoil}
-use Rattle.hwp_job.proofs.Staying.{set-says}
 use Rattle.hwp_caused.proofs.Accessed.{KnowsAccess, knows-access}
+use Rattle.hwp_caused.proofs.Called.{KnowsPrctl, knows-prctl}
 use Rattle.hwp_caused.proofs.Injected.{KnowsFailure, knows-failure}
 use Rattle.hwp_caused.proofs.Offlined.{KnowsSoft, knows-soft}
 use Rattle.hwp_caused.proofs.Raised.{KnowsRaise, knows-kernel-raise, knows-user-raise}
@@ -116,29 +116,11 @@ called view by thread p args same (prctl_answers.Replied (replies.Set policy)) f
 called view by thread p args same (prctl_answers.Replied (replies.Is policy)) fits = refl
 called view by thread p args same (prctl_answers.Replied replies.Einval) fits = refl
 
-prctl-set : {layout : Layout} (view : View) {who : Who} {thread : Thread} {args : PrctlArgs} (j : Job) {a : Answer} → BeginsPrctl layout who thread args (anew j) → Fits layout view j → answer j ≡ Some a → policies_now j ≡ set_by (commands.Prctl thread args) a
-prctl-set {layout} view {who} {thread} {args} j {a} runs fits is =
-    ap policies_now task.1 ∙ ap (λ (x : PrctlAt). map (λ (policy : Policy). (task.0.thread, policy)) (set_at x)) over
-    ∙ called view who thread task.0 args own-arguments own.0 (subst (prctls.FitsAt view task.0.who task.0.thread task.0.process task.0.arguments) over fit.at)
-    ∙ ap (λ (t : Thread). set_by (commands.Prctl t args) (prctl_answer own.0)) own-thread ∙ ap (set_by (commands.Prctl thread args)) own.2
-  where
-    task : (p : Prctl) × (j ≡ jobs.Prctl p) × (prctls.begin p.who p.thread p.process p.arguments ≡ prctls.begin who thread runs.decl.process (arguments args))
-    task = of-prctl j runs.job_is
-
-    own-thread : task.0.thread ≡ thread
-    own-thread = ap (λ (p : Prctl). p.thread) task.2
-
-    own-arguments : task.0.arguments ≡ arguments args
-    own-arguments = ap (λ (p : Prctl). p.arguments) task.2
-
-    own : (x : PrctlAnswer) × (prctls.answer task.0 ≡ Some x) × (prctl_answer x ≡ a)
-    own = mapped prctl_answer (prctls.answer task.0) (sym (ap answer task.1) ∙ is)
-
-    over : task.0.at ≡ prctl_at.Over own.0
-    over = prctl-over task.0 own.1
-
-    fit : prctls.Fits layout view task.0
-    fit = subst (Fits layout view) task.1 fits
+prctl-set : {layout : Layout} {view : View} {who : Who} {thread : Thread} {args : PrctlArgs} {j : Job} {a : Answer} → KnowsPrctl layout view who thread args j a → policies_now j ≡ set_by (commands.Prctl thread args) a
+prctl-set {layout} {view} {who} {thread} {args} {j} {a} k =
+    ap policies_now k.job_is ∙ ap (λ (x : PrctlAt). map (λ (policy : Policy). (k.task.thread, policy)) (set_at x)) k.over
+    ∙ called view who thread k.task args k.arguments_are k.own (subst (prctls.FitsAt view k.task.who k.task.thread k.task.process k.task.arguments) k.over k.fits.at)
+    ∙ ap (λ (t : Thread). set_by (commands.Prctl t args) (prctl_answer k.own)) k.thread_is ∙ ap (set_by (commands.Prctl thread args)) k.answer_is
 
 -- ---- the frame that fails
 
@@ -329,7 +311,7 @@ does layout view who (commands.Drop page) j runs fits is = let task = (of-evict 
 does layout view who (commands.Sync page) j runs fits is = let task = (of-evict j runs.job_is).1 in by-kind task (refl, refl, refl, refl) (ap taken_now task) (ap policies_now task) tt
 does layout view who (commands.Out page) j runs fits is = let task = (of-evict j runs.job_is).1 in by-kind task (refl, refl, refl, refl) (ap taken_now task) (ap policies_now task) tt
 does layout view who (commands.Fsync file) j runs fits is = let task = (of-fsync j runs.1).1 in by-kind task (refl, refl, refl, refl) (fsync-taken j runs.1 is) (ap policies_now task) tt
-does layout view who (commands.Prctl thread args) j runs fits is = let task = (of-prctl j runs.job_is).1 in by-kind task (refl, refl, refl, refl) (ap taken_now task) (prctl-set view j runs fits is) tt
+does layout view who (commands.Prctl thread args) j runs fits is = let task = (of-prctl j runs.job_is).1 in by-kind task (refl, refl, refl, refl) (ap taken_now task) (prctl-set (knows-prctl j runs fits is)) tt
 does layout view who (commands.Bad frame line) j runs fits is = let task = (of-spoil j runs.job_is).1 in by-kind task (refl, refl, refl, refl) (ap taken_now task) (ap policies_now task) tt
 does layout view who (commands.Weak frame line) j runs fits is = let task = (of-spoil j runs.job_is).1 in by-kind task (refl, refl, refl, refl) (ap taken_now task) (ap policies_now task) tt
 does layout view who (commands.Scrub first last) j runs fits is = scrub-does (knows-scrub j runs fits is)

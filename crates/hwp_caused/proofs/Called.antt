@@ -211,35 +211,50 @@ module _ {layout : Layout} (list : List Command) {view : View} (told : List Told
   called same (prctl_answers.Replied r) over has counted =
       replied-caused same r (record { going = going has.0; made = fits.made; replied = ap reply_answer (replied-so list view p r over has.1 (counted r refl)) })
 
-pub prctl-caused : {layout : Layout} (list : List Command) (view : View) (told : List Told) (did : Option Own) {who : Who} {thread : Thread} {args : PrctlArgs} (j : Job) {a : Answer} → BeginsPrctl layout who thread args (anew j) → Fits layout view j → answer j ≡ Some a
-    → ((t : Thread) → HasReplied j t → IsCounted list view who j t) → IsAnswerCaused layout list view who (commands.Prctl thread args) told did a
-prctl-caused {layout} list view told did {who} {thread} {args} j {a} runs fits is counted =
-    subst (λ (w : Who). IsAnswerCaused layout list view w (commands.Prctl thread args) told did a) own-who
-    (subst (λ (t : Thread). IsAnswerCaused layout list view task.0.who (commands.Prctl t args) told did a) own-thread
-    (subst (IsAnswerCaused layout list view task.0.who (commands.Prctl task.0.thread args) told did) own.2
-    (called list told did task.0 fit own-arguments own.0 over (subst (prctls.FitsAt view task.0.who task.0.thread task.0.process task.0.arguments) over fit.at) known)))
+-- what is known of a call that has its answer
+pub record KnowsPrctl (layout : Layout) (view : View) (who : Who) (thread : Thread) (args : PrctlArgs) (j : Job) (answer : Answer) : Type 0 where
+  pub task : Prctl
+  pub job_is : j ≡ jobs.Prctl task
+  pub who_is : task.who ≡ who
+  pub thread_is : task.thread ≡ thread
+  pub arguments_are : task.arguments ≡ arguments args
+  pub own : PrctlAnswer
+  pub said : prctls.answer task ≡ Some own
+  pub over : task.at ≡ prctl_at.Over own
+  pub answer_is : prctl_answer own ≡ answer
+  pub fits : prctls.Fits layout view task
+
+pub knows-prctl : {layout : Layout} {view : View} {who : Who} {thread : Thread} {args : PrctlArgs} (j : Job) {a : Answer} → BeginsPrctl layout who thread args (anew j) → Fits layout view j → answer j ≡ Some a → KnowsPrctl layout view who thread args j a
+knows-prctl {layout} {view} {who} {thread} {args} j {a} runs fits is = record {
+  task = task.0;
+  job_is = task.1;
+  who_is = ap (λ (p : Prctl). p.who) task.2;
+  thread_is = ap (λ (p : Prctl). p.thread) task.2;
+  arguments_are = ap (λ (p : Prctl). p.arguments) task.2;
+  own = own.0;
+  said = own.1;
+  over = prctl-over task.0 own.1;
+  answer_is = own.2;
+  fits = subst (Fits layout view) task.1 fits;
+}
   where
     task : (p : Prctl) × (j ≡ jobs.Prctl p) × (prctls.begin p.who p.thread p.process p.arguments ≡ prctls.begin who thread runs.decl.process (arguments args))
     task = of-prctl j runs.job_is
 
-    own-who : task.0.who ≡ who
-    own-who = ap (λ (p : Prctl). p.who) task.2
-
-    own-thread : task.0.thread ≡ thread
-    own-thread = ap (λ (p : Prctl). p.thread) task.2
-
-    own-arguments : task.0.arguments ≡ arguments args
-    own-arguments = ap (λ (p : Prctl). p.arguments) task.2
-
     own : (x : PrctlAnswer) × (prctls.answer task.0 ≡ Some x) × (prctl_answer x ≡ a)
     own = mapped prctl_answer (prctls.answer task.0) (sym (ap answer task.1) ∙ is)
 
-    over : task.0.at ≡ prctl_at.Over own.0
-    over = prctl-over task.0 own.1
+pub prctl-caused : {layout : Layout} (list : List Command) (view : View) (told : List Told) (did : Option Own) {who : Who} {thread : Thread} {args : PrctlArgs} (j : Job) {a : Answer} → BeginsPrctl layout who thread args (anew j) → Fits layout view j → answer j ≡ Some a
+    → ((t : Thread) → HasReplied j t → IsCounted list view who j t) → IsAnswerCaused layout list view who (commands.Prctl thread args) told did a
+prctl-caused {layout} list view told did {who} {thread} {args} j {a} runs fits is counted =
+    subst (λ (w : Who). IsAnswerCaused layout list view w (commands.Prctl thread args) told did a) k.who_is
+    (subst (λ (t : Thread). IsAnswerCaused layout list view k.task.who (commands.Prctl t args) told did a) k.thread_is
+    (subst (IsAnswerCaused layout list view k.task.who (commands.Prctl k.task.thread args) told did) k.answer_is
+    (called list told did k.task k.fits k.arguments_are k.own k.over (subst (prctls.FitsAt view k.task.who k.task.thread k.task.process k.task.arguments) k.over k.fits.at) known)))
+  where
+    k : KnowsPrctl layout view who thread args j a
+    k = knows-prctl j runs fits is
 
-    fit : prctls.Fits layout view task.0
-    fit = subst (Fits layout view) task.1 fits
-
-    known : (r : Reply) → own.0 ≡ prctl_answers.Replied r → IsCounted list view task.0.who (jobs.Prctl task.0) task.0.thread
-    known r replied = subst (λ (k : Job). IsCounted list view task.0.who k task.0.thread) task.1
-        (subst (λ (w : Who). IsCounted list view w j task.0.thread) (sym own-who) (counted task.0.thread (subst (λ (k : Job). HasReplied k task.0.thread) (sym task.1) (refl, r, own.1 ∙ ap Some replied))))
+    known : (r : Reply) → k.own ≡ prctl_answers.Replied r → IsCounted list view k.task.who (jobs.Prctl k.task) k.task.thread
+    known r replied = subst (λ (q : Job). IsCounted list view k.task.who q k.task.thread) k.job_is
+        (subst (λ (w : Who). IsCounted list view w j k.task.thread) (sym k.who_is) (counted k.task.thread (subst (λ (q : Job). HasReplied q k.task.thread) (sym k.job_is) (refl, r, k.said ∙ ap Some replied))))

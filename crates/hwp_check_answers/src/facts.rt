@@ -42,7 +42,6 @@ pub(crate) fn facts_of(
 }
 
 /// What is known of a report for the answers of a processor, and the entries that its commands' answers name.
-#[tactic(auto, using(crate::proofs::FactLaws::namings))]
 pub(crate) fn own_and_naming(
     alloc: Global,
     script: &Script,

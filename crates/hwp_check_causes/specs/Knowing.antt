@@ -14,6 +14,7 @@ use Rattle.hwp_evidence.specs.Ends.{ArePageEnds, own_ends}
 use Rattle.hwp_evidence.specs.Marked.{reported}
 use Rattle.hwp_evidence.specs.Windows.{AreSpans}
 use Rattle.hwp_records.specs.Nears.{IsPast}
+use Rattle.hwp_records.specs.Results.{AreResults}
 use Rattle.hwp_check_causes.specs.declared.right.Own.{Own}
 use Rattle.hwp_check_causes.specs.declared.right.Told.{Told}
 use Rattle.hwp_script.specs.declared.Script.{Script}
@@ -35,6 +36,7 @@ pub record IsOwn (script : Script) (report : Report) (cpu : Cpu) (own : Own) : T
   pub spans : AreSpans cpu report.pages own.spans.items
   pub seen : own.reported ≡ reported cpu report.frames
   pub past : IsPast cpu report.frames own.past
+  pub results : AreResults cpu report.frames own.results
 
 -- and what is known of a command
 pub record IsTold (script : Script) (report : Report) (who : Who) (command : Command) (told : Told) : Type 0 where

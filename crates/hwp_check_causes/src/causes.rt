@@ -6,15 +6,18 @@ ghost use Rattle.hwp_law.specs.Causes.{IsFailureAnswer, IsOfflineAnswer, IsUnpoi
 ghost use Rattle.hwp_law.specs.Policies.{arguments};
 ghost use Rattle.hwp_evidence.specs.Marked.{reported};
 ghost use Rattle.hwp_records.specs.Nears.{IsPast};
+ghost use Rattle.hwp_records.specs.Results.{AreResults};
 
 use crate::plain::{are_bad_lines, bad_lines_of};
 use crate::telling::entry_at;
-use hwp_evidence::{came_to, was_hardware_seen, was_moved, was_taken_back, was_taken_free};
+use hwp_evidence::was_hardware_seen;
 use hwp_form::PrctlArgs;
 use hwp_geom::{Frame, List, Who};
 use hwp_kill::{Policy, Reply, prctl};
 use hwp_page::{At, Entry, Outcome, What};
-use hwp_records::{Past, was_poisoned};
+use hwp_records::{
+    Past, Results, came_to, was_moved, was_poisoned, was_taken_back, was_taken_free,
+};
 use hwp_report::{Answer, Report};
 use hwp_script::Script;
 
@@ -46,17 +49,19 @@ pub(crate) fn is_reply(old: Policy, args: &PrctlArgs, answer: &Answer) -> bool
 pub(crate) fn is_failure(
     report: &Report,
     past: &Past,
+    results: &Results,
     who: Who,
     frame: Frame,
     answer: &Answer,
 ) -> bool
-    requires { IsPast who.cpu report.now.frames past.now }
+    requires past { IsPast who.cpu report.now.frames past.now }
+    requires results { AreResults who.cpu report.now.frames results.now }
     ensures { IsTrue result ↔ IsFailureAnswer report.now who frame answer.now }
 {
     match *answer {
-        Answer::Recovered => came_to(report, who, frame, Outcome::Recovered),
-        Answer::Delayed => came_to(report, who, frame, Outcome::Delayed),
-        Answer::Ignored => came_to(report, who, frame, Outcome::Ignored),
+        Answer::Recovered => came_to(report, results, who, frame, Outcome::Recovered),
+        Answer::Delayed => came_to(report, results, who, frame, Outcome::Delayed),
+        Answer::Ignored => came_to(report, results, who, frame, Outcome::Ignored),
         Answer::Already => was_poisoned(report, past, who, u64::from(frame.0), true),
         _ => false,
     }
@@ -78,19 +83,21 @@ pub(crate) fn is_offline(
     report: &Report,
     ample: bool,
     past: &Past,
+    results: &Results,
     who: Who,
     frame: Frame,
     answer: &Answer,
 ) -> bool
     requires ample { ample ≡ is_ample script.now }
     requires past { IsPast who.cpu report.now.frames past.now }
+    requires results { AreResults who.cpu report.now.frames results.now }
     ensures { IsTrue result ↔ IsOfflineAnswer script.now report.now who frame answer.now }
 {
     match *answer {
         Answer::Moved(_, at) => {
-            is_soft_at(report.pages.as_slice(), who, at) && was_moved(report, who, frame)
+            is_soft_at(report.pages.as_slice(), who, at) && was_moved(report, results, who, frame)
         }
-        Answer::TakenFree => was_taken_free(report, who, frame),
+        Answer::TakenFree => was_taken_free(report, results, who, frame),
         Answer::Already => was_poisoned(report, past, who, u64::from(frame.0), true),
         Answer::HasBad(mask) => are_bad_lines(bad_lines_of(report, frame), mask),
         Answer::NoFrame => !ample,
@@ -104,16 +111,18 @@ pub(crate) fn is_unpoison(
     report: &Report,
     first: u64,
     past: &Past,
+    results: &Results,
     who: Who,
     frame: Frame,
     answer: &Answer,
 ) -> bool
     requires first { first ≡ reported who.cpu report.now.frames }
     requires past { IsPast who.cpu report.now.frames past.now }
+    requires results { AreResults who.cpu report.now.frames results.now }
     ensures { IsTrue result ↔ IsUnpoisonAnswer report.now who frame answer.now }
 {
     match *answer {
-        Answer::Done => was_taken_back(report, who, frame),
+        Answer::Done => was_taken_back(report, results, who, frame),
         Answer::NotPoisoned => was_poisoned(report, past, who, u64::from(frame.0), false),
         Answer::HardwareSeen => was_hardware_seen(report, first, who),
         Answer::HasBad(mask) => are_bad_lines(bad_lines_of(report, frame), mask),

@@ -10,7 +10,7 @@ use crate::right::Own;
 use hwp_evidence::{Findings, findings_of, glances_of, is_ample, reported};
 use hwp_geom::{Cpu, OutOfMemory};
 use hwp_page::At;
-use hwp_records::past_of;
+use hwp_records::{past_of, results_of};
 use hwp_report::Report;
 use hwp_script::Script;
 use std::alloc::Global;
@@ -45,6 +45,7 @@ pub fn own_of(
     let pages = report.pages.as_slice();
     let reported = reported(cpu, report.frames.as_slice());
     let past = past_of(alloc, cpu, report.frames.as_slice())?;
+    let results = results_of(alloc, cpu, report.frames.as_slice())?;
     let found = findings_of(alloc, &script.layout, cpu, commands, named, pages)?;
     let Findings {
         ends,
@@ -58,6 +59,7 @@ pub fn own_of(
         spans,
         reported,
         past,
+        results,
     };
     Ok((own, others))
 }

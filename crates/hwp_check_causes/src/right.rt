@@ -3,7 +3,7 @@ ghost use Rattle.hwp_report.specs.declared.Answer.TheVariants as answers;
 ghost use Rattle.std.specs.List.{list_any};
 ghost use Rattle.hwp_law.specs.Causes.{IsCaused, IsHeeded, ends_machine};
 ghost use Rattle.hwp_law.specs.Lines.{events_of};
-ghost use Rattle.hwp_check_rules.specs.Answered.{IsRight, IsShown};
+ghost use Rattle.hwp_check_rules.specs.Answered.{IsRight};
 ghost use Rattle.hwp_check_causes.specs.Asking.{is_by_state as is_by_state_of};
 ghost use Rattle.hwp_check_causes.specs.Befores.{thread_numbers};
 ghost use Rattle.hwp_check_causes.specs.Causing.{IsLast, is_last as is_last_of};
@@ -18,7 +18,7 @@ use crate::telling::is_by_entry;
 use hwp_evidence::Span;
 use hwp_geom::{List, Thread, Who};
 use hwp_kill::Policy;
-use hwp_records::Past;
+use hwp_records::{Past, Results};
 use hwp_report::{Answer, Report};
 use hwp_script::{Command, Script};
 
@@ -35,6 +35,8 @@ pub struct Own {
     pub reported: u64,
     /// What is kept of the records of frames for its commands.
     pub past: Past,
+    /// What the marks of frames say of its commands.
+    pub results: Results,
 }
 
 /// What is known of one command.
@@ -108,20 +110,23 @@ fn is_last_right(
     requires told { IsTold script.now report.now who command.now told }
     ensures { IsTrue result ↔ IsLast script.now report.now who command.now answer.now }
 {
+    let ample = known.ample;
+    let past = &own.past;
+    let results = &own.results;
     match *command {
         Command::Prctl { thread, args } => {
             small(thread);
             is_reply(told.old, &args, answer)
         }
         Command::Inject { frame } => {
-            script.layout.recovery && is_failure(report, &own.past, who, frame, answer)
+            script.layout.recovery && is_failure(report, past, results, who, frame, answer)
         }
         Command::Soft { frame } => {
             !is_kernels(&script.layout, frame)
-                && is_offline(script, report, known.ample, &own.past, who, frame, answer)
+                && is_offline(script, report, ample, past, results, who, frame, answer)
         }
         Command::Unpoison { frame } => {
-            is_unpoison(report, own.reported, &own.past, who, frame, answer)
+            is_unpoison(report, own.reported, past, results, who, frame, answer)
         }
         _ => false,
     }
@@ -189,28 +194,6 @@ fn is_caused(
     }
 }
 
-/// Whether the report shows the cause of the answer; that of `stopped` is the matter of the stop line.
-fn is_shown(
-    script: &Script,
-    report: &Report,
-    known: &Known,
-    own: &Own,
-    told: Told,
-    who: Who,
-    command: &Command,
-    answer: &Answer,
-) -> bool
-    requires known { IsKnown script.now report.now known.now }
-    requires own { IsOwn script.now report.now who.cpu own.now }
-    requires told { IsTold script.now report.now who command.now told }
-    ensures { IsTrue result ↔ IsShown script.now report.now who command.now answer.now }
-{
-    if is_stopped(answer) {
-        return true;
-    }
-    is_caused(script, report, known, own, told, who, command, answer)
-}
-
 /// Whether the answer is `stopped`.
 fn is_stopped(answer: &Answer) -> bool
     ensures { IsTrue result ↔ (answer.now ≡ answers.Stopped) }
@@ -227,7 +210,8 @@ fn is_heeded(report: &Report, told: Told, who: Who, answer: &Answer) -> bool
     !told.ends || is_stopped(answer)
 }
 
-/// Whether the answer is right.
+/// Whether the answer is right: `stopped` where one of the command's events stopped the machine, or was a panic, and with a cause
+/// that the report shows; that of `stopped` is the matter of the stop line.
 pub fn is_right(
     script: &Script,
     report: &Report,
@@ -243,6 +227,11 @@ pub fn is_right(
     requires told { IsTold script.now report.now who command.now told }
     ensures { IsTrue result ↔ IsRight script.now report.now who command.now answer.now }
 {
-    is_shown(script, report, known, own, told, who, command, answer)
-        && is_heeded(report, told, who, answer)
+    if !is_heeded(report, told, who, answer) {
+        return false;
+    }
+    if is_stopped(answer) {
+        return true;
+    }
+    is_caused(script, report, known, own, told, who, command, answer)
 }

@@ -8,7 +8,7 @@ ghost use Rattle.hwp_check_answers.specs.Joining.{BreakEvents, IsEventLine};
 ghost use Rattle.hwp_check_events.specs.Firsts.{line_of};
 
 use hwp_check_rules::cpu_at;
-use hwp_events::{Misfits, processor_faults, small_masks};
+use hwp_events::{Misfits, checkers_of, processor_faults, small_masks};
 use hwp_geom::{Cpu, OutOfMemory};
 use hwp_report::Report;
 use hwp_script::Script;
@@ -40,11 +40,13 @@ pub(crate) fn event_lines(
     ensures { IfOk result (λ found. MatchOption found (AreEvents script.now report.now) (IsLeast (IsEventLine script.now report.now))) }
 {
     small_masks(report);
+    let checkers = checkers_of(alloc, report)?;
+    let all = checkers.as_slice();
     let mut line = cpu_at(report, 0);
     for cpu in 0..script.lists.len().min(report.cpus.len()) {
         let rows = report.cpus.as_slice()[cpu].as_slice();
         let commands = script.lists.as_slice()[cpu].as_slice();
-        let found = processor_faults(alloc, script, report, Cpu(cpu as u8), commands)?;
+        let found = processor_faults(alloc, script, report, Cpu(cpu as u8), commands, all)?;
         let at = line_of(found, line);
         if at.is_some() {
             return Ok(at);

@@ -1,4 +1,5 @@
 mod Balances
+mod Unsynced
 mod Shapes
 mod FirstLaws
 mod TopLaws

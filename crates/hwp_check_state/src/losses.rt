@@ -4,6 +4,7 @@ ghost use Rattle.hwp_page.specs.Losses.{file_behind, is_loss, is_same_file, loss
 ghost use Rattle.hwp_law.specs.Lines.{answer_in};
 ghost use Rattle.hwp_law.specs.Losses.{lost_in, told, told_by};
 ghost use Rattle.hwp_check_state.specs.Balances.{capped, told_at, told_lines};
+ghost use Rattle.hwp_check_state.specs.Syncs.{has_sync, is_sync};
 ghost use Rattle.hwp_check_rules.specs.Rules.{IsBalanced};
 ghost use Rattle.hwp_check_rules.specs.Standing.{last_line};
 ghost use Rattle.hwp_check_rules.specs.Verdicts.{Holds, IsBroken, Losses};
@@ -40,8 +41,8 @@ fn told_at(file: FileNo, commands: &[Command], number: usize, row: &CpuLine) -> 
     }
 }
 
-/// What the lines of a processor tell of them, in the order of its commands, cut off at the greatest `u64`.
-fn told(file: FileNo, commands: &[Command], rows: &[CpuLine]) -> u64
+/// What the lines of a processor tell of them, line by line.
+fn told_in(file: FileNo, commands: &[Command], rows: &[CpuLine]) -> u64
     ensures { result ≡ capped (sum_by (told file) (zip commands.now (filter_map answer_in rows.now))) }
 {
     let mut sum = 0u64;
@@ -51,6 +52,40 @@ fn told(file: FileNo, commands: &[Command], rows: &[CpuLine]) -> u64
         answered += usize::from(is_answer(row));
     }
     sum
+}
+
+/// Whether the command syncs the file.
+fn is_sync(file: FileNo, command: &Command) -> bool
+    ensures { result ≡ is_sync file command.now }
+{
+    match command {
+        Command::Fsync { file: other } => other.0 == file.0,
+        _ => false,
+    }
+}
+
+/// Whether some of these commands syncs the file.
+fn has_sync(file: FileNo, commands: &[Command]) -> bool
+    ensures { result ≡ has_sync file commands.now }
+{
+    for command in commands {
+        if is_sync(file, command) {
+            return true;
+        }
+    }
+    false
+}
+
+/// What the lines of a processor tell of them, in the order of its commands, cut off at the greatest `u64`. Where no command syncs
+/// the file they tell nothing, and aren't gone through: a long report has far more lines than its script has commands.
+fn told(file: FileNo, commands: &[Command], rows: &[CpuLine]) -> u64
+    ensures { result ≡ capped (sum_by (told file) (zip commands.now (filter_map answer_in rows.now))) }
+{
+    if has_sync(file, commands) {
+        told_in(file, commands, rows)
+    } else {
+        0
+    }
 }
 
 /// What the lines of all processors tell of them.

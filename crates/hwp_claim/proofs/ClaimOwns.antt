@@ -39,7 +39,7 @@ use Rattle.hwp_claim.specs.declared.meet.MeetAt.TheVariants as meet_at
 use Rattle.hwp_claim.specs.Grabs as grabs
 use Rattle.hwp_claim.specs.Meets as meets
 use Rattle.hwp_claim.specs.Meets.{has_ended, is_ended, owner_in}
-use Rattle.hwp_claim.specs.Claims.{plan_at, bare_at, poisoned, is_done, looked, after_grab, after_meet, next_at, FitsAt, class, claims, claims_at, cost}
+use Rattle.hwp_claim.specs.Claims.{plan_at, bare_at, is_done, looked, after_grab, after_meet, next_at, FitsAt, class, claims, claims_at, cost}
 use Rattle.hwp_claim.proofs.GrabCosts as grab_costs
 use Rattle.hwp_claim.proofs.MeetCosts.{meet-mild}
 use Rattle.hwp_claim.proofs.Poisoning.{poison-owns}

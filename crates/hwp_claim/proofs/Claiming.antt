@@ -35,7 +35,8 @@ use Rattle.hwp_step.specs.declared.Turn.{Turn}
 use Rattle.hwp_step.specs.Calls.{CanMake, IsOnTurn, Steps, logs}
 use Rattle.hwp_step.specs.Hands.{hand_of, empty}
 use Rattle.hwp_step.proofs.Stepping.{on-turn-after, hand-planned, steps-planned, can-make}
-use Rattle.hwp_known.specs.Known.{IsShown, SawStop}
+use Rattle.hwp_known.specs.Known.{IsShown}
+use Rattle.hwp_known.proofs.Seeing.{saw-stopped, stop-listed}
 use Rattle.hwp_hold.specs.declared.unlock.Unlock.{Unlock}
 use Rattle.hwp_hold.specs.declared.unlock.UnlockAt.{UnlockAt}
 use Rattle.hwp_hold.specs.declared.unlock.UnlockAt.TheVariants as unlock_at
@@ -135,24 +136,12 @@ module _ {layout : Layout} {who : Who} {old new : View} {found : ℕ} {got : Opt
   pub stop-keeps : account_of new ≡ account_of old
   stop-keeps = ap account_of made.told.next ∙ either (found == 0) _ _ (account_of old) refl refl
 
-  has-stopped : (found == 0) ≡ true → SomeMember (λ (w : Who). w ≡ who) new.stops
-  has-stopped is = subst (SomeMember (λ (w : Who). w ≡ who)) (sym (ap (λ (v : View). v.stops) made.told.next
-      ∙ ap (λ (b : Bool). (cond b (record (noted who old) { stops = old.stops ++ who ∷ [] }) (sighted who places.Stop found (noted who old))).stops) is)) (some-last (λ (w : Who). w ≡ who) old.stops who refl)
-
-  was-stopped : (found == 0) ≡ false → is_stopped found ≡ true → SawStop new who
-  was-stopped other is = record {
-    word = found;
-    stopped = is;
-    saw = subst (SomeMember (IsShown who places.Stop found)) (sym (ap (λ (v : View). v.sights) made.told.next
-        ∙ ap (λ (b : Bool). (cond b (record (noted who old) { stops = old.stops ++ who ∷ [] }) (sighted who places.Stop found (noted who old))).sights) other)) (some-last (IsShown who places.Stop found) old.sights (record { stamp = stamp_of who (noted who old); place = places.Stop; word = found }) (refl, refl, refl));
-  }
-
   after-stop : (frame : Frame) (hardware : Bool) → old.owed.losses ≡ [] → hand_of new ≡ empty → After layout new who frame hardware (stopped found)
   after-stop frame hardware paid held = record { paid = same-paid old new stop-keeps paid; at = by (found == 0) refl (is_stopped found) refl }
     where
       by : (b : Bool) → (found == 0) ≡ b → (d : Bool) → is_stopped found ≡ d → FitsAt layout new who frame hardware (cond b at.Stopped (cond d at.Stopped at.GaveUp))
-      by true zero d is = (held, inr (has-stopped zero))
-      by false other true is = (held, inl (was-stopped other is))
+      by true zero d is = (held, inr (stop-listed made zero))
+      by false other true is = (held, inl (saw-stopped made other is))
       by false other false is = held
 
 -- ---- the frame is poisoned

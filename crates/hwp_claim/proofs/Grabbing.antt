@@ -8,7 +8,6 @@ use Rattle.hwp_page.specs.History.{BodyValue}
 use Rattle.hwp_words.specs.Frames.{count_of, is_handled, is_kernel, is_poisoned}
 use Rattle.hwp_rule.specs.declared.FrameInHand.{FrameInHand}
 use Rattle.hwp_rule.specs.declared.FrameLock.{FrameLock}
-use Rattle.hwp_rule.specs.declared.Place.TheVariants as places
 use Rattle.hwp_rule.specs.declared.Step.{Step}
 use Rattle.hwp_rule.specs.declared.Step.TheVariants as steps
 use Rattle.hwp_rule.specs.declared.View.{View}

@@ -1,19 +1,15 @@
 -- The laws of `Nested`.
-use Rattle.std.proofs.Common.{◌≡◌, ℕ, ◌<◌, ◌≤◌, ◌==◌, Bool, true, false, cond, ◌∷◌, ◌++◌, [], Option, Some, None, refl, sym, ap, ◌∙◌, subst, arith}
+use Rattle.std.proofs.Common.{◌≡◌, ℕ, ◌<◌, ◌≤◌, ◌==◌, Bool, true, false, cond, Option, Some, None, refl, sym, ap, ◌∙◌, subst, arith}
 use Rattle.std.proofs.lemmas.Bool.{both_ways}
 use Rattle.std.proofs.lemmas.Option.{none-some, same_Some}
 use Rattle.hwp_geom.specs.declared.Layout.{Layout}
-use Rattle.hwp_geom.specs.declared.Who.{Who}
 use Rattle.hwp_page.specs.History.{BodyValue}
 use Rattle.hwp_words.specs.Stops.{is_stopped}
 use Rattle.hwp_rule.specs.declared.Place.TheVariants as places
 use Rattle.hwp_rule.specs.declared.Step.{Step}
 use Rattle.hwp_rule.specs.declared.Step.TheVariants as steps
 use Rattle.hwp_rule.specs.declared.View.{View}
-use Rattle.hwp_rule.specs.Lists.{SomeMember}
 use Rattle.hwp_rule.specs.Lasting.{IsMild}
-use Rattle.hwp_rule.specs.Views.{noted, sighted, stamp_of}
-use Rattle.hwp_rule.proofs.Lists.{some-last}
 use Rattle.hwp_step.specs.declared.Turn.{Turn}
 use Rattle.hwp_step.specs.declared.Turn.TheVariants.{Moved, Changed, NoMemory}
 use Rattle.hwp_step.specs.Calls.{CanMake, Steps}
@@ -21,13 +17,13 @@ use Rattle.hwp_step.specs.Ranks.{Member, member, IsRanked, is_waits}
 use Rattle.hwp_step.proofs.Ranking.{rank-of}
 use Rattle.hwp_step.proofs.Stepping.{can-make, hand-planned, on-turn-after, steps-planned}
 use Rattle.hwp_step.specs.Classes.{TellsClass}
-use Rattle.hwp_known.specs.Known.{IsShown, SawStop}
 use Rattle.hwp_known.proofs.Listing.{deeds-same}
+use Rattle.hwp_known.proofs.Seeing.{saw-stopped, stop-listed}
 use Rattle.hwp_control.specs.declared.nested.Nested.{Nested}
 use Rattle.hwp_control.specs.declared.nested.NestedAt.{NestedAt}
 use Rattle.hwp_control.specs.declared.nested.NestedAt.TheVariants as at
 use Rattle.hwp_control.specs.declared.nested.NestedAnswer.TheVariants as answers
-use Rattle.hwp_control.specs.Nesteds.{plan, plan_at, next, next_at, turn, turn_at, HasStopped, Fits, FitsAt, cost, cost_at}
+use Rattle.hwp_control.specs.Nesteds.{plan, plan_at, next, next_at, turn, turn_at, Fits, FitsAt, cost, cost_at}
 use Rattle.hwp_control.proofs.Glancing.{no-frame, no-page, saw-stop}
 
 pub can : (layout : Layout) (view : View) (n : Nested) (step : Step) → Fits layout view n → plan n ≡ Some step → CanMake layout n.who step None view
@@ -37,20 +33,6 @@ can layout view n step fits is = which n.at is
     which at.LoadStop e = can-make fits.on_turn e tt tt
     which at.Stop e = can-make fits.on_turn e tt refl
     which (at.Over answer) e = absurd (none-some step e)
-
--- a stop that met the word 0 is listed, and one that met another shows it
-module _ {layout : Layout} {who : Who} {old new : View} {found : ℕ} {got : Option BodyValue} (made : Steps layout who (steps.Stop who.cpu) None old new found got) where
-  stopped : (found == 0) ≡ true → HasStopped new who
-  stopped is = subst (SomeMember (λ (w : Who). w ≡ who)) (sym (ap (λ (v : View). v.stops) made.told.next
-      ∙ ap (λ (b : Bool). (cond b (record (noted who old) { stops = old.stops ++ who ∷ [] }) (sighted who places.Stop found (noted who old))).stops) is)) (some-last (λ (w : Who). w ≡ who) old.stops who refl)
-
-  was-stopped : (found == 0) ≡ false → is_stopped found ≡ true → SawStop new who
-  was-stopped other is = record {
-    word = found;
-    stopped = is;
-    saw = subst (SomeMember (IsShown who places.Stop found)) (sym (ap (λ (v : View). v.sights) made.told.next
-        ∙ ap (λ (b : Bool). (cond b (record (noted who old) { stops = old.stops ++ who ∷ [] }) (sighted who places.Stop found (noted who old))).sights) other)) (some-last (IsShown who places.Stop found) old.sights (record { stamp = stamp_of who (noted who old); place = places.Stop; word = found }) (refl, refl, refl));
-  }
 
 pub both : (layout : Layout) (old new : View) (n : Nested) (step : Step) (found : ℕ) (got : Option BodyValue) → Fits layout old n → plan n ≡ Some step → Steps layout n.who step None old new found got → Fits layout new (next n found)
 both layout old new n step found got fits is made = which n.at is
@@ -74,8 +56,8 @@ both layout old new n step found got fits is made = which n.at is
     }
       where
         by : (b : Bool) → (found == 0) ≡ b → (c : Bool) → is_stopped found ≡ c → FitsAt new n.who (at.Over (cond b (Some answers.Shutdown) (cond c (Some answers.Stopped) None)))
-        by true zero c is = stopped (steps-planned e made) zero
-        by false other true is = was-stopped (steps-planned e made) other is
+        by true zero c is = stop-listed (steps-planned e made) zero
+        by false other true is = saw-stopped (steps-planned e made) other is
         by false other false is = tt
     which (at.Over answer) e = absurd (none-some step e)
 

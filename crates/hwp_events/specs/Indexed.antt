@@ -1,6 +1,7 @@
 -- The event lines of each command of a processor, and its first answer, by the processor's lines.
 use Rattle.std.specs.Prelude.{◌≡◌, ℕ, ◌+◌, ◌^◌, ◌<◌, ◌==◌, ◌&&◌, cond, List, [], ◌∷◌, ◌++◌, Option, Some, None, count_by, length, slice_get, slice_index_or, slice_set, sum_by}
 use Rattle.hwp_geom.specs.declared.Cpu.{Cpu}
+use Rattle.hwp_geom.specs.declared.Who.{Who}
 use Rattle.hwp_page.specs.declared.Entry.{Entry}
 use Rattle.hwp_report.specs.declared.Answer.{Answer}
 use Rattle.hwp_report.specs.declared.CpuLine.{CpuLine}
@@ -58,9 +59,25 @@ pub record AreFirst (rows : List CpuLine) (count : ℕ) (answers : List (Option 
 abbrev pub checks_in : Cpu → ℕ → List Entry → ℕ
 checks_in cpu seq entries = count_by (λ (e : Entry). is_same_command (record { cpu = cpu; seq = seq }) e.who && is_check e.what) entries
 
--- an entry more in the counts of a processor's commands
-abbrev pub with_check : Cpu → Entry → List ℕ → List ℕ
-with_check cpu e counts = cond (is_check e.what && (cpu.0 == e.who.cpu.0)) (slice_set counts e.who.seq (slice_index_or counts e.who.seq 0 + 1)) counts
+-- the command of an entry, where it is a machine check of an access; those of a page's entries, and of all histories
+abbrev pub checker : Entry → List Who
+checker e = cond (is_check e.what) (e.who ∷ []) []
+
+abbrev pub page_checkers : List Entry → List Who
+page_checkers [] = []
+page_checkers (e ∷ es) = checker e ++ page_checkers es
+
+abbrev pub all_checkers : List (List Entry) → List Who
+all_checkers [] = []
+all_checkers (es ∷ rest) = page_checkers es ++ all_checkers rest
+
+-- how many of these are the processor's command with this number
+abbrev pub checks_by : Cpu → ℕ → List Who → ℕ
+checks_by cpu seq list = count_by (λ (w : Who). is_same_command (record { cpu = cpu; seq = seq }) w) list
+
+-- a machine check more in the counts of a processor's commands
+abbrev pub with_check : Cpu → Who → List ℕ → List ℕ
+with_check cpu w counts = cond (cpu.0 == w.cpu.0) (slice_set counts w.seq (slice_index_or counts w.seq 0 + 1)) counts
 
 -- so many were added to the counts
 pub record AreAdded (more : ℕ → ℕ) (old new : List ℕ) : Type 0 where

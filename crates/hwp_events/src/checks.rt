@@ -1,9 +1,10 @@
-ghost use Rattle.std.specs.Prelude.{◌≡◌, ◌<◌, ◌^◌, length, sum_by, IfOk};
+ghost use Rattle.std.specs.Prelude.{◌≡◌, ◌<◌, ◌^◌, ◌++◌, ◌∷◌, [], cond, length, sum_by, IfOk, OnOk};
 ghost use Rattle.hwp_law.specs.Events.{is_check};
-ghost use Rattle.hwp_events.specs.Indexed.{AreAdded, AreChecks, AreFew, checks_in, with_check};
+ghost use Rattle.hwp_events.specs.Indexed.{AreAdded, AreChecks, AreFew, all_checkers, checker, checks_by, page_checkers, with_check};
 
-use hwp_geom::{Cpu, List, OutOfMemory};
+use hwp_geom::{Cpu, List, OutOfMemory, Who};
 use hwp_page::{Entry, What};
+use hwp_report::Report;
 use std::alloc::Global;
 
 /// Whether the entry is a machine check of an access.
@@ -13,26 +14,73 @@ fn is_check(what: &What) -> bool
     matches!(what, What::Mce { .. })
 }
 
-/// Counts the entry for its command, where it is a machine check of one of the processor's.
-fn add_entry(counts: &mut Vec<u64>, cpu: Cpu, entry: &Entry)
-    requires room { AreFew counts.old.items 1 }
-    ensures { counts.new.items ≡ with_check cpu entry.now counts.old.items }
+/// Adds a command that is flagged.
+fn add_if(out: &mut Vec<Who>, flag: bool, who: Who) -> Result<(), OutOfMemory>
+    ensures { OnOk result (out.new.items ≡ out.old.items ++ cond flag (who ∷ []) []) }
 {
-    if is_check(&entry.what) && cpu.0 == entry.who.cpu.0 {
-        let at = entry.who.seq as usize;
+    if flag {
+        out.push(who)?;
+    }
+    Ok(())
+}
+
+/// Adds the command of an entry, where it is a machine check of an access.
+fn add_checker(out: &mut Vec<Who>, entry: &Entry) -> Result<(), OutOfMemory>
+    ensures { OnOk result (out.new.items ≡ out.old.items ++ checker entry.now) }
+{
+    add_if(out, is_check(&entry.what), entry.who)
+}
+
+/// Adds those of a page's entries.
+fn add_page(out: &mut Vec<Who>, entries: &[Entry]) -> Result<(), OutOfMemory>
+    ensures { OnOk result (out.new.items ≡ out.old.items ++ page_checkers entries.now) }
+{
+    for entry in entries {
+        add_checker(out, entry)?;
+    }
+    Ok(())
+}
+
+/// Adds those of all histories.
+fn add_pages(out: &mut Vec<Who>, pages: &[List<Entry>]) -> Result<(), OutOfMemory>
+    ensures { OnOk result (out.new.items ≡ out.old.items ++ all_checkers pages.now) }
+{
+    for entries in pages {
+        add_page(out, entries.as_slice())?;
+    }
+    Ok(())
+}
+
+/// The commands of the machine checks of an access that the histories show, one for each. A processor's are counted from these, since
+/// the entries of a long report are far more than a processor's cache holds.
+pub fn checkers_of(alloc: Global, report: &Report) -> Result<Vec<Who>, OutOfMemory>
+    ensures { IfOk result (λ list. list.items ≡ all_checkers report.now.pages) }
+{
+    let mut list = Vec::new(alloc);
+    add_pages(&mut list, report.pages.as_slice())?;
+    Ok(list)
+}
+
+/// Counts a machine check for its command, where it is one of the processor's.
+fn add_check(counts: &mut Vec<u64>, cpu: Cpu, who: &Who)
+    requires room { AreFew counts.old.items 1 }
+    ensures { counts.new.items ≡ with_check cpu who.now counts.old.items }
+{
+    if cpu.0 == who.cpu.0 {
+        let at = who.seq as usize;
         if at < counts.len() {
             counts[at] += 1;
         }
     }
 }
 
-/// Counts the entries of a page.
-fn add_page(counts: &mut Vec<u64>, cpu: Cpu, entries: &[Entry])
-    requires room { AreFew counts.old.items (length entries.now) }
-    ensures { AreAdded (λ seq. checks_in cpu seq entries.now) counts.old.items counts.new.items }
+/// Counts machine checks so.
+fn add_checks(counts: &mut Vec<u64>, cpu: Cpu, checkers: &[Who])
+    requires room { AreFew counts.old.items (length checkers.now) }
+    ensures { AreAdded (λ seq. checks_by cpu seq checkers.now) counts.old.items counts.new.items }
 {
-    for number in 0..entries.len() {
-        add_entry(counts, cpu, &entries[number]);
+    for number in 0..checkers.len() {
+        add_check(counts, cpu, &checkers[number]);
     }
 }
 
@@ -42,14 +90,15 @@ pub(crate) fn checks_by_command(
     count: usize,
     cpu: Cpu,
     pages: &[List<Entry>],
+    checkers: &[Who],
 ) -> Result<Vec<u64>, OutOfMemory>
     requires room { sum_by length pages.now < 2 ^ 64 }
+    requires checkers { checkers.now ≡ all_checkers pages.now }
     ensures { IfOk result (λ counts. AreChecks cpu count pages.now counts.items) }
 {
+    let _pages = pages;
     let mut counts = Vec::new(alloc);
     counts.resize(count, 0)?;
-    for number in 0..pages.len() {
-        add_page(&mut counts, cpu, pages[number].as_slice());
-    }
+    add_checks(&mut counts, cpu, checkers);
     Ok(counts)
 }

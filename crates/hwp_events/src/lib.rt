@@ -13,5 +13,6 @@ mod processors;
 mod tables;
 mod walk;
 
+pub use checks::checkers_of;
 pub use misfits::Misfits;
 pub use processors::{processor_faults, small_masks};

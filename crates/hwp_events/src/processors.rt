@@ -1,6 +1,7 @@
 ghost use Rattle.std.specs.Prelude.{◌≡◌, ◌≤◌, ◌<◌, ◌+◌, ◌*◌, ◌^◌, [], Some, length, slice_get, sum_by, unwrap_or, All, IfOk};
 ghost use Rattle.hwp_report.specs.declared.FrameLine.{FrameLine};
 ghost use Rattle.hwp_script.specs.Valid.{IsValid};
+ghost use Rattle.hwp_events.specs.Indexed.{all_checkers};
 ghost use Rattle.hwp_events.specs.Walked.{IsProcessorJudged};
 
 use crate::checks::checks_by_command;
@@ -8,7 +9,7 @@ use crate::index::{answers_by_command, events_by_command};
 use crate::misfits::Misfits;
 use crate::walk::walk;
 use hwp_event_lines::Traced;
-use hwp_geom::{Cpu, OutOfMemory};
+use hwp_geom::{Cpu, OutOfMemory, Who};
 use hwp_records::{past_of, results_of};
 use hwp_report::{CpuLine, Report};
 use hwp_script::{Command, Script};
@@ -41,18 +42,20 @@ fn rows_on(report: &Report, cpu: Cpu) -> &[CpuLine]
     }
 }
 
-/// What is wrong about the event lines of a processor with these commands.
+/// What is wrong about the event lines of a processor with these commands, by the machine checks that the histories show.
 pub fn processor_faults(
     alloc: Global,
     script: &Script,
     report: &Report,
     cpu: Cpu,
     commands: &[Command],
+    checkers: &[Who],
 ) -> Result<Misfits, OutOfMemory>
     requires valid { IsValid script.now }
     requires frames { length report.now.frames ≤ 65536 }
     requires room { sum_by length report.now.pages + 1 < 2 ^ 64 }
     requires of_script { slice_get script.now.lists cpu.0 ≡ Some commands.now }
+    requires checkers { checkers.now ≡ all_checkers report.now.pages }
     ensures { IfOk result (λ found. IsProcessorJudged script.now report.now cpu commands.now found) }
 {
     small_masks(report);
@@ -60,7 +63,7 @@ pub fn processor_faults(
     let count = commands.len();
     let lists = events_by_command(alloc, count, rows)?;
     let answers = answers_by_command(alloc, count, rows)?;
-    let checks = checks_by_command(alloc, count, cpu, report.pages.as_slice())?;
+    let checks = checks_by_command(alloc, count, cpu, report.pages.as_slice(), checkers)?;
     let mut table = Vec::new(alloc);
     table.resize(2 * usize::from(script.layout.frames), 64)?;
     let past = past_of(alloc, cpu, report.frames.as_slice())?;

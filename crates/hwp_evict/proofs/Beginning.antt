@@ -23,7 +23,6 @@ use Rattle.hwp_step.specs.Hands.{Hand, body_in}
 use Rattle.hwp_known.specs.Known.{HasMadeNone, SawLog}
 use Rattle.hwp_hold.specs.Holds.{HoldsPage, held, page_lock}
 use Rattle.hwp_hold.specs.Unholds as unholds
-use Rattle.hwp_hold.specs.Unholds.{HoldsAhead}
 use Rattle.hwp_hold.proofs.GivingUp.{page-given-up}
 use Rattle.hwp_hold.proofs.Linking.{ahead-unholds, held-unholds}
 use Rattle.hwp_evict.specs.declared.evict.EvictAnswer.TheVariants as answers

@@ -4,6 +4,7 @@ use Rattle.std.proofs.lemmas.Bool.{both_ways, lt-ltb, le-ltb, cases_lt}
 use Rattle.std.proofs.lemmas.Option.{none-some, same_Some, slice_get_within}
 use Rattle.std.specs.FinSet as set
 use Rattle.std.specs.List.{find}
+use Rattle.std.specs.Ordering.{nat_cmp}
 use Rattle.hwp_geom.specs.declared.Frame.{Frame}
 use Rattle.hwp_geom.specs.declared.Layout.{Layout}
 use Rattle.hwp_geom.specs.declared.Page.{Page}
@@ -49,6 +50,31 @@ names-none false = refl
 leads-nowhere : (barred : Bool) (f : Frame) → frame_of (pte_of barred) ≡ Some f → ⊥
 leads-nowhere true f is = none-some f is
 leads-nowhere false f is = none-some f is
+
+-- Once a translation is written and the next one comes, it is written, and of the others it is as before whether they are.
+module _ (slots : set.FinSet nat_cmp) (slot : VSlot) where
+  pub done-behind : (n : Option VSlot) → IsNextFrom slots (slot.0 + 1) n → is_done n slot.0 ≡ true
+  done-behind None none = refl
+  done-behind (Some v) low = let above : slot.0 + 1 ≤ v.0 = low.1.not_below in lt-ltb slot.0 v.0 (omega (arith, above))
+
+  pub done-same : (u : ℕ) → set.contains slots u ≡ true → u ≢ slot.0 → (n : Option VSlot) → IsNextFrom slots (slot.0 + 1) n → nat_lt u slot.0 ≡ is_done n u
+  done-same u some other None none = which (cases_lt u slot.0)
+    where
+      which : (u < slot.0) ⊎ (slot.0 ≤ u) → nat_lt u slot.0 ≡ true
+      which (inl less) = lt-ltb u slot.0 less
+      which (inr past) = absurd (both_ways (set.contains slots u) (none u (omega (arith, past, other))) some)
+  done-same u some other (Some v) low = which (cases_lt u slot.0)
+    where
+      above : slot.0 + 1 ≤ v.0
+      above = low.1.not_below
+
+      which : (u < slot.0) ⊎ (slot.0 ≤ u) → nat_lt u slot.0 ≡ nat_lt u v.0
+      which (inl less) = lt-ltb u slot.0 less ∙ sym (lt-ltb u v.0 (omega (arith, less, above)))
+      which (inr past) = by (cases_lt u v.0)
+        where
+          by : (u < v.0) ⊎ (v.0 ≤ u) → nat_lt u slot.0 ≡ nat_lt u v.0
+          by (inl less) = absurd (both_ways (set.contains slots u) (low.1.lowest u (omega (arith, past, other)) less) some)
+          by (inr far) = le-ltb u slot.0 past ∙ sym (le-ltb u v.0 far)
 
 module _ {layout : Layout} {old : View} (c : Clear) (slot : VSlot) (fits : Fits layout old c) (has : IsClearing layout old (record c { next = Some slot })) where
   abbrev state : PageState
@@ -127,35 +153,11 @@ module _ {layout : Layout} {old : View} (c : Clear) (slot : VSlot) (fits : Fits 
         ∙ ap (λ (n : ℕ). after (record { frame = c.frame; count = n } ∷ [])) (let some : _ = has.some in omega (arith, some))
 
     module _ (next : Option VSlot) (lowest : IsNextFrom c.slots (slot.0 + 1) next) where
-      -- of the others it is as before whether they are written
-      done-behind : (n : Option VSlot) → IsNextFrom c.slots (slot.0 + 1) n → is_done n slot.0 ≡ true
-      done-behind None none = refl
-      done-behind (Some v) low = let above : slot.0 + 1 ≤ v.0 = low.1.not_below in lt-ltb slot.0 v.0 (omega (arith, above))
-
-      done-same : (u : ℕ) → set.contains c.slots u ≡ true → u ≢ slot.0 → (n : Option VSlot) → IsNextFrom c.slots (slot.0 + 1) n → nat_lt u slot.0 ≡ is_done n u
-      done-same u some other None none = which (cases_lt u slot.0)
-        where
-          which : (u < slot.0) ⊎ (slot.0 ≤ u) → nat_lt u slot.0 ≡ true
-          which (inl less) = lt-ltb u slot.0 less
-          which (inr past) = absurd (both_ways (set.contains c.slots u) (none u (omega (arith, past, other))) some)
-      done-same u some other (Some v) low = which (cases_lt u slot.0)
-        where
-          above : slot.0 + 1 ≤ v.0
-          above = low.1.not_below
-
-          which : (u < slot.0) ⊎ (slot.0 ≤ u) → nat_lt u slot.0 ≡ nat_lt u v.0
-          which (inl less) = lt-ltb u slot.0 less ∙ sym (lt-ltb u v.0 (omega (arith, less, above)))
-          which (inr past) = by (cases_lt u v.0)
-            where
-              by : (u < v.0) ⊎ (v.0 ≤ u) → nat_lt u slot.0 ≡ nat_lt u v.0
-              by (inl less) = absurd (both_ways (set.contains c.slots u) (low.1.lowest u (omega (arith, past, other)) less) some)
-              by (inr far) = le-ltb u slot.0 past ∙ sym (le-ltb u v.0 far)
-
       words-now : (u : ℕ) (t : TransDecl) → slice_get layout.trans u ≡ Some t → t.page ≡ c.page → slice_get now u ≡ Some (word_now state c.barred c.frame next u)
       words-now u t declared own = which (same-or u slot.0)
         where
           same-word : u ≢ slot.0 → (b : Bool) → set.contains state.maps u ≡ b → word_now state c.barred c.frame (Some slot) u ≡ word_now state c.barred c.frame next u
-          same-word other true some = ap (λ (d : Bool). cond (set.contains state.maps u) (cond d word (c.frame.0 + 1)) (cond (set.contains state.bar u) (pte_word ptes.Poison) 0)) (done-same u (ap (λ m. set.contains m u) has.slots_are ∙ some) other next lowest)
+          same-word other true some = ap (λ (d : Bool). cond (set.contains state.maps u) (cond d word (c.frame.0 + 1)) (cond (set.contains state.bar u) (pte_word ptes.Poison) 0)) (done-same c.slots slot u (ap (λ m. set.contains m u) has.slots_are ∙ some) other next lowest)
           same-word other false none = ap (λ (b : Bool). cond b (cond (nat_lt u slot.0) word (c.frame.0 + 1)) (cond (set.contains state.bar u) (pte_word ptes.Poison) 0)) none
               ∙ sym (ap (λ (b : Bool). cond b (cond (is_done next u) word (c.frame.0 + 1)) (cond (set.contains state.bar u) (pte_word ptes.Poison) 0)) none)
 
@@ -163,7 +165,7 @@ module _ {layout : Layout} {old : View} (c : Clear) (slot : VSlot) (fits : Fits 
           which (inl same) = ap (slice_get now) same ∙ set_here has.trans slot.0 word (c.frame.0 + 1) names-frame
               ∙ sym (ap (λ (n : ℕ). Some (word_now state c.barred c.frame next n)) same
               ∙ ap (λ (b : Bool). Some (cond b (cond (is_done next slot.0) word (c.frame.0 + 1)) (cond (set.contains state.bar slot.0) (pte_word ptes.Poison) 0))) maps-used
-              ∙ ap (λ (b : Bool). Some (cond b word (c.frame.0 + 1))) (done-behind next lowest))
+              ∙ ap (λ (b : Bool). Some (cond b word (c.frame.0 + 1))) (done-behind c.slots slot next lowest))
           which (inr other) = set_else has.trans slot.0 u word other ∙ has.words u t declared own ∙ ap (λ (n : ℕ). Some n) (same-word other (set.contains state.maps u) refl)
 
       counted : (n : Option VSlot) → IsNextFrom c.slots (slot.0 + 1) n → IsCounted layout (c.count + 1) n
@@ -221,6 +223,20 @@ stays layout old new c step found got fits is made = let all = both layout old n
     own : (n : Option VSlot) (after : Clear) → FollowsAt c n after → after.who.cpu ≡ c.who.cpu
     own None after follows = ap (λ (x : Clear). x.who.cpu) follows
     own (Some slot) after follows = ap (λ (x : Clear). x.who.cpu) follows.0
+
+-- the page, its frame and the command stay the same with each turn
+pub record IsSameClear (c after : Clear) : Type 0 where
+  pub who : after.who ≡ c.who
+  pub page : after.page ≡ c.page
+  pub frame : after.frame ≡ c.frame
+  pub barred : after.barred ≡ c.barred
+
+pub same-clear : (c after : Clear) → Follows c after → IsSameClear c after
+same-clear c after follows = which c.next follows
+  where
+    which : (n : Option VSlot) → FollowsAt c n after → IsSameClear c after
+    which None is = record { who = ap (λ (x : Clear). x.who) is; page = ap (λ (x : Clear). x.page) is; frame = ap (λ (x : Clear). x.frame) is; barred = ap (λ (x : Clear). x.barred) is }
+    which (Some slot) is = record { who = ap (λ (x : Clear). x.who) is.0; page = ap (λ (x : Clear). x.page) is.0; frame = ap (λ (x : Clear). x.frame) is.0; barred = ap (λ (x : Clear). x.barred) is.0 }
 
 -- ---- the law of the rank
 

@@ -39,8 +39,7 @@ use Rattle.hwp_hold.specs.GiveUps as give_ups
 use Rattle.hwp_hold.specs.Holds as holds
 use Rattle.hwp_hold.specs.Unholds as unholds
 use Rattle.hwp_hold.specs.Unlocks as unlocks
-use Rattle.hwp_hold.proofs.GiveUpCosts.{give-up-falls, give-up-mild, give-up-ranked}
-use Rattle.hwp_hold.proofs.Unlocking.{unlock-small}
+use Rattle.hwp_hold.proofs.GiveUpCosts.{give-up-falls, give-up-goes, give-up-mild, give-up-ranked, give-up-small}
 use Rattle.hwp_hold.proofs.Ranking.{hold-falls, hold-mild, hold-small, hold-class, hold-ranked, unhold-falls, unhold-mild, unhold-small, unhold-class}
 use Rattle.hwp_hold.proofs.Telling.{Tells, hold-tells, unhold-tells, give-up-tells, frame-tells, no-frame, no-page}
 use Rattle.hwp_evict.specs.declared.clear.Clear.{Clear}
@@ -63,15 +62,6 @@ use Rattle.hwp_evict.proofs.Evicting.{both}
 use Rattle.hwp_evict.proofs.VacateCosts.{vacate-falls, vacate-mild, vacate-small, vacate-class, vacate-tells}
 
 -- ---- what the next states cost
-
-give-up-small : (w : Words) (g : GiveUp) → give_ups.cost g w ≤ 6
-give-up-small w g = which g.at
-  where
-    which : (x : GiveUpAt) → give_ups.cost_at x w ≤ 6
-    which (give_up_at.Unhold u) = let few : unholds.cost u w ≤ 5 = unhold-small w u in omega (arith, few)
-    which (give_up_at.Unlock u) = let few : unlocks.cost u w ≤ 4 = unlock-small w u in omega (arith, few)
-    which give_up_at.GiveUp = omega arith
-    which give_up_at.Over = omega arith
 
 begun-cost : (who : Who) (page : Page) (frame : Option Frame) (count : ℕ) (body : BodyValue) (w : Words) → unholds.cost (unholds.begin who page frame count body) w ≤ 5
 begun-cost who page frame count body w = unhold-small w (unholds.begin who page frame count body)
@@ -207,15 +197,6 @@ evict-class e = which e.at
     which (at.Over answer) = (omega arith, omega arith)
 
 -- only a page that is being held waits
-give-up-goes : (g : GiveUp) → is_waits (give_ups.turn g) ≡ false
-give-up-goes g = which g.at
-  where
-    which : (x : GiveUpAt) → is_waits (give_ups.turn_at x) ≡ false
-    which (give_up_at.Unhold u) = refl
-    which (give_up_at.Unlock u) = refl
-    which give_up_at.GiveUp = refl
-    which give_up_at.Over = refl
-
 after-goes : (x : EvictAt) → is_waits (turn_after x) ≡ false
 after-goes at.LoadStop = refl
 after-goes (at.Hold h) = refl

@@ -48,6 +48,7 @@ use Rattle.hwp_evict.specs.Evicts.{FitsAt, HasEntry, IsAhead, IsClearingOut, IsC
 use Rattle.hwp_evict.specs.Vacates as vacates
 use Rattle.hwp_evict.specs.Vacates.{page_held, with_frame}
 use Rattle.hwp_evict.proofs.Clearing as clearing
+use Rattle.hwp_evict.proofs.Clearing.{IsSameClear, same-clear}
 use Rattle.hwp_evict.proofs.Entering.{body-page, extends, kills-none, one-more, state-after, words}
 use Rattle.hwp_evict.proofs.Freeing.{declared-of}
 use Rattle.hwp_evict.proofs.Judging.{replay-apart, replay-own, state-is}
@@ -217,19 +218,6 @@ module _ {layout : Layout} {view : View} {who : Who} {page : Page} (on : IsOnTur
 
 -- ---- a translation more is written
 
-record IsSame (c after : Clear) : Type 0 where
-  who : after.who ≡ c.who
-  page : after.page ≡ c.page
-  frame : after.frame ≡ c.frame
-  barred : after.barred ≡ c.barred
-
-same-clear : (c after : Clear) → clears.Follows c after → IsSame c after
-same-clear c after follows = which c.next follows
-  where
-    which : (n : Option VSlot) → clears.FollowsAt c n after → IsSame c after
-    which None is = record { who = ap (λ (x : Clear). x.who) is; page = ap (λ (x : Clear). x.page) is; frame = ap (λ (x : Clear). x.frame) is; barred = ap (λ (x : Clear). x.barred) is }
-    which (Some slot) is = record { who = ap (λ (x : Clear). x.who) is.0; page = ap (λ (x : Clear). x.page) is.0; frame = ap (λ (x : Clear). x.frame) is.0; barred = ap (λ (x : Clear). x.barred) is.0 }
-
 module _ {layout : Layout} {old new : View} {who : Who} {page : Page} {what : Eviction} (c : Clear) {body : BodyValue} {done : At} {step : Step} {found : ℕ} {got : Option BodyValue} (on : IsOnTurn new who) (inside : page.0 < length layout.pages) (has : IsClearingOut layout old who page what c body done) (is : clears.plan c ≡ Some step)
     (made : Steps layout c.who step None old new found got) where
   sights-same : new.sights ≡ old.sights
@@ -259,5 +247,5 @@ module _ {layout : Layout} {old new : View} {who : Who} {page : Page} {what : Ev
       (subst (λ (w : Eviction). HasSeen (drop has.seen old.sights) who (Some c.frame) (entry_of w)) has.out has.saw)))
       (deeds-same who (clearing.clear-lists c step is) made ∙ has.made_none)))
     where
-      same : IsSame c follows.after
+      same : IsSameClear c follows.after
       same = same-clear c follows.after follows.follows

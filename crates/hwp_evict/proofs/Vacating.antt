@@ -24,7 +24,7 @@ use Rattle.hwp_rule.specs.declared.Ref.{Ref}
 use Rattle.hwp_rule.specs.declared.Step.{Step}
 use Rattle.hwp_rule.specs.declared.Step.TheVariants as steps
 use Rattle.hwp_rule.specs.declared.View.{View}
-use Rattle.hwp_rule.specs.Asks.{HasLock, HasPage, CanFree, CanGoHome, CanUnlockPage, PutFits}
+use Rattle.hwp_rule.specs.Asks.{HasLock, HasPage, CanChange, CanFree, CanGoHome, CanUnlockPage, PutFits}
 use Rattle.hwp_rule.specs.Logs.{log_of, state_of, fitting_word}
 use Rattle.hwp_rule.specs.Steps.{is_last}
 use Rattle.hwp_rule.specs.Views.{refs_on, locks_on, is_body_of, is_page_lock_of, without, frame_in, with_named, less_refs, page_locks_on}
@@ -96,6 +96,17 @@ module _ {view : View} {page : Page} (frame : Option Frame) {trans : List ℕ} {
 
 abbrev pub lock-held : {view : View} {frame : Frame} (lock : FrameLock) → view.locks ≡ lock ∷ [] → lock.frame ≡ frame → HasLock view frame
 lock-held lock locks is = record { lock = lock; listed = (0, lock, ap (λ l. slice_get l 0) locks, refl); frame_is = is }
+
+-- the cache word of a page can be cleared: of the frame that it names the lock alone is held, and one reference more has room
+pub can-uncache : (layout : Layout) (view : View) (page : Page) (frame : Frame) (count : ℕ) (lock : FrameLock) → frame.0 < 2 ^ 16 → view.locks ≡ lock ∷ [] → lock.frame ≡ frame → view.refs ≡ record { frame = frame; count = count } ∷ [] → count + 1 ≤ length layout.trans + 2
+    → CanChange layout view page (frame_in (frame_name (Some frame))) None
+can-uncache layout view page frame count lock small locks is refs room = (
+  λ old named. subst (CanFree layout view) (same_Some frame old (sym (frame-named frame small) ∙ named)) (record {
+    has = lock-held lock locks is;
+    room = subst (λ (n : ℕ). n + 1 ≤ length layout.trans + 2) (sym (ap (refs_on frame.0) refs ∙ refs-are frame count)) room;
+  }),
+  λ new none. absurd (none-some new none),
+)
 
 -- a frame's name fits a cache word
 small-frame : {layout : Layout} {view : View} (v : Vacate) → Fits layout view v → v.frame.0 < 2 ^ 16
@@ -169,13 +180,7 @@ can layout view v step fits is = which v.at fits.at is
     which : (x : VacateAt) → FitsAt layout view (record v { at = x }) x → plan_at v.page v.frame x ≡ Some step → CanMake layout v.who step (put_at v.body x) view
     which at.SetCache has e = can-make fits.on_turn e fits.page (record {
       page_held = page-held (Some v.frame) (ap (λ (h : Hand). h.pages) has.hand_is) (ap (λ (h : Hand). h.bodies) has.hand_is) has.goes.taken_is;
-      frames = (
-        λ old named. subst (CanFree layout view) (same_Some v.frame old (sym (frame-named v.frame small) ∙ named)) (record {
-          has = lock-held _ (ap (λ (h : Hand). h.locks) has.hand_is) refl;
-          room = subst (λ (n : ℕ). n + 1 ≤ length layout.trans + 2) (sym (ap (λ (h : Hand). refs_on v.frame.0 h.refs) has.hand_is ∙ refs-are v.frame (v.count - 1))) (omega (arith, fits.some, fits.room));
-        }),
-        λ new none. absurd (none-some new none),
-      );
+      frames = can-uncache layout view v.page v.frame (v.count - 1) _ small (ap (λ (h : Hand). h.locks) has.hand_is) refl (ap (λ (h : Hand). h.refs) has.hand_is) (omega (arith, fits.some, fits.room));
     })
     which at.SetOwner has e = can-make fits.on_turn e fits.frame (
       fits.page,

@@ -19,9 +19,7 @@ pub use ends::{had_ended, has_ending};
 pub use findings::{Findings, findings_of};
 pub use firsts::{entries_named, first_answers};
 pub use glances::{Glance, glances_of, was_away, was_cached, was_dirty, was_mapped, was_unused};
-pub use marked::{
-    came_to, marks_of, reported, was_hardware_seen, was_moved, was_taken_back, was_taken_free,
-};
+pub use marked::{reported, was_hardware_seen};
 pub use named::is_elsewhere;
 pub use repeats::Repeats;
 pub use windows::{Span, is_in_span, is_not_below, no_floors, raise};

@@ -21,7 +21,7 @@ use Rattle.hwp_step.specs.Boards.{view_of}
 use Rattle.hwp_step.specs.Calls.{logs, rec_of}
 use Rattle.hwp_step.specs.Classes.{TellsClass}
 use Rattle.hwp_step.specs.Ranks.{CostFalls, HasFailed, HasFrame, HasPage, IsRanked, Made, Member, OtherHand, Pending, Quiet, failure_weight, failures_left, is_refused, is_waits, member, words_at}
-use Rattle.hwp_step.proofs.Ranking.{pending-kept}
+use Rattle.hwp_step.proofs.Ranking.{part-made, pending-kept}
 use Rattle.hwp_hold.proofs.Telling.{no-frame, no-page}
 use Rattle.hwp_fail.specs.declared.fail.Fail.{Fail}
 use Rattle.hwp_fail.specs.declared.inject.Inject.{Inject}
@@ -71,18 +71,7 @@ module _ {layout : Layout} {seat : ℕ} {a b : State} {s t : Inject} {turn : Tur
   -- a step of the failure
   fail-made : (f g : Fail) → IsFailing layout (view_of a seat) s.who s.frame f → fails.plan f ≡ Some made.step → Move layout seat (rec_of layout s.who made.step (logs (fails.put f)) made.found made.got) a b
       → fails.Follows (fails.bare f) made.found made.got g turn → Made fail-member layout seat a b f g turn
-  fail-made f g has e move follows = record {
-    step = made.step;
-    found = made.found;
-    got = made.got;
-    rule = made.rule;
-    kept = made.kept;
-    fits = has.fail;
-    planned = e;
-    move = subst (λ (by : Who). Move layout seat (rec_of layout by made.step (logs (fails.put f)) made.found made.got) a b) (sym has.own) move;
-    brings = made.brings;
-    follows = follows;
-  }
+  fail-made f g has e move follows = part-made made fail-member f g has.own has.fail e move follows
 
   unmoved : is_waits turn ≡ true → turn ≡ Moved → ⊥
   unmoved waits is = both_ways (is_waits turn) (ap is_waits is) waits

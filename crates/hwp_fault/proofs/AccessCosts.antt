@@ -51,11 +51,10 @@ use Rattle.hwp_hold.specs.GiveUps as give_ups
 use Rattle.hwp_hold.specs.Pins as pins
 use Rattle.hwp_hold.specs.Pins.{is_gone}
 use Rattle.hwp_hold.specs.Releases as releases
-use Rattle.hwp_hold.specs.Unholds as unholds
 use Rattle.hwp_hold.specs.Unlocks as unlocks
-use Rattle.hwp_hold.proofs.GiveUpCosts.{give-up-falls, give-up-mild, give-up-ranked}
+use Rattle.hwp_hold.proofs.GiveUpCosts.{give-up-falls, give-up-goes, give-up-mild, give-up-ranked, give-up-small}
 use Rattle.hwp_hold.proofs.Pinning as pinning
-use Rattle.hwp_hold.proofs.Ranking.{met-own, left-own, pin-falls, pin-mild, pin-small, pin-goes, stale-most, unhold-small}
+use Rattle.hwp_hold.proofs.Ranking.{met-own, left-own, pin-falls, pin-mild, pin-small, pin-goes, stale-most}
 use Rattle.hwp_hold.proofs.Unlocking.{mild as unlock-mild, unlock-falls, unlock-small, unlock-class}
 use Rattle.hwp_fault.specs.declared.access.Access.{Access}
 use Rattle.hwp_fault.specs.declared.access.Request.{Request}
@@ -86,24 +85,6 @@ moved-few slot frame w =
     let too : stale (leads_to frame (slice_index w.trans slot.0)) ≤ 4096 = stale-most (leads_to frame (slice_index w.trans slot.0)) in
     omega arith
 
-give-up-few : (w : Words) (g : GiveUp) → give_ups.cost g w ≤ 6
-give-up-few w g = which g.at
-  where
-    which : (x : GiveUpAt) → give_ups.cost_at x w ≤ 6
-    which (give_up_at.Unhold u) = let few : unholds.cost u w ≤ 5 = unhold-small w u in omega (arith, few)
-    which (give_up_at.Unlock u) = let few : unlocks.cost u w ≤ 4 = unlock-small w u in omega (arith, few)
-    which give_up_at.GiveUp = omega arith
-    which give_up_at.Over = omega arith
-
-give-up-goes : (g : GiveUp) → is_waits (give_ups.turn (give_ups.bare g)) ≡ false
-give-up-goes g = which g.at
-  where
-    which : (x : GiveUpAt) → is_waits (give_ups.turn_at (give_ups.bare_at x)) ≡ false
-    which (give_up_at.Unhold u) = refl
-    which (give_up_at.Unlock u) = refl
-    which give_up_at.GiveUp = refl
-    which give_up_at.Over = refl
-
 -- each cost is small, where the words of free frames are at most four
 pub access-small : (w : Words) (a : Access) → length w.frees ≤ 4 → cost a w ≤ 12307
 access-small w a few = which a.at
@@ -122,7 +103,7 @@ access-small w a few = which a.at
     which (at.LoadBad frame body) = omega arith
     which (at.Unlock u then) = let most : unlocks.cost u w ≤ 4 = unlock-small w u in let rest : then_cost a.request.slot then w ≤ 4120 = then-few then in omega (arith, most, rest)
     which (at.Fault f) = fault-small w f few
-    which (at.GiveUp g) = let most : give_ups.cost g w ≤ 6 = give-up-few w g in omega (arith, most)
+    which (at.GiveUp g) = let most : give_ups.cost g w ≤ 6 = give-up-small w g in omega (arith, most)
     which (at.Over answer) = omega arith
 
 pub access-below : (w : Words) (a : Access) → length w.frees ≤ 4 → cost a w < 32768
@@ -454,7 +435,7 @@ module _ {layout : Layout} {seat : ℕ} {a b : State} {s t : Access} {turn : Tur
       only : CostFalls fault-member layout a b f next.after ⊎ ((false ≡ true) × OtherHand a seat) → faults.cost next.after now < faults.cost f w
       only (inl less) = less
       only (inr gives) = absurd (both_ways true (sym gives.0) refl)
-  waits-at (at.GiveUp g) y e has move next waits quiet = absurd (unmoved (give_ups.turn (give_ups.bare g)) (give-up-goes g) next.1 waits)
+  waits-at (at.GiveUp g) y e has move next waits quiet = absurd (unmoved (give_ups.turn (give_ups.bare g)) (give-up-goes (give_ups.bare g)) next.1 waits)
   waits-at (at.Over answer) y e has move next waits quiet = absurd (none-some made.step e)
 
   pub cost-waits : is_waits turn ≡ true → Quiet (class s) layout a seat → CostFalls access-member layout a b s t

@@ -36,8 +36,6 @@ use Rattle.hwp_fill.specs.declared.Fill.{Fill}
 use Rattle.hwp_fill.specs.declared.fill.FillAt.{FillAt}
 use Rattle.hwp_fill.specs.declared.fill.FillAt.TheVariants as fill_at
 use Rattle.hwp_hold.specs.declared.GiveUp.{GiveUp}
-use Rattle.hwp_hold.specs.declared.give_up.GiveUpAt.{GiveUpAt}
-use Rattle.hwp_hold.specs.declared.give_up.GiveUpAt.TheVariants as give_up_at
 use Rattle.hwp_hold.specs.declared.Hold.{Hold}
 use Rattle.hwp_hold.specs.declared.hold.HoldAt.{HoldAt}
 use Rattle.hwp_hold.specs.declared.hold.HoldAt.TheVariants as hold_at
@@ -60,10 +58,10 @@ use Rattle.hwp_hold.specs.Refers as refers
 use Rattle.hwp_hold.specs.Releases as releases
 use Rattle.hwp_fill.specs.Takes as takes
 use Rattle.hwp_hold.specs.Unholds as unholds
-use Rattle.hwp_hold.proofs.GiveUpCosts.{give-up-mild, give-up-ranked}
+use Rattle.hwp_hold.proofs.GiveUpCosts.{give-up-mild, give-up-ranked, give-up-small}
+use Rattle.hwp_hold.proofs.ReferCosts.{refer-small}
 use Rattle.hwp_fill.proofs.FillCosts.{fill-mild, fill-ranked}
 use Rattle.hwp_hold.proofs.Ranking.{left-own, met-own, hold-mild, hold-ranked, hold-small, stale-most, unhold-mild, unhold-ranked, unhold-small}
-use Rattle.hwp_hold.proofs.Unlocking.{unlock-small}
 use Rattle.hwp_fault.specs.declared.fault.Fault.{Fault}
 use Rattle.hwp_fault.specs.declared.fault.FaultAt.{FaultAt}
 use Rattle.hwp_fault.specs.declared.fault.FaultAt.TheVariants as at
@@ -418,32 +416,15 @@ take-few t w few = which t.at
     which (take_at.Retire frame) = omega arith
     which (take_at.Over frame) = omega arith
 
-refer-few : (r : Refer) (w : Words) → refers.cost r w ≤ 4097
-refer-few r w = which r.at
-  where
-    which : (x : ReferAt) → refers.cost_at r.frame x w ≤ 4097
-    which refer_at.Load = omega arith
-    which (refer_at.Get seen) = let most : stale (slice_index w.frames r.frame.0 == seen) ≤ 4096 = stale-most (slice_index w.frames r.frame.0 == seen) in omega (arith, most)
-    which refer_at.Over = omega arith
-
 fill-few : (g : Fill) (w : Words) → length w.frees ≤ 4 → fills.cost g w ≤ 8208
 fill-few g w few = which g.at
   where
     which : (x : FillAt) → fills.cost_at x w ≤ 8208
     which (fill_at.Take t) = let most : takes.cost t w ≤ 8204 = take-few t w few in omega (arith, most)
     which (fill_at.SetOwner frame) = omega arith
-    which (fill_at.Refer r) = let most : refers.cost r w ≤ 4097 = refer-few r w in omega (arith, most)
+    which (fill_at.Refer r) = let most : refers.cost r w ≤ 4097 = refer-small w r in omega (arith, most)
     which (fill_at.SetCache frame) = omega arith
     which (fill_at.Over frame) = omega arith
-
-give-up-few : (g : GiveUp) (w : Words) → give_ups.cost g w ≤ 6
-give-up-few g w = which g.at
-  where
-    which : (x : GiveUpAt) → give_ups.cost_at x w ≤ 6
-    which (give_up_at.Unhold u) = let most : unholds.cost u w ≤ 5 = unhold-small w u in omega (arith, most)
-    which (give_up_at.Unlock u) = let most = unlock-small w u in omega (arith, most)
-    which give_up_at.GiveUp = omega arith
-    which give_up_at.Over = omega arith
 
 rest-few : (slot : VSlot) (answer : FaultAnswer) (w : Words) → length w.frees ≤ 4 → rest slot answer w ≤ 4120
 rest-few slot answers.Again w few = let some : stale (is_some (frame_in (slice_index w.trans slot.0))) ≤ 4096 = stale-most (is_some (frame_in (slice_index w.trans slot.0))) in omega (arith, few, some)
@@ -460,7 +441,7 @@ fault-small w f few = which f.at
     which (at.Fill g) = let some : fills.cost g w ≤ 8208 = fill-few g w few in omega (arith, some)
     which (at.MapIn m) = let some : map_ins.cost m w ≤ 4098 = map-in-small w m in omega (arith, some)
     which (at.Unhold u answer) = let some : unholds.cost u w ≤ 5 = unhold-small w u in let more : rest f.slot answer w ≤ 4120 = rest-few f.slot answer w few in omega (arith, some, more)
-    which (at.GiveUp g) = let some : give_ups.cost g w ≤ 6 = give-up-few g w in omega (arith, some)
+    which (at.GiveUp g) = let some : give_ups.cost g w ≤ 6 = give-up-small w g in omega (arith, some)
     which (at.Over None) = omega arith
     which (at.Over (Some answer)) = let more : rest f.slot answer w ≤ 4120 = rest-few f.slot answer w few in omega (arith, more)
 

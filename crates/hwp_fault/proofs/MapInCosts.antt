@@ -1,5 +1,5 @@
 -- The cost of a translation's coming into use falls.
-use Rattle.std.proofs.Common.{◌≡◌, ℕ, ◌+◌, ◌<◌, ◌≤◌, ◌==◌, Bool, true, false, cond, Some, None, slice_index, refl, sym, ap, ◌∙◌, subst, arith}
+use Rattle.std.proofs.Common.{◌≡◌, ℕ, ◌+◌, ◌<◌, ◌≤◌, true, false, Some, None, refl, sym, ap, ◌∙◌, subst, arith}
 use Rattle.std.proofs.lemmas.Bool.{both_ways}
 use Rattle.std.proofs.lemmas.Option.{none-some, same_Some}
 use Rattle.hwp_words.specs.declared.Pte.TheVariants as ptes
@@ -8,15 +8,13 @@ use Rattle.hwp_rule.specs.declared.Step.TheVariants as steps
 use Rattle.hwp_rule.specs.Lasting.{IsMild}
 use Rattle.hwp_rule.specs.Steps.{place_of, word_after}
 use Rattle.hwp_rule.specs.Words.{Words, read}
-use Rattle.hwp_step.specs.declared.Turn.TheVariants.{Moved, Changed}
-use Rattle.hwp_step.specs.Ranks.{Member, member, IsRanked, is_waits, stale, words_at}
+use Rattle.hwp_step.specs.Ranks.{Member, member, IsRanked, is_waits, words_at}
 use Rattle.hwp_step.proofs.Ranking.{met, words-kept, rank-of}
 use Rattle.hwp_hold.specs.declared.Refer.{Refer}
 use Rattle.hwp_hold.specs.declared.refer.ReferAt.{ReferAt}
 use Rattle.hwp_hold.specs.declared.refer.ReferAt.TheVariants as refer_at
 use Rattle.hwp_hold.specs.Refers as refers
-use Rattle.hwp_hold.proofs.ReferCosts.{refer-falls, refer-mild}
-use Rattle.hwp_hold.proofs.Ranking.{stale-most}
+use Rattle.hwp_hold.proofs.ReferCosts.{refer-falls, refer-goes, refer-mild, refer-small}
 use Rattle.hwp_fault.specs.declared.map_in.MapIn.{MapIn}
 use Rattle.hwp_fault.specs.declared.map_in.MapInAt.{MapInAt}
 use Rattle.hwp_fault.specs.declared.map_in.MapInAt.TheVariants as at
@@ -42,19 +40,11 @@ map-in-falls w now m step found is met kept = which m.at is
     which at.SetPte e = omega arith
     which at.Over e = absurd (none-some step e)
 
-refer-few : (w : Words) (r : Refer) → refers.cost r w ≤ 4097
-refer-few w r = which r.at
-  where
-    which : (x : ReferAt) → refers.cost_at r.frame x w ≤ 4097
-    which refer_at.Load = omega arith
-    which (refer_at.Get seen) = let most : stale (slice_index w.frames r.frame.0 == seen) ≤ 4096 = stale-most (slice_index w.frames r.frame.0 == seen) in omega arith
-    which refer_at.Over = omega arith
-
 pub map-in-small : (w : Words) (m : MapIn) → cost m w ≤ 4098
 map-in-small w m = which m.at
   where
     which : (x : MapInAt) → cost_at x w ≤ 4098
-    which (at.Refer r) = let few : refers.cost r w ≤ 4097 = refer-few w r in omega (arith, few)
+    which (at.Refer r) = let few : refers.cost r w ≤ 4097 = refer-small w r in omega (arith, few)
     which at.SetPte = omega arith
     which at.Over = omega arith
 
@@ -62,17 +52,8 @@ map-in-small w m = which m.at
 pub map-in-goes : (m : MapIn) (found : ℕ) → is_waits (turn m found) ≡ false
 map-in-goes m found = which m.at
   where
-    by : (b : Bool) → is_waits (cond b Moved (Changed found)) ≡ false
-    by true = refl
-    by false = refl
-
-    refer-goes : (x : ReferAt) → is_waits (refers.turn_at x found) ≡ false
-    refer-goes refer_at.Load = refl
-    refer-goes (refer_at.Get seen) = by (found == seen)
-    refer-goes refer_at.Over = refl
-
     which : (x : MapInAt) → is_waits (turn_at x found) ≡ false
-    which (at.Refer r) = refer-goes r.at
+    which (at.Refer r) = refer-goes r found
     which at.SetPte = refl
     which at.Over = refl
 

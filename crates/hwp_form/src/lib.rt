@@ -17,4 +17,4 @@ pub use form::{Backing, Form, LineRead, Numbered};
 pub use kinds::kind_name;
 pub use lines::read_lines;
 pub use numbers::read_number;
-pub use words::is_text;
+pub use words::{is_text, words_in};

@@ -1,3 +1,4 @@
 pub mod Cuts
 mod BitLaws
 pub mod WordLaws
+pub mod WordsPut

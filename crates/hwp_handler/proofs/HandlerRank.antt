@@ -5,7 +5,6 @@ use Rattle.std.proofs.lemmas.List.{length-append}
 use Rattle.std.proofs.lemmas.Option.{none-some, same_Some}
 use Rattle.hwp_geom.specs.declared.Frame.{Frame}
 use Rattle.hwp_geom.specs.declared.Layout.{Layout}
-use Rattle.hwp_geom.specs.declared.Who.{Who}
 use Rattle.hwp_words.specs.Stops.{is_stopped}
 use Rattle.hwp_rule.specs.declared.State.{State}
 use Rattle.hwp_rule.specs.declared.Step.{Step}
@@ -21,7 +20,7 @@ use Rattle.hwp_step.specs.Boards.{view_of}
 use Rattle.hwp_step.specs.Calls.{logs, rec_of}
 use Rattle.hwp_step.specs.Classes.{TellsClass}
 use Rattle.hwp_step.specs.Ranks.{CostFalls, HasFailed, HasFrame, HasPage, IsRanked, Made, Member, OtherHand, Pending, Quiet, failure_weight, failures_left, is_refused, is_waits, member, top, words_at}
-use Rattle.hwp_step.proofs.Ranking.{pending-kept}
+use Rattle.hwp_step.proofs.Ranking.{part-made, pending-kept}
 use Rattle.hwp_hold.proofs.Telling.{no-frame, no-page}
 use Rattle.hwp_fail.specs.declared.fail.Fail.{Fail}
 use Rattle.hwp_fail.specs.declared.fail.FailAt.{FailAt}
@@ -135,18 +134,7 @@ module _ {layout : Layout} {seat : ℕ} {a b : State} {s t : Handler} {turn : Tu
 
   -- a step of the failure
   fail-made : (f g : Fail) → Has (at.Fail f) → fails.plan f ≡ Some made.step → Moves (at.Fail f) → fails.Follows (fails.bare f) made.found made.got g turn → Made fail-member layout seat a b f g turn
-  fail-made f g has e move follows = record {
-    step = made.step;
-    found = made.found;
-    got = made.got;
-    rule = made.rule;
-    kept = made.kept;
-    fits = has.fail;
-    planned = e;
-    move = subst (λ (by : Who). Move layout seat (rec_of layout by made.step (logs (fails.put f)) made.found made.got) a b) (sym has.own) move;
-    brings = made.brings;
-    follows = follows;
-  }
+  fail-made f g has e move follows = part-made made fail-member f g has.own has.fail e move follows
 
   -- what follows it
   left : (g : Fail) → t ≡ after_fail layout (bare s) g → IsLeft s g t

@@ -16,17 +16,15 @@ use Rattle.hwp_rule.specs.declared.Place.TheVariants as places
 use Rattle.hwp_rule.specs.declared.Step.{Step}
 use Rattle.hwp_rule.specs.declared.Step.TheVariants as steps
 use Rattle.hwp_rule.specs.declared.View.{View}
-use Rattle.hwp_rule.specs.Lists.{SomeMember}
-use Rattle.hwp_rule.specs.Views.{noted, sighted, stamp_of}
-use Rattle.hwp_rule.proofs.Lists.{some-last}
+use Rattle.hwp_rule.specs.Views.{noted, sighted}
 use Rattle.hwp_severity.specs.declared.Severity.{Severity}
 use Rattle.hwp_severity.specs.declared.Severity.TheVariants as severities
 use Rattle.hwp_step.specs.declared.Turn.{Turn}
 use Rattle.hwp_step.specs.Calls.{CanMake, IsOnTurn, Steps, logs}
 use Rattle.hwp_step.specs.Hands.{hand_of, empty}
 use Rattle.hwp_step.proofs.Stepping.{can-make, hand-planned, on-turn-after, steps-planned}
-use Rattle.hwp_known.specs.Known.{IsShown, SawStop}
 use Rattle.hwp_known.proofs.Listing.{deeds-same}
+use Rattle.hwp_known.proofs.Seeing.{saw-stopped, stop-listed}
 use Rattle.hwp_report.specs.declared.Acted.{Acted}
 use Rattle.hwp_report.specs.declared.Acted.TheVariants as acts
 use Rattle.hwp_law.specs.Checks.{Banks, has_stop}
@@ -43,7 +41,7 @@ use Rattle.hwp_fail.proofs.Failing as failing
 use Rattle.hwp_fail.proofs.Injecting.{fail-recovers}
 use Rattle.hwp_handler.specs.Events.{held_in}
 use Rattle.hwp_handler.specs.Fits.{AreFound, AreTold, Fits, FitsAt, IsAllTold, IsAtRest, IsDone, IsFailing, events_of}
-use Rattle.hwp_handler.specs.Handlers.{Follows, FollowsAt, Shows, ShowsAt, after_fail, after_fail_by, after_stop, at_end, bare, bare_at, begin, ended_by, go_on, gone_on, plan, plan_at, put, put_at, tell_on}
+use Rattle.hwp_handler.specs.Handlers.{Follows, FollowsAt, Shows, ShowsAt, after_fail, after_fail_by, after_stop, at_end, bare, bare_at, begin, ended_by, go_on, plan, plan_at, put, put_at, tell_on}
 use Rattle.hwp_handler.specs.Handlers as handlers
 use Rattle.hwp_handler.specs.Queue.{Queue}
 use Rattle.hwp_handler.specs.Told.{are_held_back, at_once, failure_at_once, frame_of, halts, required_by, severity_at_once, told_at_once, told_by}
@@ -167,18 +165,6 @@ begins-fit layout view alloc who thread how banks all on sound rest = goes-on (r
 -- ---- the stop
 
 module _ {layout : Layout} {who : Who} {old new : View} {found : ℕ} {got : Option BodyValue} (made : Steps layout who (steps.Stop who.cpu) None old new found got) where
-  has-stopped : (found == 0) ≡ true → SomeMember (λ (w : Who). w ≡ who) new.stops
-  has-stopped is = subst (SomeMember (λ (w : Who). w ≡ who)) (sym (ap (λ (v : View). v.stops) made.told.next
-      ∙ ap (λ (b : Bool). (cond b (record (noted who old) { stops = old.stops ++ who ∷ [] }) (sighted who places.Stop found (noted who old))).stops) is)) (some-last (λ (w : Who). w ≡ who) old.stops who refl)
-
-  was-stopped : (found == 0) ≡ false → is_stopped found ≡ true → SawStop new who
-  was-stopped other is = record {
-    word = found;
-    stopped = is;
-    saw = subst (SomeMember (IsShown who places.Stop found)) (sym (ap (λ (v : View). v.sights) made.told.next
-        ∙ ap (λ (b : Bool). (cond b (record (noted who old) { stops = old.stops ++ who ∷ [] }) (sighted who places.Stop found (noted who old))).sights) other)) (some-last (IsShown who places.Stop found) old.sights (record { stamp = stamp_of who (noted who old); place = places.Stop; word = found }) (refl, refl, refl));
-  }
-
   pub stop-leaves : {A : Type 0} (g : View → A) → g (record (noted who old) { stops = old.stops ++ who ∷ [] }) ≡ g old → g (sighted who places.Stop found (noted who old)) ≡ g old → g new ≡ g old
   stop-leaves g stops sights = ap g made.told.next ∙ which (found == 0)
     where
@@ -199,8 +185,8 @@ module _ {layout : Layout} {who : Who} {old new : View} {found : ℕ} {got : Opt
       all = record { rest = stop-rests has.rest; none_left = has.none_left; halts_is = has.halts_is }
 
       which : (b : Bool) → (found == 0) ≡ b → (c : Bool) → is_stopped found ≡ c → FitsAt layout new who thread stops q (cond b (at.Over true) (cond c (at.Over true) at.GaveUp))
-      which true zero c is = (all, inr (has-stopped zero))
-      which false other true is = (all, inl (was-stopped other is))
+      which true zero c is = (all, inr (stop-listed made zero))
+      which false other true is = (all, inl (saw-stopped made other is))
       which false other false is = stop-rests has.rest
 
 -- ---- a failure that goes on, or has ended

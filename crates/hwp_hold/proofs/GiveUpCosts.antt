@@ -49,7 +49,7 @@ give-up-falls w now g step found is = which g.at is
     which give_up_at.GiveUp e = omega arith
     which give_up_at.Over e = absurd (none-some step e)
 
-give-up-small : (w : Words) (g : GiveUp) → give_ups.cost g w ≤ 6
+pub give-up-small : (w : Words) (g : GiveUp) → give_ups.cost g w ≤ 6
 give-up-small w g = which g.at
   where
     which : (x : GiveUpAt) → give_ups.cost_at x w ≤ 6
@@ -67,10 +67,10 @@ give-up-class g = which g.at
     which give_up_at.GiveUp = (omega arith, omega arith)
     which give_up_at.Over = (omega arith, omega arith)
 
-give-up-goes : (g : GiveUp) → is_waits (give_ups.turn (give_ups.bare g)) ≡ false
+pub give-up-goes : (g : GiveUp) → is_waits (give_ups.turn g) ≡ false
 give-up-goes g = which g.at
   where
-    which : (x : GiveUpAt) → is_waits (give_ups.turn_at (give_ups.bare_at x)) ≡ false
+    which : (x : GiveUpAt) → is_waits (give_ups.turn_at x) ≡ false
     which (give_up_at.Unhold u) = refl
     which (give_up_at.Unlock u) = refl
     which give_up_at.GiveUp = refl
@@ -93,5 +93,5 @@ pub give-up-ranked : IsRanked give-up-member
 give-up-ranked = rank-of give-up-member (λ s. refl) give-up-class (λ layout a seat s rule fits. let few : give_ups.cost s (words_at layout a) ≤ 6 = give-up-small (words_at layout a) s in omega arith)
     (λ layout seat a b s t turn made goes. subst (λ (x : GiveUp). give_ups.cost x (words_at layout b) < give_ups.cost s (words_at layout a)) (sym made.follows.0)
     (give-up-falls (words_at layout a) (words_at layout b) s made.step made.found made.planned))
-    (λ layout seat a b s t turn made is quiet. absurd (both_ways true (sym is ∙ ap is_waits made.follows.1 ∙ give-up-goes s) refl))
+    (λ layout seat a b s t turn made is quiet. absurd (both_ways true (sym is ∙ ap is_waits made.follows.1 ∙ give-up-goes (give_ups.bare s)) refl))
     (λ s. refl) give-up-mild

@@ -40,7 +40,7 @@ use Rattle.hwp_fault.specs.declared.FaultAnswer.TheVariants as fault_answers
 use Rattle.hwp_fault.specs.declared.Request.{Request}
 use Rattle.hwp_fault.specs.declared.access.AccessAt.{AccessAt}
 use Rattle.hwp_fault.specs.declared.access.AccessAt.TheVariants as at
-use Rattle.hwp_fault.specs.Accesses.{FitsAt, IsUnlocking, LooksOf, Next, NextAt, Prepares, after_fault_at, after_process, answer_at, at_start, bare_at, cost, cost_at, ended, is_bad, is_frame, leading, leads_to, pinned_at, plan_at, reached, reply_by, reply_where, unlocked, word_in}
+use Rattle.hwp_fault.specs.Accesses.{FitsAt, LooksOf, NextAt, Prepares, after_fault_at, after_process, at_start, bare_at, cost, cost_at, ended, is_bad, is_frame, leading, leads_to, pinned_at, plan_at, reached, reply_by, reply_where, unlocked, word_in}
 use Rattle.hwp_fault.specs.Accesses as accesses
 use Rattle.hwp_fault.specs.Faults as faults
 use Rattle.hwp_fault.proofs.AccessCosts.{access-member}

@@ -47,7 +47,7 @@ use Rattle.hwp_handler.specs.declared.handler.HandlerAt.TheVariants as handler_a
 use Rattle.hwp_handler.specs.Done as handler_done
 use Rattle.hwp_handler.specs.Events.{held_in}
 use Rattle.hwp_handler.specs.Fits as handler_fits
-use Rattle.hwp_handler.specs.Fits.{AreTold, events_of}
+use Rattle.hwp_handler.specs.Fits.{AreTold}
 use Rattle.hwp_handler.specs.Handlers as handlers
 use Rattle.hwp_handler.specs.Told.{first_signal, stops_machine, was_poisoned}
 use Rattle.hwp_handler.proofs.Adding.{handler-adds}

@@ -1,14 +1,4 @@
 pub mod OfKind
-pub mod Running
 pub mod Ending
 pub mod Refusing
 pub mod Jobbing
-pub mod Quiet
-pub mod Leaving
-pub mod Resting
-pub mod Setting
-pub mod Stopping
-pub mod Barring
-pub mod Staying
-pub mod Doing
-pub mod Below

@@ -10,7 +10,7 @@ ghost use Rattle.hwp_law.specs.Policies.{arguments};
 ghost use Rattle.hwp_control.specs.Spoils as spoils;
 ghost use Rattle.hwp_raise.specs.Logs as logs;
 ghost use Rattle.hwp_raise.specs.Raises as raises;
-ghost use Rattle.hwp_job.specs.Begins.{Begins, BeginsFetch, BeginsKernelLoad, BeginsLoad, BeginsPrctl, BeginsRaiseUser, BeginsStore, begun_access, request_of};
+ghost use Rattle.hwp_job.specs.Begins.{Begins, BeginsAccess, BeginsPrctl, BeginsRaiseUser, begun_access, request_of};
 ghost use Rattle.hwp_job.specs.Jobs.{left_in};
 ghost use Rattle.hwp_job.specs.declared.job.Job.TheVariants as jobs;
 
@@ -47,21 +47,25 @@ impl Job {
         ensures banks { banks.new ≡ left_in result banks.old }
     {
         match command {
-            Command::Load { thread, slot, line } => load(
-                alloc, layout, who, thread, slot, line, banks,
-            ),
+            Command::Load { thread, slot, line } => {
+                access(alloc, layout, who, thread, slot, line, LOAD, banks)
+            }
             Command::Fetch { thread, slot, line } => {
-                fetch(alloc, layout, who, thread, slot, line, banks)
+                access(alloc, layout, who, thread, slot, line, FETCH, banks)
             }
             Command::KLoad { thread, slot, line } => {
-                kernel_load(alloc, layout, who, thread, slot, line, banks)
+                access(alloc, layout, who, thread, slot, line, KERNEL_LOAD, banks)
             }
             Command::Store {
                 thread,
                 slot,
                 line,
                 word,
-            } => store(alloc, layout, who, thread, slot, line, word, banks),
+            } => {
+                let kind = AccessKind::Store { word };
+                let store = Manner { kind, ..LOAD };
+                access(alloc, layout, who, thread, slot, line, store, banks)
+            }
             Command::Free { slot } => {
                 Job::Evict(Evict::free_slot(who, slot, page_of(layout, slot)))
             }
@@ -133,90 +137,59 @@ fn request(
     }
 }
 
-/// A load by the program, at its beginning.
-fn load(
-    alloc: Global,
-    layout: &Layout,
-    who: Who,
-    thread: Thread,
-    slot: VSlot,
-    line: Line,
-    banks: &mut [Bank; BANKS],
-) -> Job
-    requires sound { IsSound layout.now }
-    requires of { IsAccess layout.now who.cpu.0 thread slot }
-    requires line { line < line_limit }
-    ensures begins { BeginsLoad layout.now who thread slot line banks.old result }
-    ensures banks { banks.new ≡ empty_banks }
-{
-    let request = request(layout, who, thread, slot, line, AccessKind::Load);
-    access(alloc, request, Origin::Access, Mode::User, banks)
+/// How a command accesses a line.
+#[derive(Clone, Copy)]
+struct Manner {
+    kind: AccessKind,
+    /// What makes the machine log its own event where the line is bad.
+    origin: Origin,
+    mode: Mode,
 }
 
-/// A load of an instruction, at its beginning.
-fn fetch(
-    alloc: Global,
-    layout: &Layout,
-    who: Who,
-    thread: Thread,
-    slot: VSlot,
-    line: Line,
-    banks: &mut [Bank; BANKS],
-) -> Job
-    requires sound { IsSound layout.now }
-    requires of { IsAccess layout.now who.cpu.0 thread slot }
-    requires line { line < line_limit }
-    ensures begins { BeginsFetch layout.now who thread slot line banks.old result }
-    ensures banks { banks.new ≡ empty_banks }
-{
-    let request = request(layout, who, thread, slot, line, AccessKind::Load);
-    access(alloc, request, Origin::Fetch, Mode::User, banks)
-}
+/// A load of data by the program.
+const LOAD: Manner = Manner {
+    kind: AccessKind::Load,
+    origin: Origin::Access,
+    mode: Mode::User,
+};
 
-/// A load by the kernel, at its beginning.
-fn kernel_load(
-    alloc: Global,
-    layout: &Layout,
-    who: Who,
-    thread: Thread,
-    slot: VSlot,
-    line: Line,
-    banks: &mut [Bank; BANKS],
-) -> Job
-    requires sound { IsSound layout.now }
-    requires of { IsAccess layout.now who.cpu.0 thread slot }
-    requires line { line < line_limit }
-    ensures begins { BeginsKernelLoad layout.now who thread slot line banks.old result }
-    ensures banks { banks.new ≡ empty_banks }
-{
-    let request = request(layout, who, thread, slot, line, AccessKind::Load);
-    access(alloc, request, Origin::Access, Mode::Kernel, banks)
-}
+/// A load of an instruction.
+const FETCH: Manner = Manner {
+    kind: AccessKind::Load,
+    origin: Origin::Fetch,
+    mode: Mode::User,
+};
 
-/// A store by the program, at its beginning.
-fn store(
-    alloc: Global,
-    layout: &Layout,
-    who: Who,
-    thread: Thread,
-    slot: VSlot,
-    line: Line,
-    word: u64,
-    banks: &mut [Bank; BANKS],
-) -> Job
-    requires sound { IsSound layout.now }
-    requires of { IsAccess layout.now who.cpu.0 thread slot }
-    requires line { line < line_limit }
-    ensures begins { BeginsStore layout.now who thread slot line word banks.old result }
-    ensures banks { banks.new ≡ empty_banks }
-{
-    let kind = AccessKind::Store { word };
-    let request = request(layout, who, thread, slot, line, kind);
-    access(alloc, request, Origin::Access, Mode::User, banks)
-}
+/// A load of data by the kernel.
+const KERNEL_LOAD: Manner = Manner {
+    kind: AccessKind::Load,
+    origin: Origin::Access,
+    mode: Mode::Kernel,
+};
 
-/// The access at its beginning, which takes what the banks hold.
+/// An access by a thread of the processor, at its beginning, which takes what the banks hold.
 fn access(
+    alloc: Global,
+    layout: &Layout,
+    who: Who,
+    thread: Thread,
+    slot: VSlot,
+    line: Line,
+    manner: Manner,
+    banks: &mut [Bank; BANKS],
+) -> Job
+    requires sound { IsSound layout.now }
+    requires of { IsAccess layout.now who.cpu.0 thread slot }
+    requires line { line < line_limit }
+    ensures begins { BeginsAccess layout.now who thread slot line manner.kind manner.origin manner.mode banks.old result }
+    ensures banks { banks.new ≡ empty_banks }
+{
+    let request = request(layout, who, thread, slot, line, manner.kind);
+    instruction(alloc, request, manner.origin, manner.mode, banks)
+}
+
+/// The instruction of a request at its beginning, which takes what the banks hold.
+fn instruction(
     alloc: Global,
     request: Request,
     origin: Origin,

@@ -6,7 +6,7 @@ use Rattle.std.proofs.lemmas.List.{length-append}
 use Rattle.std.proofs.lemmas.List.Elements.{All-nil, All-push}
 use Rattle.std.proofs.lemmas.Grind.{flat_map-append}
 use Rattle.hwp_report_read.specs.Cutting.{IsCut}
-use Rattle.hwp_judge.specs.Parting.{EndsNowhere, EndsWith, GoesOn, IsEnd, fed}
+use Rattle.hwp_judge.specs.Parting.{EndsWith, GoesOn, IsEnd, fed}
 
 -- at the beginning all is left
 pub begun : (input : List ℕ) → GoesOn input input
@@ -56,7 +56,3 @@ ends-here input rest line behind h cut ends = record {
   same = front input (flat_map fed h.lines ++ fed line) behind
       (h.same ∙ ap (λ t. flat_map fed h.lines ++ t) (cut.same ∙ sym (append_assoc line (10 ∷ []) behind)) ∙ sym (append_assoc (flat_map fed h.lines) (fed line) behind));
 }
-
--- no line is left
-pub ends-nowhere : (input rest : List ℕ) → GoesOn input rest → All (λ b. b ≢ 10) rest → EndsNowhere input input []
-ends-nowhere input rest h feedless = record { rest = rest; before = h; feedless = feedless; all = refl; nothing = refl }

@@ -1,20 +1,10 @@
 ghost use Rattle.std.specs.Prelude.{◌≡◌, ◌↔◌, ◌∷◌, [], codes, IsTrue, IfOk, map};
-ghost use Rattle.hwp_form.specs.Lines.{words_of};
 ghost use Rattle.hwp_judge.specs.Parting.{IsEnd, IsParted};
 
-use hwp_form::is_text;
+use hwp_form::{is_text, words_in};
 use hwp_geom::OutOfMemory;
 use hwp_report_read::first_line;
 use std::alloc::Global;
-
-/// The words of a line: what stands between spaces.
-fn words_in(alloc: Global, line: &[u8]) -> Result<Vec<&[u8]>, OutOfMemory>
-    ensures { IfOk result (λ words. map (λ w. w.now) words.items ≡ words_of line.now) }
-{
-    line.split(|b| *b == b' ')
-        .filter(|word| !word.is_empty())
-        .collect(alloc)
-}
 
 /// Whether `end` is the one word.
 fn is_end_word(words: &[&[u8]]) -> bool

@@ -17,6 +17,6 @@ pub use policies::{
     PR_MCE_KILL_LATE, PR_MCE_KILL_SET, prctl,
 };
 pub use reading::are_policies_read;
-pub use signal_list::{MAX_SIGNALS, SignalList};
+pub use signal_list::{MAX_SIGNALS, SignalList, SignalRoom};
 pub use slots::{SLOTS, Slots};
 pub use types::{Code, Policy, Reply, Seen, Signal};

@@ -2,7 +2,8 @@ ghost use Rattle.std.specs.Prelude.{◌≡◌, ◌<◌, ◌≤◌, [], ◌∷◌
 ghost use Rattle.hwp_kill.specs.Limits.{signal_limit};
 
 use crate::types::{Code, Signal};
-use hwp_geom::{Proc, Thread, VSlot};
+use hwp_geom::{List, OutOfMemory, Proc, Thread, VSlot};
+use std::alloc::Global;
 use std::marker::Model;
 
 /// The most signals of a memory failure: one for each process of a script.
@@ -16,7 +17,7 @@ const FREE_PLACE: Signal = Signal {
     slot: VSlot(0),
 };
 
-/// At most 16 signals, in a list that takes no memory. Clauses see it as the list of its signals.
+/// At most 16 signals, in a list that takes no memory beside its own. Clauses see it as the list of its signals.
 #[derive(Drop)]
 pub struct SignalList {
     places: [Signal; MAX_SIGNALS],
@@ -62,14 +63,45 @@ impl SignalList {
         self.places[self.taken] = signal;
         self.taken += 1;
     }
+}
 
-    /// The same signals once more.
-    pub fn copy(&self) -> SignalList
-        ensures { result ≡ self.now }
+/// Room for the signals of a memory failure, made before they are known, so that they can be listed when no memory may be asked
+/// for. Clauses see nothing of it.
+#[derive(Drop)]
+pub struct SignalRoom {
+    places: Vec<Signal>,
+}
+
+impl Model for SignalRoom {
+    ghost use Rattle.std.specs.Prelude.{[], ◌≡◌, ◌≤◌, vec_capacity};
+    ghost use Rattle.hwp_kill.specs.Limits.{signal_limit};
+
+    ghost Value = { Unit {0} };
+
+    ghost view = { λ r. tt };
+
+    ghost invariant = { λ r. (r.places.items ≡ []) × (signal_limit ≤ vec_capacity r.places) };
+}
+
+impl SignalRoom {
+    /// Room for as many signals as there can be.
+    ///
+    /// # Errors
+    /// `OutOfMemory` where there is none.
+    pub fn new(alloc: Global) -> Result<SignalRoom, OutOfMemory> {
+        Ok(SignalRoom {
+            places: Vec::with_capacity(alloc, MAX_SIGNALS)?,
+        })
+    }
+
+    /// These signals, listed in the room.
+    pub fn list(self, signals: &SignalList) -> List<Signal>
+        ensures { result ≡ signals.now }
     {
-        SignalList {
-            places: self.places,
-            taken: self.taken,
+        let mut places = self.places;
+        for signal in signals.as_slice() {
+            places.push_reserved(*signal);
         }
+        List::from_vec(places)
     }
 }

@@ -10,6 +10,7 @@ use Rattle.hwp_geom.specs.declared.Who.{Who}
 use Rattle.hwp_page.specs.declared.PageState.{PageState}
 use Rattle.hwp_page.specs.History.{BodyValue}
 use Rattle.hwp_words.specs.Frames.{is_locked}
+use Rattle.hwp_words.specs.Stops.{is_stopped}
 use Rattle.hwp_rule.specs.declared.FrameLock.{FrameLock}
 use Rattle.hwp_rule.specs.declared.InHand.{InHand}
 use Rattle.hwp_rule.specs.declared.Length.{Length}
@@ -27,13 +28,13 @@ use Rattle.hwp_rule.specs.Logs.{log_of}
 use Rattle.hwp_rule.specs.Rule.{Holds}
 use Rattle.hwp_rule.specs.Slots.{IsIn, frame_slot, shelf_slot, is_out, moved_out}
 use Rattle.hwp_rule.specs.Steps.{goes}
-use Rattle.hwp_rule.specs.Views.{body_of, listed_of, lock_found, lock_of_page, loaded, noted, put_home, stamp_of, taken, view_by}
+use Rattle.hwp_rule.specs.Views.{body_of, listed_of, lock_found, lock_of_page, loaded, noted, put_home, sighted, stamp_of, taken, view_by}
 use Rattle.hwp_rule.specs.Words.{words_of}
 use Rattle.hwp_rule.proofs.Lists.{at_map, some-push, some-last}
 use Rattle.hwp_rule.proofs.Meeting.{free-word, on-shelf}
 use Rattle.hwp_step.specs.Calls.{Steps}
 use Rattle.hwp_step.proofs.Stepping.{brought, content_of, was-home}
-use Rattle.hwp_known.specs.Known.{IsLook, IsMet, IsShown, Saw, SawBadOf, SawLog}
+use Rattle.hwp_known.specs.Known.{IsLook, IsMet, IsShown, Saw, SawBadOf, SawLog, SawStop}
 use Rattle.hwp_known.specs.Pages.{SawState}
 
 -- every sight and every history that was seen stays
@@ -172,6 +173,18 @@ module _ {layout : Layout} {who : Who} {put : Option Log} {old new : View} {foun
 
   pub saw-report : {file : FileNo} → Steps layout who (steps.ReportLost file) put old new found got → Saw new who (places.Loss file) found
   saw-report {file} made = last-shown who (places.Loss file) found (noted who old) new (ap (λ (v : View). v.sights) made.told.next)
+
+  -- a stop that met the word 0 is listed, and one that met another shows it
+  pub stop-listed : Steps layout who (steps.Stop who.cpu) put old new found got → (found == 0) ≡ true → SomeMember (λ (w : Who). w ≡ who) new.stops
+  stop-listed made zero = subst (SomeMember (λ (w : Who). w ≡ who)) (sym (ap (λ (v : View). v.stops) made.told.next
+      ∙ ap (λ (b : Bool). (cond b (record (noted who old) { stops = old.stops ++ who ∷ [] }) (sighted who places.Stop found (noted who old))).stops) zero)) (some-last (λ (w : Who). w ≡ who) old.stops who refl)
+
+  pub saw-stopped : Steps layout who (steps.Stop who.cpu) put old new found got → (found == 0) ≡ false → is_stopped found ≡ true → SawStop new who
+  saw-stopped made other is = record {
+    word = found;
+    stopped = is;
+    saw = last-shown who places.Stop found (noted who old) new (ap (λ (v : View). v.sights) made.told.next ∙ chose (found == 0) false _ _ other);
+  }
 
 -- ---- the history of a body that a step brought
 

@@ -1,10 +1,8 @@
 //! The kill table, the policies that it reads, and prctl(2).
 
-use crate::machine::machine;
-use hwp_geom::{List, Proc, Thread, VSlot};
-use hwp_kill::{
-    Code, Policy, Reply, Seen, Signal, SignalList, Slots, are_policies_read, prctl, signals,
-};
+use crate::machine::{all_seen, machine};
+use hwp_geom::{Proc, Thread, VSlot};
+use hwp_kill::{Code, Policy, Reply, Signal, SignalList, Slots, are_policies_read, prctl, signals};
 use std::alloc::Global;
 use std::process::Abort;
 
@@ -25,20 +23,6 @@ fn in_use(slots: &[u16]) -> Slots {
         }
     }
     maps
-}
-
-/// The policies that were seen, each after one setting.
-fn all_seen(rt: &impl Abort, alloc: Global, policies: &[(u8, Policy)]) -> List<Seen> {
-    let mut seen = List::new(alloc);
-    for (thread, policy) in policies {
-        let read = Seen {
-            thread: Thread(*thread),
-            policy: *policy,
-            n: 1,
-        };
-        seen.push(read).expect(rt, "memory");
-    }
-    seen
 }
 
 /// What a failure finds: the translations in use, whether it signals at all, the current thread, the policies it reads;

@@ -1,6 +1,7 @@
 ghost use Rattle.hwp_geom.specs.Layout.{IsSound};
 
-use hwp_geom::Layout;
+use hwp_geom::{Layout, List, Thread};
+use hwp_kill::{Policy, Seen};
 use hwp_script::read;
 use std::alloc::Global;
 use std::process::Abort;
@@ -11,4 +12,18 @@ pub(crate) fn machine(rt: &impl Abort, alloc: Global, script: &[u8]) -> Layout
 {
     let script = read(alloc, script).ok().expect(rt, "a script");
     script.layout
+}
+
+/// The policies that a failure read, each after one setting.
+pub(crate) fn all_seen(rt: &impl Abort, alloc: Global, policies: &[(u8, Policy)]) -> List<Seen> {
+    let mut seen = List::new(alloc);
+    for (thread, policy) in policies {
+        let read = Seen {
+            thread: Thread(*thread),
+            policy: *policy,
+            n: 1,
+        };
+        seen.push(read).expect(rt, "memory");
+    }
+    seen
 }

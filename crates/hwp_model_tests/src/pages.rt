@@ -1,8 +1,8 @@
 //! The page machine: what becomes of a page that fails, and which failures it allows.
 
-use crate::machine::machine;
+use crate::machine::{all_seen, machine};
 use hwp_geom::{Cpu, Line, List, Mask, Page, Proc, Thread, VSlot, Who};
-use hwp_kill::{Code, Policy, Seen, Signal, SignalList};
+use hwp_kill::{Code, Policy, Signal};
 use hwp_page::{Body, Entry, Met, Outcome, Situation, What};
 use std::alloc::Global;
 use std::process::Abort;
@@ -83,16 +83,18 @@ fn mapped(rt: &impl Abort, alloc: Global, page: u16, before: &[Before]) -> Body 
 }
 
 /// A memory failure of the page at the translation of its number: where it signals, thread 0 is signalled.
-fn failure(alloc: Global, page: u16, situation: Situation, signals: bool) -> What {
-    let mut list = SignalList::new();
-    if signals {
-        list.push(Signal {
-            process: Proc(0),
-            thread: Thread(0),
-            code: Code::Ar,
-            slot: VSlot(page),
-        });
-    }
+fn failure(rt: &impl Abort, alloc: Global, page: u16, situation: Situation, signals: bool) -> What {
+    let sent = Signal {
+        process: Proc(0),
+        thread: Thread(0),
+        code: Code::Ar,
+        slot: VSlot(page),
+    };
+    let list = if signals {
+        all_sent(rt, alloc, &[sent])
+    } else {
+        List::new(alloc)
+    };
     What::Fail {
         situation,
         required: Some(Thread(0)),
@@ -128,7 +130,7 @@ fn fails(rt: &impl Abort, alloc: Global, row: &Failed<'_>) {
     let situation = body.state().situation();
     let (outcome, signals) = (situation.outcome(), situation.signals());
     assert!(rt; (situation, outcome, signals) == *found);
-    add(rt, &mut body, failure(alloc, *page, situation, signals));
+    add(rt, &mut body, failure(rt, alloc, *page, situation, signals));
     became(rt, &body, *word, *flags);
 }
 
@@ -158,29 +160,9 @@ fn what_becomes_of_a_page_that_fails(rt: HostRuntime) {
     all_fail(&rt, rt.alloc(), FAILED);
 }
 
-/// The policies that a failure read, each after one setting.
-fn all_seen(rt: &impl Abort, alloc: Global, policies: &[(u8, Policy)]) -> List<Seen> {
-    let mut seen = List::new(alloc);
-    for (thread, policy) in policies {
-        let read = Seen {
-            thread: Thread(*thread),
-            policy: *policy,
-            n: 1,
-        };
-        seen.push(read).expect(rt, "memory");
-    }
-    seen
-}
-
-/// The signals that a failure sent, two at most.
-fn all_sent(signals: &[Signal]) -> SignalList {
-    let mut list = SignalList::new();
-    for signal in signals {
-        if list.as_slice().len() < 2 {
-            list.push(*signal);
-        }
-    }
-    list
+/// The signals that a failure sent.
+fn all_sent(rt: &impl Abort, alloc: Global, signals: &[Signal]) -> List<Signal> {
+    List::from_vec(signals.to_vec(alloc).expect(rt, "memory"))
 }
 
 /// Policies and signals, and whether a failure may have them.
@@ -195,7 +177,7 @@ fn may_fail(rt: &impl Abort, alloc: Global, rows: &[May<'_>]) {
             situation: Situation::AnonOnly,
             required: None,
             seen: all_seen(rt, alloc, policies),
-            signals: all_sent(signals),
+            signals: all_sent(rt, alloc, signals),
         }));
         assert!(rt; may == *want);
     }

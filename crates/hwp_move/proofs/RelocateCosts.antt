@@ -1,5 +1,5 @@
 -- Each turn of a `Relocate` lowers its cost, and its class tells what is held.
-use Rattle.std.proofs.Common.{◌≡◌, ℕ, ◌+◌, ◌-◌, ◌<◌, ◌≤◌, ◌==◌, Bool, true, false, cond, Option, Some, None, is_none, slice_index, refl, sym, ap, ◌∙◌, subst, arith}
+use Rattle.std.proofs.Common.{◌≡◌, ℕ, ◌+◌, ◌-◌, ◌<◌, ◌≤◌, true, false, Option, Some, None, is_none, refl, sym, ap, ◌∙◌, subst, arith}
 use Rattle.std.proofs.lemmas.Bool.{both_ways}
 use Rattle.std.proofs.lemmas.Option.{none-some, same_Some}
 use Rattle.std.specs.FinSet as set
@@ -13,9 +13,8 @@ use Rattle.hwp_rule.specs.Lasting.{IsMild}
 use Rattle.hwp_rule.specs.Steps.{place_of, word_after}
 use Rattle.hwp_rule.specs.Words.{Words, read}
 use Rattle.hwp_step.specs.declared.Turn.{Turn}
-use Rattle.hwp_step.specs.declared.Turn.TheVariants.{Moved, Changed}
 use Rattle.hwp_step.specs.Boards.{view_of}
-use Rattle.hwp_step.specs.Ranks.{Member, member, IsRanked, is_waits, stale, words_at}
+use Rattle.hwp_step.specs.Ranks.{Member, member, IsRanked, is_waits, words_at}
 use Rattle.hwp_step.proofs.Ranking.{met, rank-of, steps-on, words-kept}
 use Rattle.hwp_hold.specs.declared.refer.Refer.{Refer}
 use Rattle.hwp_hold.specs.declared.refer.ReferAt.{ReferAt}
@@ -25,8 +24,8 @@ use Rattle.hwp_hold.specs.declared.release.ReleaseAt.{ReleaseAt}
 use Rattle.hwp_hold.specs.declared.release.ReleaseAt.TheVariants as release_at
 use Rattle.hwp_hold.specs.Refers as refers
 use Rattle.hwp_hold.specs.Releases as releases
-use Rattle.hwp_hold.proofs.ReferCosts.{refer-falls, refer-mild}
-use Rattle.hwp_hold.proofs.Ranking.{release-falls, release-mild, release-small, stale-most}
+use Rattle.hwp_hold.proofs.ReferCosts.{refer-falls, refer-goes, refer-mild, refer-small}
+use Rattle.hwp_hold.proofs.Ranking.{release-falls, release-mild, release-small}
 use Rattle.hwp_hold.proofs.Telling.{Tells, frame-tells, page-tells}
 use Rattle.hwp_move.specs.declared.relocate.Relocate.{Relocate}
 use Rattle.hwp_move.specs.declared.relocate.RelocateAt.{RelocateAt}
@@ -95,15 +94,10 @@ relocate-falls w now r step found next turn is shows follows shown kept = which 
 pub relocate-small : (w : Words) (r : Relocate) → cost r w ≤ 4618
 relocate-small w r = which r.at
   where
-    refers-few : (f : Refer) (y : ReferAt) → refers.cost_at f.frame y w ≤ 4097
-    refers-few f refer_at.Load = omega arith
-    refers-few f (refer_at.Get seen) = let most : stale (slice_index w.frames f.frame.0 == seen) ≤ 4096 = stale-most (slice_index w.frames f.frame.0 == seen) in omega (arith, most)
-    refers-few f refer_at.Over = omega arith
-
     which : (x : RelocateAt) → cost_at x w ≤ 4618
     which at.Count = omega arith
     which at.SetOwner = omega arith
-    which (at.Refer f) = let few : refers.cost_at f.frame f.at w ≤ 4097 = refers-few f f.at in omega (arith, few)
+    which (at.Refer f) = let few : refers.cost f w ≤ 4097 = refer-small w f in omega (arith, few)
     which (at.Remap m) = let few : remaps.cost m w ≤ 512 = remap-small w m in omega (arith, few)
     which at.SetCache = omega arith
     which at.ClearOwner = omega arith
@@ -130,18 +124,6 @@ relocate-class r = which r.at
     which at.Retire = (omega arith, omega arith)
     which at.UnlockPage = (omega arith, omega arith)
     which at.Over = (omega arith, omega arith)
-
-refer-goes : (f : Refer) (found : ℕ) → is_waits (refers.turn f found) ≡ false
-refer-goes f found = which f.at
-  where
-    by : (b : Bool) → is_waits (cond b Moved (Changed found)) ≡ false
-    by true = refl
-    by false = refl
-
-    which : (x : ReferAt) → is_waits (refers.turn_at x found) ≡ false
-    which refer_at.Load = refl
-    which (refer_at.Get seen) = by (found == seen)
-    which refer_at.Over = refl
 
 -- no turn waits
 pub relocate-goes : (r : Relocate) (found : ℕ) (next : Relocate) (turn : Turn) → Follows (bare r) found next turn → is_waits turn ≡ false

@@ -1,6 +1,6 @@
 -- The laws of `Remap`.
 use Rattle.std.proofs.Common.{◌≡◌, ◌≢◌, ◌⊎◌, inl, inr, ℕ, ◌+◌, ◌-◌, ◌^◌, ◌<◌, ◌≤◌, ◌==◌, Bool, true, false, cond, nat_lt, List, [], ◌∷◌, Option, Some, None, length, slice_get, slice_set, refl, sym, ap, ◌∙◌, subst, arith}
-use Rattle.std.proofs.lemmas.Bool.{both_ways, lt-ltb, le-ltb, cases_lt, ne_eqb}
+use Rattle.std.proofs.lemmas.Bool.{both_ways, le-ltb, ne_eqb}
 use Rattle.std.proofs.lemmas.Option.{none-some, same_Some, slice_get_within}
 use Rattle.std.specs.FinSet as set
 use Rattle.std.specs.List.{find}
@@ -38,6 +38,7 @@ use Rattle.hwp_known.proofs.Listing.{ListsNone}
 use Rattle.hwp_hold.specs.Holds.{page_lock}
 use Rattle.hwp_evict.specs.Clears.{IsNextFrom, is_done}
 use Rattle.hwp_evict.specs.Vacates.{page_held}
+use Rattle.hwp_evict.proofs.Clearing.{done-behind, done-same}
 use Rattle.hwp_evict.proofs.Freeing.{trans-word}
 use Rattle.hwp_move.specs.declared.remap.Remap.{Remap}
 use Rattle.hwp_move.specs.Remaps.{CountsOn, plan, plan_at, Follows, FollowsAt, Shows, ShowsAt, word_now, with_both, IsRemapping, Fits, cost, cost_at}
@@ -161,35 +162,11 @@ module _ {layout : Layout} {old : View} (r : Remap) (slot : VSlot) (fits : Fits 
           ∙ ap (λ (m : ℕ). after (two_refs r.from m r.to (has.left + 1))) (let few : has.left + 2 ≤ r.count = has.few in let left : _ = left-is in omega (arith, few, left))
           ∙ ap (λ (n : ℕ). after (two_refs r.from (r.count - 1 - k) r.to n)) (let left : _ = left-is in omega (arith, left))
 
-      -- of the others it is as before whether they are written
-      done-behind : (n : Option VSlot) → IsNextFrom r.slots (slot.0 + 1) n → is_done n slot.0 ≡ true
-      done-behind None none = refl
-      done-behind (Some v) low = let above : slot.0 + 1 ≤ v.0 = low.1.not_below in lt-ltb slot.0 v.0 (omega (arith, above))
-
-      done-same : (u : ℕ) → set.contains r.slots u ≡ true → u ≢ slot.0 → (n : Option VSlot) → IsNextFrom r.slots (slot.0 + 1) n → nat_lt u slot.0 ≡ is_done n u
-      done-same u some other None none = which (cases_lt u slot.0)
-        where
-          which : (u < slot.0) ⊎ (slot.0 ≤ u) → nat_lt u slot.0 ≡ true
-          which (inl less) = lt-ltb u slot.0 less
-          which (inr past) = absurd (both_ways (set.contains r.slots u) (none u (omega (arith, past, other))) some)
-      done-same u some other (Some v) low = which (cases_lt u slot.0)
-        where
-          above : slot.0 + 1 ≤ v.0
-          above = low.1.not_below
-
-          which : (u < slot.0) ⊎ (slot.0 ≤ u) → nat_lt u slot.0 ≡ nat_lt u v.0
-          which (inl less) = lt-ltb u slot.0 less ∙ sym (lt-ltb u v.0 (omega (arith, less, above)))
-          which (inr past) = by (cases_lt u v.0)
-            where
-              by : (u < v.0) ⊎ (v.0 ≤ u) → nat_lt u slot.0 ≡ nat_lt u v.0
-              by (inl less) = absurd (both_ways (set.contains r.slots u) (low.1.lowest u (omega (arith, past, other)) less) some)
-              by (inr far) = le-ltb u slot.0 past ∙ sym (le-ltb u v.0 far)
-
       words-now : (u : ℕ) (t : TransDecl) → slice_get layout.trans u ≡ Some t → t.page ≡ r.page → slice_get now u ≡ Some (word_now state r.from r.to next u)
       words-now u t declared own = which (same-or u slot.0)
         where
           same-word : u ≢ slot.0 → (b : Bool) → set.contains state.maps u ≡ b → word_now state r.from r.to (Some slot) u ≡ word_now state r.from r.to next u
-          same-word other true some = ap (λ (d : Bool). cond (set.contains state.maps u) (cond d word (r.from.0 + 1)) (cond (set.contains state.bar u) (pte_word ptes.Poison) 0)) (done-same u (ap (λ m. set.contains m u) has.slots_are ∙ some) other next lowest)
+          same-word other true some = ap (λ (d : Bool). cond (set.contains state.maps u) (cond d word (r.from.0 + 1)) (cond (set.contains state.bar u) (pte_word ptes.Poison) 0)) (done-same r.slots slot u (ap (λ m. set.contains m u) has.slots_are ∙ some) other next lowest)
           same-word other false none = ap (λ (b : Bool). cond b (cond (nat_lt u slot.0) word (r.from.0 + 1)) (cond (set.contains state.bar u) (pte_word ptes.Poison) 0)) none
               ∙ sym (ap (λ (b : Bool). cond b (cond (is_done next u) word (r.from.0 + 1)) (cond (set.contains state.bar u) (pte_word ptes.Poison) 0)) none)
 
@@ -197,7 +174,7 @@ module _ {layout : Layout} {old : View} (r : Remap) (slot : VSlot) (fits : Fits 
           which (inl same) = ap (slice_get now) same ∙ set_here has.trans slot.0 (pte_word (ptes.At r.to)) (r.from.0 + 1) names-frame ∙ ap (λ (n : ℕ). Some n) word-is
               ∙ sym (ap (λ (n : ℕ). Some (word_now state r.from r.to next n)) same
               ∙ ap (λ (b : Bool). Some (cond b (cond (is_done next slot.0) word (r.from.0 + 1)) (cond (set.contains state.bar slot.0) (pte_word ptes.Poison) 0))) maps-used
-              ∙ ap (λ (b : Bool). Some (cond b word (r.from.0 + 1))) (done-behind next lowest))
+              ∙ ap (λ (b : Bool). Some (cond b word (r.from.0 + 1))) (done-behind r.slots slot next lowest))
           which (inr other) = set_else has.trans slot.0 u (pte_word (ptes.At r.to)) other ∙ has.words u t declared own ∙ ap (λ (n : ℕ). Some n) (same-word other (set.contains state.maps u) refl)
 
       member-now : (n : Option VSlot) → IsNextFrom r.slots (slot.0 + 1) n → (s : VSlot) → n ≡ Some s → set.contains r.slots s.0 ≡ true

@@ -2,7 +2,7 @@ ghost use Rattle.std.specs.Prelude.{◌≡◌, IfOk};
 
 use crate::situation::Situation;
 use hwp_geom::{Line, List, Mask, OutOfMemory, Page, Thread, VSlot, Who};
-use hwp_kill::{Seen, SignalList};
+use hwp_kill::{Seen, Signal};
 use std::alloc::Global;
 
 /// A place in a history: the entry's number in its page, from 0.
@@ -63,7 +63,7 @@ pub enum What {
         situation: Situation,
         required: Option<Thread>,
         seen: List<Seen>,
-        signals: SignalList,
+        signals: List<Signal>,
     },
     /// The content moved to another frame, and nobody was signalled (soft offline).
     Soft,
@@ -124,7 +124,7 @@ impl What {
                 situation: *situation,
                 required: *required,
                 seen: seen.copy(alloc)?,
-                signals: signals.copy(),
+                signals: signals.copy(alloc)?,
             }),
             What::Soft => Ok(What::Soft),
         }

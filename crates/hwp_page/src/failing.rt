@@ -31,7 +31,7 @@ pub(crate) fn are_signals(
     signals_at_all: bool,
     required: Option<Thread>,
     seen: &List<Seen>,
-    listed: &SignalList,
+    listed: &List<Signal>,
 ) -> bool
     requires { IsSound layout.now }
     ensures { IsTrue result ↔ Killed layout.now maps.now signals_at_all required seen.now listed.now }

@@ -7,7 +7,7 @@ use crate::failing::{are_signals, is_seen_list};
 use crate::sets::{is_empty, put_all};
 use crate::situation::Situation;
 use hwp_geom::{Layout, Line, Lines, List, Mask, Page, PageKind, Thread, VSlot};
-use hwp_kill::{Seen, SignalList, Slots};
+use hwp_kill::{Seen, Signal, Slots};
 
 /// The state of a page (Linux hwpoison.rst for what it stands for; its exact form is this project's rule).
 #[derive(Drop)]
@@ -157,7 +157,7 @@ impl PageState {
         situation: Situation,
         required: Option<Thread>,
         seen: &List<Seen>,
-        signals: &SignalList,
+        signals: &List<Signal>,
     ) -> bool
         requires { IsSound layout.now }
         ensures { IsTrue result ↔ IsFailure layout.now self.now situation required seen.now signals.now }

@@ -3,6 +3,7 @@ use Rattle.std.proofs.Common.{ℕ, ◌<◌, ◌^◌, ◌++◌, List, Option, Som
 use Rattle.std.specs.Prelude.{IfSome}
 use Rattle.hwp_geom.specs.declared.Thread.{Thread}
 use Rattle.hwp_geom.specs.declared.Who.{Who}
+use Rattle.hwp_geom.proofs.WordsPut.{IsPut, ArePut, fixed, then, nothing}
 use Rattle.hwp_page.specs.declared.Met.{Met}
 use Rattle.hwp_page.specs.declared.Met.TheVariants as mets
 use Rattle.hwp_page.specs.declared.What.{What}
@@ -14,7 +15,7 @@ use Rattle.hwp_report.specs.declared.MarkLine.TheVariants as marks
 use Rattle.hwp_report.specs.declared.Place.{Place}
 use Rattle.hwp_report.specs.declared.Place.TheVariants as places
 use Rattle.hwp_report.specs.Text.{place_words, how_words, mark_words, met_words, required_words, entry_words}
-use Rattle.hwp_report_words.proofs.WordsPut.{IsPut, ArePut, fixed, then, nothing, put_small, put_situation, put_outcome, put_origin, put_u8, put_u16, put_u32, put_u64, put_mask}
+use Rattle.hwp_report_words.proofs.WordsPut.{put_small, put_situation, put_outcome, put_origin, put_u8, put_u16, put_u32, put_u64, put_mask}
 use Rattle.hwp_page_lines.specs.Fits.{PlaceFits, MarkFits, MetFits, ThreadFits, PlainFits}
 
 pub put_state : (place : Place) → PlaceFits place → {ws : List (List ℕ)} → ArePut ws → ArePut (place_words place ++ ws)

@@ -3,7 +3,6 @@ use Rattle.std.specs.Prelude.{List, Option, Some, None, option_map}
 use Rattle.hwp_geom.specs.declared.Layout.{Layout}
 use Rattle.hwp_page.specs.History.{BodyValue}
 use Rattle.hwp_rule.specs.declared.Log.{Log}
-use Rattle.hwp_rule.specs.declared.SlotMove.TheVariants as moves
 use Rattle.hwp_rule.specs.Lists.{EachMember}
 use Rattle.hwp_rule.specs.Logs.{log_of}
 use Rattle.hwp_step.specs.Calls.{FitsLayout}

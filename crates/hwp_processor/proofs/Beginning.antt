@@ -32,9 +32,9 @@ use Rattle.hwp_job.specs.Jobs.{banks_after, banks_before, left_in}
 use Rattle.hwp_job.specs.Runs.{Runs}
 use Rattle.hwp_job.specs.Stays.{IsAtStop, IsHalted, KnowsPolicies, Stepped}
 use Rattle.hwp_job.proofs.Ending.{ends}
-use Rattle.hwp_job.proofs.Running.{before-begins, begins-fits, begins-runs, runs-who}
-use Rattle.hwp_job.proofs.Staying.{counted, left, policies-end, policies-next}
-use Rattle.hwp_job.proofs.Stopping.{begins-stop, has-stopped, only-stopped, stopped-halts}
+use Rattle.hwp_job_laws.proofs.Running.{before-begins, begins-fits, begins-runs, runs-who}
+use Rattle.hwp_job_laws.proofs.Staying.{counted, left, policies-end, policies-next}
+use Rattle.hwp_job_laws.proofs.Stopping.{begins-stop, has-stopped, only-stopped, stopped-halts}
 use Rattle.hwp_served.specs.Accounts.{IsNote}
 use Rattle.hwp_served.specs.Rows.{notes_from}
 use Rattle.hwp_served.specs.Served.{IsOneOf, IsOwnSpoil, IsOwnStop, IsRowServed}

@@ -18,10 +18,10 @@ use Rattle.hwp_job.specs.Jobs.{banks_before}
 use Rattle.hwp_job.specs.Runs.{Runs}
 use Rattle.hwp_job.specs.Stays.{Stepped, StopsItself}
 use Rattle.hwp_job.proofs.Jobbing as jobbing
-use Rattle.hwp_job.proofs.Running.{before-stays, runs-on, runs-who}
-use Rattle.hwp_job.proofs.Staying.{policies-stay}
 use Rattle.hwp_job.proofs.Ending.{answered-over}
-use Rattle.hwp_job.proofs.Stopping.{halted-stays, has-stopped, no-own-stop, stops-after}
+use Rattle.hwp_job_laws.proofs.Running.{before-stays, runs-on, runs-who}
+use Rattle.hwp_job_laws.proofs.Staying.{policies-stay}
+use Rattle.hwp_job_laws.proofs.Stopping.{halted-stays, has-stopped, no-own-stop, stops-after}
 use Rattle.hwp_served.specs.Served.{AreRowsServed, IsOwnStop}
 use Rattle.hwp_served.proofs.Staying.{row-stays}
 use Rattle.hwp_processor.specs.Processors.{at_number}

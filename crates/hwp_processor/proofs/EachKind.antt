@@ -22,7 +22,7 @@ use Rattle.hwp_job.specs.Jobs as jobs
 use Rattle.hwp_job.specs.Runs.{Runs, anew}
 use Rattle.hwp_job.specs.Stays as stays
 use Rattle.hwp_job.proofs.OfKind.{of-evict, of-fsync, of-inject, of-instruction, of-log, of-nested, of-prctl, of-raise, of-scrub, of-soft, of-spoil, of-unpoison}
-use Rattle.hwp_job.proofs.Stopping.{unrecovered}
+use Rattle.hwp_job_laws.proofs.Stopping.{unrecovered}
 use Rattle.hwp_served.specs.Served.{CanStop, spoiling}
 
 -- a command that fits is that of the turn

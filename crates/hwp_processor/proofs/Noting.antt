@@ -52,10 +52,10 @@ use Rattle.hwp_job.specs.Done.{HasDone, failed_now, marked_now, policies_now, ta
 use Rattle.hwp_job.specs.Jobs as jobs
 use Rattle.hwp_job.specs.Runs.{Runs}
 use Rattle.hwp_job.specs.Stays.{HasSpoiled, IsAtStop, Stepped}
-use Rattle.hwp_job.proofs.Doing.{done, failures-at-end, grown, none-listed, unfailed-at-start, unmarked-at-start, unowed-at-end, unowed-at-start, unset-policies-at-start, untaken-at-start}
 use Rattle.hwp_job.proofs.Ending.{answered-over, paid-at-end}
-use Rattle.hwp_job.proofs.Running.{can-fail-stays}
-use Rattle.hwp_job.proofs.Stopping.{has-spoiled, spoils-after}
+use Rattle.hwp_job_laws.proofs.Doing.{done, failures-at-end, grown, none-listed, unfailed-at-start, unmarked-at-start, unowed-at-end, unowed-at-start, unset-policies-at-start, untaken-at-start}
+use Rattle.hwp_job_laws.proofs.Running.{can-fail-stays}
+use Rattle.hwp_job_laws.proofs.Stopping.{has-spoiled, spoils-after}
 use Rattle.hwp_served.specs.Accounts.{IsHow, IsNote, failures, is_same, marking_by, markings_in, own_marking}
 use Rattle.hwp_served.specs.Owed.{OwesOwn, loss_of, losses_by}
 use Rattle.hwp_served.specs.Rows.{Note, note_by, note_of, notes_from, own_note, row_notes, told_note}

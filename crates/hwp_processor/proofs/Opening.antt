@@ -13,9 +13,9 @@ use Rattle.hwp_job.specs.declared.job.Job.{Job}
 use Rattle.hwp_job.specs.Begins.{Begins}
 use Rattle.hwp_job.specs.Jobs.{banks_before, left_in}
 use Rattle.hwp_job.specs.Stays.{IsAtStop, KnowsPolicies}
-use Rattle.hwp_job.proofs.Running.{before-begins, begins-fits, begins-runs}
-use Rattle.hwp_job.proofs.Staying.{left, policies-first}
-use Rattle.hwp_job.proofs.Stopping.{begins-stop}
+use Rattle.hwp_job_laws.proofs.Running.{before-begins, begins-fits, begins-runs}
+use Rattle.hwp_job_laws.proofs.Staying.{left, policies-first}
+use Rattle.hwp_job_laws.proofs.Stopping.{begins-stop}
 use Rattle.hwp_law.specs.Checks.{Banks, empty_banks}
 use Rattle.hwp_law.specs.Policies.{settings}
 use Rattle.hwp_served.specs.Served.{AreRowsServed}

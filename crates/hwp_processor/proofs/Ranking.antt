@@ -21,9 +21,9 @@ use Rattle.hwp_law.specs.Checks.{Banks}
 use Rattle.hwp_job.specs.declared.job.Job.{Job}
 use Rattle.hwp_job.specs.Jobs as jobs
 use Rattle.hwp_job.specs.Jobs.{banks_after}
-use Rattle.hwp_job.proofs.Below.{begins-below, job-below}
 use Rattle.hwp_job.proofs.Jobbing as jobbing
-use Rattle.hwp_job.proofs.Running.{has-begun}
+use Rattle.hwp_job_laws.proofs.Below.{begins-below, job-below}
+use Rattle.hwp_job_laws.proofs.Running.{has-begun}
 use Rattle.hwp_processor.specs.declared.processor.Processor.{Processor}
 use Rattle.hwp_processor.specs.Processors.{BeginsAt, Follows, IsAnswered, Next, NextOf, aborts, aborts_of, at_number, bare, claims, claims_of, class, class_of, cost, cost_of, plan, plan_of, put, put_of, who, who_of}
 use Rattle.hwp_processor.specs.Serving.{Fits, FitsAt, IsRunning}

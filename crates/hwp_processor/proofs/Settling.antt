@@ -18,7 +18,7 @@ use Rattle.hwp_job.specs.Jobs as jobs
 use Rattle.hwp_job.specs.Jobs.{banks_after}
 use Rattle.hwp_job.specs.Stays.{Stepped}
 use Rattle.hwp_job.proofs.Jobbing as jobbing
-use Rattle.hwp_job.proofs.Running.{runs-who}
+use Rattle.hwp_job_laws.proofs.Running.{runs-who}
 use Rattle.hwp_row.specs.declared.Row.{Row}
 use Rattle.hwp_law.specs.Checks.{Banks}
 use Rattle.hwp_processor.specs.declared.processor.Processor.{Processor}

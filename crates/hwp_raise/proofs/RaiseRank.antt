@@ -5,7 +5,6 @@ use Rattle.std.proofs.lemmas.Option.{none-some, same_Some}
 use Rattle.hwp_geom.specs.declared.Frame.{Frame}
 use Rattle.hwp_geom.specs.declared.Layout.{Layout}
 use Rattle.hwp_geom.specs.declared.Page.{Page}
-use Rattle.hwp_geom.specs.declared.Who.{Who}
 use Rattle.hwp_banks.specs.Events.{bank_count}
 use Rattle.hwp_words.specs.Names.{page_named}
 use Rattle.hwp_words.specs.Stops.{is_stopped}
@@ -24,7 +23,7 @@ use Rattle.hwp_step.specs.Calls.{logs, rec_of}
 use Rattle.hwp_step.specs.Classes.{TellsClass}
 use Rattle.hwp_step.specs.Hands.{hand_of, empty}
 use Rattle.hwp_step.specs.Ranks.{CostFalls, HasFailed, HasFrame, HasPage, IsRanked, Made, Member, OtherHand, Pending, Quiet, failure_weight, failures_left, is_refused, is_waits, member, top, words_at}
-use Rattle.hwp_step.proofs.Ranking.{pending-kept}
+use Rattle.hwp_step.proofs.Ranking.{part-made, pending-kept}
 use Rattle.hwp_control.proofs.Glancing.{no-frame, no-page}
 use Rattle.hwp_law.specs.Checks.{has_stop}
 use Rattle.hwp_handler.specs.declared.Handler.{Handler}
@@ -137,18 +136,7 @@ module _ {layout : Layout} {seat : ℕ} {a b : State} {s t : Raise} {turn : Turn
 
   -- a step of the machine check
   handler-made : (h g : Handler) → Has (at.Handle h) → handlers.plan h ≡ Some made.step → Moves (at.Handle h) → handlers.Follows layout (handlers.bare h) made.found made.got g turn → Made handler-member layout seat a b h g turn
-  handler-made h g has e move follows = record {
-    step = made.step;
-    found = made.found;
-    got = made.got;
-    rule = made.rule;
-    kept = made.kept;
-    fits = has.0.handler;
-    planned = e;
-    move = subst (λ (by : Who). Move layout seat (rec_of layout by made.step (logs (handlers.put h)) made.found made.got) a b) (sym has.0.own) move;
-    brings = made.brings;
-    follows = follows;
-  }
+  handler-made h g has e move follows = part-made made handler-member h g has.0.own has.0.handler e move follows
 
   like : (g : Handler) → t ≡ after_handler (bare s) g → IsAs g t
   like g is = subst (IsAs g) (sym is) (as-handler (bare s) g)

@@ -7,8 +7,6 @@ use Rattle.hwp_geom.specs.declared.Thread.{Thread}
 use Rattle.hwp_geom.specs.declared.Who.{Who}
 use Rattle.hwp_geom.specs.Layout.{IsSound}
 use Rattle.hwp_banks.specs.Events.{bank_count}
-use Rattle.hwp_page.specs.declared.What.{What}
-use Rattle.hwp_page.specs.declared.What.TheVariants as entries
 use Rattle.hwp_page.specs.History.{BodyValue}
 use Rattle.hwp_words.specs.Names.{page_named}
 use Rattle.hwp_words.specs.Stops.{is_stopped}
@@ -18,17 +16,16 @@ use Rattle.hwp_rule.specs.declared.Step.{Step}
 use Rattle.hwp_rule.specs.declared.Step.TheVariants as steps
 use Rattle.hwp_rule.specs.declared.View.{View}
 use Rattle.hwp_rule.specs.Lists.{EachMember}
-use Rattle.hwp_rule.proofs.Lists.{each-push}
 use Rattle.hwp_step.specs.declared.Turn.{Turn}
 use Rattle.hwp_step.specs.Calls.{CanMake, IsOnTurn, Steps, logs}
 use Rattle.hwp_step.specs.Hands.{hand_of, empty}
 use Rattle.hwp_step.proofs.Stepping.{can-make, hand-planned, on-turn-after, steps-planned}
-use Rattle.hwp_known.specs.Known.{HasMadeNone, Saw, deeds, is_failure}
+use Rattle.hwp_known.specs.Known.{HasMadeNone, Saw, is_failure}
 use Rattle.hwp_known.proofs.Listing.{ListsNone, deeds-same}
 use Rattle.hwp_known.proofs.Owing.{losses-same}
 use Rattle.hwp_known.proofs.Seeing.{saw-load, saw-stays}
-use Rattle.hwp_act.specs.declared.Failed.{Failed}
-use Rattle.hwp_act.specs.Abandoned.{AddsFailure, failed_in, failed_of}
+use Rattle.hwp_act.specs.Abandoned.{AddsFailure}
+use Rattle.hwp_act.proofs.Adding.{only-failed-stays}
 use Rattle.hwp_control.proofs.Calling.{ended-by, no-page-back, page-back}
 use Rattle.hwp_control.proofs.Glancing.{saw-stop}
 use Rattle.hwp_law.specs.Checks.{has_stop}
@@ -172,20 +169,6 @@ module _ {layout : Layout} {view : View} {r : Raise} (base : Base layout view r)
   begins-check after (inr (spare, room, is)) = subst (Fits layout view) (sym is)
       (after-handler-fits (record { on_turn = base.on_turn; sound = base.sound; raiser = base.raiser; three = base.three }) (begun spare room))
 
--- ---- the entries of failures
-
-failed-is : (m : Made) (failed : Failed) → failed_in m ≡ Some failed → is_failure m.entry.what ≡ true
-failed-is m failed is = which m.entry.what is
-  where
-    which : (what : What) → failed_of m.page m.place what ≡ Some failed → is_failure what ≡ true
-    which (entries.Fail situation required seen signals) is = refl
-    which _ is = absurd (none-some failed is)
-
-only-kept : (who : Who) (old new : View) {before after : List Failed} → AddsFailure who old new before after → HasOnlyFailed old who → HasOnlyFailed new who
-only-kept who old new (inl none) only = subst (EachMember (λ (m : Made). is_failure m.entry.what ≡ true)) (sym none.0) only
-only-kept who old new (inr some) only =
-    subst (EachMember (λ (m : Made). is_failure m.entry.what ≡ true)) (sym some.2) (each-push (λ (m : Made). is_failure m.entry.what ≡ true) (deeds who old) some.0 (failed-is some.0 some.1 some.3) only)
-
 -- ---- each step
 
 module _ (layout : Layout) (old new : View) (r : Raise) (step : Step) (found : ℕ) (got : Option BodyValue) (fits : Fits layout old r) where
@@ -255,7 +238,7 @@ module _ (layout : Layout) (old new : View) (r : Raise) (step : Step) (found : �
           told_none = has.told_none;
           emptied = has.emptied;
           going = going-stays r.raiser has.going;
-          only = only-kept r.who old new (subst (λ (w : Who). AddsFailure w old new (handler_done.failed_now h) (handler_done.failed_now after)) has.own added) has.only;
+          only = only-failed-stays r.who old new (subst (λ (w : Who). AddsFailure w old new (handler_done.failed_now h) (handler_done.failed_now after)) has.own added) has.only;
         }
 
     handler-moved : Then (at.Handle h)

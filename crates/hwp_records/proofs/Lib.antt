@@ -3,3 +3,4 @@ mod RunLaws
 mod WindowLaws
 mod PastLaws
 mod ResultLaws
+mod MarkedLaws

@@ -1,7 +1,7 @@
--- What is kept of the results of failures is what the marks of a frame tell of the command.
-use Rattle.std.proofs.Common.{◌≡◌, inl, inr, ℕ, ◌+◌, ◌≤◌, ◌==◌, ◌&&◌, ◌||◌, Bool, true, false, cond, List, [], ◌∷◌, Option, length, option_map, unwrap_or, refl, sym, ap, ◌∙◌, arith}
+-- What is kept of the marks of frames is what they say of the command.
+use Rattle.std.proofs.Common.{◌≡◌, inl, inr, ℕ, ◌+◌, ◌<◌, ◌≤◌, ◌==◌, ◌&&◌, ◌||◌, Bool, true, false, cond, List, [], ◌∷◌, Option, length, option_map, unwrap_or, refl, sym, ap, ◌∙◌, arith}
 use Rattle.std.specs.HashSet.{HashSet}
-use Rattle.std.proofs.lemmas.Bool.{cases_Bool, cases_lt, eq-eqb, eqb-false, eqb-true, le-ltb, lt-ltb, ne_eqb}
+use Rattle.std.proofs.lemmas.Bool.{and_right, cases_Bool, cases_lt, eq-eqb, eqb-false, eqb-true, le-ltb, lt-ltb, ne_eqb}
 use Rattle.std.proofs.lemmas.Option.{slice_get_past}
 use Rattle.hwp_geom.specs.declared.Cpu.{Cpu}
 use Rattle.hwp_geom.specs.declared.Who.{Who}
@@ -14,8 +14,9 @@ use Rattle.hwp_report.specs.declared.How.TheVariants as hows
 use Rattle.hwp_report.specs.declared.MarkLine.{MarkLine}
 use Rattle.hwp_report.specs.declared.MarkLine.TheVariants as marks
 use Rattle.hwp_report.specs.declared.Report.{Report}
-use Rattle.hwp_law.specs.Lines.{marks_of}
-use Rattle.hwp_records.specs.Results.{AreResults, acted_number, has_key, has_result, kept_below, mark_kept, marks_at, marks_kept, outcome_number, tells, tells_mark}
+use Rattle.hwp_law.specs.Lines.{is_same_command, marks_of}
+use Rattle.hwp_law.specs.Records.{who_in}
+use Rattle.hwp_records.specs.Results.{AreResults, acted_number, has_key, has_number, has_result, is_numbered, kept_below, mark_kept, mark_number, marks_at, marks_kept, outcome_number, tells, tells_mark}
 use Rattle.hwp_records.specs.declared.results.Results.{Results}
 
 or-none : (a : Bool) → a ≡ (a || false)
@@ -32,7 +33,34 @@ eqb-swap a b = elim (cases_Bool (a == b)) [
   | inr not_so ↦ not_so ∙ sym (ne_eqb b a (λ e. eqb-false a b not_so (sym e)))
 ]
 
--- what was done says what came of a failure where the two have one number
+kept-so : (c s t had : Bool) → cond c (cond ((true && s) && t) true had) had ≡ (had || ((c && s) && t))
+kept-so true true true true = refl
+kept-so true true true false = refl
+kept-so true true false had = or-none had
+kept-so true false t had = or-none had
+kept-so false s t had = or-none had
+
+-- in its own frame
+module _ (who : Who) (number frame : ℕ) where
+  abbrev key : (ℕ × ℕ) × ℕ
+  key = ((frame, who.seq), number)
+
+  mark-kept : (had : Bool) (m : MarkLine) → mark_kept who.cpu frame key had m ≡ (had || is_numbered who number m)
+  mark-kept had m =
+      ap (λ (b : Bool). cond ((who_in m).cpu.0 == who.cpu.0) (cond ((b && ((who_in m).seq == who.seq)) && (mark_number m == number)) true had) had) (eq-eqb frame frame refl)
+      ∙ kept-so ((who_in m).cpu.0 == who.cpu.0) ((who_in m).seq == who.seq) (mark_number m == number) had
+      ∙ ap (λ (b : Bool). had || ((b && ((who_in m).seq == who.seq)) && (mark_number m == number))) (eqb-swap (who_in m).cpu.0 who.cpu.0)
+      ∙ ap (λ (b : Bool). had || (((who.cpu.0 == (who_in m).cpu.0) && b) && (mark_number m == number))) (eqb-swap (who_in m).seq who.seq)
+
+  marks-kept : (had : Bool) (list : List MarkLine) → marks_kept who.cpu frame key had list ≡ (had || has_number who number list)
+  marks-kept had [] = or-none had
+  marks-kept had (m ∷ ms) =
+      marks-kept (mark_kept who.cpu frame key had m) ms ∙ ap (λ (b : Bool). b || has_number who number ms) (mark-kept had m) ∙ or-three had (is_numbered who number m) (has_number who number ms)
+
+pub kept_is : (report : Report) (results : Results) (who : Who) (frame number : ℕ) → AreResults who.cpu report.frames results → has_key results.keys ((frame, who.seq), number) ≡ has_number who number (marks_of report frame)
+kept_is report results who frame number are = are.each ((frame, who.seq), number) ∙ marks-kept who number frame false (marks_of report frame)
+
+-- what was done says what came of a failure by an event where the two have one number
 same-number : (o : Outcome) (a : Acted) → (outcome_number o == acted_number a) ≡ tells o a
 same-number outcomes.Recovered acts.Recovered = refl
 same-number outcomes.Recovered acts.Delayed = refl
@@ -47,51 +75,39 @@ same-number outcomes.Ignored acts.Delayed = refl
 same-number outcomes.Ignored acts.Ignored = refl
 same-number outcomes.Ignored _ = refl
 
-kept-so : (c s t had : Bool) → cond (true && c) (cond ((true && s) && t) true had) had ≡ (had || ((c && s) && t))
-kept-so true true true true = refl
-kept-so true true true false = refl
-kept-so true true false had = or-none had
-kept-so true false t had = or-none had
-kept-so false s t had = or-none had
+-- and says none of another mark
+no-number : (number : ℕ) (a : Acted) → 2 < number → number < 13 → (number == acted_number a) ≡ false
+no-number number acts.Recovered above below = ne_eqb number 0 (λ e. omega (arith, e, above))
+no-number number acts.Delayed above below = ne_eqb number 1 (λ e. omega (arith, e, above))
+no-number number acts.Ignored above below = ne_eqb number 2 (λ e. omega (arith, e, above))
+no-number number _ above below = ne_eqb number 13 (λ e. omega (arith, e, below))
 
--- in its own frame
-module _ (who : Who) (acted : Acted) (frame : ℕ) where
-  abbrev key : (ℕ × ℕ) × ℕ
-  key = ((frame, who.seq), acted_number acted)
+module _ (who : Who) (acted : Acted) where
+  none-told : (by : Who) (number : ℕ) → 2 < number → number < 13 → (is_same_command who by && (number == acted_number acted)) ≡ false
+  none-told by number above below = and_right (is_same_command who by) (number == acted_number acted) (no-number number acted above below)
 
-  mark-kept : (had : Bool) (m : MarkLine) → mark_kept who.cpu frame key had m ≡ (had || tells_mark who acted m)
-  mark-kept had (marks.Poisoned cycle other (hows.Failure true situation outcome)) =
-      ap (λ (b : Bool). cond (true && (other.cpu.0 == who.cpu.0)) (cond ((b && (other.seq == who.seq)) && (outcome_number outcome == acted_number acted)) true had) had) (eq-eqb frame frame refl)
-      ∙ kept-so (other.cpu.0 == who.cpu.0) (other.seq == who.seq) (outcome_number outcome == acted_number acted) had
-      ∙ ap (λ (b : Bool). had || ((b && (other.seq == who.seq)) && (outcome_number outcome == acted_number acted))) (eqb-swap other.cpu.0 who.cpu.0)
-      ∙ ap (λ (b : Bool). had || (((who.cpu.0 == other.cpu.0) && b) && (outcome_number outcome == acted_number acted))) (eqb-swap other.seq who.seq)
-      ∙ ap (λ (b : Bool). had || (((who.cpu.0 == other.cpu.0) && (who.seq == other.seq)) && b)) (same-number outcome acted)
-  mark-kept had (marks.Poisoned cycle other (hows.Failure false situation outcome)) = or-none had
-  mark-kept had (marks.Poisoned cycle other hows.Moved) = or-none had
-  mark-kept had (marks.Poisoned cycle other hows.TakenFree) = or-none had
-  mark-kept had (marks.Unpoisoned cycle other) = or-none had
+  number-tells : (m : MarkLine) → is_numbered who (acted_number acted) m ≡ tells_mark who acted m
+  number-tells (marks.Poisoned cycle by (hows.Failure true situation outcome)) = ap (λ (b : Bool). is_same_command who by && b) (same-number outcome acted)
+  number-tells (marks.Poisoned cycle by (hows.Failure false situation outcomes.Recovered)) = none-told by 3 (omega arith) (omega arith)
+  number-tells (marks.Poisoned cycle by (hows.Failure false situation outcomes.Delayed)) = none-told by 4 (omega arith) (omega arith)
+  number-tells (marks.Poisoned cycle by (hows.Failure false situation outcomes.Ignored)) = none-told by 5 (omega arith) (omega arith)
+  number-tells (marks.Poisoned cycle by hows.Moved) = none-told by 6 (omega arith) (omega arith)
+  number-tells (marks.Poisoned cycle by hows.TakenFree) = none-told by 9 (omega arith) (omega arith)
+  number-tells (marks.Unpoisoned cycle by) = none-told by 12 (omega arith) (omega arith)
 
-  marks-kept : (had : Bool) (list : List MarkLine) → marks_kept who.cpu frame key had list ≡ (had || has_result who acted list)
-  marks-kept had [] = or-none had
-  marks-kept had (m ∷ ms) =
-      marks-kept (mark_kept who.cpu frame key had m) ms ∙ ap (λ (b : Bool). b || has_result who acted ms) (mark-kept had m) ∙ or-three had (tells_mark who acted m) (has_result who acted ms)
+  pub number_result : (list : List MarkLine) → has_number who (acted_number acted) list ≡ has_result who acted list
+  number_result [] = refl
+  number_result (m ∷ ms) = ap (λ (b : Bool). b || has_number who (acted_number acted) ms) (number-tells m) ∙ ap (λ (b : Bool). tells_mark who acted m || b) (number_result ms)
 
-pub kept_is : (report : Report) (results : Results) (who : Who) (frame : ℕ) (acted : Acted) → AreResults who.cpu report.frames results
-    → has_key results.keys ((frame, who.seq), acted_number acted) ≡ has_result who acted (marks_of report frame)
-kept_is report results who frame acted are = are.each ((frame, who.seq), acted_number acted) ∙ marks-kept who acted frame false (marks_of report frame)
-
--- and in another
+-- and of a mark in another frame nothing is kept
 both : (b had : Bool) → cond b had had ≡ had
 both true had = refl
 both false had = refl
 
 module _ (cpu : Cpu) (n : ℕ) (q : (ℕ × ℕ) × ℕ) (other : (n == q.0.0) ≡ false) where
   mark-other : (had : Bool) (m : MarkLine) → mark_kept cpu n q had m ≡ had
-  mark-other had (marks.Poisoned cycle who (hows.Failure hardware situation outcome)) =
-      ap (λ (b : Bool). cond (hardware && (who.cpu.0 == cpu.0)) (cond ((b && (who.seq == q.0.1)) && (outcome_number outcome == q.1)) true had) had) other ∙ both (hardware && (who.cpu.0 == cpu.0)) had
-  mark-other had (marks.Poisoned cycle who hows.Moved) = refl
-  mark-other had (marks.Poisoned cycle who hows.TakenFree) = refl
-  mark-other had (marks.Unpoisoned cycle who) = refl
+  mark-other had m =
+      ap (λ (b : Bool). cond ((who_in m).cpu.0 == cpu.0) (cond ((b && ((who_in m).seq == q.0.1)) && (mark_number m == q.1)) true had) had) other ∙ both ((who_in m).cpu.0 == cpu.0) had
 
   marks-other : (had : Bool) (list : List MarkLine) → marks_kept cpu n q had list ≡ had
   marks-other had [] = refl

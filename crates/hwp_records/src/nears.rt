@@ -27,7 +27,7 @@ pub struct Past {
 }
 
 /// The command of a mark.
-fn who_in(mark: &MarkLine) -> Who
+pub(crate) fn who_in(mark: &MarkLine) -> Who
     ensures { result ≡ who_in mark.now }
 {
     match *mark {

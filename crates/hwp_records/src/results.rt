@@ -1,25 +1,42 @@
-ghost use Rattle.std.specs.Prelude.{◌≡◌, ◌==◌, ◌&&◌, ℕ, true, cond, IfOk, OnOk};
+ghost use Rattle.std.specs.Prelude.{◌≡◌, ◌<◌, ◌==◌, ℕ, true, cond, IfOk, OnOk};
 ghost use Rattle.hwp_law.specs.Lines.{marks_of};
-ghost use Rattle.hwp_records.specs.Results.{AreResults, acted_number, has_key, has_result, how_kept, is_key, mark_kept, marks_at, marks_kept, outcome_number};
+ghost use Rattle.hwp_records.specs.Results.{AreResults, acted_number, failure_number, has_key, has_number, has_result, how_number, is_key, mark_kept, mark_number, marks_at, marks_kept, outcome_number};
 
+use crate::nears::who_in;
 use hwp_geom::{Cpu, OutOfMemory, Who};
 use hwp_page::Outcome;
 use hwp_report::{Acted, FrameLine, How, MarkLine, Report};
 use std::alloc::Global;
 use std::collections::HashSet;
 
-/// A frame, the number of a command, and the number of what came of a failure.
+/// What a mark is, by the number of what it says less that of what came of it: a failure by a command.
+pub(crate) const COMMANDED: u8 = 3;
+
+/// A soft offline that moved the content.
+pub(crate) const MOVED: u8 = 6;
+
+/// A soft offline that took a free frame.
+pub(crate) const TAKEN_FREE: u8 = 9;
+
+/// The taking back of a poisoning.
+pub(crate) const TAKEN_BACK: u8 = 12;
+
+/// What no mark is.
+const NOTHING: u8 = 13;
+
+/// A frame, the number of a command, and the number of what a mark says.
 type Key = ((usize, u32), u8);
 
-/// What came of the failures of all frames by events, for the commands of one processor.
+/// What the marks of all frames say of the commands of one processor.
 #[derive(Drop)]
 pub struct Results {
     pub keys: HashSet<Key>,
 }
 
 /// The number of what came of a failure.
-fn outcome_number(outcome: Outcome) -> u8
-    ensures { result ≡ outcome_number outcome }
+pub(crate) fn outcome_number(outcome: Outcome) -> u8
+    ensures is { result ≡ outcome_number outcome }
+    ensures small { result < 3 }
 {
     match outcome {
         Outcome::Recovered => 0,
@@ -28,7 +45,40 @@ fn outcome_number(outcome: Outcome) -> u8
     }
 }
 
-/// The number of what came of a failure, where what was done says it, or one that nothing has.
+/// The number of a failure, by whether an event caused it and what came of it.
+fn failure_number(hardware: bool, outcome: Outcome) -> u8
+    ensures { result ≡ failure_number hardware outcome }
+{
+    let number = outcome_number(outcome);
+    if hardware { number } else { number + COMMANDED }
+}
+
+/// The number of what a poisoning says.
+fn how_number(how: How) -> u8
+    ensures { result ≡ how_number how }
+{
+    match how {
+        How::Failure {
+            hardware,
+            outcome,
+            ..
+        } => failure_number(hardware, outcome),
+        How::Moved => MOVED,
+        How::TakenFree => TAKEN_FREE,
+    }
+}
+
+/// The number of what a mark says.
+fn mark_number(mark: &MarkLine) -> u8
+    ensures { result ≡ mark_number mark.now }
+{
+    match *mark {
+        MarkLine::Poisoned { how, .. } => how_number(how),
+        MarkLine::Unpoisoned { .. } => TAKEN_BACK,
+    }
+}
+
+/// The number of a failure by an event, where what was done says what came of it, or one that nothing has.
 fn acted_number(acted: Acted) -> u8
     ensures { result ≡ acted_number acted }
 {
@@ -36,7 +86,7 @@ fn acted_number(acted: Acted) -> u8
         Acted::Recovered => 0,
         Acted::Delayed => 1,
         Acted::Ignored => 2,
-        _ => 3,
+        _ => NOTHING,
     }
 }
 
@@ -65,37 +115,14 @@ fn add_if(keys: &mut HashSet<Key>, kept: bool, key: Key) -> Result<(), OutOfMemo
     Ok(())
 }
 
-/// Whether a poisoning is of a command of the processor, and an event caused it.
-fn is_caused(hardware: bool, cpu: Cpu, who: Who) -> bool
-    ensures { result ≡ (hardware && (who.cpu.0 == cpu.0)) }
+/// Whether the command is one of the processor.
+fn is_own(cpu: Cpu, who: Who) -> bool
+    ensures { result ≡ (who.cpu.0 == cpu.0) }
 {
-    hardware && who.cpu.0 == cpu.0
+    who.cpu.0 == cpu.0
 }
 
-/// Keeps what came of a poisoning of the frame, where an event of one of the processor's commands caused it.
-fn add_how(
-    keys: &mut HashSet<Key>,
-    cpu: Cpu,
-    frame: usize,
-    who: Who,
-    how: How,
-) -> Result<(), OutOfMemory>
-    ensures { OnOk result ((q : (ℕ × ℕ) × ℕ) → has_key keys.new q ≡ how_kept cpu frame q (has_key keys.old q) who how) }
-{
-    match how {
-        How::Failure {
-            hardware,
-            outcome,
-            ..
-        } => {
-            let caused = is_caused(hardware, cpu, who);
-            add_if(keys, caused, ((frame, who.seq), outcome_number(outcome)))
-        }
-        How::Moved | How::TakenFree => Ok(()),
-    }
-}
-
-/// Keeps what a mark says so.
+/// Keeps what a mark says, where it is of one of the processor's commands.
 fn add_mark(
     keys: &mut HashSet<Key>,
     cpu: Cpu,
@@ -104,10 +131,9 @@ fn add_mark(
 ) -> Result<(), OutOfMemory>
     ensures { OnOk result ((q : (ℕ × ℕ) × ℕ) → has_key keys.new q ≡ mark_kept cpu frame q (has_key keys.old q) mark.now) }
 {
-    match *mark {
-        MarkLine::Poisoned { who, how, .. } => add_how(keys, cpu, frame, who, how),
-        MarkLine::Unpoisoned { .. } => Ok(()),
-    }
+    let who = who_in(mark);
+    let own = is_own(cpu, who);
+    add_if(keys, own, ((frame, who.seq), mark_number(mark)))
 }
 
 /// Keeps what the marks of a frame say so.
@@ -135,7 +161,7 @@ fn marks_at(frames: &[FrameLine], frame: usize) -> &[MarkLine]
     }
 }
 
-/// What came of the failures of all frames by events of the processor's commands.
+/// What the marks of all frames say of the processor's commands.
 pub fn results_of(alloc: Global, cpu: Cpu, frames: &[FrameLine]) -> Result<Results, OutOfMemory>
     ensures { IfOk result (λ results. AreResults cpu frames.now results) }
 {
@@ -146,12 +172,25 @@ pub fn results_of(alloc: Global, cpu: Cpu, frames: &[FrameLine]) -> Result<Resul
     Ok(Results { keys })
 }
 
+/// Whether a mark of the command in the frame has the number.
+pub(crate) fn has_number(
+    report: &Report,
+    results: &Results,
+    who: Who,
+    frame: u64,
+    number: u8,
+) -> bool
+    requires { AreResults who.cpu report.now.frames results.now }
+    ensures { result ≡ has_number who number (marks_of report.now frame) }
+{
+    let _report = report;
+    has_key(&results.keys, ((frame as usize, who.seq), number))
+}
+
 /// Whether what was done says what came of a failure of the frame by an event of the command.
 pub fn has_result(report: &Report, results: &Results, who: Who, frame: u64, acted: Acted) -> bool
     requires { AreResults who.cpu report.now.frames results.now }
     ensures { result ≡ has_result who acted (marks_of report.now frame) }
 {
-    let _report = report;
-    let key = ((frame as usize, who.seq), acted_number(acted));
-    has_key(&results.keys, key)
+    has_number(report, results, who, frame, acted_number(acted))
 }

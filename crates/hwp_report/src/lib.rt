@@ -5,9 +5,11 @@ mod frames;
 mod lines;
 mod printing;
 mod report;
+mod terms;
 
 pub use frames::{FrameLine, How, MarkLine, Place};
 pub use hwp_page::Outcome;
 pub use lines::{Acted, Answer, CpuLine};
 pub use printing::print;
 pub use report::{Report, Stop, StopCause};
+pub use terms::{acted_word, outcome_word, policy_word, situation_word};

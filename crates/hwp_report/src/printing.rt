@@ -6,17 +6,16 @@ ghost use Rattle.hwp_report.specs.Text.{cause_words, cpu_lines, file_lines, fram
 use crate::frames::{FrameLine, How, MarkLine, Place};
 use crate::lines::CpuLine;
 use crate::report::{Report, Stop, StopCause};
+use crate::terms::{flag_number, mode_word, origin_word, outcome_word, situation_word};
 use answers::put_cpu_lines;
 use entries::put_entries;
 use hwp_geom::{List, Mask, Mode, OutOfMemory, Page, Text, Who};
 use hwp_page::Entry;
 use hwp_severity::McgBits;
 use std::alloc::Global;
-use terms::{flag_number, mode_word, origin_word, outcome_word, situation_word};
 
 mod answers;
 mod entries;
-mod terms;
 
 /// The one text of a report.
 pub fn print(alloc: Global, report: &Report) -> Result<Text, OutOfMemory>

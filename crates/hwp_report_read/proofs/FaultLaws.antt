@@ -86,9 +86,6 @@ no_further p rest report f more behind fits h none lines text =
     fits_at [] f gs h = All-head FormFits f gs h
     fits_at (x ∷ xs) f gs h = fits_at xs f gs (All-tail FormFits x (xs ++ f ∷ gs) h)
 
-pub nothing_reached : IsReached partials.Nothing
-nothing_reached = record { read = refl; within = tt }
-
 pub more_reached : (p : Partial) (f : Form) (q : Partial) → IsReached p → FormFits f → follow p f ≡ Some q → IsReached q
 more_reached p f q h fits e = record {
   read =

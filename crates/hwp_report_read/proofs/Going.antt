@@ -9,17 +9,14 @@ use Rattle.hwp_report_read.specs.Cutting.{IsCut}
 use Rattle.hwp_report_read.specs.Follows.{IsNext, IsRefused}
 use Rattle.hwp_report_read.specs.Texts.{IsReportOf, IsFaultAt}
 use Rattle.hwp_report_read.proofs.LinesRead.{IsReadSoFar}
-use Rattle.hwp_report_read.proofs.LineLaws.{nothing_read, more_read}
-use Rattle.hwp_report_read.proofs.FaultLaws.{IsReached, nothing_reached, more_reached, fault_at, refuses_line, refuses_rest, whole_read}
+use Rattle.hwp_report_read.proofs.LineLaws.{more_read}
+use Rattle.hwp_report_read.proofs.FaultLaws.{IsReached, more_reached, fault_at, refuses_line, refuses_rest, whole_read}
 
 -- the bytes were read so far as this, rest is left, and the next line is the n-th
 pub record IsGoing (bytes : List ℕ) (p : Partial) (rest : List ℕ) (n : ℕ) : Type 0 where
   pub so_far : IsReadSoFar bytes p rest n
   pub reached : IsReached p
   pub few : n + length rest ≤ length bytes + 1
-
-pub going-begun : (bytes : List ℕ) → IsGoing bytes partials.Nothing bytes 1
-going-begun bytes = record { so_far = nothing_read bytes; reached = nothing_reached; few = omega arith }
 
 pub shorter : (rest here behind : List ℕ) → IsCut rest here behind → length behind + 1 ≤ length rest
 shorter rest here behind c = omega (arith, ap length c.same, length-append here (10 ∷ behind))

@@ -1,20 +1,15 @@
 -- Bytes are read line by line.
-use Rattle.std.proofs.Common.{◌≡◌, ℕ, ◌+◌, List, [], ◌∷◌, ◌++◌, length, refl, sym, ap, ◌∙◌, append_assoc, append-nil, arith}
+use Rattle.std.proofs.Common.{◌≡◌, ℕ, ◌+◌, List, [], ◌∷◌, ◌++◌, length, sym, ap, ◌∙◌, append_assoc, append-nil, arith}
 use Rattle.std.proofs.lemmas.List.{length-append}
 use Rattle.std.proofs.lemmas.List.Concat.{flat_map-append}
 use Rattle.std.proofs.lemmas.List.Elements.{All-nil, All-cons, All-append}
 use Rattle.hwp_geom.specs.Words.{line}
 use Rattle.hwp_report_lines.specs.declared.Form.{Form}
 use Rattle.hwp_report_read.specs.declared.partial.Partial.{Partial}
-use Rattle.hwp_report_read.specs.declared.partial.Partial.TheVariants as partials
 use Rattle.hwp_report_lines.specs.Forms.{FormFits, form_words}
 use Rattle.hwp_report_read.specs.Follows.{IsNext}
 use Rattle.hwp_report_read.proofs.LinesRead.{forms_text, lines_read, IsReadSoFar}
 use Rattle.hwp_report_read.proofs.FollowLaws.{adds}
-
--- nothing was read of bytes
-pub nothing_read : (bytes : List ℕ) → IsReadSoFar bytes partials.Nothing bytes 1
-nothing_read bytes = record { same = refl; fits = All-nil FormFits; number = refl }
 
 text-push : (fs : List Form) (f : Form) → forms_text (fs ++ f ∷ []) ≡ forms_text fs ++ line (form_words f)
 text-push fs f =

@@ -2,7 +2,7 @@ ghost use Rattle.std.specs.Prelude.{◌≡◌, [], IfOk};
 ghost use Rattle.hwp_report_read.specs.Follows.{add_entry, add_line, after_entry, after_files, after_frame, after_head, after_line, after_nothing, after_seen, after_signal, after_stop, entry_of, follow, open_cpu, open_frame, open_page, report_of, seen_so_far, signals_so_far};
 
 use hwp_geom::{List, OutOfMemory};
-use hwp_kill::{MAX_SIGNALS, Seen, SignalList};
+use hwp_kill::{MAX_SIGNALS, Seen, Signal};
 use hwp_page::{Entry, What};
 use hwp_page_lines::Failure;
 use hwp_report::{CpuLine, FrameLine, Report, Stop};
@@ -99,7 +99,7 @@ pub(crate) enum Partial {
     /// In the last page's history a memory failure is in hand, and not all of its policies were read.
     Seeing(OpenPage, OpenFailure),
     /// All policies of the memory failure in hand were read, and not all of its signals.
-    Signalling(OpenPage, OpenFailure, SignalList),
+    Signalling(OpenPage, OpenFailure, List<Signal>),
     /// Some processors, of which the last one is in hand.
     Cpus(OpenCpu),
     /// All.
@@ -126,7 +126,7 @@ impl Ran {
 
 impl OpenFailure {
     /// The entry of this failure.
-    fn into_entry(self, signals: SignalList) -> Entry
+    fn into_entry(self, signals: List<Signal>) -> Entry
         ensures { result ≡ entry_of self signals }
     {
         let OpenFailure { line, seen } = self;
@@ -154,7 +154,7 @@ impl Partial {
             Partial::Files(front) => with_file(alloc, front, line),
             Partial::Frames(framed, frame) => with_mark(alloc, framed, frame, line),
             Partial::Pages(page) => with_entry(alloc, page, line),
-            Partial::Seeing(page, failure) => with_seen(page, failure, line),
+            Partial::Seeing(page, failure) => with_seen(alloc, page, failure, line),
             Partial::Signalling(page, failure, signals) => {
                 with_signal(page, failure, signals, line)
             }
@@ -361,7 +361,7 @@ fn entry_added(alloc: Global, page: OpenPage, line: Form) -> Result<Option<Parti
         }
         Form::Fail(line) => {
             let seen = List::new(alloc);
-            Ok(Some(failed(page, OpenFailure { line, seen })?))
+            Ok(Some(failed(alloc, page, OpenFailure { line, seen })?))
         }
         _ => Ok(None),
     }
@@ -369,6 +369,7 @@ fn entry_added(alloc: Global, page: OpenPage, line: Form) -> Result<Option<Parti
 
 /// One policy more of the memory failure in hand.
 fn with_seen(
+    alloc: Global,
     page: OpenPage,
     failure: OpenFailure,
     line: Form,
@@ -379,7 +380,7 @@ fn with_seen(
         Form::Seen(seen) => {
             let mut failure = failure;
             failure.seen.push(seen)?;
-            Ok(Some(failed(page, failure)?))
+            Ok(Some(failed(alloc, page, failure)?))
         }
         _ => Ok(None),
     }
@@ -389,7 +390,7 @@ fn with_seen(
 fn with_signal(
     page: OpenPage,
     failure: OpenFailure,
-    signals: SignalList,
+    signals: List<Signal>,
     line: Form,
 ) -> Result<Option<Partial>, OutOfMemory>
     ensures { IfOk result (λ next. next ≡ after_signal page failure signals line) }
@@ -400,7 +401,7 @@ fn with_signal(
                 return Ok(None);
             }
             let mut signals = signals;
-            signals.push(signal);
+            signals.push(signal)?;
             Ok(Some(signalled(page, failure, signals)?))
         }
         _ => Ok(None),
@@ -408,11 +409,11 @@ fn with_signal(
 }
 
 /// With the last of its policies, a memory failure in hand comes to its signals.
-fn failed(page: OpenPage, failure: OpenFailure) -> Result<Partial, OutOfMemory>
+fn failed(alloc: Global, page: OpenPage, failure: OpenFailure) -> Result<Partial, OutOfMemory>
     ensures { IfOk result (λ next. next ≡ seen_so_far page failure) }
 {
     if failure.seen.len() as u64 == failure.line.seen {
-        signalled(page, failure, SignalList::new())
+        signalled(page, failure, List::new(alloc))
     } else {
         Ok(Partial::Seeing(page, failure))
     }
@@ -422,7 +423,7 @@ fn failed(page: OpenPage, failure: OpenFailure) -> Result<Partial, OutOfMemory>
 fn signalled(
     page: OpenPage,
     failure: OpenFailure,
-    signals: SignalList,
+    signals: List<Signal>,
 ) -> Result<Partial, OutOfMemory>
     ensures { IfOk result (λ next. next ≡ signals_so_far page failure signals) }
 {

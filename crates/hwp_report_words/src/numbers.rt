@@ -7,7 +7,6 @@ ghost use Rattle.hwp_report_words.specs.Words.{AtFits, WhoFits, at_words, who_wo
 
 use hwp_geom::{Cpu, Line, Page, Who};
 use hwp_page::At;
-use itoa::Buffer;
 
 /// Whether a word has this text.
 pub fn is_text(word: &[u8], text: &str) -> bool
@@ -20,17 +19,7 @@ pub fn is_text(word: &[u8], text: &str) -> bool
 pub fn read_number(word: &[u8]) -> Option<u64>
     ensures { IsReadAs (Below (2 ^ 64)) decimal word.now result }
 {
-    let Ok(text) = str::from_utf8(word) else {
-        return None;
-    };
-    let Ok(number) = text.parse::<u64>() else {
-        return None;
-    };
-    if Buffer::new().format(number) == text {
-        Some(number)
-    } else {
-        None
-    }
+    hwp_form::read_number(word)
 }
 
 /// The number that a word is, where it is below a bound.

@@ -7,7 +7,7 @@ use crate::words::{HasWord, named};
 use hwp_geom::Mode;
 use hwp_kill::{Code, Policy};
 use hwp_page::{Outcome, Situation};
-use hwp_report::Acted;
+use hwp_report::{Acted, acted_word, outcome_word, policy_word, situation_word};
 
 /// All policies.
 const POLICIES: [Policy; 3] = [Policy::Late, Policy::Early, Policy::Default];
@@ -16,11 +16,7 @@ impl HasWord for Policy {
     ghost text = { terms.policy_word };
 
     fn word(self) -> &'static str {
-        match self {
-            Policy::Late => "late",
-            Policy::Early => "early",
-            Policy::Default => "default",
-        }
+        policy_word(self)
     }
 }
 
@@ -39,15 +35,7 @@ impl HasWord for Situation {
     ghost text = { terms.situation_word };
 
     fn word(self) -> &'static str {
-        match self {
-            Situation::Free => "free",
-            Situation::Kernel => "kernel",
-            Situation::FileClean => "fileclean",
-            Situation::FileDirty => "filedirty",
-            Situation::AnonOnly => "anononly",
-            Situation::SwapClean => "swapclean",
-            Situation::SwapDirty => "swapdirty",
-        }
+        situation_word(self)
     }
 }
 
@@ -58,11 +46,7 @@ impl HasWord for Outcome {
     ghost text = { terms.outcome_word };
 
     fn word(self) -> &'static str {
-        match self {
-            Outcome::Recovered => "recovered",
-            Outcome::Delayed => "delayed",
-            Outcome::Ignored => "ignored",
-        }
+        outcome_word(self)
     }
 }
 
@@ -86,20 +70,7 @@ impl HasWord for Acted {
     ghost text = { terms.acted_word };
 
     fn word(self) -> &'static str {
-        match self {
-            Acted::None => "none",
-            Acted::Keep => "keep",
-            Acted::Deferred => "deferred",
-            Acted::Logged => "logged",
-            Acted::Recovered => "recovered",
-            Acted::Delayed => "delayed",
-            Acted::Ignored => "ignored",
-            Acted::Already => "already",
-            Acted::Outside => "outside",
-            Acted::Stop => "stop",
-            Acted::Panic => "panic",
-            Acted::Held => "held",
-        }
+        acted_word(self)
     }
 }
 

@@ -39,6 +39,22 @@ segment-at from count j ws less = get_or-take count (drop from ws) j 0 less ∙ 
 pub word-there : (words : List ℕ) (number count : ℕ) → length words ≡ count → number < count → slice_get words number ≡ Some (slice_index words number)
 word-there words number count wide inside = slice_get-get_or words number 0 (omega arith)
 
+-- the place of a word is one of all words
+pub index-within : (layout : Layout) (place : Place) → IsPlace layout place → index layout place < size layout
+index-within layout (places.Frame frame) is = omega (arith, is)
+index-within layout (places.Trans slot) is = omega (arith, is)
+index-within layout (places.Cache page) is = omega (arith, is)
+index-within layout (places.Page page) is = omega (arith, is)
+index-within layout (places.Free number) is = omega (arith, is)
+index-within layout places.Available is = omega arith
+index-within layout (places.Bad frame) is = omega (arith, is)
+index-within layout (places.Weak frame) is = omega (arith, is)
+index-within layout places.Counter is = omega arith
+index-within layout (places.Process process) is = omega (arith, is)
+index-within layout (places.Policy thread) is = omega (arith, is)
+index-within layout (places.Loss file) is = omega (arith, is)
+index-within layout places.Stop is = omega arith
+
 -- the word of a place written to it again
 pub same-put : (place : Place) (w : Words) → put place (read place w) w ≡ w
 same-put (places.Frame frame) w = λ i. record w { frames = set-get_or w.frames frame.0 0 i }

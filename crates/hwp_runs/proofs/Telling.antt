@@ -37,7 +37,7 @@ told layout turns = record {
 
 module _ (layout : Layout) where
   -- a turn stays one where more follow
-  later : {Such : Rec → View → Type 0} {who : Who} (turns more : List Played) → TurnBy layout turns who Such → TurnBy layout (turns ++ more) who Such
+  pub later : {Such : Rec → View → Type 0} {who : Who} (turns more : List Played) → TurnBy layout turns who Such → TurnBy layout (turns ++ more) who Such
   later turns more by = record {
     before = by.before;
     turn = by.turn;
@@ -65,7 +65,7 @@ module _ (layout : Layout) where
     after = view_after layout p.made m.view
 
     -- the newest turn
-    now : {Such : Rec → View → Type 0} (who : Who) → p.made.who ≡ who → Such p.made after → TurnBy layout (before ++ p ∷ []) who Such
+    pub now : {Such : Rec → View → Type 0} (who : Who) → p.made.who ≡ who → Such p.made after → TurnBy layout (before ++ p ∷ []) who Such
     now who own such = record {
       before = before;
       turn = p;

@@ -11,6 +11,7 @@ use Rattle.hwp_geom.specs.Limits.{cpu_limit}
 use Rattle.hwp_geom.specs.Words.{IsWord, IsLine, hex, pieces}
 use Rattle.hwp_geom.specs.Pairs.{Pairs}
 use Rattle.hwp_geom.proofs.Cuts.{joined, differs, none_is, pieces-line, cut-joined_line}
+use Rattle.hwp_geom.proofs.WordsPut.{IsHigh, IsPut, ArePut, put_word}
 use Rattle.hwp_form.specs.Kinds.{kind_text}
 use Rattle.hwp_form.specs.Numbers.{IsRegister, register}
 use Rattle.hwp_form.specs.Grammar.{rest_words, form_words, turn_text, until_text, turn_pieces, pieces_of, command_words, CommandFits, IsTurn, AreRestWords, AreCommandWords, IsForm}
@@ -27,7 +28,7 @@ use Rattle.hwp_form.specs.declared.Until.TheVariants as untils
 use Rattle.hwp_form.specs.declared.LineRead.TheVariants as reads
 use Rattle.hwp_form.proofs.CommandLaws.{low}
 use Rattle.hwp_script.specs.Refusals.{AreForms}
-use Rattle.hwp_script_print.proofs.WordsPut.{IsHigh, IsNoAt, IsPut, ArePut, IsWhole, put_word, put_words, no_at-decimal, no_at-kind}
+use Rattle.hwp_script_print.proofs.WordsPut.{IsNoAt, IsWhole, put_words, no_at-decimal, no_at-kind}
 
 -- a word of the schedule, cut at `@`
 pieces_put : (c : ℕ) (u : Until) → c < 2 ^ 64 → turn_pieces (decimal c ++ until_text u) ≡ pieces_of c u

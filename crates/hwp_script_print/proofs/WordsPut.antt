@@ -1,18 +1,17 @@
 -- The words of the lines of a script are put together so that a line can be cut back to them.
-use Rattle.std.proofs.Common.{ℕ, ◌≡◌, ◌≢◌, ◌<◌, ◌≤◌, ◌^◌, ◌++◌, ◌==◌, nat_lt, ◌&&◌, not, Bool, true, false, List, [], ◌∷◌, length, map, decimal, codes, refl, arith}
+use Rattle.std.proofs.Common.{ℕ, ◌≡◌, ◌≢◌, ◌<◌, ◌≤◌, ◌^◌, ◌==◌, ◌&&◌, not, Bool, true, false, List, [], ◌∷◌, map, decimal, codes, refl, arith}
 use Rattle.std.specs.Prelude.{All}
 use Rattle.std.specs.Char.{digit_value}
 use Rattle.std.specs.Str.Parse.{AllDigits}
 use Rattle.std.proofs.lemmas.Bool.{and_parts}
 use Rattle.std.proofs.lemmas.Bool.Decides.{nat_tests}
-use Rattle.std.proofs.lemmas.Fmt.{decimal_is_IsNumeral, digits_is_IsNumeral}
-use Rattle.std.proofs.lemmas.List.{length-append}
-use Rattle.std.proofs.lemmas.List.Elements.{All-nil, All-cons, All-append, All-weaker, All-head, All-tail}
+use Rattle.std.proofs.lemmas.Fmt.{decimal_is_IsNumeral}
+use Rattle.std.proofs.lemmas.List.Elements.{All-nil, All-cons, All-head, All-tail}
 use Rattle.hwp_geom.specs.Limits.{line_limit, cpu_limit, frame_limit, file_limit, thread_limit, page_limit, translation_limit}
-use Rattle.hwp_geom.specs.Words.{IsWord, hex}
+use Rattle.hwp_geom.specs.Words.{hex}
 use Rattle.hwp_geom.specs.declared.Kind.{Kind}
 use Rattle.hwp_geom.specs.declared.Kind.TheVariants as kinds
-use Rattle.hwp_geom.proofs.WordLaws.{not_nil}
+use Rattle.hwp_geom.proofs.WordsPut.{IsHigh, IsPut, ArePut, put_append, put_decimal, put_hex, are_fixed, fixed_high, fixed, then, nothing}
 use Rattle.hwp_form.specs.Kinds.{kind_text}
 use Rattle.hwp_form.specs.Numbers.{register}
 use Rattle.hwp_form.specs.Grammar.{bit, keyword, keyword_text, command_words, rest_words, form_words, handler_text, turn_text, until_text, Fits, CommandFits}
@@ -27,83 +26,36 @@ use Rattle.hwp_form.specs.declared.Backing.TheVariants as backings
 use Rattle.hwp_form.specs.declared.Until.TheVariants as untils
 use Rattle.hwp_form.proofs.CommandLaws.{bit_low, low}
 
--- a byte above `#`, and so above space and line feed
-abbrev pub IsHigh : ℕ → Type 0
-IsHigh b = 35 < b
-
 -- not `@`
 abbrev pub IsNoAt : ℕ → Type 0
 IsNoAt b = b ≢ 64
 
--- a word as it is printed
-pub record IsPut (w : List ℕ) : Type 0 where
-  pub some : 0 < length w
-  pub high : All IsHigh w
-
--- words as they are printed
-pub record ArePut (ws : List (List ℕ)) : Type 0 where
-  pub each : All IsPut ws
-
-pub put_word : {w : List ℕ} → IsPut w → IsWord w
-put_word {w} h = record {
-  some = not_nil w h.some;
-  no_space = All-weaker IsHigh (λ b. b ≢ 32) (λ b l e. omega (arith, l, e)) w h.high;
-  no_feed = All-weaker IsHigh (λ b. b ≢ 10) (λ b l e. omega (arith, l, e)) w h.high;
-}
-
-pub put_append : {v : List ℕ} (w : List ℕ) → IsPut v → All IsHigh w → IsPut (v ++ w)
-put_append {v} w h k = record { some = omega (arith, length-append v w, h.some); high = All-append IsHigh v w h.high k }
-
--- digits
-digit_high : (b : ℕ) → digit_value b < 16 → IsHigh b
-digit_high b h = grind (arith, nat_tests)
-
+-- no digit is `@`
 digit_no_at : (b : ℕ) → digit_value b < 16 → IsNoAt b
 digit_no_at b h = grind (arith, nat_tests)
-
-digits_high : (base : ℕ) → base ≤ 16 → (ds : List ℕ) → AllDigits base ds → All IsHigh ds
-digits_high base low [] h = All-nil IsHigh
-digits_high base low (d ∷ ds) h = All-cons IsHigh d ds (digit_high d (omega (arith, h.0))) (digits_high base low ds h.1)
 
 digits_no_at : (base : ℕ) → base ≤ 16 → (ds : List ℕ) → AllDigits base ds → All IsNoAt ds
 digits_no_at base low [] h = All-nil IsNoAt
 digits_no_at base low (d ∷ ds) h = All-cons IsNoAt d ds (digit_no_at d (omega (arith, h.0))) (digits_no_at base low ds h.1)
 
-pub put_decimal : (n : ℕ) → n < 2 ^ 64 → IsPut (decimal n)
-put_decimal n h =
-    let numeral = (decimal_is_IsNumeral n h).0 in record { some = numeral.0; high = digits_high 10 (omega arith) (decimal n) numeral.1 }
-
 pub no_at-decimal : (n : ℕ) → n < 2 ^ 64 → All IsNoAt (decimal n)
 no_at-decimal n h = digits_no_at 10 (omega arith) (decimal n) (decimal_is_IsNumeral n h).0.1
 
--- whether each byte of a fixed word is above `#` and not `@`
-abbrev are_fixed : List ℕ → Bool
-are_fixed [] = true
-are_fixed (b ∷ bs) = (nat_lt 35 b && not (b == 64)) && are_fixed bs
+-- whether no byte of a fixed word is `@`
+abbrev has_no_at : List ℕ → Bool
+has_no_at [] = true
+has_no_at (b ∷ bs) = not (b == 64) && has_no_at bs
 
-byte_high : (b : ℕ) → (nat_lt 35 b && not (b == 64)) ≡ true → IsHigh b
-byte_high b h = let parts = and_parts (nat_lt 35 b) (not (b == 64)) h in grind (arith, nat_tests)
+byte_no_at : (b : ℕ) → not (b == 64) ≡ true → IsNoAt b
+byte_no_at b h = grind (arith, nat_tests)
 
-byte_no_at : (b : ℕ) → (nat_lt 35 b && not (b == 64)) ≡ true → IsNoAt b
-byte_no_at b h = let parts = and_parts (nat_lt 35 b) (not (b == 64)) h in grind (arith, nat_tests)
-
-fixed_high : (bs : List ℕ) → are_fixed bs ≡ true → All IsHigh bs
-fixed_high [] h = All-nil IsHigh
-fixed_high (b ∷ bs) h =
-    let parts = and_parts (nat_lt 35 b && not (b == 64)) (are_fixed bs) h in All-cons IsHigh b bs (byte_high b parts.0) (fixed_high bs parts.1)
-
-fixed_no_at : (bs : List ℕ) → are_fixed bs ≡ true → All IsNoAt bs
+fixed_no_at : (bs : List ℕ) → has_no_at bs ≡ true → All IsNoAt bs
 fixed_no_at [] h = All-nil IsNoAt
 fixed_no_at (b ∷ bs) h =
-    let parts = and_parts (nat_lt 35 b && not (b == 64)) (are_fixed bs) h in All-cons IsNoAt b bs (byte_no_at b parts.0) (fixed_no_at bs parts.1)
-
--- a fixed word is printed so, by `fixed _ _ refl`
-fixed : (b : ℕ) (bs : List ℕ) → are_fixed (b ∷ bs) ≡ true → IsPut (b ∷ bs)
-fixed b bs h = record { some = omega arith; high = fixed_high (b ∷ bs) h }
+    let parts = and_parts (not (b == 64)) (has_no_at bs) h in All-cons IsNoAt b bs (byte_no_at b parts.0) (fixed_no_at bs parts.1)
 
 pub put_register : (n : ℕ) → n < 2 ^ 64 → IsPut (register n)
-put_register n h =
-    put_append (hex n) (fixed 48 (120 ∷ []) refl) (digits_high 16 (omega arith) (hex n) (digits_is_IsNumeral 16 false (omega arith) (omega arith) n (omega arith)).0.1)
+put_register n h = put_append (hex n) (fixed 48 (120 ∷ []) refl) (put_hex n h).high
 
 -- the first word of a line
 put_first : (f : Form) → IsPut (keyword_text (keyword f))
@@ -142,8 +94,8 @@ put_first (forms.Command (commands.Inject f)) = fixed _ _ refl
 put_first (forms.Command (commands.Soft f)) = fixed _ _ refl
 put_first (forms.Command (commands.Unpoison f)) = fixed _ _ refl
 
--- whether a name of a kind of step is a fixed word
-fixed_kind : (k : Kind) → are_fixed (kind_text k) ≡ true
+-- whether a name of a kind of step is a fixed word without `@`
+fixed_kind : (k : Kind) → (are_fixed (kind_text k) && has_no_at (kind_text k)) ≡ true
 fixed_kind kinds.LoadPte = refl
 fixed_kind kinds.LoadCache = refl
 fixed_kind kinds.LoadFrame = refl
@@ -181,15 +133,11 @@ fixed_kind kinds.SetPolicy = refl
 fixed_kind kinds.Lose = refl
 fixed_kind kinds.ReportLost = refl
 
+high-kind : (k : Kind) → All IsHigh (kind_text k)
+high-kind k = fixed_high (kind_text k) (and_parts (are_fixed (kind_text k)) (has_no_at (kind_text k)) (fixed_kind k)).0
+
 pub no_at-kind : (k : Kind) → All IsNoAt (kind_text k)
-no_at-kind k = fixed_no_at (kind_text k) (fixed_kind k)
-
--- a word in front of others
-then : {w : List ℕ} {ws : List (List ℕ)} → IsPut w → ArePut ws → ArePut (w ∷ ws)
-then {w} {ws} h k = record { each = All-cons IsPut w ws h k.each }
-
-nothing : ArePut []
-nothing = record { each = All-nil IsPut }
+no_at-kind k = fixed_no_at (kind_text k) (and_parts (are_fixed (kind_text k)) (has_no_at (kind_text k)) (fixed_kind k)).1
 
 put_handler : (h : Bool) → IsPut (handler_text h)
 put_handler true = fixed _ _ refl
@@ -198,7 +146,7 @@ put_handler false = fixed _ _ refl
 high_until : (u : Until) → All IsHigh (until_text u)
 high_until untils.One = All-nil IsHigh
 high_until untils.Command = fixed_high (codes ".") refl
-high_until (untils.After k) = All-cons IsHigh 64 (kind_text k) (omega arith) (fixed_high (kind_text k) (fixed_kind k))
+high_until (untils.After k) = All-cons IsHigh 64 (kind_text k) (omega arith) (high-kind k)
 
 put_turn : (t : Go) → t.cpu.0 < cpu_limit → IsPut (turn_text t)
 put_turn t h = put_append (until_text t.until) (put_decimal t.cpu.0 (low t.cpu.0 cpu_limit h (omega arith))) (high_until t.until)

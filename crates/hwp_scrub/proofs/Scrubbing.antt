@@ -11,8 +11,6 @@ use Rattle.hwp_geom.specs.Layout.{IsSound}
 use Rattle.hwp_banks.specs.declared.Origin.TheVariants as origins
 use Rattle.hwp_banks.specs.Events.{bank_count, bank_of, own_event}
 use Rattle.hwp_banks.specs.Logged.{logged}
-use Rattle.hwp_page.specs.declared.What.{What}
-use Rattle.hwp_page.specs.declared.What.TheVariants as entries
 use Rattle.hwp_page.specs.History.{BodyValue}
 use Rattle.hwp_words.specs.Stops.{is_stopped}
 use Rattle.hwp_rule.specs.declared.Made.{Made}
@@ -22,17 +20,16 @@ use Rattle.hwp_rule.specs.declared.Step.{Step}
 use Rattle.hwp_rule.specs.declared.Step.TheVariants as steps
 use Rattle.hwp_rule.specs.declared.View.{View}
 use Rattle.hwp_rule.specs.Lists.{EachMember}
-use Rattle.hwp_rule.proofs.Lists.{each-push}
 use Rattle.hwp_step.specs.declared.Turn.{Turn}
 use Rattle.hwp_step.specs.Calls.{CanMake, IsOnTurn, Steps, logs}
 use Rattle.hwp_step.specs.Hands.{hand_of, empty}
 use Rattle.hwp_step.proofs.Stepping.{can-make, hand-planned, on-turn-after, steps-planned}
-use Rattle.hwp_known.specs.Known.{HasMadeNone, deeds, is_failure}
+use Rattle.hwp_known.specs.Known.{HasMadeNone, is_failure}
 use Rattle.hwp_known.proofs.Listing.{deeds-same}
 use Rattle.hwp_known.proofs.Owing.{losses-same}
 use Rattle.hwp_known.proofs.Seeing.{saw-load, saw-stays}
-use Rattle.hwp_act.specs.declared.Failed.{Failed}
-use Rattle.hwp_act.specs.Abandoned.{AddsFailure, failed_in, failed_of}
+use Rattle.hwp_act.specs.Abandoned.{AddsFailure}
+use Rattle.hwp_act.proofs.Adding.{only-failed-stays}
 use Rattle.hwp_law.specs.Checks.{Banks, has_stop}
 use Rattle.hwp_handler.specs.declared.Handler.{Handler}
 use Rattle.hwp_handler.specs.declared.Held.{Held}
@@ -52,7 +49,7 @@ use Rattle.hwp_handler.proofs.Handling.{begins-fit, can as handler-can, stays as
 use Rattle.hwp_handler.proofs.Staying.{Stay, fail-stay, quiet-stay}
 use Rattle.hwp_handler.proofs.Telling.{events-stay, kept as handler-kept}
 use Rattle.hwp_handler.proofs.Within.{shows-within}
-use Rattle.hwp_scrub.specs.Fits.{AreFrames, Fits, FitsAt, HasHandler, HasOnlyFailed, HasVisited, IsBefore, IsHalfway, IsUnbegun}
+use Rattle.hwp_scrub.specs.Fits.{AreFrames, Fits, FitsAt, HasHandler, HasVisited, IsBefore, IsHalfway, IsUnbegun}
 use Rattle.hwp_scrub.specs.Scrubs.{AfterBad, AfterBadBy, AfterWeak, AfterWeakBy, BeginsCheck, Follows, FollowsAt, MeetsWeak, Shows, ShowsAt, after_handler, after_handler_by, bare, bare_at, begin, emptied, gone_on, handler_of, kept, kept_line, kept_lines, plan, plan_at, put, put_at, with_room}
 use Rattle.hwp_scrub.specs.Visits.{AreBanks, Find, IsLowest, IsVisit, SawLowest, Visit, left_by, left_by_bad, left_by_visit, lines_of, lines_of_visit, scrub_bank, scrubbing, with_bad}
 use Rattle.hwp_scrub.specs.declared.scrub.Scrub.{Scrub}
@@ -185,20 +182,6 @@ module _ {layout : Layout} {view : View} (s : Scrub) {frame : Frame} {visits : L
       which true is = let below : frame.0 < s.last.0 = ltb-true frame.0 s.last.0 is in fits-of (record s { at = at.LoadBad next }) base (before (at.LoadBad next) (frame.0 + 1) refl, omega (arith, below))
       which false is = let above : s.last.0 ≤ frame.0 = ltb-false frame.0 s.last.0 is in
           fits-of (record s { at = at.Over (Some answers.Scrubbed) }) base (before (at.Over (Some answers.Scrubbed)) (s.last.0 + 1) (omega (arith, above, inside)))
-
--- ---- the entries of failures
-
-failed-is : (m : Made) (failed : Failed) → failed_in m ≡ Some failed → is_failure m.entry.what ≡ true
-failed-is m failed is = which m.entry.what is
-  where
-    which : (what : What) → failed_of m.page m.place what ≡ Some failed → is_failure what ≡ true
-    which (entries.Fail situation required seen signals) is = refl
-    which _ is = absurd (none-some failed is)
-
-only-kept : (who : Who) (old new : View) {before after : List Failed} → AddsFailure who old new before after → HasOnlyFailed old who → HasOnlyFailed new who
-only-kept who old new (inl none) only = subst (EachMember (λ (m : Made). is_failure m.entry.what ≡ true)) (sym none.0) only
-only-kept who old new (inr some) only =
-    subst (EachMember (λ (m : Made). is_failure m.entry.what ≡ true)) (sym some.2) (each-push (λ (m : Made). is_failure m.entry.what ≡ true) (deeds who old) some.0 (failed-is some.0 some.1 some.3) only)
 
 -- ---- the machine check of a bad line that begins
 
@@ -387,7 +370,7 @@ module _ (layout : Layout) (old new : View) (s : Scrub) (step : Step) (found : �
             visited = visits-stay layout s.who stays (λ place word saw. saw-stays made saw) s.first.0 s.before.value has.visits has.visited.visited;
             next_is = has.visited.next_is;
             halts_none = has.visited.halts_none;
-            only = only-kept s.who old new (subst (λ (w : Who). AddsFailure w old new (handler_done.failed_now h) (handler_done.failed_now after)) has.own added.failed) has.visited.only;
+            only = only-failed-stays s.who old new (subst (λ (w : Who). AddsFailure w old new (handler_done.failed_now h) (handler_done.failed_now after)) has.own added.failed) has.visited.only;
           };
           told_is = has.told_is;
           line = has.line;

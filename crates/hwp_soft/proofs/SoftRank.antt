@@ -26,8 +26,6 @@ use Rattle.hwp_step.specs.Hands.{Hand}
 use Rattle.hwp_step.specs.Ranks.{IsRanked, Made, Member, OtherHand, Pending, Quiet, failures_left, is_waits, member, words_at}
 use Rattle.hwp_step.proofs.Ranking.{failed, met, pending-kept, retire-fails, steps-on, words-after, words-kept}
 use Rattle.hwp_hold.specs.declared.give_up.GiveUp.{GiveUp}
-use Rattle.hwp_hold.specs.declared.give_up.GiveUpAt.{GiveUpAt}
-use Rattle.hwp_hold.specs.declared.give_up.GiveUpAt.TheVariants as give_up_at
 use Rattle.hwp_hold.specs.declared.refer.Refer.{Refer}
 use Rattle.hwp_hold.specs.declared.refer.ReferAt.{ReferAt}
 use Rattle.hwp_hold.specs.declared.refer.ReferAt.TheVariants as refer_at
@@ -43,13 +41,11 @@ use Rattle.hwp_hold.specs.Refers as refers
 use Rattle.hwp_hold.specs.Releases as releases
 use Rattle.hwp_fill.specs.Takes as takes
 use Rattle.hwp_hold.specs.Unholds as unholds
-use Rattle.hwp_hold.specs.Unlocks as unlocks
-use Rattle.hwp_hold.proofs.GiveUpCosts.{give-up-falls, give-up-mild, give-up-ranked}
+use Rattle.hwp_hold.proofs.GiveUpCosts.{give-up-falls, give-up-goes, give-up-mild, give-up-ranked, give-up-small}
 use Rattle.hwp_hold.proofs.Freeing.{frees-length}
 use Rattle.hwp_fill.proofs.Making.{is-met, words_then}
 use Rattle.hwp_hold.proofs.Ranking.{release-falls, release-mild, release-small, unhold-class, unhold-falls, unhold-mild, unhold-small}
 use Rattle.hwp_fill.proofs.TakeCosts as taking
-use Rattle.hwp_hold.proofs.Unlocking.{unlock-small}
 use Rattle.hwp_claim.specs.declared.grab.Grab.{Grab}
 use Rattle.hwp_claim.specs.declared.grab.GrabAnswer.{GrabAnswer}
 use Rattle.hwp_claim.specs.declared.grab.GrabAnswer.TheVariants as grab_answers
@@ -248,15 +244,6 @@ ended-waits (at.GiveUp g) turn waits = waits
 never : {turned : Turn} (y : SoftAt) → turned ≡ ended y Moved → is_waits turned ≡ true → ⊥
 never y is waits = both_ways true (sym (ended-waits y Moved (sym (ap is_waits is) ∙ waits))) refl
 
-give-up-goes : (g : GiveUp) → is_waits (give_ups.turn (give_ups.bare g)) ≡ false
-give-up-goes g = which g.at
-  where
-    which : (x : GiveUpAt) → is_waits (give_ups.turn_at (give_ups.bare_at x)) ≡ false
-    which (give_up_at.Unhold u) = refl
-    which (give_up_at.Unlock u) = refl
-    which give_up_at.GiveUp = refl
-    which give_up_at.Over = refl
-
 -- ---- what is claimed while the page moves
 
 -- the failure is the command's until the old frame is out of use
@@ -430,7 +417,7 @@ module _ {layout : Layout} {seat : ℕ} {a b : State} {s t : Soft} {turned : Tur
   waits-at (at.ReleaseSpare page body r) has e move follows waits quiet = absurd (both_ways true (sym waits ∙ ap is_waits follows.1) refl)
   waits-at (at.Relocate r answer) has e move follows waits quiet = absurd (both_ways true (sym (ended-waits (after_relocate follows.after answer) follows.own_turn (sym (ap is_waits follows.turn_is) ∙ waits)) ∙ relocate-goes r made.found follows.after follows.own_turn follows.follows) refl)
   waits-at (at.Unhold u answer) has e move follows waits quiet = absurd (never (after_unhold (unholds.next (unholds.bare u) made.found) answer) follows.1 waits)
-  waits-at (at.GiveUp g) has e move follows waits quiet = absurd (both_ways true (sym waits ∙ ap is_waits follows.1 ∙ give-up-goes g) refl)
+  waits-at (at.GiveUp g) has e move follows waits quiet = absurd (both_ways true (sym waits ∙ ap is_waits follows.1 ∙ give-up-goes (give_ups.bare g)) refl)
   waits-at (at.Over answer) has e move follows waits quiet = absurd (none-some made.step e)
 
   soft-waits : is_waits turned ≡ true → Quiet (class s) layout a seat → Waits s.at t.at
@@ -545,15 +532,6 @@ soft-class s = which s.at
     which (at.Unhold u answer) = unhold-class u
     which (at.GiveUp g) = give-up-ranked.classes g
     which (at.Over answer) = (omega arith, omega arith)
-
-give-up-small : (w : Words) (g : GiveUp) → give_ups.cost g w ≤ 6
-give-up-small w g = which g.at
-  where
-    which : (x : GiveUpAt) → give_ups.cost_at x w ≤ 6
-    which (give_up_at.Unhold u) = let few : unholds.cost u w ≤ 5 = unhold-small w u in omega (arith, few)
-    which (give_up_at.Unlock u) = let few : unlocks.cost u w ≤ 4 = unlock-small w u in omega (arith, few)
-    which give_up_at.GiveUp = omega arith
-    which give_up_at.Over = omega arith
 
 pub soft-small : (layout : Layout) (a : State) (s : Soft) → Holds layout a → cost s (words_at layout a) ≤ 9380
 soft-small layout a s rule = which s.at

@@ -48,19 +48,8 @@ either true x y l one other = one
 either false x y l one other = other
 
 loads : (who : Who) (place : Place) (found : ℕ) (v : View) → (loaded who place found v).marks ≡ v.marks
-loads who (places.Frame frame) found v = refl
-loads who (places.Trans slot) found v = refl
 loads who (places.Cache page) found v = refl
-loads who (places.Page page) found v = refl
-loads who (places.Free number) found v = refl
-loads who places.Available found v = refl
-loads who (places.Bad frame) found v = refl
-loads who (places.Weak frame) found v = refl
-loads who places.Counter found v = refl
-loads who (places.Process process) found v = refl
-loads who (places.Policy thread) found v = refl
-loads who (places.Loss file) found v = refl
-loads who places.Stop found v = refl
+loads who _ found v = refl
 
 takes-body : (layout : Layout) (who : Who) (frame : Option Frame) (content : Option Log) (v : View) → (taken layout who frame content v).marks ≡ v.marks
 takes-body layout who frame None v = refl

@@ -1,15 +1,17 @@
 -- What a step of a task on a board says of the words before it and after it.
-use Rattle.std.proofs.Common.{◌≡◌, ◌≢◌, ℕ, ◌<◌, ◌≤◌, ◌⊎◌, inl, inr, Bool, true, false, List, [], ◌∷◌, Some, None, slice_get, refl, sym, ap, ◌∙◌, arith}
+use Rattle.std.proofs.Common.{◌≡◌, ◌≢◌, ℕ, ◌<◌, ◌≤◌, ◌⊎◌, inl, inr, Bool, true, false, List, [], ◌∷◌, Some, None, slice_get, refl, sym, ap, ◌∙◌, subst, arith}
 use Rattle.std.proofs.lemmas.Bool.{both_ways}
 use Rattle.std.proofs.lemmas.Option.{get_or_from_slice_get, none-some, same_Some}
 use Rattle.hwp_geom.specs.declared.Frame.{Frame}
 use Rattle.hwp_geom.specs.declared.Layout.{Layout}
+use Rattle.hwp_geom.specs.declared.Who.{Who}
 use Rattle.hwp_geom.proofs.WordLaws.{not_nil}
 use Rattle.hwp_words.specs.Frames.{poison_of}
 use Rattle.hwp_rule.specs.declared.State.{State}
 use Rattle.hwp_rule.specs.declared.Step.TheVariants as steps
 use Rattle.hwp_rule.specs.declared.View.{View}
 use Rattle.hwp_rule.specs.Lists.{EachMember}
+use Rattle.hwp_rule.specs.Moves.{Move}
 use Rattle.hwp_rule.specs.Opening.{opening_view}
 use Rattle.hwp_rule.specs.Rule.{Holds}
 use Rattle.hwp_rule.specs.Lasting.{LeavesPoison, IsMild}
@@ -61,6 +63,22 @@ module _ {S : Type 0} {m : Member S} {layout : Layout} {seat : ℕ} {a b : State
 
   pub retire-fails : (frame : Frame) → Some (steps.Retire frame) ≡ Some made.step → failures_left (words_at layout b) < failures_left (words_at layout a)
   retire-fails frame is = retire-lowers made.rule made.move made.kept frame (sym (same_Some (steps.Retire frame) made.step is))
+
+  -- a step that a part of the task planned, and from which the part goes on, was made by the part
+  pub part-made : {P : Type 0} (part : Member P) (before after : P) {turned : Turn} → part.who before ≡ m.who s → part.fits layout (view_of a seat) before → part.plan before ≡ Some made.step
+      → Move layout seat (rec_of layout (m.who s) made.step (logs (part.put before)) made.found made.got) a b → part.next layout (part.bare before) made.found made.got after turned → Made part layout seat a b before after turned
+  part-made part before after own fits planned move follows = record {
+    step = made.step;
+    found = made.found;
+    got = made.got;
+    rule = made.rule;
+    kept = made.kept;
+    fits = fits;
+    planned = planned;
+    move = subst (λ (by : Who). Move layout seat (rec_of layout by made.step (logs (part.put before)) made.found made.got) a b) (sym own) move;
+    brings = made.brings;
+    follows = follows;
+  }
 
 -- a list that isn't other than empty is empty
 empty-list : {A : Type 0} (l : List A) → (l ≢ [] → ⊥) → l ≡ []

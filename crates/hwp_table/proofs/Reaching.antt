@@ -33,8 +33,9 @@ use Rattle.hwp_table.specs.Seats.{CanPlay}
 use Rattle.hwp_table.specs.Stands.{Content, Me, Table, home_of, stand, AreOfLayout}
 use Rattle.hwp_table.proofs.Keeping.{reached-holds, run-seats}
 use Rattle.hwp_rule.proofs.Meeting.{asks-content, slot-home}
+use Rattle.hwp_rule.proofs.WordsByKind.{index-within}
 use Rattle.hwp_table.proofs.Reading.{as-slice, home-was, home-out, home-in}
-use Rattle.hwp_table.proofs.Rotating.{length-in_rule, in_rule-read, in_rule-set, index-within}
+use Rattle.hwp_table.proofs.Rotating.{length-in_rule, in_rule-read, in_rule-set}
 use Rattle.hwp_table.proofs.Ruling.{step-ruled, view-at}
 
 -- the bodies at home, where a slot went out or came home

@@ -1,10 +1,6 @@
 -- The table's words, read and written in the order of the rule.
 use Rattle.std.proofs.Common.{◌≡◌, ◌≢◌, ℕ, zero, suc, ◌+◌, ◌<◌, Bool, cond, List, [], ◌∷◌, ◌++◌, inl, inr, length, get_or, set, refl, sym, ap, ◌∙◌, arith, ne_eqb}
 use Rattle.std.proofs.lemmas.List.{length-append}
-use Rattle.hwp_geom.specs.declared.Layout.{Layout}
-use Rattle.hwp_rule.specs.declared.Place.{Place}
-use Rattle.hwp_rule.specs.declared.Place.TheVariants as places
-use Rattle.hwp_rule.specs.Words.{IsPlace, index, size}
 use Rattle.hwp_rule.proofs.Lists.{same-or, same-number}
 use Rattle.hwp_table.specs.Order.{in_rule, in_table}
 
@@ -58,19 +54,3 @@ in_rule-set (x ∷ xs) n z less = elim (same-or n (length xs)) [
       let other : suc n ≢ suc (length xs) = λ e. front (omega (arith, e)) in
       ap (λ (m : ℕ). in_rule (set (x ∷ xs) m z)) (at-front (suc (length xs)) n other) ∙ sym (front-set xs x n z (omega (arith, less, front)))
 ]
-
--- the place of a word is one of all words
-pub index-within : (layout : Layout) (place : Place) → IsPlace layout place → index layout place < size layout
-index-within layout (places.Frame frame) is = omega (arith, is)
-index-within layout (places.Trans slot) is = omega (arith, is)
-index-within layout (places.Cache page) is = omega (arith, is)
-index-within layout (places.Page page) is = omega (arith, is)
-index-within layout (places.Free number) is = omega (arith, is)
-index-within layout places.Available is = omega arith
-index-within layout (places.Bad frame) is = omega (arith, is)
-index-within layout (places.Weak frame) is = omega (arith, is)
-index-within layout places.Counter is = omega arith
-index-within layout (places.Process process) is = omega (arith, is)
-index-within layout (places.Policy thread) is = omega (arith, is)
-index-within layout (places.Loss file) is = omega (arith, is)
-index-within layout places.Stop is = omega arith

@@ -7,7 +7,6 @@ use Rattle.atomic_table.specs.Table as table
 use Rattle.hwp_geom.specs.declared.Layout.{Layout}
 use Rattle.hwp_page.specs.History.{BodyValue}
 use Rattle.hwp_rule.specs.declared.Log.{Log}
-use Rattle.hwp_rule.specs.declared.SlotMove.TheVariants as moves
 use Rattle.hwp_rule.specs.declared.State.{State}
 use Rattle.hwp_rule.specs.declared.View.{View}
 use Rattle.hwp_step.specs.Calls.{FitsLayout, logs}

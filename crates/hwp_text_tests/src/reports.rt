@@ -1,7 +1,7 @@
 //! Reports beside their texts, written by hand: each kind of line, and the largest numbers.
 
 use hwp_geom::{Cpu, Frame, Line, List, Mask, Mode, Page, Proc, Thread, VSlot, Who};
-use hwp_kill::{Code, Policy, Seen, Signal, SignalList};
+use hwp_kill::{Code, Policy, Seen, Signal};
 use hwp_page::{At, Entry, Situation, What};
 use hwp_report::{
     Acted, Answer, CpuLine, FrameLine, How, MarkLine, Outcome, Place, Report, Stop, StopCause,
@@ -120,26 +120,28 @@ const SEEN: [Seen; 3] = [
     },
 ];
 
-/// A failure of a dirty page of a file that thread 0 required, with two signals.
-fn required_failure(rt: &impl Abort, alloc: Global) -> What {
-    let mut signals = SignalList::new();
-    signals.push(Signal {
+const SENT: [Signal; 2] = [
+    Signal {
         process: Proc(0),
         thread: Thread(0),
         code: Code::Ar,
         slot: VSlot(0),
-    });
-    signals.push(Signal {
+    },
+    Signal {
         process: Proc(15),
         thread: Thread(31),
         code: Code::Ao,
         slot: VSlot(511),
-    });
+    },
+];
+
+/// A failure of a dirty page of a file that thread 0 required, with two signals.
+fn required_failure(rt: &impl Abort, alloc: Global) -> What {
     What::Fail {
         situation: Situation::FileDirty,
         required: Some(Thread(0)),
         seen: List::from_vec(SEEN.to_vec(alloc).expect(rt, "memory")),
-        signals,
+        signals: List::from_vec(SENT.to_vec(alloc).expect(rt, "memory")),
     }
 }
 
@@ -149,7 +151,7 @@ fn silent_failure(alloc: Global) -> What {
         situation: Situation::SwapClean,
         required: None,
         seen: List::new(alloc),
-        signals: SignalList::new(),
+        signals: List::new(alloc),
     }
 }
 

@@ -1,11 +1,10 @@
 //! What a word of the shared memory says, in its fields.
 ghost use Rattle.std.specs.Prelude.{◌≡◌, ◌++◌, OnOk, string_bytes};
-ghost use Rattle.hwp_report.specs.Terms.{policy_word};
 ghost use Rattle.hwp_trace_lines.specs.Text.{counter_words, cycle_words, ended_words, frame_words, in_words, lock_words, mark_words, owner_words, policy_words, pte_words, spaced, stop_words, stopper_words, value_words};
 
 use crate::words::{put_flag, put_named, put_number, put_set, put_word};
 use hwp_geom::{Cpu, Frame, OutOfMemory, Page};
-use hwp_kill::Policy;
+use hwp_report::policy_word;
 use hwp_rule::Place;
 use hwp_words::{
     CacheWord, CounterWord, FrameWord, PageWord, PolicyWord, ProcessWord, Pte, StopWord,
@@ -111,20 +110,10 @@ fn put_ended(out: &mut String, page: Option<Page>) -> Result<(), OutOfMemory>
     }
 }
 
-fn policy_name(policy: Policy) -> &'static str
-    ensures { result.now ≡ policy_word policy }
-{
-    match policy {
-        Policy::Late => "late",
-        Policy::Early => "early",
-        Policy::Default => "default",
-    }
-}
-
 fn put_policy(out: &mut String, word: PolicyWord) -> Result<(), OutOfMemory>
     ensures { OnOk result (string_bytes out.new ≡ string_bytes out.old ++ spaced (policy_words word)) }
 {
-    put_named(out, policy_name(word.policy), word.settings)
+    put_named(out, policy_word(word.policy), word.settings)
 }
 
 fn put_stopper(out: &mut String, cpu: Option<Cpu>) -> Result<(), OutOfMemory>

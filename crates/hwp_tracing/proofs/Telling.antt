@@ -7,7 +7,6 @@ use Rattle.hwp_geom.specs.declared.Layout.{Layout}
 use Rattle.hwp_geom.specs.declared.Who.{Who}
 use Rattle.hwp_page.specs.History.{BodyValue}
 use Rattle.hwp_rule.specs.declared.Place.{Place}
-use Rattle.hwp_rule.specs.declared.Place.TheVariants as places
 use Rattle.hwp_rule.specs.declared.Log.{Log}
 use Rattle.hwp_rule.specs.declared.Rec.{Rec}
 use Rattle.hwp_rule.specs.declared.State.{State}
@@ -15,7 +14,7 @@ use Rattle.hwp_rule.specs.declared.Step.{Step}
 use Rattle.hwp_rule.specs.Moves.{Move}
 use Rattle.hwp_rule.specs.Steps.{kind_of, place_of, word_after}
 use Rattle.hwp_rule.specs.Words.{IsPlace, index, read, size, words_of}
-use Rattle.hwp_rule.proofs.WordsByKind.{words-read}
+use Rattle.hwp_rule.proofs.WordsByKind.{index-within, words-read}
 use Rattle.hwp_step.specs.declared.Turn.{Turn}
 use Rattle.hwp_step.specs.Boards.{Played, TakesTurn}
 use Rattle.hwp_step.specs.Calls.{logs, rec_of}
@@ -24,22 +23,6 @@ use Rattle.hwp_tracing.specs.declared.notes.Sight.{Sight}
 use Rattle.hwp_tracing.specs.Notes.{Notes, Sees, SeesStep, line_now, line_seen}
 use Rattle.hwp_tracing.specs.Traced.{AreTold, IsTraced, Tells}
 use Rattle.hwp_tracing.proofs.StepKinds.{HasKind, has-kind}
-
--- the place of a word is one of all words
-index-within : (layout : Layout) (place : Place) → IsPlace layout place → index layout place < size layout
-index-within layout (places.Frame frame) is = omega (arith, is)
-index-within layout (places.Trans slot) is = omega (arith, is)
-index-within layout (places.Cache page) is = omega (arith, is)
-index-within layout (places.Page page) is = omega (arith, is)
-index-within layout (places.Free number) is = omega (arith, is)
-index-within layout places.Available is = omega arith
-index-within layout (places.Bad frame) is = omega (arith, is)
-index-within layout (places.Weak frame) is = omega (arith, is)
-index-within layout places.Counter is = omega arith
-index-within layout (places.Process process) is = omega (arith, is)
-index-within layout (places.Policy thread) is = omega (arith, is)
-index-within layout (places.Loss file) is = omega (arith, is)
-index-within layout places.Stop is = omega arith
 
 -- a word that was written is read again
 read-written : (layout : Layout) (words : List ℕ) (place : Place) (word : ℕ) → length words ≡ size layout → IsPlace layout place

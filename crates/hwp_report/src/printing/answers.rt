@@ -3,8 +3,8 @@ ghost use Rattle.std.specs.List.{flat_map};
 ghost use Rattle.hwp_geom.specs.Words.{line, hex};
 ghost use Rattle.hwp_report.specs.Text.{answer_words, cpu_line_words, placed};
 
-use super::terms::acted_word;
 use crate::lines::{Answer, CpuLine};
+use crate::terms::acted_word;
 use hwp_geom::{Frame, Mask, OutOfMemory};
 use hwp_page::At;
 

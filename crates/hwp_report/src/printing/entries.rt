@@ -4,7 +4,7 @@ ghost use Rattle.hwp_geom.specs.Words.{line, hex};
 ghost use Rattle.hwp_report.specs.Terms.{situation_word as situation_text};
 ghost use Rattle.hwp_report.specs.Text.{entry_lines, met_words, required_words, seen_words, signal_words, verb_words};
 
-use super::terms::{code_word, policy_word, situation_word};
+use crate::terms::{code_word, policy_word, situation_word};
 use hwp_geom::{Line, Mask, OutOfMemory, Thread, VSlot, Who};
 use hwp_kill::{Seen, Signal};
 use hwp_page::{Entry, Met, Situation, What};

@@ -31,13 +31,14 @@ use Rattle.hwp_rule.specs.Steps.{place_of}
 use Rattle.hwp_rule.specs.Views.{made_from, more_of, noted, stamp_of, view_after, view_by, is_body_of}
 use Rattle.hwp_rule.specs.parts.Entries.{HasMask, HasSeen, IsUnder}
 use Rattle.hwp_rule.proofs.AsksNoted.{asks-noted}
-use Rattle.hwp_rule.proofs.Lists.{at_last, at_push, each-map, each-set, each-weaken, set_here}
+use Rattle.hwp_rule.proofs.Lists.{at_last, at_push, each-map, each-set, each-weaken}
 use Rattle.hwp_rule.proofs.MoreEntries.{each-append}
 use Rattle.hwp_rule.proofs.Without.{find-is}
 use Rattle.hwp_step.specs.Boards.{Played}
 use Rattle.hwp_runs.specs.Turns.{Leads}
 use Rattle.hwp_runs.proofs.Adding.{Adds, AddsMade, adds}
 use Rattle.hwp_runs.proofs.Leading.{leads-on}
+use Rattle.hwp_runs.proofs.Telling.{later, now}
 use Rattle.hwp_served.specs.Loads.{HasPageIn, Inspects}
 use Rattle.hwp_served.proofs.Adding.{OneMore, adds-by}
 use Rattle.hwp_served.proofs.loads.BodiesBy.{bodies-so}
@@ -116,25 +117,10 @@ pub record AreInspected (layout : Layout) (turns : List Played) (v : View) : Typ
   pub made : EachMember (IsEntrySeen layout turns) v.made
 
 module _ (layout : Layout) where
-  -- a turn stays one where more follow
-  later : {who : Who} {page : Page} {frame : Frame} {n : ℕ} (turns more : List Played) → Inspects layout turns who page frame n → Inspects layout (turns ++ more) who page frame n
-  later turns more by = record {
-    before = by.before;
-    turn = by.turn;
-    after = by.after ++ more;
-    all = ap (λ (l : List Played). l ++ more) by.all ∙ append_assoc by.before (by.turn ∷ by.after) more;
-    board = by.board;
-    led = by.led;
-    view = by.view;
-    knows = by.knows;
-    own = by.own;
-    such = by.such;
-  }
-
   inspected-later : (turns more : List Played) (v : View) → AreInspected layout turns v → AreInspected layout (turns ++ more) v
   inspected-later turns more v was = record {
-    hands = λ i b there frame k s from past sight bad under. later turns more (was.hands i b there frame k s from past sight bad under);
-    made = λ i m there n is. let by = was.made i m there n is in (by.0, later turns more by.1);
+    hands = λ i b there frame k s from past sight bad under. later layout turns more (was.hands i b there frame k s from past sight bad under);
+    made = λ i m there n is. let by = was.made i m there n is in (by.0, later layout turns more by.1);
   }
 
   module _ (before : List Played) (p : Played) (a b : State) (led : Leads layout (opening layout) before a) (m : Move layout p.seat p.made a b) (holds : Holds layout b) (was : AreInspected layout (before ++ p ∷ []) m.view) where
@@ -146,21 +132,6 @@ module _ (layout : Layout) where
 
     abbrev turns : List Played
     turns = before ++ p ∷ []
-
-    -- the newest turn
-    now : (page : Page) (frame : Frame) (n : ℕ) (who : Who) → p.made.who ≡ who → place_of p.made.step ≡ places.Bad frame → p.made.found ≡ n → HasPageIn page frame after → Inspects layout turns who page frame n
-    now page frame n who own place found has = record {
-      before = before;
-      turn = p;
-      after = [];
-      all = refl;
-      board = b;
-      led = leads-on layout (opening layout) a b before (p ∷ []) led (b, m, holds, refl);
-      view = after;
-      knows = ap (λ (s : State). slice_get s.views p.seat) m.next ∙ set_here a.views p.seat after m.view m.me;
-      own = own;
-      such = (place, found, has);
-    }
 
     -- the bodies in hand, by the sights of before
     bodies : EachMember (IsBodySeen layout turns v.sights) after.bodies
@@ -185,10 +156,8 @@ module _ (layout : Layout) where
             let load = bad-sight layout p.made.who p.made.step p.made.found p.made.content v x frame more at in
             let stamp : s.stamp ≡ stamp_of p.made.who v = ap (λ (y : Sight). y.stamp) (sym is) ∙ load.0 in
             let lock = under-lock p.made.who v frame (subst (IsUnder frame) stamp under) in
-            now body.log.page frame s.word s.stamp.who (sym own ∙ ap (λ (y : Sight). y.stamp.who) is) at (sym word ∙ ap (λ (y : Sight). y.word) is) (record {
-              locked = subst (SomeMember (λ (l : FrameLock). l.frame ≡ frame)) (sym load.1) lock;
-              body = (i, body, in_hand, (refl, of));
-            })
+            let has : HasPageIn body.log.page frame after = record { locked = subst (SomeMember (λ (l : FrameLock). l.frame ≡ frame)) (sym load.1) lock; body = (i, body, in_hand, (refl, of)) } in
+            now layout before p a b led m holds s.stamp.who (sym own ∙ ap (λ (y : Sight). y.stamp.who) is) (at, sym word ∙ ap (λ (y : Sight). y.word) is, has)
 
         which : (slice_get v.sights k ≡ Some s) ⊎ (x ≡ s) → Inspects layout turns s.stamp.who body.log.page frame s.word
         which (inl old) = bodies i body in_hand frame k s of past old bad under

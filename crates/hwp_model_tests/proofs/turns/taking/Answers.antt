@@ -1,5 +1,4 @@
 use Rattle.std.proofs.Common.{ℕ, sym, subst}
-use Rattle.hwp_geom.specs.declared.Cpu.{Cpu}
 use Rattle.hwp_geom.specs.declared.Who.{Who}
 use Rattle.hwp_rule.specs.declared.View.{View}
 use Rattle.hwp_fill.specs.declared.Take.{Take}

@@ -1,9 +1,10 @@
 use Rattle.std.proofs.Common.{◌∙◌, ℕ, ap}
-use Rattle.hwp_records.specs.Results.{has_key}
-use Rattle.hwp_records.proofs.ResultLaws.{kept_is}
+use Rattle.hwp_law.specs.Lines.{marks_of}
+use Rattle.hwp_records.specs.Results.{has_number}
+use Rattle.hwp_records.proofs.ResultLaws.{number_result}
 use Rattle.hwp_records.proofs.results.has_result.Goals as goal
 
 pub returns : goal.returns
 returns c =
-    c.has_key.ensures ∙ ap (λ (n : ℕ). has_key c.args.results.now.keys ((c.args.frame, c.args.who.seq), n)) c.acted_number.ensures
-    ∙ kept_is c.args.report.now c.args.results.now c.args.who c.args.frame c.args.acted c.requires
+    c.has_number.ensures ∙ ap (λ (n : ℕ). has_number c.args.who n (marks_of c.args.report.now c.args.frame)) c.acted_number.ensures
+    ∙ number_result c.args.who c.args.acted (marks_of c.args.report.now c.args.frame)

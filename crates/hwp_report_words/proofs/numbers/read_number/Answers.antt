@@ -1,21 +1,13 @@
-use Rattle.std.proofs.Common.{ℕ, ◌≡◌, ◌<◌, ◌^◌, rules, decimal, ◌∙◌}
-use Rattle.std.specs.Prelude.{IsUtf8, List}
-use Rattle.std.proofs.lemmas.Fmt.{parse-decimal, IsAscii-decimal}
-use Rattle.std.proofs.lemmas.Str.{IsUtf8-from_ascii}
+use Rattle.std.proofs.Common.{ℕ, ◌^◌, decimal, Option, Some, None, List}
+use Rattle.std.specs.Prelude.{IfSome, IfNone}
+use Rattle.hwp_form.specs.Numbers.{IsNumber}
+use Rattle.hwp_report_words.specs.Reads.{IsReadAs, Below}
 use Rattle.hwp_report_words.proofs.numbers.read_number.Goals as goal
 
--- the text of a number is ASCII, and so UTF-8
-IsUtf8-number : (word : List ℕ) (n : ℕ) → n < 2 ^ 64 → word ≡ decimal n → IsUtf8 word
-IsUtf8-number word n small e = rw e (IsUtf8-from_ascii _ (IsAscii-decimal n small))
+-- a word that is a number of a script is read as that of which it is the print
+number_read : (word : List ℕ) (read : Option ℕ) → IfSome read (IsNumber word) → IfNone read ((n : ℕ) → IsNumber word n → ⊥) → IsReadAs (Below (2 ^ 64)) decimal word read
+number_read word None found none = λ n small same. none n (record { fits = small; digits = same })
+number_read word (Some n) found none = (found.fits, found.digits)
 
-pub returns-in_default : goal.returns-in_default
-returns-in_default c = λ n small e. c.in_default.ensures.cases.0 (IsUtf8-number _ n small e)
-
-pub returns-in_default-parse : goal.returns-in_default-parse
-returns-in_default-parse c = λ n small e.
-    absurd (cc (parse-decimal 64 n _ _ small small (c.in-Ok.ensures.cases.0 ∙ e) c.parse.ensures.value.0))
-
-pub returns-else-eq : goal.returns-else-eq
-returns-else-eq c = λ n small e.
-    let read = parse-decimal 64 n _ _ small small (c.in-Ok.ensures.cases.0 ∙ e) c.parse.ensures.value.0 in
-    let text : c.format.result.now ≡ c.in-Ok.text.now = cc (e, c.in-Ok.ensures.cases.0) in search rules
+pub returns : goal.returns
+returns c = number_read c.args.word.now c.read_number.result c.read_number.ensures.some c.read_number.ensures.none

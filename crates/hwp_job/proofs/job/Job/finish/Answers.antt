@@ -1,4 +1,4 @@
-use Rattle.std.proofs.Common.{◌≡◌, option_and_then, List, [], Option, ◌∙◌, sym, ap}
+use Rattle.std.proofs.Common.{option_and_then, List, [], Option, ◌∙◌, sym, ap}
 use Rattle.hwp_geom.specs.declared.Frame.{Frame}
 use Rattle.hwp_handler.specs.declared.Told.{Told}
 use Rattle.hwp_row.specs.declared.Own.{Own}

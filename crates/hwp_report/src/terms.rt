@@ -24,7 +24,7 @@ pub(crate) fn mode_word(mode: Mode) -> &'static str
 }
 
 /// The word of a policy.
-pub(crate) fn policy_word(policy: Policy) -> &'static str
+pub fn policy_word(policy: Policy) -> &'static str
     ensures { result.now ≡ terms.policy_word policy }
 {
     match policy {
@@ -45,7 +45,7 @@ pub(crate) fn code_word(code: Code) -> &'static str
 }
 
 /// The word of a situation.
-pub(crate) fn situation_word(situation: Situation) -> &'static str
+pub fn situation_word(situation: Situation) -> &'static str
     ensures { result.now ≡ terms.situation_word situation }
 {
     match situation {
@@ -60,7 +60,7 @@ pub(crate) fn situation_word(situation: Situation) -> &'static str
 }
 
 /// The word of what came of a memory failure.
-pub(crate) fn outcome_word(outcome: Outcome) -> &'static str
+pub fn outcome_word(outcome: Outcome) -> &'static str
     ensures { result.now ≡ terms.outcome_word outcome }
 {
     match outcome {
@@ -78,7 +78,7 @@ pub(crate) fn origin_word(hardware: bool) -> &'static str
 }
 
 /// The word of what was done about an event.
-pub(crate) fn acted_word(acted: Acted) -> &'static str
+pub fn acted_word(acted: Acted) -> &'static str
     ensures { result.now ≡ terms.acted_word acted }
 {
     match acted {

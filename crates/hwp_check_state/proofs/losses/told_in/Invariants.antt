@@ -4,7 +4,7 @@ use Rattle.hwp_law.specs.Lines.{answer_in}
 use Rattle.hwp_law.specs.Losses.{told}
 use Rattle.hwp_check_rules.specs.Answered.{is_answer}
 use Rattle.hwp_check_state.specs.Balances.{capped}
-use Rattle.hwp_check_state.proofs.losses.told.Given as goal
+use Rattle.hwp_check_state.proofs.losses.told_in.Given as goal
 
 abbrev pub invariant-loop-row : goal.invariant-loop-row
 invariant-loop-row l =

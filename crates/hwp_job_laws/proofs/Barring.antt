@@ -32,7 +32,7 @@ use Rattle.hwp_control.specs.Prctls as prctls
 use Rattle.hwp_job.specs.declared.job.Job.{Job}
 use Rattle.hwp_job.specs.declared.job.Job.TheVariants as jobs
 use Rattle.hwp_job.specs.Stays.{CannotReply, HasEnded, HasNotReplied, IsNotPast, Stepped}
-use Rattle.hwp_job.proofs.Stopping.{halted-stays}
+use Rattle.hwp_job_laws.proofs.Stopping.{halted-stays}
 
 -- the word of a process that a step meets
 process-word : (layout : Layout) (s : State) → Holds layout s → (process : Proc) (found : ℕ) → process.0 < layout.procs → found ≡ slice_index s.words (index layout (places.Process process)) → slice_get (words_of layout s.words).processes process.0 ≡ Some found

@@ -67,8 +67,8 @@ use Rattle.hwp_job.specs.declared.job.Job.{Job}
 use Rattle.hwp_job.specs.declared.job.Job.TheVariants as jobs
 use Rattle.hwp_job.specs.Jobs.{plan}
 use Rattle.hwp_job.specs.Stays.{HasStopped, Stepped, StopsItself}
-use Rattle.hwp_job.proofs.Leaving.{HandlerLeft, HasHalted, Rest, fail-left, handler-left, quiet-rest, soft-leaves, stop-rest, stops-by, unpoison-leaves}
-use Rattle.hwp_job.proofs.Quiet.{evict, read}
+use Rattle.hwp_job_laws.proofs.Leaving.{HandlerLeft, HasHalted, Rest, fail-left, handler-left, quiet-rest, soft-leaves, stop-rest, stops-by, unpoison-leaves}
+use Rattle.hwp_job_laws.proofs.Quiet.{evict, read}
 
 pub quiet-step : {o : Option Step} {step : Step} → PlansQuiet o → o ≡ Some step → IsQuiet step
 quiet-step quiet is = subst PlansQuiet is quiet

@@ -125,8 +125,8 @@ use Rattle.hwp_job.specs.Begins.{Begins}
 use Rattle.hwp_job.specs.Jobs.{Fits, answer, who}
 use Rattle.hwp_job.specs.Stays.{EndsStopped, HasSpoiled, HasStopped, IsAtStop, IsHalted, IsStopping, Stepped, StopsItself}
 use Rattle.hwp_job.proofs.Ending.{InjectEnded, answered-over, inject-ended, instruction-ended, mapped, raise-ended, scrub-ended, soft-ended, unpoison-ended}
-use Rattle.hwp_job.proofs.Resting.{StopsLeft, evict-left, fsync-left, inject-left, instruction-left, log-left, nested-left, prctl-left, raise-left, scrub-left, soft-left, spoil-left, unpoison-left}
-use Rattle.hwp_job.proofs.Running.{has-begun}
+use Rattle.hwp_job_laws.proofs.Resting.{StopsLeft, evict-left, fsync-left, inject-left, instruction-left, log-left, nested-left, prctl-left, raise-left, scrub-left, soft-left, spoil-left, unpoison-left}
+use Rattle.hwp_job_laws.proofs.Running.{has-begun}
 
 -- ---- answers
 

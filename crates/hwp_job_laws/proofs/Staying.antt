@@ -1,7 +1,7 @@
 -- What a processor knows of policies it knows after each step of a command, and when the next command begins.
-use Rattle.std.proofs.Common.{◌≡◌, ◌⊎◌, inl, inr, ℕ, zero, suc, ◌+◌, ◌<◌, ◌≤◌, ◌==◌, ◌&&◌, Bool, true, false, cond, List, [], ◌∷◌, ◌++◌, Option, Some, None, length, map, take, drop, filter_map, if◌then◌else◌, option_map, slice_get, slice_index, append-nil, refl, sym, ap, ◌∙◌, subst, arith, true≢false}
+use Rattle.std.proofs.Common.{◌≡◌, ◌⊎◌, inl, inr, ℕ, zero, suc, ◌+◌, ◌<◌, ◌≤◌, ◌==◌, Bool, true, false, cond, List, [], ◌∷◌, ◌++◌, Option, Some, None, length, map, take, drop, filter_map, option_map, slice_get, append-nil, refl, sym, ap, ◌∙◌, subst, arith, true≢false}
 use Rattle.std.specs.List.{cons_option}
-use Rattle.std.proofs.lemmas.Bool.{eqb-true, ne_eqb}
+use Rattle.std.proofs.lemmas.Bool.{eqb-true}
 use Rattle.std.proofs.lemmas.List.{length-append, length-map, take_more}
 use Rattle.std.proofs.lemmas.List.Elements.{filter_map-append}
 use Rattle.std.proofs.lemmas.Option.{none-some, get_or_from_slice_get, slice_get_within}
@@ -13,10 +13,9 @@ use Rattle.hwp_geom.specs.declared.ThreadDecl.{ThreadDecl}
 use Rattle.hwp_geom.specs.declared.Who.{Who}
 use Rattle.hwp_geom.specs.Limits.{command_limit}
 use Rattle.hwp_kill.specs.declared.Policy.{Policy}
-use Rattle.hwp_kill.specs.declared.Policy.TheVariants as policy_names
 use Rattle.hwp_kill.specs.declared.Reply.{Reply}
 use Rattle.hwp_kill.specs.declared.Reply.TheVariants as replies
-use Rattle.hwp_kill.specs.Prctl.{asks_policy, clear_mode, get_operation, policy_set, reply, set_mode, set_operation, setting}
+use Rattle.hwp_kill.specs.Prctl.{policy_set}
 use Rattle.hwp_rule.specs.declared.Setting.{Setting}
 use Rattle.hwp_rule.specs.declared.View.{View}
 use Rattle.hwp_rule.specs.Lists.{StartsWith}
@@ -35,6 +34,7 @@ use Rattle.hwp_control.specs.declared.prctl.PrctlAt.{PrctlAt}
 use Rattle.hwp_control.specs.declared.prctl.PrctlAt.TheVariants as prctl_at
 use Rattle.hwp_control.specs.Prctls as prctls
 use Rattle.hwp_control.specs.Prctls.{HasSettingLeft}
+use Rattle.hwp_control.proofs.Replying.{einval-says, is-says, set-says}
 use Rattle.hwp_job.specs.declared.job.Job.{Job}
 use Rattle.hwp_job.specs.declared.job.Job.TheVariants as jobs
 use Rattle.hwp_job.specs.Answers.{prctl_answer}
@@ -43,10 +43,10 @@ use Rattle.hwp_job.specs.Jobs.{Fits, answer, banks_before}
 use Rattle.hwp_job.specs.Runs.{Runs, anew}
 use Rattle.hwp_job.specs.Settings.{HasReplied, IsCounted, policies_in, set_at, set_now}
 use Rattle.hwp_job.specs.Stays.{CannotReply, HasEnded, HasNotReplied, IsAtStop, IsBarred, IsNotPast, KnowsPolicies, Stepped}
-use Rattle.hwp_job.proofs.Barring.{barred-stays, process-declared}
-use Rattle.hwp_job.proofs.Running.{has-begun, is_call, is_prctl}
-use Rattle.hwp_job.proofs.Setting.{either-same, settings-after, unset-before}
-use Rattle.hwp_job.proofs.Stopping.{stopped-halts}
+use Rattle.hwp_job_laws.proofs.Barring.{barred-stays, process-declared}
+use Rattle.hwp_job_laws.proofs.Running.{has-begun, is_call, is_prctl}
+use Rattle.hwp_job_laws.proofs.Setting.{either-same, settings-after, unset-before}
+use Rattle.hwp_job_laws.proofs.Stopping.{stopped-halts}
 
 -- ---- at the beginning of a command
 
@@ -109,56 +109,7 @@ policies-first layout list view by j none first start = record { each = λ threa
     few : (thread : Thread) → length (settings_of thread view.settings) ≤ by.seq + length (set_now thread j)
     few thread = let zero : length (settings_of thread view.settings) ≡ 0 = ap (λ (l : List Setting). length (settings_of thread l)) none in omega arith
 
--- ---- what prctl(2) replies
-
-abbrev of_set : Reply → Option Policy
-of_set (replies.Set policy) = Some policy
-of_set _ = None
-
-abbrev asks : Reply → Bool
-asks (replies.Is policy) = true
-asks _ = false
-
--- a policy is set just where the arguments set it
-pub set-says : (old : Policy) (given : List ℕ) (policy : Policy) → reply old given ≡ replies.Set policy → policy_set given ≡ Some policy
-set-says old given policy is = which (asks_policy given) (policy_set given) is
-  where
-    which : (b : Bool) (o : Option Policy) → cond b (replies.Is old) (setting o) ≡ replies.Set policy → o ≡ Some policy
-    which true o e = absurd (none-some policy (ap of_set e))
-    which false None e = absurd (none-some policy (ap of_set e))
-    which false (Some p) e = ap of_set e
-
--- the arguments that ask for the policy set none
-and-first : (a b : Bool) → (a && b) ≡ true → a ≡ true
-and-first true b is = refl
-and-first false b is = absurd (true≢false (sym is))
-
-asks-first : (given : List ℕ) → asks_policy given ≡ true → slice_index given 0 ≡ get_operation
-asks-first given is = eqb-true (slice_index given 0) get_operation (and-first _ _ (and-first _ _ (and-first _ _ (and-first _ _ is))))
-
-asks-sets-none : (given : List ℕ) → asks_policy given ≡ true → policy_set given ≡ None
-asks-sets-none given is = no (slice_index given 0 == set_operation) (slice_index given 1 == clear_mode) (slice_index given 1 == set_mode) (slice_index given 2 == 0) (slice_index given 2 == 1) (slice_index given 2 == 2)
-    (slice_index given 3 == 0) (slice_index given 4 == 0) (ne_eqb (slice_index given 0) set_operation (λ same. let first : slice_index given 0 ≡ get_operation = asks-first given is in omega (arith, first, same)))
-  where
-    no : (a c m x y z d e : Bool) → a ≡ false → (if a && c && x && d && e then Some policy_names.Default else if a && m && x && d && e then Some policy_names.Late else if a && m && y && d && e then Some policy_names.Early else if a && m && z && d && e then Some policy_names.Default else None) ≡ None
-    no true c m x y z d e is_ = absurd (true≢false is_)
-    no false c m x y z d e is_ = refl
-
-is-says : (old : Policy) (given : List ℕ) (policy : Policy) → reply old given ≡ replies.Is policy → policy_set given ≡ None
-is-says old given policy is = which (asks_policy given) refl (policy_set given) is
-  where
-    which : (b : Bool) → asks_policy given ≡ b → (o : Option Policy) → cond b (replies.Is old) (setting o) ≡ replies.Is policy → policy_set given ≡ None
-    which true asked o e = asks-sets-none given asked
-    which false asked None e = absurd (true≢false (sym (ap asks e)))
-    which false asked (Some p) e = absurd (true≢false (sym (ap asks e)))
-
-einval-says : (old : Policy) (given : List ℕ) → reply old given ≡ replies.Einval → policy_set given ≡ None
-einval-says old given is = which (asks_policy given) (policy_set given) is
-  where
-    which : (b : Bool) (o : Option Policy) → cond b (replies.Is old) (setting o) ≡ replies.Einval → o ≡ None
-    which true o e = absurd (true≢false (ap asks e))
-    which false None e = refl
-    which false (Some p) e = absurd (none-some p (sym (ap of_set e)))
+-- ---- what a call of prctl(2) sets
 
 -- what a call that was replied to has set, as its arguments say
 call-set : (view : View) (by : Who) (thread : Thread) (given : List ℕ) (r : Reply) → prctls.WasReplied view by thread given r → cons_option (policy_set given) [] ≡ set_at (prctl_at.Over (prctl_answers.Replied r))

@@ -32,7 +32,7 @@ use Rattle.hwp_job.specs.declared.job.Job.TheVariants as jobs
 use Rattle.hwp_job.specs.Jobs.{plan}
 use Rattle.hwp_job.specs.Settings.{policies_in, set_at, set_now}
 use Rattle.hwp_job.specs.Stays.{Stepped}
-use Rattle.hwp_job.proofs.Resting.{evict-left, fsync-left, inject-left, instruction-left, log-left, nested-left, quiet-step, raise-left, scrub-left, soft-left, spoil-left, unpoison-left}
+use Rattle.hwp_job_laws.proofs.Resting.{evict-left, fsync-left, inject-left, instruction-left, log-left, nested-left, quiet-step, raise-left, scrub-left, soft-left, spoil-left, unpoison-left}
 
 pub either-same : (b : Bool) (l : List Policy) → cond b l l ≡ l
 either-same true l = refl

@@ -91,7 +91,6 @@ use Rattle.hwp_soft.specs.Offline as offline
 use Rattle.hwp_soft.specs.Softs as softs
 use Rattle.hwp_soft.proofs.Adding.{soft-adds}
 use Rattle.hwp_unpoison.specs.declared.Unpoison.{Unpoison}
-use Rattle.hwp_unpoison.specs.declared.UnpoisonAnswer.{UnpoisonAnswer}
 use Rattle.hwp_unpoison.specs.Done as unpoison_done
 use Rattle.hwp_unpoison.specs.Unpoisons as unpoisons
 use Rattle.hwp_unpoison.proofs.Adding.{unpoison-adds}
@@ -102,11 +101,11 @@ use Rattle.hwp_job.specs.Done.{HasDone, can_fail, failed_at, failed_now, marked_
 use Rattle.hwp_job.specs.Jobs.{Fits, answer, who}
 use Rattle.hwp_job.specs.Settings.{set_at}
 use Rattle.hwp_job.specs.Stays.{IsAtStop, Stepped}
-use Rattle.hwp_job.proofs.Ending.{evict-caused, instruction-over, mapped, raise-over, scrub-over, soft-ended, soft-over, unpoison-ended, unpoison-over}
-use Rattle.hwp_job.proofs.Leaving.{Left, Rest, soft-leaves, unpoison-leaves}
-use Rattle.hwp_job.proofs.Quiet.{evict, read}
-use Rattle.hwp_job.proofs.Resting.{inject-left, instruction-left, quiet-step, raise-left, scrub-left}
-use Rattle.hwp_job.proofs.Setting.{ended, replied, stopped}
+use Rattle.hwp_job.proofs.Ending.{evict-caused, instruction-over, mapped, raise-over, scrub-over, soft-ended, soft-over, unpoison-over}
+use Rattle.hwp_job_laws.proofs.Leaving.{Left, Rest, soft-leaves, unpoison-leaves}
+use Rattle.hwp_job_laws.proofs.Quiet.{evict, read}
+use Rattle.hwp_job_laws.proofs.Resting.{inject-left, instruction-left, quiet-step, raise-left, scrub-left}
+use Rattle.hwp_job_laws.proofs.Setting.{ended, replied, stopped}
 
 -- ---- commands of which no memory fails
 

@@ -40,7 +40,6 @@ use Rattle.hwp_move.specs.declared.relocate.RelocateAt.TheVariants as relocate_a
 use Rattle.hwp_move.specs.declared.relocate.Transfer.{Transfer}
 use Rattle.hwp_move.specs.Discards as discards
 use Rattle.hwp_move.specs.Relocations as relocations
-use Rattle.hwp_move.specs.Seizes as seizes
 use Rattle.hwp_soft.specs.declared.Soft.{Soft}
 use Rattle.hwp_soft.specs.declared.soft.SoftAt.{SoftAt}
 use Rattle.hwp_soft.specs.declared.soft.SoftAt.TheVariants as soft_at
@@ -50,7 +49,7 @@ use Rattle.hwp_unpoison.specs.declared.Unpoison.{Unpoison}
 use Rattle.hwp_unpoison.specs.declared.unpoison.UnpoisonAt.{UnpoisonAt}
 use Rattle.hwp_unpoison.specs.declared.unpoison.UnpoisonAt.TheVariants as unpoison_at
 use Rattle.hwp_unpoison.specs.Unpoisons as unpoisons
-use Rattle.hwp_job.proofs.Quiet.{claim, seize}
+use Rattle.hwp_job_laws.proofs.Quiet.{claim, seize}
 
 -- the policies set, the losses taken and the damage stay as they were
 pub record Rest (v x : View) : Type 0 where

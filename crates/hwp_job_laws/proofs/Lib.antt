@@ -1,0 +1,10 @@
+pub mod Running
+pub mod Quiet
+pub mod Leaving
+pub mod Resting
+pub mod Setting
+pub mod Stopping
+pub mod Barring
+pub mod Staying
+pub mod Doing
+pub mod Below

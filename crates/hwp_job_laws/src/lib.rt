@@ -1,0 +1,3 @@
+//! The laws of a command's steps: what lasts, what each step does, and why the turns are few.
+//! This crate has lemmas alone; the crates above cite them.
+#![tactic(auto)]
